@@ -1,0 +1,5 @@
+pub mod Numbers
+pub mod Windows
+pub mod ExpGolomb
+pub mod Signed
+pub mod MoreData

@@ -1,0 +1,80 @@
+"""What the benchmarks share: the built program, runs that are timed, and how they grow."""
+import functools
+import os
+import pathlib
+import shutil
+import subprocess
+import sys
+import time
+
+TOP = pathlib.Path(__file__).resolve().parent.parent
+REPEATS = 3
+START = b"\0\0\1"
+# profile_idc 66, count type 2, one reference frame, one macroblock, frame_num of 4 bits
+SPS, PPS, IDR = (START + bytes.fromhex(unit) for unit in ("67 42 00 0A DA 79", "68 CE 38 80", "65 88 84 80"))
+
+
+@functools.cache
+def program():
+    """The built program, without the script that builds it where it has to."""
+    subprocess.run([TOP / "bin" / "preview", "--help"], stdout=subprocess.DEVNULL, check=True)
+    return str(TOP / "crates" / "preview" / "out" / "preview")
+
+
+def once(command, output, log):
+    """Seconds and peak bytes of one run, its standard output in a file, its standard error in another."""
+    with open(output, "wb") as out, open(log, "wb") as err:
+        start = time.monotonic()
+        child = subprocess.Popen(command, stdin=subprocess.DEVNULL, stdout=out, stderr=err)
+        _, status, used = os.wait4(child.pid, 0)
+        seconds = time.monotonic() - start
+    child.returncode = os.waitstatus_to_exitcode(status)
+    if child.returncode != 0:
+        sys.exit(f"{command[0]} ended with status {child.returncode}")
+    return seconds, used.ru_maxrss * 1024
+
+
+def run(command, folder):
+    """The best seconds of several runs, and the peak bytes; output and log lie in the folder."""
+    runs = [once(command, folder / "output", folder / "log") for _ in range(REPEATS)]
+    return min(seconds for seconds, _ in runs), max(peak for _, peak in runs)
+
+
+def copying(file, folder):
+    """ffmpeg's command that copies a stream without decoding it."""
+    return f"ffmpeg -v error -nostdin -y -f h264 -i {file} -c copy -f h264 {folder}/copy.264".split()
+
+
+def planned(text, folder):
+    """Writes a stream and plans it, of which every unit must be valid: seconds, peak bytes and units."""
+    file = folder / "stream.264"
+    file.write_bytes(text)
+    seconds, peak = run([program(), "plan", str(file)], folder)
+    lines = (folder / "output").read_bytes()
+    if b" fault " in lines or b"refused" in lines:
+        sys.exit("a unit isn't valid")
+    return seconds, peak, lines.count(b"unit ")
+
+
+def growth(name, texts, folder, beside=False):
+    """Prints a line for each of some growing texts; whether time and memory grow no faster than they.
+
+    With `beside`, ffmpeg copies each as well, where it is installed. Faster is by more than half.
+    """
+    print(name)
+    linear, last = True, None
+    for text in texts:
+        seconds, peak, units = planned(text, folder)
+        line = (f"{units:7} units {len(text):10} bytes {seconds:8.3f} s {units / seconds:9.0f} units/s "
+                f"{len(text) / seconds / 1e6:8.1f} MB/s, peak {peak / 1e6:6.1f} MB, {peak / len(text):.1f} a byte")
+        if beside and shutil.which("ffmpeg"):
+            copy, _ = run(copying(folder / "stream.264", folder), folder)
+            line += f"; ffmpeg -c copy {copy:.3f} s, {copy / seconds:.2f} times plan's"
+        if last:
+            size, time_taken, memory = len(text) / last[0], seconds / last[1], peak / last[2]
+            linear = linear and max(time_taken, memory) <= 1.5 * size
+            line += f"; {size:.1f} times the bytes: {time_taken:.1f} times the time, {memory:.1f} the memory"
+        print(line, flush=True)
+        last = len(text), seconds, peak
+    print(f"  {'linear' if linear else 'more than linear'}")
+    return linear

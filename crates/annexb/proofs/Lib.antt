@@ -1,0 +1,12 @@
+pub mod Tails
+pub mod Needles
+pub mod Escapes
+pub mod Fronts
+pub mod ZeroRuns
+pub mod Scans
+pub mod Finds
+pub mod Clear
+pub mod Readings
+pub mod Refusals
+pub mod Splits
+pub mod Cuts

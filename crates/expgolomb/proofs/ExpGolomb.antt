@@ -80,7 +80,7 @@ pub record BeginsWithCode (p : Place) : Type 0 where
   pub whole : n ≤ length tail
   pub read : ue_at p ≡ Ok (number (true ∷ take n tail) - 1, record { before = p.before + n + (n + 1); rest = drop n tail })
 
-fixed_short : (n : ℕ) (p : Place) → length p.rest < n → fixed_at n p ≡ Err Cut
+pub fixed_short : (n : ℕ) (p : Place) → length p.rest < n → fixed_at n p ≡ Err Cut
 fixed_short n p h = rw (lt-leb n (length p.rest) h) refl
 
 pub fixed_long : (n : ℕ) (p : Place) → n ≤ length p.rest → fixed_at n p ≡ Ok (number (take n p.rest), skip n p)
@@ -281,7 +281,7 @@ parts_of word v code =
       value = subst (λ (xs : List Bool). number xs ≡ v + 1) b.one b.value;
     }
 
-same_place : (p q : Place) → p.before ≡ q.before → p.rest ≡ q.rest → p ≡ q
+pub same_place : (p q : Place) → p.before ≡ q.before → p.rest ≡ q.rest → p ≡ q
 same_place p q b r =
     ap (λ (n : ℕ). let x : Place = record { before = n; rest = p.rest } in x) b ∙ ap (λ (xs : List Bool). let x : Place = record { before = q.before; rest = xs } in x) r
 

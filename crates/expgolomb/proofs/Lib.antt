@@ -3,3 +3,4 @@ pub mod Windows
 pub mod ExpGolomb
 pub mod Signed
 pub mod MoreData
+pub mod Fixed

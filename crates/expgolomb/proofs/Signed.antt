@@ -55,3 +55,19 @@ pub se_advance : (r : Result ℤ CodeFault) (old new : Place) → Gives (λ v. v
 unfolding se_at
 se_advance (Ok z) old new gives = let read = signed_read (ue_at old) z new gives in ue_near old (read.0, new) read.1
 se_advance (Err e) old new gives = omega (arith, ap (λ (p : Place). p.before) gives.1)
+
+-- What is read of a signed code, by what is read of an unsigned one.
+pub se_ok : (p : Place) (x : ℤ × Place) → se_at p ≡ Ok x → (word : List Bool) × IsSe word x.0 × Follows word p x.1
+unfolding se_at
+se_ok p x is =
+    let read = signed_read (ue_at p) x.0 x.1 is in
+    let code = ue_ok p (read.0, x.1) read.1 in
+    (code.0, record { k = read.0; code = code.1; value = read.2 }, code.2)
+
+pub se_only : (word : List Bool) (v : ℤ) (p new : Place) → IsSe word v → Follows word p new → se_at p ≡ Ok (v, new)
+se_only word v p new code follows =
+    se_is p code.k new (ue_only word code.k p new code.code follows) ∙ ap (λ (z : ℤ). Ok (z, new)) code.value
+
+pub se_error : (p : Place) (e : CodeFault) → se_at p ≡ Err e → ue_at p ≡ Err e
+unfolding se_at
+se_error p e is = error_read (ue_at p) e is

@@ -1,0 +1,9 @@
+pub mod Grammar
+pub mod Reading
+pub mod Ranges
+pub mod Rows
+pub mod Answer
+pub mod Scaling
+pub mod SpsSyntax
+pub mod PpsSyntax
+pub mod Sets

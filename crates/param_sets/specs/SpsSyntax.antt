@@ -1,0 +1,214 @@
+-- Sequence parameter sets: the table of their syntax (ITU-T H.264, 7.3.2.1.1) and what its fields say (7.4.2.1.1).
+use Rattle.std.specs.Prelude.{ℕ, ◌==◌, Bool, true, false, List, [], ◌∷◌, ◌++◌, length, replicate, Option, Some, None, ℤ, pos, negsuc, nat_lt, nat_le, ◌&&◌, ◌||◌, if◌then◌else◌, nat_abs}
+use Rattle.std.specs.List.{flat_map}
+use Rattle.param_sets.specs.declared.fault.SetFault.{SetFault}
+use Rattle.param_sets.specs.declared.fault.SetFault.TheVariants.{Range, Profile, Chroma444, Interlaced, RefFrames, OutsidePath}
+use Rattle.param_sets.specs.declared.fault.SetField.TheVariants as ranges
+use Rattle.param_sets.specs.declared.sps.Sps.{Sps}
+use Rattle.param_sets.specs.declared.sps.ChromaFormat.{ChromaFormat}
+use Rattle.param_sets.specs.declared.sps.ChromaFormat.TheVariants.{Monochrome, Yuv420, Yuv422}
+use Rattle.param_sets.specs.declared.sps.PicOrderCntType.{PicOrderCntType}
+use Rattle.param_sets.specs.declared.sps.PicOrderCntType.TheVariants.{Zero, One, Two}
+use Rattle.param_sets.specs.Grammar.{Row}
+use Rattle.param_sets.specs.Rows.{u, u_of, ue, ue_of, se, se_any, always, flag_of}
+use Rattle.param_sets.specs.Scaling.{add_list, add_delta, is_reading}
+
+-- the fields, in the standard's names
+pub data SpsField : Type 0 where
+  ProfileIdc : SpsField
+  ConstraintSetFlag : SpsField
+  ReservedZero2Bits : SpsField
+  LevelIdc : SpsField
+  SeqParameterSetId : SpsField
+  ChromaFormatIdc : SpsField
+  BitDepthLumaMinus8 : SpsField
+  BitDepthChromaMinus8 : SpsField
+  QpprimeYZeroTransformBypassFlag : SpsField
+  SeqScalingMatrixPresentFlag : SpsField
+  SeqScalingListPresentFlag : SpsField
+  DeltaScale : SpsField
+  Log2MaxFrameNumMinus4 : SpsField
+  PicOrderCntTypeCode : SpsField
+  Log2MaxPicOrderCntLsbMinus4 : SpsField
+  DeltaPicOrderAlwaysZeroFlag : SpsField
+  OffsetForNonRefPic : SpsField
+  OffsetForTopToBottomField : SpsField
+  NumRefFramesInPicOrderCntCycle : SpsField
+  OffsetForRefFrame : SpsField
+  MaxNumRefFrames : SpsField
+  GapsInFrameNumValueAllowedFlag : SpsField
+  PicWidthInMbsMinus1 : SpsField
+  PicHeightInMapUnitsMinus1 : SpsField
+  FrameMbsOnlyFlag : SpsField
+  Direct8x8InferenceFlag : SpsField
+
+-- before the first field: what is inferred of fields that stay absent
+abbrev pub no_sps : Sps
+no_sps = record {
+  profile_idc = 0;
+  constraint_set_flags = [];
+  level_idc = 0;
+  seq_parameter_set_id = 0;
+  chroma_format_idc = Yuv420;
+  bit_depth_luma_minus8 = 0;
+  bit_depth_chroma_minus8 = 0;
+  qpprime_y_zero_transform_bypass_flag = false;
+  seq_scaling_matrix_present_flag = false;
+  scaling_lists = [];
+  log2_max_frame_num_minus4 = 0;
+  pic_order_cnt_type = Zero;
+  log2_max_pic_order_cnt_lsb_minus4 = 0;
+  delta_pic_order_always_zero_flag = false;
+  offset_for_non_ref_pic = pos 0;
+  offset_for_top_to_bottom_field = pos 0;
+  num_ref_frames_in_pic_order_cnt_cycle = 0;
+  offset_for_ref_frame = [];
+  max_num_ref_frames = 0;
+  gaps_in_frame_num_value_allowed_flag = false;
+  pic_width_in_mbs_minus1 = 0;
+  pic_height_in_map_units_minus1 = 0;
+  direct_8x8_inference_flag = false;
+}
+
+abbrev pub chroma_format : ℕ → ChromaFormat
+chroma_format idc = if idc == 0 then Monochrome else if idc == 1 then Yuv420 else Yuv422
+
+abbrev pub count_type : ℕ → PicOrderCntType
+count_type code = if code == 0 then Zero else if code == 1 then One else Two
+
+-- what a field's value says
+abbrev pub take : SpsField → ℤ → Sps → Sps
+take ProfileIdc v s = record s { profile_idc = nat_abs v }
+take ConstraintSetFlag v s = record s { constraint_set_flags = s.constraint_set_flags ++ flag_of v ∷ [] }
+take ReservedZero2Bits v s = s
+take LevelIdc v s = record s { level_idc = nat_abs v }
+take SeqParameterSetId v s = record s { seq_parameter_set_id = nat_abs v }
+take ChromaFormatIdc v s = record s { chroma_format_idc = chroma_format (nat_abs v) }
+take BitDepthLumaMinus8 v s = record s { bit_depth_luma_minus8 = nat_abs v }
+take BitDepthChromaMinus8 v s = record s { bit_depth_chroma_minus8 = nat_abs v }
+take QpprimeYZeroTransformBypassFlag v s = record s { qpprime_y_zero_transform_bypass_flag = flag_of v }
+take SeqScalingMatrixPresentFlag v s = record s { seq_scaling_matrix_present_flag = flag_of v }
+take SeqScalingListPresentFlag v s = record s { scaling_lists = add_list s.scaling_lists (flag_of v) }
+take DeltaScale v s = record s { scaling_lists = add_delta s.scaling_lists v }
+take Log2MaxFrameNumMinus4 v s = record s { log2_max_frame_num_minus4 = nat_abs v }
+take PicOrderCntTypeCode v s = record s { pic_order_cnt_type = count_type (nat_abs v) }
+take Log2MaxPicOrderCntLsbMinus4 v s = record s { log2_max_pic_order_cnt_lsb_minus4 = nat_abs v }
+take DeltaPicOrderAlwaysZeroFlag v s = record s { delta_pic_order_always_zero_flag = flag_of v }
+take OffsetForNonRefPic v s = record s { offset_for_non_ref_pic = v }
+take OffsetForTopToBottomField v s = record s { offset_for_top_to_bottom_field = v }
+take NumRefFramesInPicOrderCntCycle v s = record s { num_ref_frames_in_pic_order_cnt_cycle = nat_abs v }
+take OffsetForRefFrame v s = record s { offset_for_ref_frame = s.offset_for_ref_frame ++ v ∷ [] }
+take MaxNumRefFrames v s = record s { max_num_ref_frames = nat_abs v }
+take GapsInFrameNumValueAllowedFlag v s = record s { gaps_in_frame_num_value_allowed_flag = flag_of v }
+take PicWidthInMbsMinus1 v s = record s { pic_width_in_mbs_minus1 = nat_abs v }
+take PicHeightInMapUnitsMinus1 v s = record s { pic_height_in_map_units_minus1 = nat_abs v }
+take FrameMbsOnlyFlag v s = s
+take Direct8x8InferenceFlag v s = record s { direct_8x8_inference_flag = flag_of v }
+
+abbrev pub SpsRow : Type 0
+SpsRow = Row SpsField Sps SetFault
+
+-- Baseline and Main; the profiles with chroma formats aren't read yet
+abbrev pub profile_range : ℤ → Option SetFault
+profile_range v =
+    if nat_abs v == 66 || nat_abs v == 77 then None
+    else if nat_abs v == 100 || nat_abs v == 110 || nat_abs v == 122 then Some OutsidePath
+    else Some Profile
+
+abbrev pub profile_rows : List SpsRow
+profile_rows =
+    u_of ProfileIdc 8 always profile_range
+    ∷ u ConstraintSetFlag 1 always
+    ∷ u ConstraintSetFlag 1 always
+    ∷ u ConstraintSetFlag 1 always
+    ∷ u ConstraintSetFlag 1 always
+    ∷ u ConstraintSetFlag 1 always
+    ∷ u ConstraintSetFlag 1 always
+    ∷ u ReservedZero2Bits 2 always
+    ∷ u LevelIdc 8 always
+    ∷ ue SeqParameterSetId always 31 (Range ranges.SpsId)
+    ∷ []
+
+-- a profile with a chroma format, bit depths and scaling lists
+abbrev pub is_high : Sps → Bool
+is_high s = s.profile_idc == 100 || s.profile_idc == 110 || s.profile_idc == 122
+
+abbrev pub has_matrix : Sps → Bool
+has_matrix s = s.seq_scaling_matrix_present_flag
+
+abbrev pub chroma_range : ℤ → Option SetFault
+chroma_range v =
+    if nat_le (nat_abs v) 2 then None else if nat_abs v == 3 then Some Chroma444 else Some (Range ranges.ChromaFormat)
+
+-- scaling list number j, of n entries
+unfoldable pub scaling_list_rows : ℕ → ℕ → List SpsRow
+scaling_list_rows j n =
+    u SeqScalingListPresentFlag 1 has_matrix
+    ∷ replicate n (se DeltaScale (λ s. is_reading j s.scaling_lists) (negsuc 127) (pos 127) (Range ranges.Delta))
+
+-- six lists of 16 entries, and two of 64
+unfoldable pub scaling_rows : List SpsRow
+scaling_rows = flat_map (λ j. scaling_list_rows j (if nat_lt j 6 then 16 else 64)) (0 ∷ 1 ∷ 2 ∷ 3 ∷ 4 ∷ 5 ∷ 6 ∷ 7 ∷ [])
+
+abbrev pub high_rows : List SpsRow
+high_rows =
+    ue_of ChromaFormatIdc is_high chroma_range (Range ranges.ChromaFormat)
+    ∷ ue BitDepthLumaMinus8 is_high 6 (Range ranges.BitDepth)
+    ∷ ue BitDepthChromaMinus8 is_high 6 (Range ranges.BitDepth)
+    ∷ u QpprimeYZeroTransformBypassFlag 1 is_high
+    ∷ u SeqScalingMatrixPresentFlag 1 is_high
+    ∷ scaling_rows
+
+abbrev pub is_type_zero : Sps → Bool
+is_type_zero s = is_zero s.pic_order_cnt_type
+  where
+    is_zero : PicOrderCntType → Bool
+    is_zero Zero = true
+    is_zero t = false
+
+abbrev pub is_type_one : Sps → Bool
+is_type_one s = is_one s.pic_order_cnt_type
+  where
+    is_one : PicOrderCntType → Bool
+    is_one One = true
+    is_one t = false
+
+-- types 0 and 1 aren't read yet
+abbrev pub count_type_range : ℤ → Option SetFault
+count_type_range v =
+    if nat_abs v == 2 then None else if nat_lt (nat_abs v) 2 then Some OutsidePath else Some (Range ranges.CountType)
+
+-- an offset of the cycle that isn't read yet
+abbrev pub has_offset : Sps → Bool
+has_offset s = is_type_one s && nat_lt (length s.offset_for_ref_frame) s.num_ref_frames_in_pic_order_cnt_cycle
+
+unfoldable pub offset_rows : List SpsRow
+offset_rows = replicate 255 (se_any OffsetForRefFrame has_offset (Range ranges.Offset))
+
+abbrev pub count_rows : List SpsRow
+count_rows =
+    ue Log2MaxFrameNumMinus4 always 12 (Range ranges.FrameNumBits)
+    ∷ ue_of PicOrderCntTypeCode always count_type_range (Range ranges.CountType)
+    ∷ ue Log2MaxPicOrderCntLsbMinus4 is_type_zero 12 (Range ranges.CountBits)
+    ∷ u DeltaPicOrderAlwaysZeroFlag 1 is_type_one
+    ∷ se_any OffsetForNonRefPic is_type_one (Range ranges.Offset)
+    ∷ se_any OffsetForTopToBottomField is_type_one (Range ranges.Offset)
+    ∷ ue NumRefFramesInPicOrderCntCycle is_type_one 255 (Range ranges.CycleLength)
+    ∷ offset_rows
+
+abbrev pub frames_only : ℤ → Option SetFault
+frames_only v = if flag_of v then None else Some Interlaced
+
+abbrev pub size_rows : List SpsRow
+size_rows =
+    ue MaxNumRefFrames always 16 RefFrames
+    ∷ u GapsInFrameNumValueAllowedFlag 1 always
+    ∷ ue PicWidthInMbsMinus1 always 65535 (Range ranges.Width)
+    ∷ ue PicHeightInMapUnitsMinus1 always 65535 (Range ranges.Height)
+    ∷ u_of FrameMbsOnlyFlag 1 always frames_only
+    ∷ u Direct8x8InferenceFlag 1 always
+    ∷ []
+
+-- the whole table, as far as it is read: what follows is cropping and VUI
+unfoldable pub sps_rows : List SpsRow
+sps_rows = profile_rows ++ (high_rows ++ (count_rows ++ size_rows))

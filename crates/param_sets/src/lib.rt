@@ -1,0 +1,18 @@
+//! Sequence and picture parameter sets of H.264 (ITU-T H.264, 7.3.2.1 and 7.3.2.2).
+//!
+//! `read_sps` and `read_pps` answer exactly the set of a payload, or what its first field shows that can't be read.
+//! The syntax stands as tables of rows, with one law of reading for every table; the slice headers are read by it too.
+#![tactic(auto)]
+
+mod fault;
+mod offsets;
+mod pps;
+mod scaling;
+mod sps;
+pub mod syntax;
+
+pub use fault::{SetFault, SetField};
+pub use offsets::Offsets;
+pub use pps::{Pps, WeightedBipred};
+pub use scaling::{ScalingList, ScalingLists};
+pub use sps::{ChromaFormat, PicOrderCntType, Sps};

@@ -1,0 +1,46 @@
+use crate::offsets::Offsets;
+use crate::scaling::ScalingLists;
+
+/// chroma_format_idc, but for 4:4:4.
+#[derive(Clone, Copy, Debug, PartialEq, Eq)]
+pub enum ChromaFormat {
+    Monochrome = 0,
+    Yuv420 = 1,
+    Yuv422 = 2,
+}
+
+/// pic_order_cnt_type.
+#[derive(Clone, Copy, Debug, PartialEq, Eq)]
+pub enum PicOrderCntType {
+    Zero = 0,
+    One = 1,
+    Two = 2,
+}
+
+/// A sequence parameter set.
+#[derive(Debug, Drop)]
+pub struct Sps {
+    pub profile_idc: u8,
+    pub constraint_set_flags: [bool; 6],
+    pub level_idc: u8,
+    pub seq_parameter_set_id: u8,
+    pub chroma_format_idc: ChromaFormat,
+    pub bit_depth_luma_minus8: u8,
+    pub bit_depth_chroma_minus8: u8,
+    pub qpprime_y_zero_transform_bypass_flag: bool,
+    pub seq_scaling_matrix_present_flag: bool,
+    pub scaling_lists: ScalingLists,
+    pub log2_max_frame_num_minus4: u8,
+    pub pic_order_cnt_type: PicOrderCntType,
+    pub log2_max_pic_order_cnt_lsb_minus4: u8,
+    pub delta_pic_order_always_zero_flag: bool,
+    pub offset_for_non_ref_pic: i32,
+    pub offset_for_top_to_bottom_field: i32,
+    pub num_ref_frames_in_pic_order_cnt_cycle: u8,
+    pub offset_for_ref_frame: Offsets,
+    pub max_num_ref_frames: u8,
+    pub gaps_in_frame_num_value_allowed_flag: bool,
+    pub pic_width_in_mbs_minus1: u16,
+    pub pic_height_in_map_units_minus1: u16,
+    pub direct_8x8_inference_flag: bool,
+}

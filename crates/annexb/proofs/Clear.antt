@@ -1,12 +1,17 @@
 -- In a text that has units no fault stands anywhere.
-use Rattle.std.proofs.Common.{◌≡◌, ◌≢◌, ℕ, zero, suc, ◌+◌, ◌-◌, ◌<◌, ◌≤◌, ⊎_elim, true, false, eqb, leb, List, [], ◌∷◌, ◌++◌, length, drop, replicate, arith, refl, ap, sym, ◌∙◌, length-append}
+use Rattle.std.proofs.Common.{Bool, ◌≡◌, ◌≢◌, ℕ, zero, suc, ◌+◌, ◌-◌, ◌<◌, ◌≤◌, ⊎_elim, true, false, eqb, leb, List, [], ◌∷◌, ◌++◌, length, drop, replicate, arith, refl, ap, sym, ◌∙◌, length-append}
 use Rattle.std.proofs.lemmas.Bool.{false≢true, and_right, ne_eqb, cases_lt}
 use Rattle.std.proofs.lemmas.List.{append_assoc, drop-drop, drop_at, drop_all, length-replicate}
 use Rattle.annexb.specs.NalUnit.{begins_above_three, IsUnit}
 use Rattle.annexb.specs.ByteStream.{start_code, AreUnits, HasUnits}
-use Rattle.annexb.specs.Faults.{zero_run, after_zeros, begins_with_start_code, is_forbidden_run, begins_forbidden_run, ends_unit, begins_empty}
+use Rattle.annexb.specs.Faults.{zero_run, after_zeros, begins_with_start_code, is_forbidden_run, begins_forbidden_run, ends_unit}
 use Rattle.annexb.proofs.Tails.{IsTail, IsTail-from_unit, IsTail-drop}
 use Rattle.annexb.proofs.ZeroRuns.{after_zeros-replicate, begins_with_start_code-zeros, ends_unit-end, ends_unit-code}
+
+-- the bytes begin with a start code and no unit behind it
+abbrev pub begins_empty : List ℕ → Bool
+begins_empty (zero ∷ zero ∷ suc zero ∷ bytes) = ends_unit bytes
+begins_empty bytes = false
 
 -- no fault stands at the front of the bytes
 pub record IsClear (bytes : List ℕ) : Type 0 where

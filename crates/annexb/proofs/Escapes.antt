@@ -3,13 +3,13 @@ use Rattle.std.proofs.Common.{◌≡◌, ℕ, zero, suc, ◌+◌, ◌<◌, false
 use Rattle.std.proofs.lemmas.Bool.{false≢true, lt-leb, le-leb, ltb-false}
 use Rattle.annexb.specs.NalUnit.{begins_forbidden, IsUnit}
 use Rattle.memchr.specs.Find.{OccursAt, Nowhere, NoneBefore}
-use Rattle.annexb.specs.EmulationPrevention.{guard_before, escape, payload_of, IsFirstGuard}
+use Rattle.annexb.specs.EmulationPrevention.{three_byte_before, escape, payload_of, IsFirstThreeByte}
 use Rattle.annexb.proofs.Needles.{drop-occurs, OccursAt-from_drop}
 use Rattle.annexb.proofs.Tails.{IsTail, IsTail-from_unit, IsTail-drop}
 
--- a byte above 3 takes no guard before it
-guard_before-above : (byte : ℕ) (bytes : List ℕ) → 3 < byte → guard_before (byte ∷ bytes) ≡ []
-guard_before-above byte bytes above = rw (lt-leb byte 3 above) refl
+-- a byte above 3 takes no 03 before it
+three_byte_before-above : (byte : ℕ) (bytes : List ℕ) → 3 < byte → three_byte_before (byte ∷ bytes) ≡ []
+three_byte_before-above byte bytes above = rw (lt-leb byte 3 above) refl
 
 -- taking out what was put in
 pub payload_of-escape : (payload : List ℕ) → payload_of (escape payload) ≡ payload
@@ -21,27 +21,27 @@ payload_of-escape (zero ∷ zero ∷ suc zero ∷ bytes) = ap (λ l. 0 ∷ 0 ∷
 payload_of-escape (zero ∷ zero ∷ suc (suc zero) ∷ bytes) = ap (λ l. 0 ∷ 0 ∷ l) (payload_of-escape (suc (suc zero) ∷ bytes))
 payload_of-escape (zero ∷ zero ∷ suc (suc (suc zero)) ∷ bytes) = ap (λ l. 0 ∷ 0 ∷ l) (payload_of-escape (suc (suc (suc zero)) ∷ bytes))
 payload_of-escape (zero ∷ zero ∷ suc (suc (suc (suc n))) ∷ bytes) =
-    rw (guard_before-above (suc (suc (suc (suc n)))) bytes (omega arith)) (ap (λ l. 0 ∷ 0 ∷ suc (suc (suc (suc n))) ∷ l) (payload_of-escape bytes))
+    rw (three_byte_before-above (suc (suc (suc (suc n)))) bytes (omega arith)) (ap (λ l. 0 ∷ 0 ∷ suc (suc (suc (suc n))) ∷ l) (payload_of-escape bytes))
 payload_of-escape (zero ∷ suc n ∷ bytes) = ap (λ l. 0 ∷ suc n ∷ l) (payload_of-escape bytes)
 payload_of-escape (suc n ∷ bytes) = ap (λ l. suc n ∷ l) (payload_of-escape bytes)
 
 -- a payload begins as its unit does
-guard_before-payload_of : (bytes : List ℕ) → guard_before (payload_of bytes) ≡ guard_before bytes
-guard_before-payload_of [] = refl
-guard_before-payload_of (zero ∷ []) = refl
-guard_before-payload_of (zero ∷ zero ∷ []) = refl
-guard_before-payload_of (zero ∷ zero ∷ zero ∷ bytes) = refl
-guard_before-payload_of (zero ∷ zero ∷ suc zero ∷ bytes) = refl
-guard_before-payload_of (zero ∷ zero ∷ suc (suc zero) ∷ bytes) = refl
-guard_before-payload_of (zero ∷ zero ∷ suc (suc (suc zero)) ∷ bytes) = refl
-guard_before-payload_of (zero ∷ zero ∷ suc (suc (suc (suc n))) ∷ bytes) = refl
-guard_before-payload_of (zero ∷ suc n ∷ bytes) = refl
-guard_before-payload_of (suc n ∷ bytes) = refl
+three_byte_before-payload_of : (bytes : List ℕ) → three_byte_before (payload_of bytes) ≡ three_byte_before bytes
+three_byte_before-payload_of [] = refl
+three_byte_before-payload_of (zero ∷ []) = refl
+three_byte_before-payload_of (zero ∷ zero ∷ []) = refl
+three_byte_before-payload_of (zero ∷ zero ∷ zero ∷ bytes) = refl
+three_byte_before-payload_of (zero ∷ zero ∷ suc zero ∷ bytes) = refl
+three_byte_before-payload_of (zero ∷ zero ∷ suc (suc zero) ∷ bytes) = refl
+three_byte_before-payload_of (zero ∷ zero ∷ suc (suc (suc zero)) ∷ bytes) = refl
+three_byte_before-payload_of (zero ∷ zero ∷ suc (suc (suc (suc n))) ∷ bytes) = refl
+three_byte_before-payload_of (zero ∷ suc n ∷ bytes) = refl
+three_byte_before-payload_of (suc n ∷ bytes) = refl
 
 -- behind 00 00 03 a unit ends, or goes on with a byte of at most 3
-guard_before-allowed : (bytes : List ℕ) → begins_forbidden (0 ∷ 0 ∷ 3 ∷ bytes) ≡ false → guard_before bytes ≡ 3 ∷ []
-guard_before-allowed [] h = refl
-guard_before-allowed (byte ∷ bytes) h = rw (le-leb byte 3 (ltb-false 3 byte h)) refl
+three_byte_before-allowed : (bytes : List ℕ) → begins_forbidden (0 ∷ 0 ∷ 3 ∷ bytes) ≡ false → three_byte_before bytes ≡ 3 ∷ []
+three_byte_before-allowed [] h = refl
+three_byte_before-allowed (byte ∷ bytes) h = rw (le-leb byte 3 (ltb-false 3 byte h)) refl
 
 -- putting in what was taken out
 escape-payload_of_tail : (bytes : List ℕ) → IsTail bytes → escape (payload_of bytes) ≡ bytes
@@ -52,7 +52,7 @@ escape-payload_of_tail (zero ∷ zero ∷ zero ∷ bytes) h = absurd (false≢tr
 escape-payload_of_tail (zero ∷ zero ∷ suc zero ∷ bytes) h = absurd (false≢true (sym (h.allowed 0)))
 escape-payload_of_tail (zero ∷ zero ∷ suc (suc zero) ∷ bytes) h = absurd (false≢true (sym (h.allowed 0)))
 escape-payload_of_tail (zero ∷ zero ∷ suc (suc (suc zero)) ∷ bytes) h =
-    rw (guard_before-payload_of bytes, guard_before-allowed bytes (h.allowed 0)) (ap (λ l. 0 ∷ 0 ∷ 3 ∷ l) (escape-payload_of_tail bytes (IsTail-drop 3 _ h)))
+    rw (three_byte_before-payload_of bytes, three_byte_before-allowed bytes (h.allowed 0)) (ap (λ l. 0 ∷ 0 ∷ 3 ∷ l) (escape-payload_of_tail bytes (IsTail-drop 3 _ h)))
 escape-payload_of_tail (zero ∷ zero ∷ suc (suc (suc (suc n))) ∷ bytes) h =
     rw (lt-leb (suc (suc (suc (suc n)))) 3 (omega arith)) (ap (λ l. 0 ∷ 0 ∷ suc (suc (suc (suc n))) ∷ l) (escape-payload_of_tail bytes (IsTail-drop 3 _ h)))
 escape-payload_of_tail (zero ∷ suc n ∷ bytes) h = ap (λ l. 0 ∷ suc n ∷ l) (escape-payload_of_tail bytes (IsTail-drop 2 _ h))
@@ -69,11 +69,11 @@ payload_of-only unit payload e = ap payload_of (sym e) ∙ payload_of-escape pay
 pub ruleset escapes = (escape-payload_of, payload_of-only)
 
 -- 00 00 03 stands at the front of the bytes
-abbrev pub BeginsGuarded : List ℕ → Type 0
-BeginsGuarded bytes = (rest : List ℕ) × (bytes ≡ 0 ∷ 0 ∷ 3 ∷ rest)
+abbrev pub BeginsEscaped : List ℕ → Type 0
+BeginsEscaped bytes = (rest : List ℕ) × (bytes ≡ 0 ∷ 0 ∷ 3 ∷ rest)
 
 -- a byte that doesn't begin 00 00 03 stays
-payload_of-cons : (byte : ℕ) (bytes : List ℕ) → ¬ BeginsGuarded (byte ∷ bytes) → payload_of (byte ∷ bytes) ≡ byte ∷ payload_of bytes
+payload_of-cons : (byte : ℕ) (bytes : List ℕ) → ¬ BeginsEscaped (byte ∷ bytes) → payload_of (byte ∷ bytes) ≡ byte ∷ payload_of bytes
 payload_of-cons zero [] h = refl
 payload_of-cons zero (zero ∷ []) h = refl
 payload_of-cons zero (zero ∷ zero ∷ bytes) h = refl
@@ -85,30 +85,30 @@ payload_of-cons zero (suc n ∷ bytes) h = refl
 payload_of-cons (suc n) bytes h = refl
 
 -- bytes without 00 00 03 are their own payload
-pub payload_of-plain : (bytes : List ℕ) → ((at : ℕ) → ¬ BeginsGuarded (drop at bytes)) → payload_of bytes ≡ bytes
+pub payload_of-plain : (bytes : List ℕ) → ((at : ℕ) → ¬ BeginsEscaped (drop at bytes)) → payload_of bytes ≡ bytes
 payload_of-plain [] h = refl
 payload_of-plain (byte ∷ bytes) h =
     payload_of-cons byte bytes (h 0) ∙ ap (λ l. byte ∷ l) (payload_of-plain bytes (λ at. h (suc at)))
 
 -- up to the first 00 00 03, and past it
-pub payload_of-guarded : (at : ℕ) (bytes rest : List ℕ) → ((k : ℕ) → k < at → ¬ BeginsGuarded (drop k bytes)) → drop at bytes ≡ 0 ∷ 0 ∷ 3 ∷ rest → payload_of bytes ≡ take (at + 2) bytes ++ payload_of rest
-payload_of-guarded zero bytes rest h e = rw e refl
-payload_of-guarded (suc at) [] rest h e = cc
-payload_of-guarded (suc at) (byte ∷ bytes) rest h e =
+pub payload_of-escaped : (at : ℕ) (bytes rest : List ℕ) → ((k : ℕ) → k < at → ¬ BeginsEscaped (drop k bytes)) → drop at bytes ≡ 0 ∷ 0 ∷ 3 ∷ rest → payload_of bytes ≡ take (at + 2) bytes ++ payload_of rest
+payload_of-escaped zero bytes rest h e = rw e refl
+payload_of-escaped (suc at) [] rest h e = cc
+payload_of-escaped (suc at) (byte ∷ bytes) rest h e =
     let shifted : suc at + 2 ≡ suc (at + 2) = omega arith in
-    payload_of-cons byte bytes (h 0 (omega arith)) ∙ rw shifted (ap (λ l. byte ∷ l) (payload_of-guarded at bytes rest (λ k below. h (suc k) (omega arith)) e))
+    payload_of-cons byte bytes (h 0 (omega arith)) ∙ rw shifted (ap (λ l. byte ∷ l) (payload_of-escaped at bytes rest (λ k below. h (suc k) (omega arith)) e))
 
 -- what a search for 00 00 03 tells
-pub IsFirstGuard-none : (bytes : List ℕ) → Nowhere (OccursAt bytes (0 ∷ 0 ∷ 3 ∷ [])) 0 (length bytes + 1) → IsFirstGuard bytes None
-IsFirstGuard-none bytes nowhere = payload_of-plain bytes (λ at (rest, e).
+pub IsFirstThreeByte-none : (bytes : List ℕ) → Nowhere (OccursAt bytes (0 ∷ 0 ∷ 3 ∷ [])) 0 (length bytes + 1) → IsFirstThreeByte bytes None
+IsFirstThreeByte-none bytes nowhere = payload_of-plain bytes (λ at (rest, e).
     let occurs = OccursAt-from_drop bytes (0 ∷ 0 ∷ 3 ∷ []) rest at (omega arith) e in
     nowhere at (omega arith) (omega (arith, occurs.fits)) occurs)
 
-pub IsFirstGuard-some : (bytes : List ℕ) (at : ℕ) → NoneBefore (OccursAt bytes (0 ∷ 0 ∷ 3 ∷ [])) 0 (length bytes + 1) at × OccursAt bytes (0 ∷ 0 ∷ 3 ∷ []) at → IsFirstGuard bytes (Some (at + 2))
-IsFirstGuard-some bytes at (first, occurs) =
+pub IsFirstThreeByte-some : (bytes : List ℕ) (at : ℕ) → NoneBefore (OccursAt bytes (0 ∷ 0 ∷ 3 ∷ [])) 0 (length bytes + 1) at × OccursAt bytes (0 ∷ 0 ∷ 3 ∷ []) at → IsFirstThreeByte bytes (Some (at + 2))
+IsFirstThreeByte-some bytes at (first, occurs) =
     let past : at + 2 + 1 ≡ at + 3 = omega arith in (
       omega (arith, occurs.fits),
-      rw past (payload_of-guarded at bytes (drop (at + 3) bytes)
+      rw past (payload_of-escaped at bytes (drop (at + 3) bytes)
           (λ k below (rest, e). first.before k (omega arith) below (OccursAt-from_drop bytes (0 ∷ 0 ∷ 3 ∷ []) rest k (omega arith) e))
           (drop-occurs bytes (0 ∷ 0 ∷ 3 ∷ []) at occurs)),
     )

@@ -4,11 +4,11 @@ use Rattle.std.specs.Option.{option_map}
 use Rattle.std.proofs.lemmas.Bool.{cases_eq}
 use Rattle.std.proofs.lemmas.List.{drop-drop, get_or-drop, take-append-drop, drop_at, length-replicate}
 use Rattle.annexb.specs.declared.fault.SplitFault.TheVariants.{ForbiddenBytes, EmptyUnit}
-use Rattle.annexb.specs.ByteStream.{start_code}
+use Rattle.annexb.specs.ByteStream.{start_code, FollowsStartCode}
 use Rattle.annexb.specs.Faults.{begins_forbidden_run}
-use Rattle.annexb.specs.Search.{IsScanned, EndsUnit, FollowsStartCode, IsFoundAt, IsFaultFrom}
+use Rattle.annexb.specs.Search.{IsScanned, EndsUnit, IsFoundAt, IsFaultFrom}
 use Rattle.annexb.proofs.Tails.{IsUnit-from_scanned}
-use Rattle.annexb.proofs.ZeroRuns.{ends_unit-end, ends_unit-code}
+use Rattle.annexb.proofs.ZeroRuns.{ends_unit-end, ends_unit-code, code_in_range}
 
 module _ (text : List ℕ) (at : ℕ) (behind : FollowsStartCode text at) where
   -- the byte before the place is the 01 of the start code
@@ -28,7 +28,7 @@ module _ (text : List ℕ) (at : ℕ) (behind : FollowsStartCode text at) where
           let last = before - at in
           let there : at + last ≡ before = omega arith in
           scanned.ends last (omega arith) (get_or-drop at text last 0 ∙ rw there zero_there)) (cases_eq (at + run) at);
-      forbidden = rw drop-drop at forbidden;
+      forbidden = rw (drop-drop run at text) at forbidden;
     },
     λ k from below.
         let past = k - at in
@@ -62,7 +62,6 @@ module _ (text : List ℕ) (at : ℕ) (behind : FollowsStartCode text at) where
       record {
         start = at + (len + ends.zeros);
         place = omega (arith, ends.follows.0);
-        in_range = omega (arith, ends.follows.1, length-drop at text, behind.in_range);
         code = sym (drop-drop (len + ends.zeros) at text) ∙ sym (drop-drop ends.zeros len (drop at text)) ∙ ap (drop ends.zeros) ends.gap
             ∙ drop_at (replicate ends.zeros 0) (start_code ++ drop next (drop at text)) ends.zeros (length-replicate ends.zeros 0) ∙ ap (λ l. start_code ++ l) (drop-drop next at text);
       },

@@ -10,17 +10,8 @@ payload_behind zero bytes = payload_of bytes
 payload_behind (suc zero) bytes = drop 1 (payload_of (0 ∷ bytes))
 payload_behind (suc (suc more)) bytes = drop 2 (payload_of (0 ∷ 0 ∷ bytes))
 
-pub payload_behind-nil : (before : ℕ) → payload_behind before [] ≡ []
-payload_behind-nil zero = refl
-payload_behind-nil (suc zero) = refl
-payload_behind-nil (suc (suc n)) = refl
-
--- a guard is left out
-pub payload_behind-guard : (bytes : List ℕ) → payload_behind 2 (3 ∷ bytes) ≡ payload_behind 0 bytes
-payload_behind-guard bytes = refl
-
 -- a payload begins as its bytes do
-payload_of-first : (byte : ℕ) (bytes : List ℕ) → payload_of (byte ∷ bytes) ≡ byte ∷ drop 1 (payload_of (byte ∷ bytes))
+pub payload_of-first : (byte : ℕ) (bytes : List ℕ) → payload_of (byte ∷ bytes) ≡ byte ∷ drop 1 (payload_of (byte ∷ bytes))
 payload_of-first zero [] = refl
 payload_of-first zero (zero ∷ []) = refl
 payload_of-first zero (zero ∷ zero ∷ bytes) = refl
@@ -50,7 +41,7 @@ payload_behind-zero (suc (suc (suc n))) bytes h = absurd (omega arith)
 zeros_behind-suc : (before n : ℕ) → zeros_behind before (suc n) ≡ 0
 zeros_behind-suc before n = let other : suc n ≢ 0 = omega arith in rw (ne_eqb (suc n) 0 other) refl
 
--- and so does each byte that is no guard
+-- and so does each byte that a payload keeps
 pub payload_behind-kept : (before byte : ℕ) (bytes : List ℕ) → before ≤ 2 → ¬ ((before ≡ 2) × (byte ≡ 3)) → payload_behind before (byte ∷ bytes) ≡ byte ∷ payload_behind (zeros_behind before byte) bytes
 payload_behind-kept before zero bytes h kept = payload_behind-zero before bytes h
 payload_behind-kept zero (suc n) bytes h kept = rw (zeros_behind-suc zero n) refl

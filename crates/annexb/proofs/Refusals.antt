@@ -5,11 +5,11 @@ use Rattle.std.proofs.lemmas.List.{drop-drop}
 use Rattle.annexb.specs.declared.fault.SplitFault.{SplitFault}
 use Rattle.annexb.specs.declared.fault.SplitFault.TheVariants.{NoStartCode, ForbiddenBytes, EmptyUnit, Memory}
 use Rattle.annexb.specs.NalUnit.{begins_above_three, begins_forbidden}
-use Rattle.annexb.specs.ByteStream.{start_code, HasUnits}
-use Rattle.annexb.specs.Faults.{zero_run, after_zeros, begins_with_one, begins_with_start_code, is_forbidden_run, begins_forbidden_run, is_nothing, ends_unit, begins_empty, IsForbiddenAt, IsEmptyAt}
+use Rattle.annexb.specs.ByteStream.{start_code, FollowsStartCode, HasUnits}
+use Rattle.annexb.specs.Faults.{zero_run, after_zeros, begins_with_one, begins_with_start_code, is_forbidden_run, begins_forbidden_run, is_nothing, ends_unit, IsForbiddenAt, IsEmptyAt}
 use Rattle.annexb.specs.SplitFault.{IsFaultOf}
-use Rattle.annexb.specs.Search.{FollowsStartCode, IsFaultFrom}
-use Rattle.annexb.proofs.Clear.{IsClear, clear_text, begins_with_start_code-text}
+use Rattle.annexb.specs.Search.{IsFaultFrom}
+use Rattle.annexb.proofs.Clear.{begins_empty, IsClear, clear_text, begins_with_start_code-text}
 use Rattle.annexb.proofs.Readings.{same_reading}
 
 -- a forbidden run begins with a forbidden sequence
@@ -71,12 +71,16 @@ ends_unit-before (zero ∷ bytes) (suc run) allowed forbidden =
     ends_unit-zero bytes (ends_unit-before bytes run (λ place below. allowed (suc place) (omega arith)) forbidden) (allowed 0 (omega arith))
 ends_unit-before (suc n ∷ bytes) (suc run) allowed forbidden = refl
 
+-- a start code without a unit begins three places before it ends
+begins_empty-there : (text : List ℕ) (at : ℕ) → (fault : IsEmptyAt text at) → begins_empty (drop fault.code.start text) ≡ true
+begins_empty-there text at fault = rw fault.code.code fault.empty
+
 -- no fault stands in a text that has units
 no_forbidden : (text : List ℕ) (units : List (List ℕ)) (at : ℕ) → HasUnits text units → ¬ IsForbiddenAt text at
 no_forbidden text units at h fault = both_ways _ (clear_text text units h at).allowed fault.forbidden
 
 no_empty : (text : List ℕ) (units : List (List ℕ)) (at : ℕ) → HasUnits text units → ¬ IsEmptyAt text at
-no_empty text units at h (start, e, fault) = both_ways _ (clear_text text units h start).filled fault
+no_empty text units at h fault = both_ways _ (clear_text text units h fault.code.start).filled (begins_empty-there text at fault)
 
 -- each two first places of one text are one
 same_place : (a b : ℕ) → ¬ (a < b) → ¬ (b < a) → a ≡ b
@@ -152,21 +156,23 @@ module _ (text : List ℕ) (at : ℕ) (behind : FollowsStartCode text at) (clear
       let there : at + run ≡ place = omega arith in
       let filled = ends_unit-before (drop at text) run
       (λ ahead below. rw drop-drop (scanned (at + ahead) (omega arith) (omega arith)))
-      (rw (drop-drop, there) here.forbidden) in (
+      (rw (drop-drop run at text, there) here.forbidden) in (
         here,
         record {
           begins = begins;
           allowed = λ k below fault. both_ways _ (⊎_elim (allowed_before k) (λ from. begins_forbidden_run-allowed (drop k text) (scanned k from below)) (cases_lt k at)) fault.forbidden;
-          filled = λ k below (start, e, empty). both_ways _ (⊎_elim (filled_before filled start) (λ from. begins_empty-allowed (drop start text) (scanned start from (omega arith))) (cases_lt start at)) empty;
+          filled = λ k below fault. let start = fault.code.start in
+              let e = fault.code.place in
+              both_ways _ (⊎_elim (filled_before filled start) (λ from. begins_empty-allowed (drop start text) (scanned start from (omega arith))) (cases_lt start at)) (begins_empty-there text k fault);
         },
       )
   IsFaultOf-from_fault (EmptyUnit place) begins (same, here) = (
-    (behind.start, behind.place ∙ sym same, rw behind.code here),
+    record { code = rw same behind; empty = rw same here },
     λ fault. both_ways _ (ends_unit-forbidden (drop at text) (rw same at fault.forbidden)) here,
     record {
       begins = begins;
       allowed = λ k below fault. both_ways _ (allowed_before k (omega arith)) fault.forbidden;
-      filled = λ k below (start, e, empty). both_ways _ (clear start (omega arith)).filled empty;
+      filled = λ k below fault. let e = fault.code.place in both_ways _ (clear fault.code.start (omega arith)).filled (begins_empty-there text k fault);
     },
   )
   IsFaultOf-from_fault Memory begins h = elim h [ ]

@@ -2,10 +2,10 @@
 use Rattle.std.proofs.Common.{◌≡◌, ℕ, ◌+◌, ◌-◌, ◌<◌, ◌≤◌, ⊎_elim, Bool, true, leb, List, [], ◌∷◌, ◌++◌, length, drop, replicate, Option, Some, None, IfSome, arith, refl, ap, sym, ◌∙◌, length-append, length-drop, append_assoc}
 use Rattle.std.proofs.lemmas.Bool.{false≢true, and_parts, leb-true, eqb-true, cases_lt}
 use Rattle.std.proofs.lemmas.List.{append-nil, drop-drop, drop_at, length-replicate}
-use Rattle.annexb.specs.ByteStream.{start_code, BeginsWithUnit, AreUnits, HasUnits}
+use Rattle.annexb.specs.ByteStream.{start_code, FollowsStartCode, BeginsWithUnit, AreUnits, HasUnits}
 use Rattle.annexb.specs.Faults.{zero_run, after_zeros, begins_with_one, begins_with_start_code}
-use Rattle.annexb.specs.Search.{IsFirstUnit, FollowsStartCode, IsFoundAt, from_code}
-use Rattle.annexb.proofs.ZeroRuns.{start_code_split, length-zero_run}
+use Rattle.annexb.specs.Search.{IsFirstUnit, IsFoundAt, from_code}
+use Rattle.annexb.proofs.ZeroRuns.{start_code_split, length-zero_run, code_in_range}
 use Rattle.annexb.proofs.Clear.{IsClear, a_code, clear_in_zeros, clear_piece}
 
 -- some units are found, whatever units the rest has, and no fault stands before the rest
@@ -54,7 +54,6 @@ module _ (text : List ℕ) (first : ℕ) (h : IsFirstUnit text (Some first)) whe
     behind = record {
       start = zero_run text - 2;
       place = omega (arith, enough, h.1);
-      in_range = omega (arith, h.1, length-zero_run text, ap length one_there);
       code = ap (drop (zero_run text - 2)) text_split ∙ drop_at (replicate (zero_run text - 2) 0) (start_code ++ drop first text) (zero_run text - 2) (length-replicate (zero_run text - 2) 0);
     };
     clear = λ place below. rw text_split (clear_in_zeros (start_code ++ drop first text) a_code (zero_run text - 2) place (omega (arith, enough, h.1)));
@@ -72,7 +71,7 @@ module _ (text : List ℕ) (at : ℕ) (is_stored : Bool) (items : List (List ℕ
       let rest = start_code ++ drop next text in
       let size : length (drop at text) ≡ length unit + begins.zeros + 3 + length (drop next text) =
       omega (arith, ap length begins.bytes_are, length-append unit (replicate begins.zeros 0 ++ rest), length-append (replicate begins.zeros 0) rest, length-replicate {A = ℕ} begins.zeros 0) in
-      let end : next ≡ at + length unit + begins.zeros + 3 = omega (arith, length-drop at text, length-drop next text, split.behind.in_range) in
+      let end : next ≡ at + length unit + begins.zeros + 3 = omega (arith, length-drop at text, length-drop next text, code_in_range text at split.behind) in
       ⊎_elim (split.clear place) (λ from.
       let ahead = place - start in
       let there : start + ahead ≡ place = omega (arith, split.behind.place) in
@@ -95,7 +94,7 @@ module _ (text : List ℕ) (at : ℕ) (is_stored : Bool) (items : List (List ℕ
     whole = λ more units. whole_more unit (start_code ++ drop next text) more found.begins units;
     begins = split.begins;
     behind = found.follows.1;
-    clear = clear_more unit next found.follows.1.in_range found.begins;
+    clear = clear_more unit next (code_in_range text next found.follows.1) found.begins;
   }
 
 -- at the end

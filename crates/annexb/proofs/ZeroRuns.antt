@@ -1,8 +1,8 @@
 -- The zeros that bytes begin with.
-use Rattle.std.proofs.Common.{◌≡◌, ◌≢◌, ℕ, zero, suc, ◌+◌, ◌-◌, ◌<◌, ◌≤◌, true, eqb, leb, cond, List, [], ◌∷◌, ◌++◌, length, drop, replicate, get_or, arith, refl, ap, ◌∙◌}
+use Rattle.std.proofs.Common.{◌≡◌, ◌≢◌, ℕ, zero, suc, ◌+◌, ◌-◌, ◌<◌, ◌≤◌, true, eqb, leb, cond, List, [], ◌∷◌, ◌++◌, length, drop, replicate, get_or, length-drop, arith, refl, ap, ◌∙◌}
 use Rattle.std.proofs.lemmas.Bool.{ne_eqb, le-leb, or_right}
 use Rattle.std.proofs.lemmas.List.{drop_more}
-use Rattle.annexb.specs.ByteStream.{start_code}
+use Rattle.annexb.specs.ByteStream.{start_code, FollowsStartCode}
 use Rattle.annexb.specs.Faults.{zero_run, after_zeros, begins_with_start_code, ends_unit}
 
 -- how the run goes on at a place
@@ -21,6 +21,10 @@ pub zeros_split : (bytes : List ℕ) → bytes ≡ replicate (zero_run bytes) 0 
 zeros_split [] = refl
 zeros_split (zero ∷ bytes) = ap (λ l. 0 ∷ l) (zeros_split bytes)
 zeros_split (suc n ∷ bytes) = refl
+
+-- a start code stands within the text
+pub code_in_range : (text : List ℕ) (at : ℕ) → FollowsStartCode text at → at ≤ length text
+code_in_range text at behind = omega (arith, behind.place, length-drop behind.start text, ap length behind.code)
 
 -- two of the zeros stand at the end of their run
 two_zeros_last : (count : ℕ) (bytes : List ℕ) → replicate (suc (suc count)) 0 ++ bytes ≡ replicate count 0 ++ 0 ∷ 0 ∷ bytes

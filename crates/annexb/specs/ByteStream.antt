@@ -1,11 +1,17 @@
 -- The byte stream: which units a text has (ITU-T H.264, B.1).
-use Rattle.std.specs.Prelude.{◌≡◌, ℕ, ◌<◌, List, [], ◌∷◌, ◌++◌, length, replicate}
+use Rattle.std.specs.Prelude.{◌≡◌, ℕ, ◌+◌, ◌<◌, List, [], ◌∷◌, ◌++◌, length, drop, replicate}
 use Rattle.std.specs.List.{flat_map}
 use Rattle.annexb.specs.NalUnit.{IsUnit}
 
 -- what stands before each unit
 abbrev pub start_code : List ℕ
 start_code = 0 ∷ 0 ∷ 1 ∷ []
+
+-- a start code ends at the place
+pub record FollowsStartCode (text : List ℕ) (at : ℕ) : Type 0 where
+  pub start : ℕ
+  pub place : start + 3 ≡ at
+  pub code : drop start text ≡ start_code ++ drop at text
 
 -- the bytes are a start code, the unit, zeros or none, and the rest
 pub record BeginsWithUnit (bytes unit rest : List ℕ) : Type 0 where

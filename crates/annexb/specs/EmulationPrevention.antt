@@ -2,13 +2,13 @@
 use Rattle.std.specs.Prelude.{◌≡◌, ℕ, zero, suc, ◌+◌, ◌<◌, ◌==◌, nat_le, min, List, [], ◌∷◌, ◌++◌, length, take, drop, Option, MatchOption, if◌then◌else◌}
 
 -- the byte 03 that two zeros take behind them before the end, or before a byte of at most 3
-abbrev pub guard_before : List ℕ → List ℕ
-guard_before [] = 3 ∷ []
-guard_before (byte ∷ bytes) = if nat_le byte 3 then 3 ∷ [] else []
+abbrev pub three_byte_before : List ℕ → List ℕ
+three_byte_before [] = 3 ∷ []
+three_byte_before (byte ∷ bytes) = if nat_le byte 3 then 3 ∷ [] else []
 
 -- the unit of a payload: with 03 put in where two zeros take it, after which the count of zeros starts again
 abbrev pub escape : List ℕ → List ℕ
-escape (zero ∷ zero ∷ bytes) = 0 ∷ 0 ∷ (guard_before bytes ++ escape bytes)
+escape (zero ∷ zero ∷ bytes) = 0 ∷ 0 ∷ (three_byte_before bytes ++ escape bytes)
 escape (byte ∷ bytes) = byte ∷ escape bytes
 escape [] = []
 
@@ -19,8 +19,8 @@ payload_of (byte ∷ bytes) = byte ∷ payload_of bytes
 payload_of [] = []
 
 -- the place of the first byte that a payload leaves out, if there's one
-abbrev pub IsFirstGuard : List ℕ → Option ℕ → Type 0
-IsFirstGuard bytes place =
+abbrev pub IsFirstThreeByte : List ℕ → Option ℕ → Type 0
+IsFirstThreeByte bytes place =
     MatchOption place (payload_of bytes ≡ bytes) (λ at. (at < length bytes) × (payload_of bytes ≡ take at bytes ++ payload_of (drop (at + 1) bytes)))
 
 -- how many zeros stand in a row up to a byte, two standing for more, where so many stand before it

@@ -1,6 +1,7 @@
 -- What keeps a text from having units, and where (ITU-T H.264, 7.4.1 and B.1).
 use Rattle.std.specs.Prelude.{◌≡◌, ◌≢◌, ℕ, zero, suc, ◌+◌, ◌<◌, Bool, true, false, not, ◌&&◌, ◌||◌, ◌==◌, nat_le, List, [], ◌∷◌, drop, slice_index, IsTrue}
 use Rattle.annexb.specs.NalUnit.{begins_above_three}
+use Rattle.annexb.specs.ByteStream.{FollowsStartCode}
 
 -- how many zeros the bytes begin with
 abbrev pub zero_run : List ℕ → ℕ
@@ -20,7 +21,7 @@ begins_with_one (byte ∷ bytes) = byte == 1
 abbrev pub begins_with_start_code : List ℕ → Bool
 begins_with_start_code bytes = nat_le 2 (zero_run bytes) && begins_with_one (after_zeros bytes)
 
--- this many zeros, all of a run, may not stand before these bytes
+-- a run of this many zeros may stand in no unit where these bytes follow it, and ends none
 abbrev pub is_forbidden_run : ℕ → List ℕ → Bool
 is_forbidden_run count [] = false
 is_forbidden_run count (byte ∷ bytes) =
@@ -41,18 +42,14 @@ abbrev pub is_nothing : List ℕ → Bool
 is_nothing [] = true
 is_nothing (byte ∷ bytes) = false
 
--- no unit begins with the bytes: they are zeros or none, up to the end or up to a start code
+-- a unit before the bytes ends there: they are zeros or none, up to the end or up to a start code
 abbrev pub ends_unit : List ℕ → Bool
 ends_unit bytes = is_nothing (after_zeros bytes) || begins_with_start_code bytes
 
--- the bytes begin with a start code and no unit behind it
-abbrev pub begins_empty : List ℕ → Bool
-begins_empty (zero ∷ zero ∷ suc zero ∷ bytes) = ends_unit bytes
-begins_empty bytes = false
-
--- no unit stands behind the start code that ends at the place
-abbrev pub IsEmptyAt : List ℕ → ℕ → Type 0
-IsEmptyAt text at = (start : ℕ) × (start + 3 ≡ at) × IsTrue (begins_empty (drop start text))
+-- a start code ends at the place, and no unit stands behind it
+pub record IsEmptyAt (text : List ℕ) (at : ℕ) : Type 0 where
+  pub code : FollowsStartCode text at
+  pub empty : IsTrue (ends_unit (drop at text))
 
 -- the text begins with zeros or none and a start code, and no fault stands before the place
 pub record IsSoundBefore (text : List ℕ) (at : ℕ) : Type 0 where

@@ -5,7 +5,7 @@ use Rattle.annexb.specs.declared.fault.SplitFault.TheVariants.{NoStartCode, Forb
 use Rattle.annexb.specs.declared.search.Run.{Run}
 use Rattle.annexb.specs.declared.search.Run.TheVariants.{Last, StartCode, Inside, Forbidden}
 use Rattle.annexb.specs.NalUnit.{begins_forbidden}
-use Rattle.annexb.specs.ByteStream.{start_code, BeginsWithUnit}
+use Rattle.annexb.specs.ByteStream.{start_code, FollowsStartCode, BeginsWithUnit}
 use Rattle.annexb.specs.Faults.{zero_run, after_zeros, begins_with_start_code, begins_forbidden_run, ends_unit, IsForbiddenAt}
 
 -- the bytes begin with two zeros, or are nothing but zeros
@@ -45,13 +45,6 @@ pub record EndsUnit (bytes : List ℕ) (at : ℕ) (next : Option ℕ) : Type 0 w
   pub zeros : ℕ
   pub gap : drop at bytes ≡ replicate zeros 0 ++ from_code bytes next
   pub follows : IfSome next (λ place. (at + zeros + 3 ≡ place) × (place ≤ length bytes))
-
--- a start code ends at the place
-pub record FollowsStartCode (text : List ℕ) (at : ℕ) : Type 0 where
-  pub start : ℕ
-  pub place : start + 3 ≡ at
-  pub in_range : at ≤ length text
-  pub code : drop start text ≡ start_code ++ drop at text
 
 -- the unit behind the start code that ends at the place, and where the next start code ends
 pub record IsFoundAt (text : List ℕ) (at : ℕ) (unit : List ℕ) (next : Option ℕ) : Type 0 where

@@ -10,14 +10,20 @@ use crate::nal_unit::Nal;
 use crate::search::{first_unit, unit_at};
 use std::alloc::{AllocError, Global};
 
-/// The units of the text, or its first fault. Memory is wanted only for a text that has units.
+/// What stands before each unit.
+const START_CODE: [u8; 3] = [0, 0, 1];
+
+/// The units of the text, or its first fault. Memory is the answer only for a text that has units:
+/// where a growth is refused, the rest of the text is still looked through.
 pub fn split(alloc: Global, text: &[u8]) -> Result<Vec<Nal<'_>>, SplitFault>
     ensures found { IfOk result (λ units. HasUnits text.now units.items) }
     // A text that has units has no others, and is refused for want of memory alone.
     ensures only { (units : List (List ℕ)) → HasUnits text.now units
         → IfOk result (λ found. found.items ≡ units) × IsOkUnless result SplitFault.Memory }
-    ensures memory { IsErrOf result SplitFault.Memory → (units : List (List ℕ)) × HasUnits text.now units }
+    ensures memory { IsErrOf result SplitFault.Memory
+        → (units : List (List ℕ)) × HasUnits text.now units }
 
+    // Any other text is refused by its first fault.
     ensures no_start_code { IsErrOf result SplitFault.NoStartCode
         ↔ (¬ IsTrue (begins_with_start_code text.now)) }
     ensures forbidden { (at : ℕ) → (IsErrOf result (SplitFault.ForbiddenBytes at)
@@ -58,7 +64,7 @@ pub fn join(alloc: Global, nals: &[Nal<'_>]) -> Result<Vec<u8>, AllocError>
 {
     let mut text = Vec::new(alloc);
     for nal in nals {
-        text.extend_from_slice(&[0, 0, 1])?;
+        text.extend_from_slice(&START_CODE)?;
         text.extend_from_slice(nal.bytes())?;
     }
     Ok(text)

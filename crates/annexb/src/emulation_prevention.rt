@@ -1,6 +1,6 @@
 //! Payloads: units without their emulation prevention bytes (7.3.1, 7.4.1).
 ghost use Rattle.std.specs.Prelude.{◌≡◌, ℕ, ◌≤◌, List, length, take, min, IfOk};
-ghost use Rattle.annexb.specs.EmulationPrevention.{escape, payload_of, IsFirstGuard, zeros_behind};
+ghost use Rattle.annexb.specs.EmulationPrevention.{escape, payload_of, IsFirstThreeByte, zeros_behind};
 
 use crate::nal_unit::Nal;
 use memchr::memmem;
@@ -16,17 +16,17 @@ pub fn payload(alloc: Global, nal: &Nal<'_>) -> Result<Vec<u8>, AllocError>
 {
     let mut rest = nal.bytes();
     let mut payload = Vec::with_capacity(alloc, rest.len())?;
-    while let Some(guard) = first_guard(rest) {
-        payload.extend_from_slice(&rest[..guard])?;
-        rest = &rest[guard + 1..];
+    while let Some(place) = first_three_byte(rest) {
+        payload.extend_from_slice(&rest[..place])?;
+        rest = &rest[place + 1..];
     }
     payload.extend_from_slice(rest)?;
     Ok(payload)
 }
 
-/// The place of the first emulation prevention byte.
-fn first_guard(bytes: &[u8]) -> Option<usize>
-    ensures { IsFirstGuard bytes.now result }
+/// The place of the first emulation_prevention_three_byte.
+fn first_three_byte(bytes: &[u8]) -> Option<usize>
+    ensures { IsFirstThreeByte bytes.now result }
 {
     let zeros = memmem::find(bytes, &[0, 0, 3])?;
     Some(zeros + 2)

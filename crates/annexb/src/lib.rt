@@ -17,7 +17,7 @@ pub use access_units::cut_units;
 pub use byte_stream::{join, split};
 pub use emulation_prevention::{payload, payload_front};
 pub use fault::SplitFault;
-pub use laws::{one_cut, one_reading, units_of_joined};
+pub use laws::{one_cut, one_payload, one_reading, units_of_joined};
 pub use nal_unit::Nal;
 
 #[cfg(test)]

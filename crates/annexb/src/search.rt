@@ -1,7 +1,8 @@
 //! The search for the next unit of a text.
 ghost use Rattle.std.specs.Prelude.{◌≡◌, ◌≤◌, IfOk, IfErr, IsTrue, length, drop};
+ghost use Rattle.annexb.specs.ByteStream.{FollowsStartCode};
 ghost use Rattle.annexb.specs.Faults.{zero_run, begins_forbidden_run};
-ghost use Rattle.annexb.specs.Search.{MayEnd, IsRun, IsFirstUnit, IsLenWithoutZero, FollowsStartCode, IsScanned, EndsUnit, IsFoundAt, IsFaultFrom};
+ghost use Rattle.annexb.specs.Search.{MayEnd, IsRun, IsFirstUnit, IsLenWithoutZero, IsScanned, EndsUnit, IsFoundAt, IsFaultFrom};
 
 use crate::fault::SplitFault;
 use crate::nal_unit::Nal;

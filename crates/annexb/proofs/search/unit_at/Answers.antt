@@ -1,8 +1,12 @@
 use Rattle.std.proofs.Common.{◌≡◌, ◌+◌, ◌<◌, rules, arith}
 use Rattle.std.specs.Option.{option_map}
+use Rattle.annexb.proofs.ZeroRuns.{code_in_range}
 use Rattle.annexb.proofs.Tails.{IsUnit-from_scanned}
 use Rattle.annexb.proofs.Finds.{IsFaultFrom_forbidden, IsFaultFrom_empty, IsFoundAt-from_extent}
 use Rattle.annexb.proofs.search.unit_at.Goals as goal
+
+pub split_at-requires : goal.split_at-requires
+split_at-requires c = code_in_range c.args.text.now c.args.at c.requires
 
 pub returns-in-Err-clause-err : goal.returns-in-Err-clause-err
 returns-in-Err-clause-err c =

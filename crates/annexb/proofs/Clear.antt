@@ -93,9 +93,6 @@ module _ (rest : List ℕ) (ends : EndsZeros rest) where
 
 -- a start code with its unit behind it is clear
 module _ (unit rest : List ℕ) (count : ℕ) (is_unit : IsUnit unit) (ends : EndsZeros rest) where
-  gap : List ℕ
-  gap = replicate count 0 ++ rest
-
   clear_in_unit : (bytes : List ℕ) → IsTail bytes → (place : ℕ) → place < length bytes → IsClear (drop place (bytes ++ (replicate count 0 ++ rest)))
   clear_in_unit [] tail place below = absurd (omega arith)
   clear_in_unit (byte ∷ bytes) tail zero below = clear_tail _ (FollowsUnit-zeros rest ends count) (byte ∷ bytes) (omega arith) tail
@@ -125,7 +122,8 @@ drop_piece unit rest count =
     ∙ drop_at piece rest (3 + length unit + count) (omega (arith, length-append unit (replicate count 0), length-replicate {A = ℕ} count 0))
 
 -- what stands behind a front is clear from its own front on
-clear_behind : (front bytes : List ℕ) (size place : ℕ) → drop size front ≡ bytes → size ≤ place → ((past : ℕ) → IsClear (drop past bytes)) → IsClear (drop place front)
+clear_behind : (front bytes : List ℕ) (size place : ℕ) → drop size front ≡ bytes → size ≤ place
+    → ((past : ℕ) → IsClear (drop past bytes)) → IsClear (drop place front)
 clear_behind front bytes size place e behind clear =
     let past = place - size in
     let there : size + past ≡ place = omega arith in

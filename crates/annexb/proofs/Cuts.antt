@@ -25,7 +25,8 @@ cut_from-end [] some = absurd (omega arith)
 cut_from-end (first ∷ part) some = refl
 
 -- the first part keeps its first unit
-begins_with : (unit : List ℕ) (part units : List (List ℕ)) → (others : List (List ℕ)) × (parts : List (List (List ℕ))) × (cut_from (unit ∷ part) units ≡ (unit ∷ others) ∷ parts)
+begins_with : (unit : List ℕ) (part units : List (List ℕ))
+    → (others : List (List ℕ)) × (parts : List (List (List ℕ))) × (cut_from (unit ∷ part) units ≡ (unit ∷ others) ∷ parts)
 begins_with unit part [] = (part, [], refl)
 begins_with unit part (next ∷ units) = ⊎_elim
     (λ boundary. (part, cut_from (next ∷ []) units, rw boundary refl))
@@ -74,7 +75,9 @@ pub IsCut-cut_from : (units : List (List ℕ)) → IsCut units (cut_from [] unit
 IsCut-cut_from units = record { units_are = units_of-cut_from [] units; parts_are = AreAccessUnits-cut_from [] units (λ at below. absurd (omega arith)) }
 
 -- and each cut is these parts
-cut_from-part : (part more : List (List ℕ)) (parts : List (List (List ℕ))) → 0 < length (part ++ more) → IsWhole (part ++ more) → EndsBefore (part ++ more) parts → cut_from [] (units_of parts) ≡ parts → cut_from part (more ++ units_of parts) ≡ (part ++ more) ∷ parts
+cut_from-part : (part more : List (List ℕ)) (parts : List (List (List ℕ))) → 0 < length (part ++ more)
+    → IsWhole (part ++ more) → EndsBefore (part ++ more) parts → cut_from [] (units_of parts) ≡ parts
+    → cut_from part (more ++ units_of parts) ≡ (part ++ more) ∷ parts
 cut_from-part part [] [] some whole ends rest = rw append-nil (cut_from-end part (rw append-nil at some))
 cut_from-part part [] ([] ∷ parts) some whole ends rest = elim ends [ ]
 cut_from-part part [] ((unit ∷ others) ∷ parts) some whole ends rest =
@@ -101,12 +104,14 @@ pub record IsCutTo (units : List (List ℕ)) (at start : ℕ) (has_slice : Bool)
   pub consecutive : AreConsecutive 0 ranges start
 
 -- one range more
-AreConsecutive-push : (first middle last : ℕ) (ranges : List (Range ℕ)) → AreConsecutive first ranges middle → middle < last → AreConsecutive first (ranges ++ record { start = middle; end = last } ∷ []) last
+AreConsecutive-push : (first middle last : ℕ) (ranges : List (Range ℕ)) → AreConsecutive first ranges middle
+    → middle < last → AreConsecutive first (ranges ++ record { start = middle; end = last } ∷ []) last
 AreConsecutive-push first middle last [] h below = (sym h, omega arith, refl)
 AreConsecutive-push first middle last (range ∷ ranges) h below = (h.0, h.1, AreConsecutive-push range.end middle last ranges h.2 below)
 
 -- the ranges lie between the first place and the last
-pub AreConsecutive-in_range : (first last : ℕ) (ranges : List (Range ℕ)) → AreConsecutive first ranges last → (first ≤ last) × All (λ range. (range.start < range.end) × (range.end ≤ last)) ranges
+pub AreConsecutive-in_range : (first last : ℕ) (ranges : List (Range ℕ)) → AreConsecutive first ranges last
+    → (first ≤ last) × All (λ range. (range.start < range.end) × (range.end ≤ last)) ranges
 AreConsecutive-in_range first last [] h = (omega arith, All-nil (λ range. (range.start < range.end) × (range.end ≤ last)))
 AreConsecutive-in_range first last (range ∷ ranges) h =
     let rest = AreConsecutive-in_range range.end last ranges h.2 in (
@@ -175,7 +180,8 @@ module _ (units : List (List ℕ)) (at start : ℕ) (has_slice : Bool) (ranges :
     unit = get_or units at []
 
     -- a unit more of the open part
-    pub IsCutTo-kept : (has_slice && begins_access_unit (get_or units at [])) ≡ false → IsCutTo units (at + 1) start (has_slice || is_slice (get_or units at [])) ranges
+    pub IsCutTo-kept : (has_slice && begins_access_unit (get_or units at [])) ≡ false
+        → IsCutTo units (at + 1) start (has_slice || is_slice (get_or units at [])) ranges
     IsCutTo-kept none =
         let no_boundary : is_boundary open_part unit ≡ false = rw cut.slices at none in
         let goes_on : cut_from open_part (unit ∷ drop (at + 1) units) ≡ cut_from (open_part ++ unit ∷ []) (drop (at + 1) units) = rw no_boundary refl in
@@ -189,7 +195,8 @@ module _ (units : List (List ℕ)) (at start : ℕ) (has_slice : Bool) (ranges :
         }
 
     -- a part more, and a unit of the next one
-    pub IsCutTo-cut : (has_slice && begins_access_unit (get_or units at [])) ≡ true → IsCutTo units (at + 1) at (is_slice (get_or units at [])) (ranges ++ record { start = start; end = at } ∷ [])
+    pub IsCutTo-cut : (has_slice && begins_access_unit (get_or units at [])) ≡ true
+        → IsCutTo units (at + 1) at (is_slice (get_or units at [])) (ranges ++ record { start = start; end = at } ∷ [])
     IsCutTo-cut there =
         let boundary : is_boundary open_part unit ≡ true = rw cut.slices at there in
         let ends : cut_from open_part (unit ∷ drop (at + 1) units) ≡ open_part ∷ cut_from (unit ∷ []) (drop (at + 1) units) = rw boundary refl in

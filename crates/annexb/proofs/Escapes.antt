@@ -1,10 +1,8 @@
 -- `payload_of` undoes `escape`, and at a unit `escape` undoes `payload_of`.
-use Rattle.std.proofs.Common.{◌≡◌, ℕ, zero, suc, ◌+◌, ◌<◌, false, List, [], ◌∷◌, ◌++◌, length, take, drop, Some, None, arith, refl, ap, sym, ◌∙◌}
+use Rattle.std.proofs.Common.{◌≡◌, ℕ, zero, suc, ◌+◌, ◌<◌, false, List, [], ◌∷◌, ◌++◌, take, drop, arith, refl, ap, sym, ◌∙◌}
 use Rattle.std.proofs.lemmas.Bool.{false≢true, lt-leb, le-leb, ltb-false}
 use Rattle.annexb.specs.NalUnit.{begins_forbidden, IsUnit}
-use Rattle.memchr.specs.Find.{OccursAt, Nowhere, NoneBefore}
-use Rattle.annexb.specs.EmulationPrevention.{three_byte_before, escape, payload_of, IsFirstThreeByte}
-use Rattle.annexb.proofs.Needles.{drop-occurs, OccursAt-from_drop}
+use Rattle.annexb.specs.EmulationPrevention.{three_byte_before, escape, payload_of}
 use Rattle.annexb.proofs.Tails.{IsTail, IsTail-from_unit, IsTail-drop}
 
 -- a byte above 3 takes no 03 before it
@@ -65,9 +63,6 @@ escape-payload_of unit h = escape-payload_of_tail unit (IsTail-from_unit unit h)
 pub payload_of-only : (unit payload : List ℕ) → escape payload ≡ unit → payload_of unit ≡ payload
 payload_of-only unit payload e = ap payload_of (sym e) ∙ payload_of-escape payload
 
--- both, for the tactics
-pub ruleset escapes = (escape-payload_of, payload_of-only)
-
 -- 00 00 03 stands at the front of the bytes
 abbrev pub BeginsEscaped : List ℕ → Type 0
 BeginsEscaped bytes = (rest : List ℕ) × (bytes ≡ 0 ∷ 0 ∷ 3 ∷ rest)
@@ -91,24 +86,10 @@ payload_of-plain (byte ∷ bytes) h =
     payload_of-cons byte bytes (h 0) ∙ ap (λ l. byte ∷ l) (payload_of-plain bytes (λ at. h (suc at)))
 
 -- up to the first 00 00 03, and past it
-pub payload_of-escaped : (at : ℕ) (bytes rest : List ℕ) → ((k : ℕ) → k < at → ¬ BeginsEscaped (drop k bytes)) → drop at bytes ≡ 0 ∷ 0 ∷ 3 ∷ rest → payload_of bytes ≡ take (at + 2) bytes ++ payload_of rest
+pub payload_of-escaped : (at : ℕ) (bytes rest : List ℕ) → ((k : ℕ) → k < at → ¬ BeginsEscaped (drop k bytes))
+    → drop at bytes ≡ 0 ∷ 0 ∷ 3 ∷ rest → payload_of bytes ≡ take (at + 2) bytes ++ payload_of rest
 payload_of-escaped zero bytes rest h e = rw e refl
 payload_of-escaped (suc at) [] rest h e = cc
 payload_of-escaped (suc at) (byte ∷ bytes) rest h e =
     let shifted : suc at + 2 ≡ suc (at + 2) = omega arith in
     payload_of-cons byte bytes (h 0 (omega arith)) ∙ rw shifted (ap (λ l. byte ∷ l) (payload_of-escaped at bytes rest (λ k below. h (suc k) (omega arith)) e))
-
--- what a search for 00 00 03 tells
-pub IsFirstThreeByte-none : (bytes : List ℕ) → Nowhere (OccursAt bytes (0 ∷ 0 ∷ 3 ∷ [])) 0 (length bytes + 1) → IsFirstThreeByte bytes None
-IsFirstThreeByte-none bytes nowhere = payload_of-plain bytes (λ at (rest, e).
-    let occurs = OccursAt-from_drop bytes (0 ∷ 0 ∷ 3 ∷ []) rest at (omega arith) e in
-    nowhere at (omega arith) (omega (arith, occurs.fits)) occurs)
-
-pub IsFirstThreeByte-some : (bytes : List ℕ) (at : ℕ) → NoneBefore (OccursAt bytes (0 ∷ 0 ∷ 3 ∷ [])) 0 (length bytes + 1) at × OccursAt bytes (0 ∷ 0 ∷ 3 ∷ []) at → IsFirstThreeByte bytes (Some (at + 2))
-IsFirstThreeByte-some bytes at (first, occurs) =
-    let past : at + 2 + 1 ≡ at + 3 = omega arith in (
-      omega (arith, occurs.fits),
-      rw past (payload_of-escaped at bytes (drop (at + 3) bytes)
-          (λ k below (rest, e). first.before k (omega arith) below (OccursAt-from_drop bytes (0 ∷ 0 ∷ 3 ∷ []) rest k (omega arith) e))
-          (drop-occurs bytes (0 ∷ 0 ∷ 3 ∷ []) at occurs)),
-    )

@@ -1,5 +1,5 @@
 -- What the search for one unit tells of the text.
-use Rattle.std.proofs.Common.{◌≡◌, ◌≢◌, ℕ, ◌+◌, ◌-◌, ◌<◌, ⊎_elim, true, List, ◌++◌, take, drop, replicate, get_or, Option, Some, None, arith, refl, ap, sym, ◌∙◌, length-drop}
+use Rattle.std.proofs.Common.{◌≡◌, ◌≢◌, ℕ, ◌+◌, ◌-◌, ◌<◌, ⊎_elim, true, List, ◌++◌, take, drop, replicate, get_or, Option, Some, None, arith, refl, ap, sym, ◌∙◌}
 use Rattle.std.specs.Option.{option_map}
 use Rattle.std.proofs.lemmas.Bool.{cases_eq}
 use Rattle.std.proofs.lemmas.List.{drop-drop, get_or-drop, take-append-drop, drop_at, length-replicate}
@@ -8,7 +8,7 @@ use Rattle.annexb.specs.ByteStream.{start_code, FollowsStartCode}
 use Rattle.annexb.specs.Faults.{begins_forbidden_run}
 use Rattle.annexb.specs.Search.{IsScanned, EndsUnit, IsFoundAt, IsFaultFrom}
 use Rattle.annexb.proofs.Tails.{IsUnit-from_scanned}
-use Rattle.annexb.proofs.ZeroRuns.{ends_unit-end, ends_unit-code, code_in_range}
+use Rattle.annexb.proofs.ZeroRuns.{ends_unit-end, ends_unit-code}
 
 module _ (text : List ℕ) (at : ℕ) (behind : FollowsStartCode text at) where
   -- the byte before the place is the 01 of the start code
@@ -20,7 +20,9 @@ module _ (text : List ℕ) (at : ℕ) (behind : FollowsStartCode text at) where
       omega arith
 
   -- a forbidden run past scanned bytes
-  pub IsFaultFrom_forbidden : (run : ℕ) → IsScanned (drop at text) run × (begins_forbidden_run (drop run (drop at text)) ≡ true) → IsFaultFrom text at (ForbiddenBytes (at + run))
+  pub IsFaultFrom_forbidden : (run : ℕ)
+      → IsScanned (drop at text) run × (begins_forbidden_run (drop run (drop at text)) ≡ true)
+      → IsFaultFrom text at (ForbiddenBytes (at + run))
   IsFaultFrom_forbidden run (scanned, forbidden) = (
     omega arith,
     record {
@@ -42,7 +44,8 @@ module _ (text : List ℕ) (at : ℕ) (behind : FollowsStartCode text at) where
   IsFaultFrom_empty (Some next) h = (refl, rw h.gap (ends_unit-code h.zeros (drop next (drop at text))))
 
   -- a unit of scanned bytes
-  pub IsFoundAt-from_extent : (len : ℕ) (next : Option ℕ) → 0 < len → IsScanned (drop at text) len → EndsUnit (drop at text) len next → IsFoundAt text at (take len (drop at text)) (option_map (λ n. at + n) next)
+  pub IsFoundAt-from_extent : (len : ℕ) (next : Option ℕ) → 0 < len → IsScanned (drop at text) len
+      → EndsUnit (drop at text) len next → IsFoundAt text at (take len (drop at text)) (option_map (λ n. at + n) next)
   IsFoundAt-from_extent len None some scanned ends = record {
     begins = record {
       zeros = ends.zeros;

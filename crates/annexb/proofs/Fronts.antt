@@ -1,14 +1,12 @@
--- The payload byte by byte, by how many zeros stand before each.
-use Rattle.std.proofs.Common.{◌≡◌, ◌≢◌, ℕ, zero, suc, ◌+◌, ◌<◌, ◌≤◌, List, [], ◌∷◌, ◌++◌, length, take, drop, set, get_or, arith, refl, ap, sym, ◌∙◌}
-use Rattle.std.proofs.lemmas.List.{take_more_set, drop_more, append_assoc}
-use Rattle.std.proofs.lemmas.Bool.{ne_eqb}
-use Rattle.annexb.specs.EmulationPrevention.{payload_of, zeros_behind}
-
--- what the payload has of the bytes, where so many zeros stand before them, two standing for more
-abbrev pub payload_behind : ℕ → List ℕ → List ℕ
-payload_behind zero bytes = payload_of bytes
-payload_behind (suc zero) bytes = drop 1 (payload_of (0 ∷ bytes))
-payload_behind (suc (suc more)) bytes = drop 2 (payload_of (0 ∷ 0 ∷ bytes))
+-- The front of a payload, by the front of its unit.
+use Rattle.std.proofs.Common.{◌⊎◌, ⊎_elim, ◌≡◌, ℕ, zero, suc, ◌+◌, ◌-◌, ◌≤◌, min, List, [], ◌∷◌, ◌++◌, length, take, drop, arith, refl, ap, sym, ◌∙◌, length-append}
+use Rattle.std.proofs.lemmas.List.{append_assoc, take-append-drop, take_all, take_at, length-take-le, drop-drop, drop-take, drop-append-le}
+use Rattle.std.proofs.lemmas.Slice.{take-put_mid}
+use borrow.Rule.Slice.PartMut.{put_mid}
+use Rattle.memchr.specs.Find.{OccursAt, Nowhere, NoneBefore}
+use Rattle.annexb.specs.EmulationPrevention.{payload_of, IsPlainFront}
+use Rattle.annexb.proofs.Needles.{drop-occurs, OccursAt-from_drop}
+use Rattle.annexb.proofs.Escapes.{BeginsEscaped, payload_of-plain, payload_of-escaped}
 
 -- a payload begins as its bytes do
 pub payload_of-first : (byte : ℕ) (bytes : List ℕ) → payload_of (byte ∷ bytes) ≡ byte ∷ drop 1 (payload_of (byte ∷ bytes))
@@ -30,31 +28,102 @@ payload_of-second (suc (suc zero) ∷ bytes) = refl
 payload_of-second (suc (suc (suc zero)) ∷ bytes) = refl
 payload_of-second (suc (suc (suc (suc n))) ∷ bytes) = refl
 
--- a zero stays, and counts
-payload_behind-zero : (before : ℕ) (bytes : List ℕ) → before ≤ 2 → payload_behind before (0 ∷ bytes) ≡ 0 ∷ payload_behind (zeros_behind before 0) bytes
-payload_behind-zero zero bytes h = payload_of-first 0 bytes
-payload_behind-zero (suc zero) bytes h = payload_of-second bytes
-payload_behind-zero (suc (suc zero)) bytes h = payload_of-second bytes
-payload_behind-zero (suc (suc (suc n))) bytes h = absurd (omega arith)
+-- and with the payload of its front
+pub payload_of-append : (front bytes : List ℕ) → (more : List ℕ) × (payload_of (front ++ bytes) ≡ payload_of front ++ more)
+payload_of-append [] bytes = (payload_of bytes, refl)
+payload_of-append (zero ∷ []) bytes = (drop 1 (payload_of (0 ∷ bytes)), payload_of-first 0 bytes)
+payload_of-append (zero ∷ zero ∷ []) bytes =
+    (drop 2 (payload_of (0 ∷ 0 ∷ bytes)), payload_of-first 0 (0 ∷ bytes) ∙ ap (λ l. 0 ∷ l) (payload_of-second bytes))
+payload_of-append (zero ∷ zero ∷ zero ∷ front) bytes =
+    let rest = payload_of-append (zero ∷ zero ∷ front) bytes in (rest.0, ap (λ l. 0 ∷ l) rest.1)
+payload_of-append (zero ∷ zero ∷ suc zero ∷ front) bytes =
+    let rest = payload_of-append front bytes in (rest.0, ap (λ l. 0 ∷ 0 ∷ 1 ∷ l) rest.1)
+payload_of-append (zero ∷ zero ∷ suc (suc zero) ∷ front) bytes =
+    let rest = payload_of-append front bytes in (rest.0, ap (λ l. 0 ∷ 0 ∷ 2 ∷ l) rest.1)
+payload_of-append (zero ∷ zero ∷ suc (suc (suc zero)) ∷ front) bytes =
+    let rest = payload_of-append front bytes in (rest.0, ap (λ l. 0 ∷ 0 ∷ l) rest.1)
+payload_of-append (zero ∷ zero ∷ suc (suc (suc (suc n))) ∷ front) bytes =
+    let rest = payload_of-append front bytes in (rest.0, ap (λ l. 0 ∷ 0 ∷ suc (suc (suc (suc n))) ∷ l) rest.1)
+payload_of-append (zero ∷ suc n ∷ front) bytes =
+    let rest = payload_of-append front bytes in (rest.0, ap (λ l. 0 ∷ suc n ∷ l) rest.1)
+payload_of-append (suc n ∷ front) bytes =
+    let rest = payload_of-append front bytes in (rest.0, ap (λ l. suc n ∷ l) rest.1)
 
--- past another byte the count begins again
-zeros_behind-suc : (before n : ℕ) → zeros_behind before (suc n) ≡ 0
-zeros_behind-suc before n = let other : suc n ≢ 0 = omega arith in rw (ne_eqb (suc n) 0 other) refl
+-- what a search in a front of the bytes tells
+module _ (bytes : List ℕ) (limit : ℕ) where
+  abbrev size : ℕ
+  size = min (length bytes) limit
 
--- and so does each byte that a payload keeps
-pub payload_behind-kept : (before byte : ℕ) (bytes : List ℕ) → before ≤ 2 → ¬ ((before ≡ 2) × (byte ≡ 3)) → payload_behind before (byte ∷ bytes) ≡ byte ∷ payload_behind (zeros_behind before byte) bytes
-payload_behind-kept before zero bytes h kept = payload_behind-zero before bytes h
-payload_behind-kept zero (suc n) bytes h kept = rw (zeros_behind-suc zero n) refl
-payload_behind-kept (suc zero) (suc n) bytes h kept = rw (zeros_behind-suc (suc zero) n) refl
-payload_behind-kept (suc (suc zero)) (suc zero) bytes h kept = refl
-payload_behind-kept (suc (suc zero)) (suc (suc zero)) bytes h kept = refl
-payload_behind-kept (suc (suc zero)) (suc (suc (suc zero))) bytes h kept = absurd (kept (refl, refl))
-payload_behind-kept (suc (suc zero)) (suc (suc (suc (suc n)))) bytes h kept = rw (zeros_behind-suc (suc (suc zero)) (suc (suc (suc n)))) refl
-payload_behind-kept (suc (suc (suc n))) (suc m) bytes h kept = absurd (omega arith)
+  abbrev front : List ℕ
+  front = take size bytes
 
--- one byte more in the front of a payload
-pub payload_behind_written : (front bytes : List ℕ) (written at before : ℕ) → before ≤ 2 → written < length front → at < length bytes → ¬ ((before ≡ 2) × (get_or bytes at 0 ≡ 3)) → take (written + 1) (set front written (get_or bytes at 0)) ++ payload_behind (zeros_behind before (get_or bytes at 0)) (drop (at + 1) bytes) ≡ take written front ++ payload_behind before (drop at bytes)
-payload_behind_written front bytes written at before capped room here kept =
-    let byte = get_or bytes at 0 in
-    rw (take_more_set front written byte room, append_assoc) (ap (λ l. take written front ++ l)
-    (sym (ap (payload_behind before) (drop_more bytes at 0 here) ∙ payload_behind-kept before byte (drop (at + 1) bytes) capped kept)))
+  length-front : length front ≡ size
+  length-front = length-take-le size bytes (omega arith)
+
+  -- 00 00 03 in the front stands in the bytes, and the other way round
+  in_bytes : (at : ℕ) → OccursAt front (0 ∷ 0 ∷ 3 ∷ []) at → drop at bytes ≡ 0 ∷ 0 ∷ 3 ∷ (drop (at + 3) front ++ drop size bytes)
+  in_bytes at occurs =
+      ap (drop at) (sym (take-append-drop size bytes)) ∙ drop-append-le at front (drop size bytes) (omega (arith, occurs.fits)) ∙ ap (λ l. l ++ drop size bytes) (drop-occurs front (0 ∷ 0 ∷ 3 ∷ []) at occurs)
+
+  in_front : (at : ℕ) → at + 3 ≤ size → BeginsEscaped (drop at bytes) → BeginsEscaped (drop at front)
+  in_front at fits (rest, e) =
+      let more = size - at - 3 in
+      let whole : size ≡ at + suc (suc (suc more)) = omega arith in
+      (take more rest, ap (λ n. drop at (take n bytes)) whole ∙ drop-take at (suc (suc (suc more))) bytes ∙ ap (take (suc (suc (suc more)))) e)
+
+  pub IsPlainFront-some : (at : ℕ)
+      → NoneBefore (OccursAt front (0 ∷ 0 ∷ 3 ∷ [])) 0 (length front + 1) at × OccursAt front (0 ∷ 0 ∷ 3 ∷ []) at
+      → IsPlainFront bytes limit (at + 2)
+  IsPlainFront-some at (first, occurs) =
+      let fits : at + 3 ≤ size = omega (arith, occurs.fits, length-front) in
+      let rest = drop (at + 3) front ++ drop size bytes in
+      let e = in_bytes at occurs in
+      let whole = payload_of-escaped at bytes rest
+      (λ k below escaped. let there = in_front k (omega arith) escaped in
+      first.before k (omega arith) below (OccursAt-from_drop front (0 ∷ 0 ∷ 3 ∷ []) there.0 k (omega arith) there.1)) e in
+      let past : at + 2 + 1 ≡ at + 3 = omega arith in
+      let behind : drop (at + 3) bytes ≡ rest = sym (drop-drop 3 at bytes) ∙ ap (drop 3) e in
+      record {
+        below = omega arith;
+        in_range = omega arith;
+        begins = (payload_of rest, whole);
+        left_out = λ _ _. rw (past, behind) whole;
+        ends = λ end. absurd (omega arith);
+      }
+
+  pub IsPlainFront-none : Nowhere (OccursAt front (0 ∷ 0 ∷ 3 ∷ [])) 0 (length front + 1) → IsPlainFront bytes limit (length front)
+  IsPlainFront-none nowhere =
+      let plain = payload_of-plain front (λ at (rest, e).
+      let occurs = OccursAt-from_drop front (0 ∷ 0 ∷ 3 ∷ []) rest at (omega arith) e in
+      nowhere at (omega arith) (omega (arith, occurs.fits)) occurs) in
+      let append = payload_of-append front (drop size bytes) in
+      let size_is = length-front in
+      record {
+        below = omega arith;
+        in_range = omega arith;
+        begins = (append.0, ap payload_of (sym (take-append-drop size bytes)) ∙ append.1 ∙ ap (λ l. l ++ append.0) (plain ∙ ap (λ n. take n bytes) (sym size_is)));
+        left_out = λ below inside. absurd (omega arith);
+        ends = λ end. let same : front ≡ bytes = take_all size bytes (omega arith) in ap payload_of (sym same) ∙ plain ∙ same;
+      }
+
+-- one piece more of a payload's front
+pub front_more : (front bytes written : List ℕ) (at len k : ℕ) → at + len ≤ length front → len ≤ length bytes
+    → written ≡ take len bytes → take (at + len) (put_mid at k front written) ≡ take at front ++ take len bytes
+front_more front bytes written at len k room inside written_is =
+    let size = length-take-le len bytes inside in
+    take-put_mid at k front written (at + len) (rw (written_is, size) refl) (omega arith) ∙ ap (λ l. take at front ++ l) written_is
+
+-- and the last one
+pub front_whole : (front rest payload : List ℕ) (at len limit : ℕ) → IsPlainFront rest (limit - at) len
+    → limit ≡ length front → at ≤ length front → take at front ++ payload_of rest ≡ payload
+    → (at + len ≡ limit) ⊎ (len ≡ length rest) → take at front ++ take len rest ≡ take limit payload
+front_whole front rest payload at len limit piece size room so_far ends =
+    let written = take at front ++ take len rest in
+    let sizes : length written ≡ at + len = omega (arith, length-append (take at front) (take len rest), length-take-le at front room, length-take-le len rest piece.in_range) in
+    let begins = piece.begins in
+    ⊎_elim
+    (λ full. sym (ap (take limit) (sym so_far ∙ ap (λ l. take at front ++ l) begins.1 ∙ sym (append_assoc (take at front) (take len rest) begins.0)) ∙ take_at written begins.0 limit (sizes ∙ full)))
+    (λ all. let whole : take len rest ≡ rest = take_all len rest (omega arith) in
+    let payload_is : payload ≡ written = sym so_far ∙ ap (λ l. take at front ++ l) (piece.ends all ∙ sym whole) in
+    rw payload_is (sym (take_all limit written (omega (arith, piece.below)))))
+    ends

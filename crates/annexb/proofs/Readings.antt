@@ -16,7 +16,8 @@ record IsGap (bytes : List ℕ) : Type 0 where
   ends : ends_unit bytes ≡ true
 
 -- a unit at the front ends in one place
-same_front : (unit other gap others_gap : List ℕ) → IsTail unit → IsTail other → IsGap gap → IsGap others_gap → unit ++ gap ≡ other ++ others_gap → (unit ≡ other) × (gap ≡ others_gap)
+same_front : (unit other gap others_gap : List ℕ) → IsTail unit → IsTail other → IsGap gap → IsGap others_gap
+    → unit ++ gap ≡ other ++ others_gap → (unit ≡ other) × (gap ≡ others_gap)
 same_front [] [] gap others_gap h h' g g' e = (refl, e)
 same_front [] (byte ∷ other) gap others_gap h h' g g' e =
     absurd (both_ways _ (ends_unit-tail others_gap g'.follows (byte ∷ other) (omega arith) h') (rw e at g.ends))

@@ -64,7 +64,9 @@ ends_unit-zero (zero ∷ suc (suc n) ∷ bytes) ends h = let no_one : suc (suc n
 ends_unit-zero (suc n ∷ bytes) ends h = refl
 
 -- allowed bytes before a forbidden run end no unit
-ends_unit-before : (bytes : List ℕ) (run : ℕ) → ((place : ℕ) → place < run → begins_forbidden (drop place bytes) ≡ false) → begins_forbidden_run (drop run bytes) ≡ true → ends_unit bytes ≡ false
+ends_unit-before : (bytes : List ℕ) (run : ℕ)
+    → ((place : ℕ) → place < run → begins_forbidden (drop place bytes) ≡ false)
+    → begins_forbidden_run (drop run bytes) ≡ true → ends_unit bytes ≡ false
 ends_unit-before bytes zero allowed forbidden = ends_unit-forbidden bytes forbidden
 ends_unit-before [] (suc run) allowed forbidden = absurd (false≢true forbidden)
 ends_unit-before (zero ∷ bytes) (suc run) allowed forbidden =
@@ -178,12 +180,16 @@ module _ (text : List ℕ) (at : ℕ) (behind : FollowsStartCode text at) (clear
   IsFaultOf-from_fault Memory begins h = elim h [ ]
 
 -- An answer that has the text's units, or its fault, is those units where the text has them
-pub answer_only : {A : Type 0} (text : List ℕ) (units_of : A → List (List ℕ)) (answer : Result A SplitFault) → IfOk answer (λ a. HasUnits text (units_of a)) → IfErr answer (IsFaultOf text) → (units : List (List ℕ)) → HasUnits text units → IfOk answer (λ a. units_of a ≡ units) × IsOkUnless answer Memory
+pub answer_only : {A : Type 0} (text : List ℕ) (units_of : A → List (List ℕ)) (answer : Result A SplitFault)
+    → IfOk answer (λ a. HasUnits text (units_of a)) → IfErr answer (IsFaultOf text)
+    → (units : List (List ℕ)) → HasUnits text units → IfOk answer (λ a. units_of a ≡ units) × IsOkUnless answer Memory
 answer_only text units_of (Ok a) ok err units h = (same_reading text (units_of a) units ok h, tt)
 answer_only text units_of (Err fault) ok err units h = (tt, one_fault text fault Memory err (units, h))
 
 -- and a fault exactly where the text has that
-pub answer_fault : {A : Type 0} (text : List ℕ) (units_of : A → List (List ℕ)) (answer : Result A SplitFault) → IfOk answer (λ a. HasUnits text (units_of a)) → IfErr answer (IsFaultOf text) → (fault : SplitFault) → (fault ≡ Memory → ⊥) → IsErrOf answer fault ↔ IsFaultOf text fault
+pub answer_fault : {A : Type 0} (text : List ℕ) (units_of : A → List (List ℕ)) (answer : Result A SplitFault)
+    → IfOk answer (λ a. HasUnits text (units_of a)) → IfErr answer (IsFaultOf text) → (fault : SplitFault)
+    → (fault ≡ Memory → ⊥) → IsErrOf answer fault ↔ IsFaultOf text fault
 answer_fault text units_of (Ok a) ok err fault other = (λ e. absurd cc, λ h. absurd (other (one_fault text fault Memory h (units_of a, ok))))
 answer_fault text units_of (Err found) ok err fault other =
     (λ e. let same : found ≡ fault = cc in rw same at err, λ h. ap Err (one_fault text found fault err h))

@@ -77,7 +77,8 @@ module _ (bytes : List ℕ) (from : ℕ) (scanned : IsScanned bytes from) where
     MayEnd_at_zeros = rw zeros_there (inl (omega arith))
 
   -- where it finds none
-  pub scanned_to_end : (len : ℕ) → Nowhere (OccursAt (drop from bytes) (0 ∷ 0 ∷ [])) 0 (length (drop from bytes) + 1) → IsLenWithoutZero bytes len → IsScanned bytes len
+  pub scanned_to_end : (len : ℕ) → Nowhere (OccursAt (drop from bytes) (0 ∷ 0 ∷ [])) 0 (length (drop from bytes) + 1)
+      → IsLenWithoutZero bytes len → IsScanned bytes len
   scanned_to_end len nowhere is_len =
       let size = length-drop from bytes in
       let none = no_zeros (length (drop from bytes) + 1) nowhere in

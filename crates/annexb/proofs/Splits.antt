@@ -5,7 +5,7 @@ use Rattle.std.proofs.lemmas.List.{append-nil, drop-drop, drop_at, length-replic
 use Rattle.annexb.specs.ByteStream.{start_code, FollowsStartCode, BeginsWithUnit, AreUnits, HasUnits}
 use Rattle.annexb.specs.Faults.{zero_run, after_zeros, begins_with_one, begins_with_start_code}
 use Rattle.annexb.specs.Search.{IsFirstUnit, IsFoundAt, from_code}
-use Rattle.annexb.proofs.ZeroRuns.{start_code_split, length-zero_run, code_in_range}
+use Rattle.annexb.proofs.ZeroRuns.{start_code_split, code_in_range}
 use Rattle.annexb.proofs.Clear.{IsClear, a_code, clear_in_zeros, clear_piece}
 
 -- some units are found, whatever units the rest has, and no fault stands before the rest
@@ -61,11 +61,14 @@ module _ (text : List ℕ) (first : ℕ) (h : IsFirstUnit text (Some first)) whe
 
 -- one unit more
 module _ (text : List ℕ) (at : ℕ) (is_stored : Bool) (items : List (List ℕ)) (split : IsSplitTo text (Some at) is_stored items) where
-  whole_more : (unit rest : List ℕ) (more : List (List ℕ)) → BeginsWithUnit (start_code ++ drop at text) unit rest → AreUnits rest more → HasUnits text ((split.found ++ unit ∷ []) ++ more)
+  whole_more : (unit rest : List ℕ) (more : List (List ℕ)) → BeginsWithUnit (start_code ++ drop at text) unit rest
+      → AreUnits rest more → HasUnits text ((split.found ++ unit ∷ []) ++ more)
   whole_more unit rest more begins units = rw append_assoc (split.whole (unit ∷ more) (rest, begins, units))
 
   -- up to the next start code the text stays clear
-  clear_more : (unit : List ℕ) (next : ℕ) → next ≤ length text → BeginsWithUnit (start_code ++ drop at text) unit (start_code ++ drop next text) → (place : ℕ) → place + 3 < next → IsClear (drop place text)
+  clear_more : (unit : List ℕ) (next : ℕ) → next ≤ length text
+      → BeginsWithUnit (start_code ++ drop at text) unit (start_code ++ drop next text) → (place : ℕ) → place + 3 < next
+      → IsClear (drop place text)
   clear_more unit next in_range begins place below =
       let start = split.behind.start in
       let rest = start_code ++ drop next text in
@@ -79,7 +82,9 @@ module _ (text : List ℕ) (at : ℕ) (is_stored : Bool) (items : List (List ℕ
       rw there at (rw drop-drop at (rw (← split.behind.code) at (rw (← begins.bytes_are) at (clear_piece unit rest begins.zeros begins.unit_is a_code ahead inside)))))
       (cases_lt (place + 3) at)
 
-  pub IsSplitTo-more : (unit : List ℕ) (next : Option ℕ) (is_stored' : Bool) (items' : List (List ℕ)) → IsFoundAt text at unit next → (is_stored' ≡ true → (is_stored ≡ true) × (items' ≡ items ++ unit ∷ [])) → IsSplitTo text next is_stored' items'
+  pub IsSplitTo-more : (unit : List ℕ) (next : Option ℕ) (is_stored' : Bool) (items' : List (List ℕ))
+      → IsFoundAt text at unit next → (is_stored' ≡ true → (is_stored ≡ true) × (items' ≡ items ++ unit ∷ []))
+      → IsSplitTo text next is_stored' items'
   IsSplitTo-more unit None is_stored' items' found stores = record {
     found = split.found ++ unit ∷ [];
     stored = λ yes. let both = stores yes in both.1 ∙ ap (λ l. l ++ unit ∷ []) (split.stored both.0);

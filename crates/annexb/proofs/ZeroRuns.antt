@@ -6,7 +6,8 @@ use Rattle.annexb.specs.ByteStream.{start_code, FollowsStartCode}
 use Rattle.annexb.specs.Faults.{zero_run, after_zeros, begins_with_start_code, ends_unit}
 
 -- how the run goes on at a place
-pub zero_run-drop : (bytes : List ℕ) (at : ℕ) → at < length bytes → zero_run (drop at bytes) ≡ cond (eqb (get_or bytes at 0) 0) (zero_run (drop (at + 1) bytes) + 1) 0
+pub zero_run-drop : (bytes : List ℕ) (at : ℕ) → at < length bytes
+    → zero_run (drop at bytes) ≡ cond (eqb (get_or bytes at 0) 0) (zero_run (drop (at + 1) bytes) + 1) 0
 zero_run-drop bytes at here = ap zero_run (drop_more bytes at 0 here) ∙ first (get_or bytes at 0) (drop (at + 1) bytes)
   where
     first : (byte : ℕ) (bytes : List ℕ) → zero_run (byte ∷ bytes) ≡ cond (eqb byte 0) (zero_run bytes + 1) 0
@@ -32,7 +33,8 @@ two_zeros_last zero bytes = refl
 two_zeros_last (suc count) bytes = ap (λ l. 0 ∷ l) (two_zeros_last count bytes)
 
 -- zeros, two or more, and 01 are zeros and a start code
-pub start_code_split : (bytes rest : List ℕ) → 2 ≤ zero_run bytes → after_zeros bytes ≡ 1 ∷ rest → bytes ≡ replicate (zero_run bytes - 2) 0 ++ (start_code ++ rest)
+pub start_code_split : (bytes rest : List ℕ) → 2 ≤ zero_run bytes → after_zeros bytes ≡ 1 ∷ rest
+    → bytes ≡ replicate (zero_run bytes - 2) 0 ++ (start_code ++ rest)
 start_code_split bytes rest enough code =
     let count = zero_run bytes - 2 in
     let all : zero_run bytes ≡ suc (suc count) = omega arith in

@@ -22,7 +22,8 @@ pub record BeginsWithUnit (bytes unit rest : List ℕ) : Type 0 where
 -- the bytes are the units, each with its start code before it and zeros or none behind it
 abbrev pub AreUnits : List ℕ → List (List ℕ) → Type 0
 AreUnits bytes [] = bytes ≡ []
-AreUnits bytes (unit ∷ units) = (rest : List ℕ) × BeginsWithUnit bytes unit rest × AreUnits rest units
+AreUnits bytes (unit ∷ units) =
+    (rest : List ℕ) × BeginsWithUnit bytes unit rest × AreUnits rest units
 
 -- the text is zeros or none, and then one unit or more
 pub record HasUnits (text : List ℕ) (units : List (List ℕ)) : Type 0 where

@@ -25,7 +25,8 @@ begins_with_start_code bytes = nat_le 2 (zero_run bytes) && begins_with_one (aft
 abbrev pub is_forbidden_run : ℕ → List ℕ → Bool
 is_forbidden_run count [] = false
 is_forbidden_run count (byte ∷ bytes) =
-    (count == 2 && (byte == 2 || (byte == 3 && begins_above_three bytes))) || (nat_le 3 count && not (byte == 1))
+    (count == 2 && (byte == 2 || (byte == 3 && begins_above_three bytes)))
+    || (nat_le 3 count && not (byte == 1))
 
 -- the bytes begin with a run of two zeros before 02, or before 03 and a byte above 3,
 -- or with a run of three zeros or more before a byte other than 01

@@ -1,4 +1,4 @@
--- NAL units: which bytes make one, and the fields of its first bytes (ITU-T H.264, 7.3.1 and 7.4.1).
+-- NAL units: which bytes make one, and the fields of its first bytes (ITU-T H.264, 7.3.1, 7.4.1).
 use Rattle.std.specs.Prelude.{◌≢◌, ℕ, zero, ◌-◌, ◌/◌, ◌%◌, ◌<◌, Bool, false, ◌&&◌, ◌||◌, ◌==◌, nat_lt, nat_le, List, [], ◌∷◌, length, drop, slice_index, IsFalse}
 
 -- the bytes begin with one above 3
@@ -8,7 +8,8 @@ begins_above_three (byte ∷ bytes) = nat_lt 3 byte
 
 -- the bytes begin with 00 00 00, 00 00 01 or 00 00 02, or with 00 00 03 and a byte above 3
 abbrev pub begins_forbidden : List ℕ → Bool
-begins_forbidden (zero ∷ zero ∷ byte ∷ bytes) = nat_lt byte 3 || (byte == 3 && begins_above_three bytes)
+begins_forbidden (zero ∷ zero ∷ byte ∷ bytes) =
+    nat_lt byte 3 || (byte == 3 && begins_above_three bytes)
 begins_forbidden bytes = false
 
 -- a unit isn't empty, doesn't end in 00, and at none of its places stands a forbidden sequence

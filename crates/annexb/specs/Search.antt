@@ -1,5 +1,5 @@
 -- What the steps of the search for the next unit find (ITU-T H.264, B.2).
-use Rattle.std.specs.Prelude.{◌≡◌, ◌≢◌, ℕ, ◌+◌, ◌<◌, ◌≤◌, ◌⊎◌, List, [], ◌∷◌, ◌++◌, length, drop, replicate, slice_index, Option, None, Some, MatchOption, IfSome, IsTrue, IsFalse}
+use Rattle.std.specs.Prelude.{◌≡◌, ◌≢◌, ℕ, ◌+◌, ◌<◌, ◌≤◌, ◌⊎◌, List, [], ◌∷◌, ◌++◌, length, drop, replicate, slice_index, Option, None, Some, IfSome, IsTrue, IsFalse}
 use Rattle.annexb.specs.declared.fault.SplitFault.{SplitFault}
 use Rattle.annexb.specs.declared.fault.SplitFault.TheVariants.{NoStartCode, ForbiddenBytes, EmptyUnit, Memory}
 use Rattle.annexb.specs.declared.search.Run.{Run}
@@ -15,21 +15,29 @@ MayEnd bytes = (2 ≤ zero_run bytes) ⊎ (after_zeros bytes ≡ [])
 -- what such zeros are
 abbrev pub IsRun : List ℕ → Run → Type 0
 IsRun bytes Last = after_zeros bytes ≡ []
-IsRun bytes (StartCode len) = (2 ≤ zero_run bytes) × (len ≡ zero_run bytes + 1) × (after_zeros bytes ≡ 1 ∷ drop len bytes)
-IsRun bytes Inside = IsFalse (begins_forbidden bytes) × (2 < length bytes) × (slice_index bytes 2 ≢ 0)
+IsRun bytes (StartCode len) =
+    (2 ≤ zero_run bytes)
+    × (len ≡ zero_run bytes + 1)
+    × (after_zeros bytes ≡ 1 ∷ drop len bytes)
+IsRun bytes Inside =
+    IsFalse (begins_forbidden bytes)
+    × (2 < length bytes)
+    × (slice_index bytes 2 ≢ 0)
 IsRun bytes Forbidden = IsTrue (begins_forbidden_run bytes)
 
 -- the place behind the first start code, where the text begins with one
 abbrev pub IsFirstUnit : List ℕ → Option ℕ → Type 0
-IsFirstUnit text place =
-    MatchOption place (IsFalse (begins_with_start_code text)) (λ at. IsTrue (begins_with_start_code text) × (at ≡ zero_run text + 1))
+IsFirstUnit text None = IsFalse (begins_with_start_code text)
+IsFirstUnit text (Some at) = IsTrue (begins_with_start_code text) × (at ≡ zero_run text + 1)
 
 -- how many bytes there are but for a zero at the end
 abbrev pub IsLenWithoutZero : List ℕ → ℕ → Type 0
 IsLenWithoutZero bytes len =
-    ((len ≡ length bytes) × ((last : ℕ) → last + 1 ≡ len → slice_index bytes last ≢ 0)) ⊎ ((len + 1 ≡ length bytes) × (slice_index bytes len ≡ 0))
+    ((len ≡ length bytes) × ((last : ℕ) → last + 1 ≡ len → slice_index bytes last ≢ 0))
+    ⊎ ((len + 1 ≡ length bytes) × (slice_index bytes len ≡ 0))
 
--- a unit may reach up to the place: no forbidden sequence begins before it, nor stands a zero there
+-- a unit may reach up to the place: no forbidden sequence begins before it, and no zero stands
+-- right before it
 pub record IsScanned (bytes : List ℕ) (at : ℕ) : Type 0 where
   pub in_range : at ≤ length bytes
   pub allowed : (place : ℕ) → place < at → IsFalse (begins_forbidden (drop place bytes))
@@ -55,6 +63,8 @@ pub record IsFoundAt (text : List ℕ) (at : ℕ) (unit : List ℕ) (next : Opti
 abbrev pub IsFaultFrom : List ℕ → ℕ → SplitFault → Type 0
 IsFaultFrom text at NoStartCode = ⊥
 IsFaultFrom text at (ForbiddenBytes place) =
-    (at ≤ place) × IsForbiddenAt text place × ((k : ℕ) → at ≤ k → k < place → IsFalse (begins_forbidden (drop k text)))
+    (at ≤ place)
+    × IsForbiddenAt text place
+    × ((k : ℕ) → at ≤ k → k < place → IsFalse (begins_forbidden (drop k text)))
 IsFaultFrom text at (EmptyUnit place) = (place ≡ at) × IsTrue (ends_unit (drop at text))
 IsFaultFrom text at Memory = ⊥

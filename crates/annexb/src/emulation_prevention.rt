@@ -1,13 +1,12 @@
 //! Payloads: units without their emulation prevention bytes (7.3.1, 7.4.1).
-ghost use Rattle.std.specs.Prelude.{◌≡◌, ℕ, ◌≤◌, List, length, take, min, IfOk};
-ghost use Rattle.annexb.specs.EmulationPrevention.{escape, payload_of, IsFirstThreeByte, zeros_behind};
+ghost use Rattle.std.specs.Prelude.{◌≡◌, ℕ, List, length, take, min, IfOk};
+ghost use Rattle.annexb.specs.EmulationPrevention.{escape, payload_of, IsPlainFront};
 
 use crate::nal_unit::Nal;
 use memchr::memmem;
 use std::alloc::{AllocError, Global};
 
 /// What the unit's bytes are without emulation prevention, its header included.
-#[tactic(auto, using(crate::proofs::Escapes::escapes))]
 pub fn payload(alloc: Global, nal: &Nal<'_>) -> Result<Vec<u8>, AllocError>
     ensures value { IfOk result (λ payload. payload.items ≡ payload_of nal.now) }
     ensures escaped { IfOk result (λ payload. escape payload.items ≡ nal.now) }
@@ -16,20 +15,14 @@ pub fn payload(alloc: Global, nal: &Nal<'_>) -> Result<Vec<u8>, AllocError>
 {
     let mut rest = nal.bytes();
     let mut payload = Vec::with_capacity(alloc, rest.len())?;
-    while let Some(place) = first_three_byte(rest) {
-        payload.extend_from_slice(&rest[..place])?;
-        rest = &rest[place + 1..];
+    loop {
+        let len = plain_len(rest, rest.len());
+        payload.extend_from_slice(&rest[..len])?;
+        if len == rest.len() {
+            return Ok(payload);
+        }
+        rest = rest.split_at(len + 1).1;
     }
-    payload.extend_from_slice(rest)?;
-    Ok(payload)
-}
-
-/// The place of the first emulation_prevention_three_byte.
-fn first_three_byte(bytes: &[u8]) -> Option<usize>
-    ensures { IsFirstThreeByte bytes.now result }
-{
-    let zeros = memmem::find(bytes, &[0, 0, 3])?;
-    Some(zeros + 2)
 }
 
 /// Writes the first bytes of the payload, as many as `front` holds or the payload has, and says how
@@ -38,28 +31,27 @@ pub fn payload_front(nal: &Nal<'_>, front: &mut [u8]) -> usize
     ensures count { result ≡ min (length front.old) (length (payload_of nal.now)) }
     ensures written { take result front.new ≡ take (length front.old) (payload_of nal.now) }
 {
+    let limit = front.len();
+    let mut rest = nal.bytes();
     let mut written = 0;
-    let mut zeros = 0;
-    for byte in nal.bytes() {
-        if written == front.len() {
-            break;
+    loop {
+        let len = plain_len(rest, limit - written);
+        front[written..written + len].copy_from_slice(&rest[..len]);
+        written += len;
+        if written == limit || len == rest.len() {
+            return written;
         }
-        if zeros == 2 && *byte == 3 {
-            zeros = 0;
-            continue;
-        }
-        front[written] = *byte;
-        written += 1;
-        zeros = zeros_behind(zeros, *byte);
+        rest = rest.split_at(len + 1).1;
     }
-    written
 }
 
-/// How many zeros stand in a row up to the byte, two standing for more.
-fn zeros_behind(before: u8, byte: u8) -> u8
-    requires { before ≤ 2 }
-    ensures value { result ≡ zeros_behind before byte }
-    ensures capped { result ≤ 2 }
+/// How many bytes stand before the first emulation_prevention_three_byte, the end or the limit.
+fn plain_len(bytes: &[u8], limit: usize) -> usize
+    ensures { IsPlainFront bytes.now limit result }
 {
-    if byte == 0 { 2.min(before + 1) } else { 0 }
+    let front = &bytes[..bytes.len().min(limit)];
+    match memmem::find(front, &[0, 0, 3]) {
+        Some(zeros) => zeros + 2,
+        None => front.len(),
+    }
 }

@@ -1,14 +1,26 @@
--- A byte that the payload keeps is written behind those before it.
-use Rattle.std.proofs.Common.{◌≡◌, ℕ, get_or, length-set, arith}
-use Rattle.annexb.proofs.Fronts.{payload_behind_written}
+-- Piece by piece the front of the payload is written.
+use Rattle.std.proofs.Common.{◌+◌, ◌-◌, ◌++◌, length, take, ⊎_elim, inl, inr, append_assoc, ap, sym, ◌∙◌, arith}
+use Rattle.annexb.specs.EmulationPrevention.{payload_of}
+use Rattle.annexb.proofs.Fronts.{front_more, front_whole}
 use Rattle.annexb.proofs.emulation_prevention.payload_front.Goals as goal
-use Rattle.annexb.proofs.emulation_prevention.payload_front.Goals.{else-zeros-eq2-via-then-zeros-eq2+else-byte-eq3, else-zeros-eq2-via-else-zeros-eq2}
 
-pub loop-byte-preserved : goal.loop-byte-preserved
-loop-byte-preserved c =
-    let bytes = c.bytes-byte-items.result.now in
-    let kept : ¬ ((c.loop-byte.zeros ≡ 2) × (get_or bytes c.loop-byte.byte-index 0 ≡ 3)) =
-    elim c.else-zeros-eq2.branch [ else-zeros-eq2-via-then-zeros-eq2+else-byte-eq3 w ↦ λ both. w.if-byte-eq3.false both.1 | else-zeros-eq2-via-else-zeros-eq2 w ↦ λ both. w.if-zeros-eq2.false both.0 ]
-    in
-    let written = payload_behind_written c.loop-byte.front bytes c.loop-byte.written c.loop-byte.byte-index c.loop-byte.zeros c.loop-byte.invariant.capped (omega arith) c.loop-byte-test.true kept in
-    record { in_range = omega (arith, length-set {A = ℕ}); capped = c.zeros_behind-zeros.ensures.capped; so_far = cc }
+pub returns-then-written-limit-clause-written : goal.returns-then-written-limit-clause-written
+returns-then-written-limit-clause-written c =
+    let loop = c.loop-written in
+    let piece = c.plain_len-len in
+    let room = piece.ensures.below in
+    front_more loop.front loop.rest.now c.copy_from_slice.new.self loop.written piece.result _ (omega arith) piece.ensures.in_range c.copy_from_slice.ensures.after
+    ∙ front_whole loop.front loop.rest.now (payload_of c.args.nal.now) loop.written piece.result (length c.args.front.now) piece.ensures (sym loop.auto.front) (omega arith) loop.invariant.so_far (⊎_elim (λ full. inl full) (λ other. inr other.1) c.then-written-limit.either)
+
+pub loop-written-preserved : goal.loop-written-preserved
+loop-written-preserved c =
+    let loop = c.loop-written in
+    let piece = c.plain_len-len in
+    let room = piece.ensures.below in
+    let inside = piece.ensures.in_range in
+    let more = front_more loop.front loop.rest.now c.copy_from_slice.new.self loop.written piece.result (loop.written + piece.result - loop.written) (omega arith) inside c.copy_from_slice.ensures.after in
+    let left_out = piece.ensures.left_out (omega arith) (omega arith) in
+    record {
+      in_range = omega arith;
+      so_far = rw (more, c.split_at.ensures.back) (append_assoc (take loop.written loop.front) (take piece.result loop.rest.now) _ ∙ ap (λ l. take loop.written loop.front ++ l) (sym left_out) ∙ loop.invariant.so_far);
+    }

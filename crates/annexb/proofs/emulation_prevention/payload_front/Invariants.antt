@@ -1,11 +1,9 @@
-use Rattle.std.proofs.Common.{◌≡◌, ◌≤◌, ◌++◌, length, take, drop}
+use Rattle.std.proofs.Common.{◌≡◌, ◌≤◌, ◌++◌, length, take}
 use Rattle.annexb.specs.EmulationPrevention.{payload_of}
-use Rattle.annexb.proofs.Fronts.{payload_behind}
 use Rattle.annexb.proofs.emulation_prevention.payload_front.Given as goal
 
-abbrev pub invariant-loop-byte : goal.invariant-loop-byte
-invariant-loop-byte l = record {
-  in_range : l.written ≤ length l.front;
-  capped : l.zeros ≤ 2;
-  so_far : take l.written l.front ++ payload_behind l.zeros (drop l.byte-index l.nal) ≡ payload_of l.nal;
-}
+abbrev pub invariant-loop-written : goal.invariant-loop-written
+invariant-loop-written l = record { in_range : l.written ≤ l.limit; so_far : take l.written l.front ++ payload_of l.rest ≡ payload_of l.nal }
+
+abbrev pub decreases-loop-written : goal.decreases-loop-written
+decreases-loop-written l = length l.rest

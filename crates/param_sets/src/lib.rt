@@ -4,6 +4,7 @@
 //! The syntax stands as tables of rows, with one law of reading for every table; the slice headers are read by it too.
 #![tactic(auto)]
 
+mod at_most;
 mod fault;
 mod offsets;
 mod pps;
@@ -11,6 +12,7 @@ mod scaling;
 mod sps;
 pub mod syntax;
 
+pub use at_most::AtMost;
 pub use fault::{SetFault, SetField};
 pub use offsets::Offsets;
 pub use pps::{Pps, WeightedBipred};

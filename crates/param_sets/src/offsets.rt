@@ -1,9 +1,9 @@
-ghost use Rattle.std.specs.Prelude.{◌≡◌, ℤ, List, []};
+ghost use Rattle.std.specs.Prelude.{◌≡◌, ◌≤◌, ℤ, List, [], length};
 
 use std::alloc::Global;
 use std::marker::Model;
 
-/// The offsets of a cycle of reference frames, offset_for_ref_frame.
+/// The offsets of a cycle of reference frames, offset_for_ref_frame: at most 255.
 #[derive(Debug, Drop)]
 pub struct Offsets {
     items: Vec<i32>,
@@ -13,14 +13,25 @@ impl Model for Offsets {
     ghost Value = { List ℤ };
 
     ghost view = { λ o. o.items.items };
+
+    ghost invariant = { λ o. length o.items.items ≤ 255 };
 }
 
 impl Offsets {
+    /// No offsets.
     pub fn new(alloc: Global) -> Self
         ensures { result ≡ [] }
     {
         Offsets {
             items: Vec::new(alloc),
         }
+    }
+
+    /// The offsets, in the order of the cycle.
+    pub fn as_slice(&self) -> &[i32]
+        ensures value { result.now ≡ self.now }
+        ensures bound { length self.now ≤ 255 }
+    {
+        self.items.as_slice()
     }
 }

@@ -1,3 +1,4 @@
+use crate::at_most::AtMost;
 use crate::scaling::ScalingLists;
 
 /// weighted_bipred_idc: how B slices are weighted.
@@ -15,11 +16,11 @@ pub enum WeightedBipred {
 #[derive(Debug, Drop)]
 pub struct Pps {
     pub pic_parameter_set_id: u8,
-    pub seq_parameter_set_id: u8,
+    pub seq_parameter_set_id: AtMost<31>,
     pub entropy_coding_mode_flag: bool,
     pub bottom_field_pic_order_in_frame_present_flag: bool,
-    pub num_ref_idx_l0_default_active_minus1: u8,
-    pub num_ref_idx_l1_default_active_minus1: u8,
+    pub num_ref_idx_l0_default_active_minus1: AtMost<31>,
+    pub num_ref_idx_l1_default_active_minus1: AtMost<31>,
     pub weighted_pred_flag: bool,
     pub weighted_bipred_idc: WeightedBipred,
     pub pic_init_qp_minus26: i8,

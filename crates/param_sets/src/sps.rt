@@ -1,3 +1,4 @@
+use crate::at_most::AtMost;
 use crate::offsets::Offsets;
 use crate::scaling::ScalingLists;
 
@@ -23,22 +24,22 @@ pub struct Sps {
     pub profile_idc: u8,
     pub constraint_set_flags: [bool; 6],
     pub level_idc: u8,
-    pub seq_parameter_set_id: u8,
+    pub seq_parameter_set_id: AtMost<31>,
     pub chroma_format_idc: ChromaFormat,
-    pub bit_depth_luma_minus8: u8,
-    pub bit_depth_chroma_minus8: u8,
+    pub bit_depth_luma_minus8: AtMost<6>,
+    pub bit_depth_chroma_minus8: AtMost<6>,
     pub qpprime_y_zero_transform_bypass_flag: bool,
     pub seq_scaling_matrix_present_flag: bool,
     pub scaling_lists: ScalingLists,
-    pub log2_max_frame_num_minus4: u8,
+    pub log2_max_frame_num_minus4: AtMost<12>,
     pub pic_order_cnt_type: PicOrderCntType,
-    pub log2_max_pic_order_cnt_lsb_minus4: u8,
+    pub log2_max_pic_order_cnt_lsb_minus4: AtMost<12>,
     pub delta_pic_order_always_zero_flag: bool,
     pub offset_for_non_ref_pic: i32,
     pub offset_for_top_to_bottom_field: i32,
     pub num_ref_frames_in_pic_order_cnt_cycle: u8,
     pub offset_for_ref_frame: Offsets,
-    pub max_num_ref_frames: u8,
+    pub max_num_ref_frames: AtMost<16>,
     pub gaps_in_frame_num_value_allowed_flag: bool,
     pub pic_width_in_mbs_minus1: u16,
     pub pic_height_in_map_units_minus1: u16,

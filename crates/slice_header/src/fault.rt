@@ -1,0 +1,40 @@
+//! Why a slice header was not read.
+
+ghost use Rattle.std.specs.Prelude.{◌≡◌};
+ghost use Rattle.slice_header.specs.declared.fault.HeaderFault.TheVariants.{Memory};
+
+use std::alloc::{AllocError, AllocFailed};
+use thiserror::Error;
+
+/// Why a slice header was not read: what its first field shows that can't be read.
+#[derive(Clone, Copy, Debug, PartialEq, Eq, Hash, Error)]
+pub enum HeaderFault {
+    /// The payload ends within a field.
+    #[error("the payload ends within the slice header")]
+    Cut,
+    /// A field is out of its range, or its code has more than 31 zeros.
+    #[error("a field of the slice header is out of its range")]
+    Value,
+    /// A growth was refused.
+    #[error("out of memory")]
+    Memory,
+    /// What this program doesn't read yet.
+    #[error("outside what is read")]
+    OutsidePath,
+}
+
+impl From<AllocError> for HeaderFault {
+    ghost from_gives = { λ _ e. e ≡ Memory };
+
+    fn from(_e: AllocError) -> HeaderFault {
+        HeaderFault::Memory
+    }
+}
+
+impl<T: Drop> From<AllocFailed<T>> for HeaderFault {
+    ghost from_gives = { λ _ e. e ≡ Memory };
+
+    fn from(_e: AllocFailed<T>) -> HeaderFault {
+        HeaderFault::Memory
+    }
+}

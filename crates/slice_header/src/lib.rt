@@ -4,8 +4,11 @@
 //! `param_sets`. What the fields lead to, picture order counts, marking and lists, is left to the crates above.
 #![tactic(auto)]
 
+ghost use Rattle.slice_header.specs.SliceHeaders.{header_at};
+
 mod dec_ref_pic_marking;
 mod fault;
+mod front;
 mod pred_weight_table;
 mod ref_pic_list_modification;
 mod slice_headers;
@@ -15,6 +18,7 @@ pub use dec_ref_pic_marking::{
     DecRefPicMarking, MemoryManagementControlOperation, MemoryManagementControlOperations,
 };
 pub use fault::HeaderFault;
+pub use front::HeaderFront;
 pub use pred_weight_table::{PredWeight, PredWeightTable, PredWeights};
 pub use ref_pic_list_modification::{RefPicListModification, RefPicListModifications};
 pub use slice_headers::SliceHeader;

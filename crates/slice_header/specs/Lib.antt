@@ -1,0 +1,9 @@
+pub mod Structures
+pub mod HeaderRows
+pub mod SliceTypes
+pub mod FrontSyntax
+pub mod RefPicListModificationSyntax
+pub mod PredWeightTableSyntax
+pub mod DecRefPicMarkingSyntax
+pub mod SliceHeaderSyntax
+pub mod SliceHeaders

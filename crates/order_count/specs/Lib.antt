@@ -1,0 +1,9 @@
+pub mod Pictures
+pub mod PicOrderCnt
+pub mod Anchors
+pub mod FrameNumbers
+pub mod TypeZero
+pub mod TypeOne
+pub mod TypeTwo
+pub mod Resetting
+pub mod Counting

@@ -1,0 +1,32 @@
+-- The frames that are marked as used for reference (ITU-T H.264, 8.2.5.1).
+use Rattle.std.specs.Prelude.{ℕ, Bool, false, max, not, ◌==◌, List, [], filter, Option, None}
+use Rattle.param_sets.specs.declared.sps.Sps.{Sps}
+use Rattle.ref_marking.specs.declared.frames.Frame.{Frame}
+use Rattle.ref_marking.specs.declared.frames.Term.{Term}
+use Rattle.ref_marking.specs.declared.frames.Term.TheVariants.{ShortTerm, LongTerm}
+
+-- the marked frames in decode order, and MaxLongTermFrameIdx, or None for "no long-term frame indices"
+pub record Marked : Type 0 where
+  pub frames : List Frame
+  pub max_long_term_frame_idx : Option ℕ
+
+-- what is marked before the first picture
+abbrev pub no_frames : Marked
+no_frames = record { frames = []; max_long_term_frame_idx = None }
+
+-- how many frames may be marked
+abbrev pub most_frames : Sps → ℕ
+most_frames sps = max sps.max_num_ref_frames 1
+
+-- a long-term frame of this LongTermFrameIdx
+abbrev pub holds : ℕ → Term → Bool
+holds idx ShortTerm = false
+holds idx (LongTerm held) = held == idx
+
+-- the frames but for those that hold an index
+abbrev pub without_idx : ℕ → List Frame → List Frame
+without_idx idx frames = filter (λ frame. not (holds idx frame.term)) frames
+
+-- the frame as a long-term frame of this LongTermFrameIdx
+abbrev pub as_long_term : ℕ → Frame → Frame
+as_long_term idx frame = record frame { term = LongTerm idx }

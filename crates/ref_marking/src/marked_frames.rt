@@ -1,6 +1,6 @@
 //! The set of the frames that are marked as references (8.2.5.1).
 
-ghost use Rattle.std.specs.Prelude.{◌≡◌, ◌↔◌, IsTrue, [], None};
+ghost use Rattle.std.specs.Prelude.{◌≡◌, ◌≤◌, ◌↔◌, IsTrue, [], length, None};
 
 use crate::frames::Frame;
 use arrayvec::ArrayVec;
@@ -38,7 +38,8 @@ impl Marks {
 
     /// The frames, in decode order.
     pub fn frames(&self) -> &[Frame]
-        ensures { result.now ≡ self.now.frames }
+        ensures value { result.now ≡ self.now.frames }
+        ensures fits { length result.now ≤ 16 }
     {
         self.frames.as_slice()
     }

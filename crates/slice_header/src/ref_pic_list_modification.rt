@@ -1,10 +1,10 @@
 //! Modification of reference lists (7.3.3.1, 7.4.3.1).
 
-ghost use Rattle.std.specs.Prelude.{◌≡◌, List, []};
+ghost use Rattle.std.specs.Prelude.{◌≡◌, List, [], ◌∷◌, ◌++◌, OnOk, OnErr};
 ghost use Rattle.slice_header.specs.declared.ref_pic_list_modification.RefPicListModification.{RefPicListModification};
 
 use smallvec::SmallVec;
-use std::alloc::Global;
+use std::alloc::{AllocError, Global};
 use std::marker::Model;
 
 /// One command of a list, by its modification_of_pic_nums_idc.
@@ -46,6 +46,15 @@ impl RefPicListModifications {
         RefPicListModifications {
             commands: SmallVec::new(alloc),
         }
+    }
+
+    /// One command more, behind the others.
+    pub fn push(&mut self, command: RefPicListModification) -> Result<(), AllocError>
+        ensures ok { OnOk result (self.new ≡ self.old ++ command ∷ []) }
+        ensures err { OnErr result (self.new ≡ self.old) }
+    {
+        self.commands.push(command)?;
+        Ok(())
     }
 
     /// The commands, in their order.

@@ -1,1 +1,4 @@
 pub mod Structures
+pub mod Extensions
+pub mod Lengths
+pub mod Fronts

@@ -1,4 +1,5 @@
 pub mod Structures
+pub mod CodeFaults
 pub mod HeaderRows
 pub mod SliceTypes
 pub mod FrontSyntax

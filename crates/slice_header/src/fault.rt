@@ -2,7 +2,9 @@
 
 ghost use Rattle.std.specs.Prelude.{◌≡◌};
 ghost use Rattle.slice_header.specs.declared.fault.HeaderFault.TheVariants.{Memory};
+ghost use Rattle.slice_header.specs.CodeFaults.{fault_of};
 
+use expgolomb::CodeFault;
 use std::alloc::{AllocError, AllocFailed};
 use thiserror::Error;
 
@@ -36,5 +38,17 @@ impl<T: Drop> From<AllocFailed<T>> for HeaderFault {
 
     fn from(_e: AllocFailed<T>) -> HeaderFault {
         HeaderFault::Memory
+    }
+}
+
+/// A code with too many zeros is a value out of range.
+impl From<CodeFault> for HeaderFault {
+    ghost from_gives = { λ fault e. e ≡ fault_of fault };
+
+    fn from(fault: CodeFault) -> HeaderFault {
+        match fault {
+            CodeFault::Cut => HeaderFault::Cut,
+            CodeFault::TooLong => HeaderFault::Value,
+        }
     }
 }

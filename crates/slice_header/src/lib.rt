@@ -4,10 +4,9 @@
 //! `param_sets`. What the fields lead to, picture order counts, marking and lists, is left to the crates above.
 #![tactic(auto)]
 
-ghost use Rattle.slice_header.specs.SliceHeaders.{header_at};
-
 mod dec_ref_pic_marking;
 mod fault;
+mod fields;
 mod front;
 mod pred_weight_table;
 mod ref_pic_list_modification;
@@ -18,8 +17,11 @@ pub use dec_ref_pic_marking::{
     DecRefPicMarking, MemoryManagementControlOperation, MemoryManagementControlOperations,
 };
 pub use fault::HeaderFault;
-pub use front::HeaderFront;
+pub use front::{HeaderFront, peek, slice_type};
 pub use pred_weight_table::{PredWeight, PredWeightTable, PredWeights};
 pub use ref_pic_list_modification::{RefPicListModification, RefPicListModifications};
 pub use slice_headers::SliceHeader;
 pub use slice_types::SliceType;
+
+#[cfg(test)]
+mod tests;

@@ -1,0 +1,83 @@
+//! The fields of a slice header, one at a time.
+
+ghost use Rattle.std.specs.Prelude.{◌≡◌, ◌<◌, ◌≤◌, ◌^◌, pos, IfOk, IsTrue, int_le, ◌&&◌, MatchResult, []};
+ghost use Rattle.param_sets.specs.Grammar.{Fixed, Unsigned, Signed};
+ghost use Rattle.param_sets.specs.Reading.{value_at};
+ghost use Rattle.param_sets.specs.Ranges.{any, at_most, between};
+ghost use Rattle.param_sets.specs.Answer.{Reads, flag_value};
+ghost use Rattle.param_sets.specs.Sets.{behind_first};
+
+use crate::fault::HeaderFault;
+use expgolomb::Bits;
+
+/// The bits of a payload behind its first byte.
+pub fn behind_first(payload: &[u8]) -> Result<Bits<'_>, HeaderFault>
+    ensures { MatchResult result (λ bits. bits ≡ behind_first payload.now) (λ e. (e ≡ HeaderFault.Cut) × (payload.now ≡ [])) }
+{
+    let mut bits = Bits::new(payload);
+    let _nal_unit_header = bits.fixed(8)?;
+    Ok(bits)
+}
+
+/// Reads a flag, u(1).
+#[tactic(auto, unfolding(param_sets::specs::Reading::value_at))]
+pub fn flag(bits: &mut Bits<'_>) -> Result<bool, HeaderFault>
+    ensures { Reads flag_value result bits.new (value_at (Fixed 1) HeaderFault.Cut HeaderFault.Cut any bits.old) }
+{
+    Ok(bits.bit()?)
+}
+
+/// Reads a number of n bits, u(n).
+#[tactic(auto, unfolding(param_sets::specs::Reading::value_at))]
+pub fn fixed(bits: &mut Bits<'_>, n: u8) -> Result<u32, HeaderFault>
+    requires some { 1 ≤ n }
+    requires few { n ≤ 32 }
+    ensures exact { Reads pos result bits.new (value_at (Fixed n) HeaderFault.Cut HeaderFault.Cut any bits.old) }
+    ensures below { IfOk result (λ v. v < 2 ^ n) }
+{
+    Ok(bits.fixed(n)?)
+}
+
+/// Reads an unsigned number, ue(v).
+#[tactic(auto, unfolding(param_sets::specs::Reading::value_at))]
+pub fn ue_any(bits: &mut Bits<'_>) -> Result<u32, HeaderFault>
+    ensures { Reads pos result bits.new (value_at Unsigned HeaderFault.Cut HeaderFault.Value any bits.old) }
+{
+    Ok(bits.ue()?)
+}
+
+/// Reads an unsigned number of at most this much, ue(v).
+#[tactic(auto, unfolding(param_sets::specs::Reading::value_at))]
+pub fn ue(bits: &mut Bits<'_>, most: u32) -> Result<u32, HeaderFault>
+    ensures exact { Reads pos result bits.new (value_at Unsigned HeaderFault.Cut HeaderFault.Value (at_most most HeaderFault.Value) bits.old) }
+    ensures bound { IfOk result (λ v. v ≤ most) }
+{
+    let value = bits.ue()?;
+    if value <= most {
+        Ok(value)
+    } else {
+        Err(HeaderFault::Value)
+    }
+}
+
+/// Reads a signed number, se(v).
+#[tactic(auto, unfolding(param_sets::specs::Reading::value_at))]
+pub fn se_any(bits: &mut Bits<'_>) -> Result<i32, HeaderFault>
+    ensures { Reads (λ v. v) result bits.new (value_at Signed HeaderFault.Cut HeaderFault.Value any bits.old) }
+{
+    Ok(bits.se()?)
+}
+
+/// Reads a signed number from the least to the most, se(v).
+#[tactic(auto, unfolding(param_sets::specs::Reading::value_at))]
+pub fn se(bits: &mut Bits<'_>, least: i32, most: i32) -> Result<i32, HeaderFault>
+    ensures exact { Reads (λ v. v) result bits.new (value_at Signed HeaderFault.Cut HeaderFault.Value (between least most HeaderFault.Value) bits.old) }
+    ensures bounds { IfOk result (λ v. IsTrue (int_le least v && int_le v most)) }
+{
+    let value = bits.se()?;
+    if value >= least && value <= most {
+        Ok(value)
+    } else {
+        Err(HeaderFault::Value)
+    }
+}

@@ -1,9 +1,10 @@
 pub mod Pictures
 pub mod PicOrderCnt
-pub mod Anchors
+pub mod Width
 pub mod FrameNumbers
 pub mod TypeZero
 pub mod TypeOne
 pub mod TypeTwo
 pub mod Resetting
 pub mod Counting
+pub mod Anchors

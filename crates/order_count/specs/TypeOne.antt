@@ -2,17 +2,15 @@
 use Rattle.std.specs.Prelude.{ℕ, zero, suc, ◌+◌, ◌-◌, ◌/◌, ◌%◌, ◌==◌, List, length, take, fold, ℤ, pos, ◌+ℤ◌, ◌*ℤ◌, if◌then◌else◌}
 use Rattle.param_sets.specs.declared.sps.Sps.{Sps}
 use Rattle.slice_header.specs.declared.slice_headers.SliceHeader.{SliceHeader}
-use Rattle.order_count.specs.declared.anchors.Anchor.{Anchor}
 use Rattle.order_count.specs.declared.counts.Counts.{Counts}
 use Rattle.order_count.specs.Pictures.{is_reference}
-use Rattle.order_count.specs.FrameNumbers.{frame_num_offset}
 
 -- absFrameNum (8-7): 0 where the cycle is empty, and one less for a picture that is no reference
-abbrev pub abs_frame_num : Anchor → Sps → SliceHeader → ℕ
-abs_frame_num anchor sps header =
+abbrev pub abs_frame_num : (frame_num_offset : ℕ) → Sps → SliceHeader → ℕ
+abs_frame_num frame_num_offset sps header =
     if length sps.offset_for_ref_frame == 0 then 0
-    else if is_reference header then frame_num_offset anchor sps header + header.frame_num
-    else frame_num_offset anchor sps header + header.frame_num - 1
+    else if is_reference header then frame_num_offset + header.frame_num
+    else frame_num_offset + header.frame_num - 1
 
 -- the sum of offsets
 abbrev pub total : List ℤ → ℤ
@@ -26,9 +24,9 @@ expected offsets (suc before) =
     pos (before / length offsets) *ℤ total offsets +ℤ total (take (before % length offsets + 1) offsets)
 
 -- expectedPicOrderCnt (8-10)
-abbrev pub expected_pic_order_cnt : Anchor → Sps → SliceHeader → ℤ
-expected_pic_order_cnt anchor sps header =
-    expected sps.offset_for_ref_frame (abs_frame_num anchor sps header)
+abbrev pub expected_pic_order_cnt : (frame_num_offset : ℕ) → Sps → SliceHeader → ℤ
+expected_pic_order_cnt frame_num_offset sps header =
+    expected sps.offset_for_ref_frame (abs_frame_num frame_num_offset sps header)
     +ℤ (if is_reference header then pos 0 else sps.offset_for_non_ref_pic)
 
 -- the counts of a frame (8-11)
@@ -38,5 +36,5 @@ counts_from expected sps header = record {
   bottom = expected +ℤ header.delta_pic_order_cnt0 +ℤ sps.offset_for_top_to_bottom_field +ℤ header.delta_pic_order_cnt1;
 }
 
-unfoldable pub type_one : Anchor → Sps → SliceHeader → Counts
-type_one anchor sps header = counts_from (expected_pic_order_cnt anchor sps header) sps header
+unfoldable pub type_one : (frame_num_offset : ℕ) → Sps → SliceHeader → Counts
+type_one frame_num_offset sps header = counts_from (expected_pic_order_cnt frame_num_offset sps header) sps header

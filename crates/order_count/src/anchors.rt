@@ -1,15 +1,24 @@
-ghost use Rattle.std.specs.Prelude.{◌≡◌};
-ghost use Rattle.order_count.specs.Anchors.{no_pictures};
+ghost use Rattle.std.specs.Prelude.{◌≡◌, Ok, ◌<◌, ◌^◌};
+ghost use Rattle.order_count.specs.FrameNumbers.{frame_num_offset};
+ghost use Rattle.order_count.specs.Counting.{counts_of};
+ghost use Rattle.order_count.specs.Anchors.{no_pictures, of_reference_picture, of_picture, anchor_after_of};
+
+use crate::counts::Counts;
+use crate::frame_numbers::frame_num_offset;
+use crate::resetting::{after_reset, resets};
+use crate::type_zero::pic_order_cnt_msb;
+use param_sets::{PicOrderCntType, Sps};
+use slice_header::SliceHeader;
 
 /// What counting keeps of the pictures before. What the type of counting doesn't read is 0.
 #[derive(Clone, Copy, Debug, PartialEq, Eq)]
 pub struct Anchor {
     // Type 0: of the previous reference picture.
-    prev_pic_order_cnt_msb: i64,
-    prev_pic_order_cnt_lsb: i32,
+    pub(crate) prev_pic_order_cnt_msb: i64,
+    pub(crate) prev_pic_order_cnt_lsb: i32,
     // Types 1 and 2: of the previous picture.
-    prev_frame_num_offset: u32,
-    prev_frame_num: u16,
+    pub(crate) prev_frame_num_offset: u32,
+    pub(crate) prev_frame_num: u16,
 }
 
 impl Anchor {
@@ -23,5 +32,54 @@ impl Anchor {
             prev_frame_num_offset: 0,
             prev_frame_num: 0,
         }
+    }
+}
+
+/// The anchor of the next picture, behind this one, whose counts `count` answered.
+#[tactic(auto, unfolding(crate::specs::Anchors::anchor_after_of))]
+pub fn anchor_after(anchor: &Anchor, sps: &Sps, header: &SliceHeader, counts: Counts) -> Anchor
+    requires { counts_of anchor.now sps.now header.now ≡ Ok counts }
+    ensures { result ≡ anchor_after_of anchor.now sps.now header.now counts }
+{
+    match sps.pic_order_cnt_type {
+        PicOrderCntType::Zero if !header.is_reference() => *anchor,
+        PicOrderCntType::Zero => of_reference_picture(anchor, sps, header, counts),
+        PicOrderCntType::One | PicOrderCntType::Two => of_picture(anchor, sps, header),
+    }
+}
+
+// What is kept of a reference picture of type 0.
+fn of_reference_picture(anchor: &Anchor, sps: &Sps, header: &SliceHeader, counts: Counts) -> Anchor
+    requires zero { sps.now.pic_order_cnt_type ≡ PicOrderCntType.Zero }
+    requires counted { counts_of anchor.now sps.now header.now ≡ Ok counts }
+    ensures { result ≡ of_reference_picture anchor.now sps.now header.now counts }
+{
+    if resets(header) {
+        Anchor {
+            prev_pic_order_cnt_lsb: after_reset(header, counts).top,
+            ..Anchor::new()
+        }
+    } else {
+        let lsb = i32::from(header.pic_order_cnt_lsb);
+        Anchor {
+            prev_pic_order_cnt_msb: pic_order_cnt_msb(anchor, sps, header) as i64,
+            prev_pic_order_cnt_lsb: lsb,
+            ..Anchor::new()
+        }
+    }
+}
+
+// What is kept of a picture of type 1 or 2.
+fn of_picture(anchor: &Anchor, sps: &Sps, header: &SliceHeader) -> Anchor
+    requires { frame_num_offset anchor.now sps.now header.now < 2 ^ 32 }
+    ensures { result ≡ of_picture anchor.now sps.now header.now }
+{
+    if resets(header) {
+        return Anchor::new();
+    }
+    Anchor {
+        prev_frame_num_offset: frame_num_offset(anchor, sps, header) as u32,
+        prev_frame_num: header.frame_num,
+        ..Anchor::new()
     }
 }

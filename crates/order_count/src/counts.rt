@@ -1,5 +1,8 @@
-ghost use Rattle.std.specs.Prelude.{◌≡◌};
-ghost use Rattle.order_count.specs.PicOrderCnt.{pic_order_cnt};
+ghost use Rattle.std.specs.Prelude.{◌≡◌, Ok, Err, if◌then◌else◌};
+ghost use Rattle.order_count.specs.PicOrderCnt.{pic_order_cnt, are_in_range};
+ghost use Rattle.order_count.specs.Width.{plain};
+
+use crate::fault::OrderRange;
 
 /// TopFieldOrderCnt and BottomFieldOrderCnt of a frame.
 #[derive(Clone, Copy, Debug, PartialEq, Eq, Hash)]
@@ -14,5 +17,24 @@ impl Counts {
         ensures { result ≡ pic_order_cnt self }
     {
         self.top.min(self.bottom)
+    }
+}
+
+// Counts that were not yet tested: their width holds whatever an anchor, a set and a header lead to.
+#[derive(Clone, Copy)]
+pub(crate) struct WideCounts {
+    pub(crate) top: i128,
+    pub(crate) bottom: i128,
+}
+
+impl WideCounts {
+    // The counts, where both are in range.
+    pub(crate) fn in_range(self) -> Result<Counts, OrderRange>
+        ensures { result ≡ (if are_in_range (plain self) then Ok (plain self) else Err (record {})) }
+    {
+        match (i32::try_from(self.top), i32::try_from(self.bottom)) {
+            (Ok(top), Ok(bottom)) => Ok(Counts { top, bottom }),
+            _ => Err(OrderRange),
+        }
     }
 }

@@ -6,11 +6,18 @@
 #![tactic(auto)]
 
 mod anchors;
+mod counting;
 mod counts;
 mod fault;
+mod frame_numbers;
 mod resetting;
+mod type_one;
+mod type_two;
+mod type_zero;
 
-pub use anchors::Anchor;
+pub use anchors::{Anchor, anchor_after};
+pub use counting::count;
 pub use counts::Counts;
 pub use fault::OrderRange;
+pub use frame_numbers::max_frame_num;
 pub use resetting::{after_reset, resets};

@@ -1,0 +1,3 @@
+mod Near
+mod Cycles
+mod Counted

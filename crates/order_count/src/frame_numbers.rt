@@ -1,0 +1,46 @@
+//! MaxFrameNum, and FrameNumOffset, which counts the rounds of frame_num (8.2.1.2).
+ghost use Rattle.std.specs.Prelude.{◌≡◌, ◌<◌, ◌≤◌, ◌^◌, Ok, Err, nat_lt, if◌then◌else◌};
+ghost use Rattle.order_count.specs.FrameNumbers.{max_frame_num, frame_num_offset};
+
+use crate::anchors::Anchor;
+use crate::fault::OrderRange;
+use param_sets::Sps;
+use slice_header::SliceHeader;
+
+/// MaxFrameNum: frame_num counts up to it, and then from 0 again (7-10).
+pub fn max_frame_num(sps: &Sps) -> u32
+    ensures value { result ≡ max_frame_num sps.now }
+    ensures bound { result ≤ 2 ^ 16 }
+{
+    1 << (sps.log2_max_frame_num_minus4.get() + 4)
+}
+
+/// FrameNumOffset of a picture of type 1 or 2 (8-6).
+pub(crate) fn frame_num_offset(anchor: &Anchor, sps: &Sps, header: &SliceHeader) -> u64
+    ensures value { result ≡ frame_num_offset anchor.now sps.now header.now }
+    ensures bound { result < 2 ^ 33 }
+{
+    let prev_offset = u64::from(anchor.prev_frame_num_offset);
+    if header.is_idr() {
+        0
+    } else if header.frame_num < anchor.prev_frame_num {
+        prev_offset + u64::from(max_frame_num(sps))
+    } else {
+        prev_offset
+    }
+}
+
+/// FrameNumOffset, where it is below 2^32.
+pub(crate) fn small_offset(
+    anchor: &Anchor,
+    sps: &Sps,
+    header: &SliceHeader,
+) -> Result<u32, OrderRange>
+    ensures { let offset = frame_num_offset anchor.now sps.now header.now in
+        result ≡ (if nat_lt offset (2 ^ 32) then Ok offset else Err (record {})) }
+{
+    match u32::try_from(frame_num_offset(anchor, sps, header)) {
+        Ok(offset) => Ok(offset),
+        Err(_) => Err(OrderRange),
+    }
+}

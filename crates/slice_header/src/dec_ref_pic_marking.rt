@@ -1,10 +1,10 @@
 //! What becomes of the reference frames once the picture is decoded (7.3.3.3, 7.4.3.3).
 
-ghost use Rattle.std.specs.Prelude.{◌≡◌, List, []};
+ghost use Rattle.std.specs.Prelude.{◌≡◌, List, [], ◌∷◌, ◌++◌, OnOk, OnErr};
 ghost use Rattle.slice_header.specs.declared.dec_ref_pic_marking.MemoryManagementControlOperation.{MemoryManagementControlOperation};
 
 use smallvec::SmallVec;
-use std::alloc::Global;
+use std::alloc::{AllocError, Global};
 use std::marker::Model;
 
 /// One memory_management_control_operation, with its operands.
@@ -61,6 +61,15 @@ impl MemoryManagementControlOperations {
         MemoryManagementControlOperations {
             operations: SmallVec::new(alloc),
         }
+    }
+
+    /// One operation more, behind the others.
+    pub fn push(&mut self, operation: MemoryManagementControlOperation) -> Result<(), AllocError>
+        ensures ok { OnOk result (self.new ≡ self.old ++ operation ∷ []) }
+        ensures err { OnErr result (self.new ≡ self.old) }
+    {
+        self.operations.push(operation)?;
+        Ok(())
     }
 
     /// The operations, in their order.

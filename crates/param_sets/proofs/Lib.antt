@@ -1,2 +1,9 @@
 pub mod Tables
 pub mod Fields
+pub mod Loops
+pub mod Refusals
+pub mod CountTypes
+pub mod HighProfiles
+pub mod SpsSections
+pub mod SetLaws
+pub mod SpsLaws

@@ -7,6 +7,7 @@ use Rattle.param_sets.specs.declared.sps.Sps.{Sps}
 use Rattle.param_sets.specs.declared.pps.Pps.{Pps}
 use Rattle.param_sets.specs.Grammar.{Header, values, HasRows, HasFault}
 use Rattle.param_sets.specs.Reading.{rows_at}
+use Rattle.param_sets.specs.Answer.{Refuses}
 use Rattle.param_sets.specs.SpsSyntax as sps
 use Rattle.param_sets.specs.PpsSyntax as pps
 
@@ -48,5 +49,9 @@ pps_at payload = first_of (λ s. s.pps) (rows_at pps.take pps.pps_rows pps.no_pp
 -- a call answers what reading gives, unless memory ran out
 abbrev pub Answers : {A : Type 0} → Result A SetFault → Result A SetFault → Type 0
 Answers (Ok x) read = read ≡ Ok x
-Answers (Err Memory) read = Unit {0}
-Answers (Err e) read = read ≡ Err e
+Answers (Err e) read = Refuses e read
+
+-- a fault that is answered is shown, unless memory ran out
+abbrev pub IsShown : (SetFault → Type 0) → SetFault → Type 0
+IsShown shows Memory = Unit {0}
+IsShown shows e = shows e

@@ -1,5 +1,5 @@
 -- Sequence parameter sets: the table of their syntax (ITU-T H.264, 7.3.2.1.1) and what its fields say (7.4.2.1.1).
-use Rattle.std.specs.Prelude.{ℕ, ◌==◌, Bool, true, false, List, [], ◌∷◌, ◌++◌, length, replicate, Option, Some, None, ℤ, pos, negsuc, nat_lt, nat_le, ◌&&◌, ◌||◌, if◌then◌else◌, nat_abs}
+use Rattle.std.specs.Prelude.{◌≡◌, ℕ, ◌==◌, Bool, true, false, List, [], ◌∷◌, ◌++◌, length, replicate, Option, Some, None, ℤ, pos, negsuc, nat_lt, nat_le, ◌&&◌, ◌||◌, if◌then◌else◌, nat_abs}
 use Rattle.std.specs.List.{flat_map}
 use Rattle.param_sets.specs.declared.fault.SetFault.{SetFault}
 use Rattle.param_sets.specs.declared.fault.SetFault.TheVariants.{Range, Profile, Chroma444, Interlaced, RefFrames, OutsidePath}
@@ -115,19 +115,27 @@ profile_range v =
     else if nat_abs v == 100 || nat_abs v == 110 || nat_abs v == 122 then Some OutsidePath
     else Some Profile
 
-abbrev pub profile_rows : List SpsRow
-profile_rows =
-    u_of ProfileIdc 8 always profile_range
-    ∷ u ConstraintSetFlag 1 always
-    ∷ u ConstraintSetFlag 1 always
-    ∷ u ConstraintSetFlag 1 always
-    ∷ u ConstraintSetFlag 1 always
-    ∷ u ConstraintSetFlag 1 always
-    ∷ u ConstraintSetFlag 1 always
-    ∷ u ReservedZero2Bits 2 always
+abbrev pub flag_row : SpsRow
+flag_row = u ConstraintSetFlag 1 always
+
+abbrev pub profile_row : SpsRow
+profile_row = u_of ProfileIdc 8 always profile_range
+
+-- constraint_set0_flag to constraint_set5_flag
+unfoldable pub constraint_rows : List SpsRow
+constraint_rows = replicate 6 flag_row
+
+-- two bits that are not tested, the level, and the number of the set
+abbrev pub level_rows : List SpsRow
+level_rows =
+    u ReservedZero2Bits 2 always
     ∷ u LevelIdc 8 always
     ∷ ue SeqParameterSetId always 31 (Range ranges.SpsId)
     ∷ []
+
+-- what each set begins with
+abbrev pub beginning_rows : List SpsRow
+beginning_rows = profile_row ∷ (constraint_rows ++ level_rows)
 
 -- a profile with a chroma format, bit depths and scaling lists
 abbrev pub is_high : Sps → Bool
@@ -140,24 +148,32 @@ abbrev pub chroma_range : ℤ → Option SetFault
 chroma_range v =
     if nat_le (nat_abs v) 2 then None else if nat_abs v == 3 then Some Chroma444 else Some (Range ranges.ChromaFormat)
 
+abbrev pub present_row : SpsRow
+present_row = u SeqScalingListPresentFlag 1 has_matrix
+
+-- an entry of scaling list number j, where the list goes on
+abbrev pub delta_row : ℕ → SpsRow
+delta_row j = se DeltaScale (λ s. is_reading j s.scaling_lists) (negsuc 127) (pos 127) (Range ranges.Delta)
+
 -- scaling list number j, of n entries
 unfoldable pub scaling_list_rows : ℕ → ℕ → List SpsRow
-scaling_list_rows j n =
-    u SeqScalingListPresentFlag 1 has_matrix
-    ∷ replicate n (se DeltaScale (λ s. is_reading j s.scaling_lists) (negsuc 127) (pos 127) (Range ranges.Delta))
+scaling_list_rows j n = present_row ∷ replicate n (delta_row j)
 
 -- six lists of 16 entries, and two of 64
 unfoldable pub scaling_rows : List SpsRow
 scaling_rows = flat_map (λ j. scaling_list_rows j (if nat_lt j 6 then 16 else 64)) (0 ∷ 1 ∷ 2 ∷ 3 ∷ 4 ∷ 5 ∷ 6 ∷ 7 ∷ [])
 
-abbrev pub high_rows : List SpsRow
-high_rows =
+abbrev pub high_fields : List SpsRow
+high_fields =
     ue_of ChromaFormatIdc is_high chroma_range (Range ranges.ChromaFormat)
     ∷ ue BitDepthLumaMinus8 is_high 6 (Range ranges.BitDepth)
     ∷ ue BitDepthChromaMinus8 is_high 6 (Range ranges.BitDepth)
     ∷ u QpprimeYZeroTransformBypassFlag 1 is_high
     ∷ u SeqScalingMatrixPresentFlag 1 is_high
-    ∷ scaling_rows
+    ∷ []
+
+abbrev pub high_rows : List SpsRow
+high_rows = high_fields ++ scaling_rows
 
 abbrev pub is_type_zero : Sps → Bool
 is_type_zero s = is_zero s.pic_order_cnt_type
@@ -173,37 +189,60 @@ is_type_one s = is_one s.pic_order_cnt_type
     is_one One = true
     is_one t = false
 
--- types 0 and 1 aren't read yet
-abbrev pub count_type_range : ℤ → Option SetFault
-count_type_range v =
-    if nat_abs v == 2 then None else if nat_lt (nat_abs v) 2 then Some OutsidePath else Some (Range ranges.CountType)
-
 -- an offset of the cycle that isn't read yet
 abbrev pub has_offset : Sps → Bool
 has_offset s = is_type_one s && nat_lt (length s.offset_for_ref_frame) s.num_ref_frames_in_pic_order_cnt_cycle
 
-unfoldable pub offset_rows : List SpsRow
-offset_rows = replicate 255 (se_any OffsetForRefFrame has_offset (Range ranges.Offset))
+-- the set with these offsets
+abbrev pub with_offsets : Sps → List ℤ → Sps
+with_offsets s offsets = record s { offset_for_ref_frame = offsets }
 
+-- the set has a cycle of this length
+abbrev pub IsCycleOf : Sps → ℕ → Type 0
+IsCycleOf s length = (s.pic_order_cnt_type ≡ One) × (s.num_ref_frames_in_pic_order_cnt_cycle ≡ length)
+
+abbrev pub offset_row : SpsRow
+offset_row = se_any OffsetForRefFrame has_offset (Range ranges.Offset)
+
+unfoldable pub offset_rows : List SpsRow
+offset_rows = replicate 255 offset_row
+
+-- how frame numbers and counts are coded
 abbrev pub count_rows : List SpsRow
 count_rows =
     ue Log2MaxFrameNumMinus4 always 12 (Range ranges.FrameNumBits)
-    ∷ ue_of PicOrderCntTypeCode always count_type_range (Range ranges.CountType)
-    ∷ ue Log2MaxPicOrderCntLsbMinus4 is_type_zero 12 (Range ranges.CountBits)
-    ∷ u DeltaPicOrderAlwaysZeroFlag 1 is_type_one
+    ∷ ue PicOrderCntTypeCode always 2 (Range ranges.CountType)
+    ∷ []
+
+abbrev pub type_zero_rows : List SpsRow
+type_zero_rows = ue Log2MaxPicOrderCntLsbMinus4 is_type_zero 12 (Range ranges.CountBits) ∷ []
+
+abbrev pub type_one_rows : List SpsRow
+type_one_rows =
+    u DeltaPicOrderAlwaysZeroFlag 1 is_type_one
     ∷ se_any OffsetForNonRefPic is_type_one (Range ranges.Offset)
     ∷ se_any OffsetForTopToBottomField is_type_one (Range ranges.Offset)
     ∷ ue NumRefFramesInPicOrderCntCycle is_type_one 255 (Range ranges.CycleLength)
-    ∷ offset_rows
+    ∷ []
+
+-- what the types of counts have
+abbrev pub typed_rows : List SpsRow
+typed_rows = type_zero_rows ++ (type_one_rows ++ offset_rows)
+
+-- the frames that are kept
+abbrev pub frame_rows : List SpsRow
+frame_rows =
+    ue MaxNumRefFrames always 16 RefFrames
+    ∷ u GapsInFrameNumValueAllowedFlag 1 always
+    ∷ []
 
 abbrev pub frames_only : ℤ → Option SetFault
 frames_only v = if flag_of v then None else Some Interlaced
 
+-- the size of a frame
 abbrev pub size_rows : List SpsRow
 size_rows =
-    ue MaxNumRefFrames always 16 RefFrames
-    ∷ u GapsInFrameNumValueAllowedFlag 1 always
-    ∷ ue PicWidthInMbsMinus1 always 65535 (Range ranges.Width)
+    ue PicWidthInMbsMinus1 always 65535 (Range ranges.Width)
     ∷ ue PicHeightInMapUnitsMinus1 always 65535 (Range ranges.Height)
     ∷ u_of FrameMbsOnlyFlag 1 always frames_only
     ∷ u Direct8x8InferenceFlag 1 always
@@ -211,4 +250,5 @@ size_rows =
 
 -- the whole table, as far as it is read: what follows is cropping and VUI
 unfoldable pub sps_rows : List SpsRow
-sps_rows = profile_rows ++ (high_rows ++ (count_rows ++ size_rows))
+sps_rows =
+    beginning_rows ++ (high_rows ++ (count_rows ++ (typed_rows ++ (frame_rows ++ size_rows))))

@@ -9,6 +9,7 @@ mod fault;
 mod offsets;
 mod pps;
 mod scaling;
+mod seq_parameter_set;
 mod sps;
 pub mod syntax;
 
@@ -17,4 +18,8 @@ pub use fault::{SetFault, SetField};
 pub use offsets::Offsets;
 pub use pps::{Pps, WeightedBipred};
 pub use scaling::{ScalingList, ScalingLists};
+pub use seq_parameter_set::read_sps;
 pub use sps::{ChromaFormat, PicOrderCntType, Sps};
+
+#[cfg(test)]
+mod tests;

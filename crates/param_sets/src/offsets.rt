@@ -1,6 +1,6 @@
-ghost use Rattle.std.specs.Prelude.{◌≡◌, ◌≤◌, ℤ, List, [], length};
+ghost use Rattle.std.specs.Prelude.{◌≡◌, ◌<◌, ◌≤◌, ℤ, List, [], ◌∷◌, ◌++◌, length, IfOk, OnErr};
 
-use std::alloc::Global;
+use std::alloc::{AllocError, Global};
 use std::marker::Model;
 
 /// The offsets of a cycle of reference frames, offset_for_ref_frame: at most 255.
@@ -25,6 +25,16 @@ impl Offsets {
         Offsets {
             items: Vec::new(alloc),
         }
+    }
+
+    /// One more offset.
+    pub(crate) fn push(&mut self, offset: i32) -> Result<(), AllocError>
+        requires { length self.old < 255 }
+        ensures pushed { IfOk result (λ _. self.new ≡ self.old ++ offset ∷ []) }
+        ensures unchanged { OnErr result (self.new ≡ self.old) }
+    {
+        self.items.push(offset)?;
+        Ok(())
     }
 
     /// The offsets, in the order of the cycle.

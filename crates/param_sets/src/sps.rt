@@ -1,3 +1,5 @@
+ghost use Rattle.std.specs.Prelude.{◌≡◌, ◌≤◌, ◌+◌, ◌*◌, ◌^◌};
+
 use crate::at_most::AtMost;
 use crate::offsets::Offsets;
 use crate::scaling::ScalingLists;
@@ -44,4 +46,25 @@ pub struct Sps {
     pub pic_width_in_mbs_minus1: u16,
     pub pic_height_in_map_units_minus1: u16,
     pub direct_8x8_inference_flag: bool,
+}
+
+impl Sps {
+    /// MaxFrameNum, the modulus of frame_num (7.4.2.1.1).
+    pub fn max_frame_num(&self) -> u32
+        ensures value { result ≡ 2 ^ (self.now.log2_max_frame_num_minus4 + 4) }
+        ensures least { 16 ≤ result }
+        ensures most { result ≤ 2 ^ 16 }
+    {
+        1 << (self.log2_max_frame_num_minus4.get() + 4)
+    }
+
+    /// How many macroblocks a frame has (7.4.2.1.1).
+    pub fn pic_size_in_mbs(&self) -> u64
+        ensures value { result ≡ (self.now.pic_width_in_mbs_minus1 + 1) * (self.now.pic_height_in_map_units_minus1 + 1) }
+        ensures bound { result ≤ 2 ^ 32 }
+    {
+        let width_minus1 = self.pic_width_in_mbs_minus1;
+        let height_minus1 = self.pic_height_in_map_units_minus1;
+        (u64::from(width_minus1) + 1) * (u64::from(height_minus1) + 1)
+    }
 }

@@ -1,12 +1,27 @@
 //! The fields of a syntax table, one at a time.
 
-ghost use Rattle.std.specs.Prelude.{◌≡◌, ◌≤◌, pos, Err, int_le, ◌&&◌};
+ghost use Rattle.std.specs.Prelude.{◌≡◌, ◌<◌, ◌≤◌, ◌^◌, pos, [], Err, IfOk, IfErr, IsTrue, int_le, ◌&&◌};
 ghost use Rattle.param_sets.specs.Grammar.{Fixed, Unsigned, Signed};
 ghost use Rattle.param_sets.specs.Reading.{value_at, checked};
 ghost use Rattle.param_sets.specs.Ranges.{any, at_most, between};
+ghost use Rattle.param_sets.specs.Sets.{behind_first};
 ghost use Rattle.param_sets.specs.Answer.{Reads, flag_value};
 
+use crate::at_most::AtMost;
+use crate::fault::SetFault;
 use expgolomb::{Bits, CodeFault};
+
+/// A reader of a payload behind its first byte, the unit's header.
+pub fn behind_header(payload: &[u8]) -> Result<Bits<'_>, SetFault>
+    ensures found { IfOk result (λ bits. bits ≡ behind_first payload.now) }
+    ensures empty { IfErr result (λ fault. (fault ≡ SetFault.Cut) × ((behind_first payload.now).rest ≡ [])) }
+{
+    let mut bits = Bits::new(payload);
+    match bits.fixed(8) {
+        Ok(_) => Ok(bits),
+        Err(_) => Err(SetFault::Cut),
+    }
+}
 
 /// Reads a flag, u(1).
 pub fn flag<E: Drop>(bits: &mut Bits<'_>, cut: E) -> Result<bool, E>
@@ -22,7 +37,8 @@ pub fn flag<E: Drop>(bits: &mut Bits<'_>, cut: E) -> Result<bool, E>
 pub fn fixed<E: Drop>(bits: &mut Bits<'_>, n: u8, cut: E) -> Result<u32, E>
     requires some { 1 ≤ n }
     requires few { n ≤ 32 }
-    ensures { Reads pos result bits.new (value_at (Fixed n) cut cut any bits.old) }
+    ensures exact { Reads pos result bits.new (value_at (Fixed n) cut cut any bits.old) }
+    ensures below { IfOk result (λ v. v < 2 ^ n) }
 {
     match bits.fixed(n) {
         Ok(v) => Ok(v),
@@ -32,7 +48,8 @@ pub fn fixed<E: Drop>(bits: &mut Bits<'_>, n: u8, cut: E) -> Result<u32, E>
 
 /// Reads an unsigned number of at most this much, ue(v).
 pub fn ue<E: Drop>(bits: &mut Bits<'_>, most: u32, cut: E, wrong: E) -> Result<u32, E>
-    ensures { Reads pos result bits.new (value_at Unsigned cut wrong (at_most most wrong) bits.old) }
+    ensures exact { Reads pos result bits.new (value_at Unsigned cut wrong (at_most most wrong) bits.old) }
+    ensures bound { IfOk result (λ v. v ≤ most) }
 {
     match bits.ue() {
         Ok(v) if v <= most => Ok(v),
@@ -43,13 +60,65 @@ pub fn ue<E: Drop>(bits: &mut Bits<'_>, most: u32, cut: E, wrong: E) -> Result<u
 
 /// Reads a signed number from the least to the most, se(v).
 pub fn se<E: Drop>(bits: &mut Bits<'_>, least: i32, most: i32, cut: E, wrong: E) -> Result<i32, E>
-    ensures { Reads (λ v. v) result bits.new (value_at Signed cut wrong (between least most wrong) bits.old) }
+    ensures exact { Reads (λ v. v) result bits.new (value_at Signed cut wrong (between least most wrong) bits.old) }
+    ensures bounds { IfOk result (λ v. IsTrue (int_le least v && int_le v most)) }
 {
     match bits.se() {
         Ok(v) if is_within(v, least, most) => Ok(v),
         Ok(_) => Err(wrong),
         Err(fault) => Err(which(fault, cut, wrong)),
     }
+}
+
+/// Reads a signed number, se(v).
+pub fn se_any<E: Drop>(bits: &mut Bits<'_>, cut: E, wrong: E) -> Result<i32, E>
+    ensures { Reads (λ v. v) result bits.new (value_at Signed cut wrong any bits.old) }
+{
+    match bits.se() {
+        Ok(v) => Ok(v),
+        Err(fault) => Err(which(fault, cut, wrong)),
+    }
+}
+
+/// Reads an unsigned number, ue(v).
+pub fn ue_any<E: Drop>(bits: &mut Bits<'_>, cut: E, wrong: E) -> Result<u32, E>
+    ensures { Reads pos result bits.new (value_at Unsigned cut wrong any bits.old) }
+{
+    match bits.ue() {
+        Ok(v) => Ok(v),
+        Err(fault) => Err(which(fault, cut, wrong)),
+    }
+}
+
+/// Reads a number of n bits of at most this much, u(n).
+pub fn fixed_at_most<E: Drop>(
+    bits: &mut Bits<'_>,
+    n: u8,
+    most: u32,
+    cut: E,
+    wrong: E,
+) -> Result<u32, E>
+    requires some { 1 ≤ n }
+    requires few { n ≤ 32 }
+    ensures exact { Reads pos result bits.new (value_at (Fixed n) cut cut (at_most most wrong) bits.old) }
+    ensures bound { IfOk result (λ v. v ≤ most) }
+{
+    match bits.fixed(n) {
+        Ok(v) if v <= most => Ok(v),
+        Ok(_) => Err(wrong),
+        Err(_) => Err(cut),
+    }
+}
+
+/// Reads an unsigned number with a greatest value, ue(v).
+pub fn bounded<const MOST: u8>(
+    bits: &mut Bits<'_>,
+    wrong: SetFault,
+) -> Result<AtMost<MOST>, SetFault>
+    ensures { Reads pos result bits.new (value_at Unsigned SetFault.Cut wrong (at_most MOST wrong) bits.old) }
+{
+    let value = ue(bits, u32::from(MOST), SetFault::Cut, wrong)?;
+    Ok(AtMost::new(value as u8))
 }
 
 // The refusal of a code that isn't there: a code with too many zeros is a value out of range.

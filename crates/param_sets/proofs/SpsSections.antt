@@ -1,0 +1,45 @@
+-- The sections of the table of sequence parameter sets, one behind the other.
+use Rattle.std.proofs.Common.{◌≡◌, ◌++◌, List, false, Ok, Err, ◌∙◌}
+use Rattle.expgolomb.specs.Bits.{Place}
+use Rattle.param_sets.specs.Answer.{Refuses}
+use Rattle.param_sets.specs.Reading.{rows_at}
+use Rattle.param_sets.specs.SpsSyntax.{take, no_sps, is_high, SpsRow, beginning_rows, high_rows, count_rows, typed_rows, frame_rows, size_rows, sps_rows}
+use Rattle.param_sets.specs.declared.fault.SetFault.{SetFault}
+use Rattle.param_sets.specs.declared.sps.Sps.{Sps}
+use Rattle.param_sets.proofs.HighProfiles.{HasNoLists, high_absent}
+use Rattle.param_sets.proofs.Loops.{behind_ok, behind_err}
+use Rattle.param_sets.proofs.Refusals.{refused, refused_by}
+
+-- the sections from the types of counts on
+abbrev from_types : List SpsRow
+from_types = typed_rows ++ (frame_rows ++ size_rows)
+
+abbrev from_counts : List SpsRow
+from_counts = count_rows ++ from_types
+
+-- what was read before a section, and what is left
+abbrev pub Left : List SpsRow → Place → Sps → Place → Type 0
+Left rows p s q = rows_at take sps_rows no_sps p ≡ rows_at take rows s q
+
+pub begun : (s : Sps) (p q : Place) → rows_at take beginning_rows no_sps p ≡ Ok (s, q) → is_high s ≡ false → HasNoLists s → Left from_counts p s q
+unfolding sps_rows
+begun s p q read plain none =
+    behind_ok take beginning_rows (high_rows ++ from_counts) no_sps p s q read ∙ behind_ok take high_rows from_counts s q s q (high_absent s q plain none)
+
+pub not_begun : (p : Place) (e : SetFault) → rows_at take beginning_rows no_sps p ≡ Err e → Refuses e (rows_at take sps_rows no_sps p)
+unfolding sps_rows
+not_begun p e read = refused e (rows_at take sps_rows no_sps p) (behind_err take beginning_rows (high_rows ++ from_counts) no_sps p e read)
+
+-- a section was read
+pub further : (xs ys : List SpsRow) (s t : Sps) (p q r : Place) → Left (xs ++ ys) p s q → rows_at take xs s q ≡ Ok (t, r) → Left ys p t r
+further xs ys s t p q r left read = left ∙ behind_ok take xs ys s q t r read
+
+-- a section shows a fault
+pub stopped : (xs ys : List SpsRow) (s : Sps) (p q : Place) (e : SetFault) → Left (xs ++ ys) p s q → Refuses e (rows_at take xs s q) → Refuses e (rows_at take sps_rows no_sps p)
+stopped xs ys s p q e left fault =
+    refused_by e (rows_at take xs s q) (rows_at take sps_rows no_sps p) (λ h. left ∙ behind_err take xs ys s q e h) fault
+
+-- the last section
+pub stopped_last : (xs : List SpsRow) (s : Sps) (p q : Place) (e : SetFault) → Left xs p s q → Refuses e (rows_at take xs s q) → Refuses e (rows_at take sps_rows no_sps p)
+stopped_last xs s p q e left fault =
+    refused_by e (rows_at take xs s q) (rows_at take sps_rows no_sps p) (λ h. left ∙ h) fault

@@ -1,1 +1,6 @@
 mod Same
+mod Filters
+mod Places
+mod Turns
+mod Least
+mod Slides

@@ -1,6 +1,7 @@
 -- The set of marked frames after a picture as a function of the set before it: what each step of marking gives.
-use Rattle.std.specs.Prelude.{◌==◌, ◌++◌, ◌∷◌, ℕ, ℤ, Bool, false, nat_le, nat_lt, nat_eq, List, [], length, filter, filter_map, Option, Some, None, option_map, Result, Ok, Err, if◌then◌else◌}
+use Rattle.std.specs.Prelude.{◌==◌, ◌++◌, ◌∷◌, ℕ, ℤ, Bool, false, nat_le, nat_lt, nat_eq, List, [], length, filter, filter_map, remove, Option, Some, None, option_map, Result, Ok, Err, if◌then◌else◌}
 use Rattle.std.specs.Int.{int_min}
+use Rattle.std.specs.List.{reduce}
 use Rattle.std.specs.Option.{option_eq}
 use Rattle.std.specs.Ordering.{int_eq}
 use Rattle.param_sets.specs.declared.sps.Sps.{Sps}
@@ -46,6 +47,11 @@ has_long_term_pic_num number frame = option_eq nat_eq (long_term_pic_num frame) 
 abbrev pub freed : MarkFault → Marked → Option Place → Result Marked MarkFault
 freed fault marked None = Err fault
 freed fault marked (Some place) = Ok (record marked { frames = place.earlier ++ place.later })
+
+-- the same by the index of the frame
+abbrev pub without_at : MarkFault → Marked → Option ℕ → Result Marked MarkFault
+without_at fault marked None = Err fault
+without_at fault marked (Some at) = Ok (record marked { frames = remove marked.frames at })
 
 -- operation 1
 unfoldable pub short_term_freed : Sps → ℕ → ℕ → Marked → Result Marked MarkFault
@@ -102,15 +108,6 @@ all_operated sps frame_num [] marked = Ok marked
 all_operated sps frame_num (operation ∷ operations) marked =
     operated sps frame_num operation marked >>= all_operated sps frame_num operations
 
--- the least of the numbers
-abbrev pub least : List ℤ → Option ℤ
-least [] = None
-least (number ∷ numbers) = Some (least_with number (least numbers))
-  where
-    least_with : ℤ → Option ℤ → ℤ
-    least_with number None = number
-    least_with number (Some other) = int_min number other
-
 -- the short-term frame of this FrameNumWrap is freed
 abbrev pub least_freed : Sps → ℕ → Marked → Option ℤ → Result Marked MarkFault
 least_freed sps frame_num marked None = Err NoShortTerm
@@ -120,7 +117,7 @@ least_freed sps frame_num marked (Some number) = freed NoShortTerm marked (first
 unfoldable pub window_slid : Sps → ℕ → Marked → Result Marked MarkFault
 window_slid sps frame_num marked =
     if length marked.frames == most_frames sps
-    then least_freed sps frame_num marked (least (filter_map (pic_num sps frame_num) marked.frames))
+    then least_freed sps frame_num marked (reduce int_min (filter_map (pic_num sps frame_num) marked.frames))
     else Ok marked
 
 -- the current frame joins the others

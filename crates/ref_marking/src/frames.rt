@@ -1,7 +1,11 @@
-//! A frame that is marked as a reference (8.2.5.1).
+//! A frame that is marked as a reference (8.2.5.1), and its numbers (8.2.4.1).
+
+ghost use Rattle.std.specs.Prelude.{◌≡◌};
 
 use crate::au_id::AuId;
+use crate::numbers::frame_num_wrap;
 use order_count::Counts;
+use param_sets::Sps;
 
 /// Whether a frame is used for short-term or for long-term reference.
 #[derive(Clone, Copy, Debug, PartialEq, Eq, Drop)]
@@ -11,6 +15,35 @@ pub enum Term {
         /// LongTermFrameIdx.
         long_term_frame_idx: u8,
     },
+}
+
+impl Term {
+    ghost use Rattle.ref_marking.specs.MarkedFrames.{holds};
+    ghost use Rattle.ref_marking.specs.Operations.{is_below};
+
+    // Whether it is a long-term frame of this index.
+    pub(crate) fn holds(self, idx: u8) -> bool
+        ensures { result ≡ holds idx self }
+    {
+        match self {
+            Term::ShortTerm => false,
+            Term::LongTerm {
+                long_term_frame_idx,
+            } => long_term_frame_idx == idx,
+        }
+    }
+
+    // Whether it is a short-term frame, or its index is below the number.
+    pub(crate) fn is_below(self, plus1: u8) -> bool
+        ensures { result ≡ is_below plus1 self }
+    {
+        match self {
+            Term::ShortTerm => true,
+            Term::LongTerm {
+                long_term_frame_idx,
+            } => long_term_frame_idx < plus1,
+        }
+    }
 }
 
 /// A frame that is marked as a reference.
@@ -33,5 +66,38 @@ impl Default for Frame {
             term: Term::ShortTerm,
             counts: Counts { top: 0, bottom: 0 },
         }
+    }
+}
+
+impl Frame {
+    ghost use Rattle.ref_marking.specs.PicNums.{pic_num, long_term_pic_num};
+
+    /// PicNum of a short-term frame, for a picture with this frame_num; none of a long-term frame.
+    pub fn pic_num(&self, sps: &Sps, frame_num: u16) -> Option<i64>
+        ensures { result ≡ pic_num sps.now frame_num self.now }
+    {
+        match self.term {
+            Term::ShortTerm => Some(frame_num_wrap(sps, frame_num, self.frame_num)),
+            Term::LongTerm { .. } => None,
+        }
+    }
+
+    /// LongTermPicNum of a long-term frame; none of a short-term frame.
+    pub fn long_term_pic_num(&self) -> Option<u8>
+        ensures { result ≡ long_term_pic_num self.now }
+    {
+        match self.term {
+            Term::ShortTerm => None,
+            Term::LongTerm {
+                long_term_frame_idx,
+            } => Some(long_term_frame_idx),
+        }
+    }
+
+    // The frame with this term.
+    pub(crate) fn with_term(self, term: Term) -> Frame
+        ensures { result ≡ record self { term = term } }
+    {
+        Frame { term, ..self }
     }
 }

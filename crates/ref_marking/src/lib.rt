@@ -5,11 +5,18 @@
 #![tactic(auto)]
 
 mod au_id;
+mod contradictions;
 mod fault;
 mod frames;
+mod freeing;
 mod marked_frames;
+mod marking;
+mod numbers;
+mod operations;
+mod sliding_window;
 
 pub use au_id::AuId;
 pub use fault::MarkFault;
 pub use frames::{Frame, Term};
 pub use marked_frames::Marks;
+pub use marking::mark;

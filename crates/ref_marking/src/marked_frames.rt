@@ -9,8 +9,8 @@ use std::marker::Model;
 /// The frames that are marked as references, in decode order, and the greatest long-term index that they may have.
 #[derive(Debug, Drop)]
 pub struct Marks {
-    frames: ArrayVec<Frame, 16>,
-    max_long_term_frame_idx: Option<u8>,
+    pub(crate) frames: ArrayVec<Frame, 16>,
+    pub(crate) max_long_term_frame_idx: Option<u8>,
 }
 
 impl Model for Marks {

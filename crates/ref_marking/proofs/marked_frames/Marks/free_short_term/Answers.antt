@@ -1,0 +1,12 @@
+use Rattle.std.proofs.Common.{◌∙◌, ap, rules, to_z-of_z, SFits, w64}
+use Rattle.ref_marking.specs.declared.fault.MarkFault.TheVariants.{BadMarking}
+use Rattle.ref_marking.specs.MarksAfter.{short_term_freed, without_at}
+use Rattle.ref_marking.proofs.Places.{short_term_left}
+use Rattle.ref_marking.proofs.marked_frames.Marks.free_short_term.Goals as goal
+
+pub returns : goal.returns
+unfolding short_term_freed
+returns c =
+    let fits : SFits w64 c.pic_num_x-number.result = search rules in
+    let place = simp to_z-of_z at c.short_term_place-place.ensures in
+    c.without.ensures ∙ (ap (without_at BadMarking c.args.self) place ∙ short_term_left BadMarking c.args.self c.args.sps.now c.args.frame_num _ _ c.pic_num_x-number.ensures)

@@ -1,0 +1,142 @@
+//! Decoded reference picture marking of a picture (8.2.5.1).
+
+ghost use Rattle.std.specs.Prelude.{◌≡◌, IsTrue};
+ghost use Rattle.order_count.specs.PicOrderCnt.{are_in_range};
+ghost use Rattle.order_count.specs.Resetting.{counts_after_reset};
+ghost use Rattle.ref_marking.specs.declared.frames.Term.TheVariants.{ShortTerm};
+ghost use Rattle.ref_marking.specs.Marking.{current_frame, idr_marked};
+ghost use Rattle.ref_marking.specs.MarksAfter.{marks_after, adaptively_marked, joined, joined_as};
+
+use crate::au_id::AuId;
+use crate::contradictions::{contradict, current_idx};
+use crate::fault::MarkFault;
+use crate::frames::{Frame, Term};
+use crate::marked_frames::Marks;
+use crate::sliding_window::most_frames;
+use order_count::{Counts, after_reset, resets};
+use param_sets::Sps;
+use slice_header::{DecRefPicMarking, MemoryManagementControlOperation as Operation, SliceHeader};
+
+/// The frames that are marked after a picture: the set before it, its access unit's id, its sequence parameter set,
+/// its slice header, and its counts before resetting.
+///
+/// A picture that is no reference leaves the set. Frames that stay keep their order, and the current one is last.
+/// Where several frames of the set have the number that an operation names, the first in decode order is meant.
+///
+/// - `BadMarking`: an operation names a frame that isn't there or an index above the greatest; operation 4 is above
+///   max_num_ref_frames; 4, 5 or 6 stands twice; 5 stands with 1, 2 or 3.
+/// - `NoShortTerm`: the sliding window is full and has no short-term frame.
+/// - `TooManyReferences`: as many frames are marked already as may be. It is looked for last.
+#[tactic(auto, unfolding(crate::specs::MarksAfter::marks_after))]
+pub fn mark(
+    marks: &Marks,
+    id: AuId,
+    sps: &Sps,
+    header: &SliceHeader,
+    counts: Counts,
+) -> Result<Marks, MarkFault>
+    requires { IsTrue (are_in_range (counts_after_reset header.now counts)) }
+    ensures exact { result ≡ marks_after marks.now id sps.now header.now counts }
+{
+    if !header.is_reference() {
+        return Ok(marks.copy());
+    }
+    let current = current_frame(id, header, counts);
+    match &header.dec_ref_pic_marking {
+        DecRefPicMarking::Idr {
+            long_term_reference_flag,
+            ..
+        } => Ok(mark_idr(*long_term_reference_flag, current)),
+        DecRefPicMarking::SlidingWindow => marks
+            .copy()
+            .slide_window(sps, header.frame_num)?
+            .join(sps, current),
+        DecRefPicMarking::Adaptive { operations } => marks
+            .copy()
+            .mark_adaptively(sps, header.frame_num, operations.as_slice(), current),
+    }
+}
+
+// The frame of the current picture as a short-term frame.
+fn current_frame(id: AuId, header: &SliceHeader, counts: Counts) -> Frame
+    requires { IsTrue (are_in_range (counts_after_reset header.now counts)) }
+    ensures { result ≡ current_frame id header.now counts ShortTerm }
+{
+    Frame {
+        id,
+        frame_num: if resets(header) { 0 } else { header.frame_num },
+        term: Term::ShortTerm,
+        counts: after_reset(header, counts),
+    }
+}
+
+// The only frame that is marked after an IDR picture.
+fn mark_idr(long_term_reference_flag: bool, current: Frame) -> Marks
+    ensures { result ≡ idr_marked long_term_reference_flag (λ term. record current { term = term }) }
+{
+    let mut marks = Marks::new();
+    if long_term_reference_flag {
+        marks.max_long_term_frame_idx = Some(0);
+        let term = Term::LongTerm {
+            long_term_frame_idx: 0,
+        };
+        marks.frames.push(current.with_term(term));
+    } else {
+        marks.frames.push(current.with_term(Term::ShortTerm));
+    }
+    marks
+}
+
+impl Marks {
+    // The current frame joins the others, where there is room for it.
+    #[tactic(auto, unfolding(crate::specs::MarksAfter::joined))]
+    fn join(mut self, sps: &Sps, current: Frame) -> Result<Marks, MarkFault>
+        ensures { result ≡ joined sps.now current self }
+    {
+        if self.frames.len() >= most_frames(sps) {
+            return Err(MarkFault::TooManyReferences);
+        }
+        self.frames.push(current);
+        Ok(self)
+    }
+
+    // Adaptive memory control marking (8.2.5.4).
+    #[tactic(auto, unfolding(crate::specs::MarksAfter::adaptively_marked))]
+    fn mark_adaptively(
+        self,
+        sps: &Sps,
+        frame_num: u16,
+        operations: &[Operation],
+        current: Frame,
+    ) -> Result<Marks, MarkFault>
+        ensures { result ≡ adaptively_marked sps.now frame_num operations.now (λ term. record current { term = term }) self }
+    {
+        if contradict(operations) {
+            return Err(MarkFault::BadMarking);
+        }
+        let marks = self.operate_all(sps, frame_num, operations)?;
+        marks.join_as(sps, current, current_idx(operations))
+    }
+
+    // The current frame joins the others: with an index as a long-term frame, and another frame that holds the index is
+    // freed (8.2.5.4.6).
+    #[tactic(auto, unfolding(crate::specs::MarksAfter::holder_freed))]
+    fn join_as(
+        self,
+        sps: &Sps,
+        current: Frame,
+        long_term_frame_idx: Option<u32>,
+    ) -> Result<Marks, MarkFault>
+        ensures { result ≡ joined_as long_term_frame_idx sps.now (λ term. record current { term = term }) self }
+    {
+        let Some(idx) = long_term_frame_idx else {
+            return self.join(sps, current.with_term(Term::ShortTerm));
+        };
+        let long_term_frame_idx = self.allowed(idx)?;
+        let current = current.with_term(Term::LongTerm {
+            long_term_frame_idx,
+        });
+        self.without_long_term(long_term_frame_idx)
+            .join(sps, current)
+    }
+}

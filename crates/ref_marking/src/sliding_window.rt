@@ -1,0 +1,47 @@
+//! Sliding window marking (8.2.5.3).
+
+ghost use Rattle.std.specs.Prelude.{◌≡◌, ◌≤◌, max, filter_map};
+ghost use Rattle.std.specs.Int.{int_min};
+ghost use Rattle.std.specs.List.{reduce};
+ghost use Rattle.ref_marking.specs.MarkedFrames.{most_frames};
+ghost use Rattle.ref_marking.specs.PicNums.{pic_num};
+ghost use Rattle.ref_marking.specs.MarksAfter.{window_slid};
+
+use crate::fault::MarkFault;
+use crate::marked_frames::Marks;
+use param_sets::Sps;
+
+// How many frames may be marked.
+pub(crate) fn most_frames(sps: &Sps) -> usize
+    ensures value { result ≡ most_frames sps.now }
+    ensures bound { result ≤ 16 }
+{
+    usize::from(sps.max_num_ref_frames.get().max(1))
+}
+
+impl Marks {
+    // The least FrameNumWrap of a short-term frame.
+    fn least_frame_num_wrap(&self, sps: &Sps, frame_num: u16) -> Option<i64>
+        ensures { result ≡ reduce int_min (filter_map (pic_num sps.now frame_num) self.now.frames) }
+    {
+        self.frames()
+            .iter()
+            .filter_map(|frame| frame.pic_num(sps, frame_num))
+            .min()
+    }
+
+    // Frees the short-term frame of the least FrameNumWrap, where as many frames are marked as may be.
+    #[tactic(auto, unfolding(crate::specs::MarksAfter::window_slid))]
+    pub(crate) fn slide_window(self, sps: &Sps, frame_num: u16) -> Result<Marks, MarkFault>
+        ensures { result ≡ window_slid sps.now frame_num self }
+    {
+        if self.frames.len() != most_frames(sps) {
+            return Ok(self);
+        }
+        let least = self
+            .least_frame_num_wrap(sps, frame_num)
+            .ok_or(MarkFault::NoShortTerm)?;
+        let place = self.short_term_place(sps, frame_num, least);
+        self.without(place, MarkFault::NoShortTerm)
+    }
+}

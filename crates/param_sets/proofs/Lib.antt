@@ -3,7 +3,11 @@ pub mod Fields
 pub mod Loops
 pub mod Refusals
 pub mod CountTypes
+pub mod Parts
 pub mod HighProfiles
 pub mod SpsSections
+pub mod Sections
+pub mod PpsSections
 pub mod SetLaws
+pub mod PpsLaws
 pub mod SpsLaws

@@ -1,30 +1,28 @@
 -- The sections of the table of sequence parameter sets, one behind the other.
-use Rattle.std.proofs.Common.{◌≡◌, ◌++◌, List, false, Ok, Err, ◌∙◌}
+use Rattle.std.proofs.Common.{◌≡◌, ◌++◌, List, Ok, Err, ◌∙◌}
 use Rattle.expgolomb.specs.Bits.{Place}
 use Rattle.param_sets.specs.Answer.{Refuses}
 use Rattle.param_sets.specs.Reading.{rows_at}
-use Rattle.param_sets.specs.SpsSyntax.{take, no_sps, is_high, SpsRow, beginning_rows, high_rows, count_rows, typed_rows, frame_rows, size_rows, sps_rows}
+use Rattle.param_sets.specs.SpsSyntax.{take, no_sps, SpsRow, beginning_rows, high_rows, count_rows, typed_rows, frame_rows, size_rows, sps_rows}
 use Rattle.param_sets.specs.declared.fault.SetFault.{SetFault}
 use Rattle.param_sets.specs.declared.sps.Sps.{Sps}
-use Rattle.param_sets.proofs.HighProfiles.{HasNoLists, high_absent}
 use Rattle.param_sets.proofs.Loops.{behind_ok, behind_err}
 use Rattle.param_sets.proofs.Refusals.{refused, refused_by}
 
 -- the sections from the types of counts on
-abbrev from_types : List SpsRow
+abbrev pub from_types : List SpsRow
 from_types = typed_rows ++ (frame_rows ++ size_rows)
 
-abbrev from_counts : List SpsRow
+abbrev pub from_counts : List SpsRow
 from_counts = count_rows ++ from_types
 
 -- what was read before a section, and what is left
 abbrev pub Left : List SpsRow → Place → Sps → Place → Type 0
 Left rows p s q = rows_at take sps_rows no_sps p ≡ rows_at take rows s q
 
-pub begun : (s : Sps) (p q : Place) → rows_at take beginning_rows no_sps p ≡ Ok (s, q) → is_high s ≡ false → HasNoLists s → Left from_counts p s q
+pub begun : (s : Sps) (p q : Place) → rows_at take beginning_rows no_sps p ≡ Ok (s, q) → Left (high_rows ++ from_counts) p s q
 unfolding sps_rows
-begun s p q read plain none =
-    behind_ok take beginning_rows (high_rows ++ from_counts) no_sps p s q read ∙ behind_ok take high_rows from_counts s q s q (high_absent s q plain none)
+begun s p q read = behind_ok take beginning_rows (high_rows ++ from_counts) no_sps p s q read
 
 pub not_begun : (p : Place) (e : SetFault) → rows_at take beginning_rows no_sps p ≡ Err e → Refuses e (rows_at take sps_rows no_sps p)
 unfolding sps_rows

@@ -1,15 +1,16 @@
 -- Picture parameter sets: the table of their syntax (ITU-T H.264, 7.3.2.2) and what its fields say (7.4.2.2).
-use Rattle.std.specs.Prelude.{ℕ, ◌==◌, Bool, false, List, [], ◌∷◌, ◌++◌, replicate, Option, Some, None, ℤ, pos, negsuc, nat_lt, ◌&&◌, ◌||◌, if◌then◌else◌, nat_abs}
-use Rattle.std.specs.List.{flat_map}
+use Rattle.std.specs.Prelude.{ℕ, ◌==◌, Bool, false, List, [], ◌∷◌, ◌++◌, map, ℤ, pos, negsuc, ◌&&◌, if◌then◌else◌, nat_abs}
 use Rattle.param_sets.specs.declared.fault.SetFault.{SetFault}
-use Rattle.param_sets.specs.declared.fault.SetFault.TheVariants.{Cut, Range, SliceGroups, OutsidePath}
+use Rattle.param_sets.specs.declared.fault.SetFault.TheVariants.{Cut, Range, SliceGroups}
 use Rattle.param_sets.specs.declared.fault.SetField.TheVariants as ranges
 use Rattle.param_sets.specs.declared.pps.Pps.{Pps}
 use Rattle.param_sets.specs.declared.pps.WeightedBipred.{WeightedBipred}
 use Rattle.param_sets.specs.declared.pps.WeightedBipred.TheVariants.{Default, Explicit, Implicit}
-use Rattle.param_sets.specs.Grammar.{Unsigned, MoreData, Row}
-use Rattle.param_sets.specs.Rows.{u, u_of, ue, se, always, flag_of}
-use Rattle.param_sets.specs.Scaling.{add_list, add_delta, is_reading}
+use Rattle.param_sets.specs.Grammar.{MoreData, Row}
+use Rattle.param_sets.specs.Rows.{u, u_of, ue, se, within, always, flag_of}
+use Rattle.param_sets.specs.Ranges.{any, at_most}
+use Rattle.param_sets.specs.Scaling.{ListField, take_list, list_rows}
+use Rattle.param_sets.specs.SpsSyntax.{no_matrix}
 
 -- the fields, in the standard's names; MoreRbspData is whether more_rbsp_data() holds, and has no bits
 pub data PpsField : Type 0 where
@@ -31,14 +32,16 @@ pub data PpsField : Type 0 where
   MoreRbspData : PpsField
   Transform8x8ModeFlag : PpsField
   PicScalingMatrixPresentFlag : PpsField
-  PicScalingListPresentFlag : PpsField
-  DeltaScale : PpsField
+  ScalingList : ListField → PpsField
   SecondChromaQpIndexOffset : PpsField
 
 -- the fields so far, and whether more_rbsp_data() holds behind the first part
 pub record PpsSoFar : Type 0 where
   pub pps : Pps
   pub more_data : Bool
+
+abbrev pub so_far : Bool → Pps → PpsSoFar
+so_far more pps = record { pps = pps; more_data = more }
 
 -- before the first field: what is inferred of fields that stay absent
 abbrev pub no_pps : PpsSoFar
@@ -89,8 +92,7 @@ take_field RedundantPicCntPresentFlag v s = record s { redundant_pic_cnt_present
 take_field MoreRbspData v s = s
 take_field Transform8x8ModeFlag v s = record s { transform_8x8_mode_flag = flag_of v }
 take_field PicScalingMatrixPresentFlag v s = record s { pic_scaling_matrix_present_flag = flag_of v }
-take_field PicScalingListPresentFlag v s = record s { scaling_lists = add_list s.scaling_lists (flag_of v) }
-take_field DeltaScale v s = record s { scaling_lists = add_delta s.scaling_lists v }
+take_field (ScalingList field) v s = record s { scaling_lists = take_list field v s.scaling_lists }
 take_field SecondChromaQpIndexOffset v s = record s { second_chroma_qp_index_offset = v }
 
 abbrev pub take : PpsField → ℤ → PpsSoFar → PpsSoFar
@@ -100,62 +102,80 @@ take field v s = record s { pps = take_field field v s.pps }
 abbrev pub PpsRow : Type 0
 PpsRow = Row PpsField PpsSoFar SetFault
 
-abbrev pub one_group : ℤ → Option SetFault
-one_group v = if nat_abs v == 0 then None else Some SliceGroups
-
--- weights, redundant pictures and what more_rbsp_data() announces aren't read yet
-abbrev pub not_set : ℤ → Option SetFault
-not_set v = if nat_abs v == 0 then None else Some OutsidePath
+-- the sets that are named
+abbrev pub id_row : PpsRow
+id_row = ue PicParameterSetId always 255 (Range ranges.PpsId)
 
 abbrev pub id_rows : List PpsRow
 id_rows =
-    ue PicParameterSetId always 255 (Range ranges.PpsId)
+    id_row
     ∷ ue SeqParameterSetId always 31 (Range ranges.SpsId)
-    ∷ u EntropyCodingModeFlag 1 always
-    ∷ u BottomFieldPicOrderInFramePresentFlag 1 always
-    ∷ record { field = NumSliceGroupsMinus1; code = Unsigned; present = always; cut = Cut; long = SliceGroups; wrong = λ s. one_group }
     ∷ []
 
+-- entropy coding, counts of bottom fields, and one slice group
+abbrev pub coding_rows : List PpsRow
+coding_rows =
+    u EntropyCodingModeFlag 1 always
+    ∷ u BottomFieldPicOrderInFramePresentFlag 1 always
+    ∷ ue NumSliceGroupsMinus1 always 0 SliceGroups
+    ∷ []
+
+-- how pictures are predicted
 abbrev pub prediction_rows : List PpsRow
 prediction_rows =
     ue NumRefIdxL0DefaultActiveMinus1 always 31 (Range ranges.ActiveCount)
     ∷ ue NumRefIdxL1DefaultActiveMinus1 always 31 (Range ranges.ActiveCount)
-    ∷ u_of WeightedPredFlag 1 always not_set
-    ∷ u_of WeightedBipredIdc 2 always not_set
+    ∷ u WeightedPredFlag 1 always
+    ∷ u_of WeightedBipredIdc 2 always (at_most 2 (Range ranges.BipredIdc))
     ∷ []
 
+-- the quantisation that slices start from
 abbrev pub quantisation_rows : List PpsRow
 quantisation_rows =
     se PicInitQpMinus26 always (negsuc 61) (pos 25) (Range ranges.InitQp)
     ∷ se PicInitQsMinus26 always (negsuc 25) (pos 25) (Range ranges.InitQs)
     ∷ se ChromaQpIndexOffset always (negsuc 11) (pos 12) (Range ranges.ChromaOffset)
-    ∷ u DeblockingFilterControlPresentFlag 1 always
+    ∷ []
+
+-- what slices have
+abbrev pub slice_rows : List PpsRow
+slice_rows =
+    u DeblockingFilterControlPresentFlag 1 always
     ∷ u ConstrainedIntraPredFlag 1 always
-    ∷ u_of RedundantPicCntPresentFlag 1 always not_set
+    ∷ u RedundantPicCntPresentFlag 1 always
     ∷ []
 
 abbrev pub has_more : PpsSoFar → Bool
 has_more s = s.more_data
 
-abbrev pub has_matrix : PpsSoFar → Bool
-has_matrix s = s.pps.pic_scaling_matrix_present_flag
-
--- scaling list number j, of n entries; the two of 64 entries only with 8x8 transforms
-unfoldable pub scaling_list_rows : ℕ → ℕ → List PpsRow
-scaling_list_rows j n =
-    u PicScalingListPresentFlag 1 (λ s. has_matrix s && (nat_lt j 6 || s.pps.transform_8x8_mode_flag))
-    ∷ replicate n (se DeltaScale (λ s. is_reading j s.pps.scaling_lists) (negsuc 127) (pos 127) (Range ranges.Delta))
-
-unfoldable pub scaling_rows : List PpsRow
-scaling_rows = flat_map (λ j. scaling_list_rows j (if nat_lt j 6 then 16 else 64)) (0 ∷ 1 ∷ 2 ∷ 3 ∷ 4 ∷ 5 ∷ 6 ∷ 7 ∷ [])
-
-abbrev pub more_rows : List PpsRow
-more_rows =
-    record { field = MoreRbspData; code = MoreData; present = always; cut = Cut; long = Cut; wrong = λ s. not_set }
+-- whether more_rbsp_data() holds, and what there is then before the scaling lists
+abbrev pub transform_rows : List PpsRow
+transform_rows =
+    record { field = MoreRbspData; code = MoreData; present = always; cut = Cut; long = Cut; wrong = λ s. any }
     ∷ u Transform8x8ModeFlag 1 has_more
-    ∷ u PicScalingMatrixPresentFlag 1 has_more
-    ∷ scaling_rows ++ (se SecondChromaQpIndexOffset has_more (negsuc 11) (pos 12) (Range ranges.ChromaOffset) ∷ [])
+    ∷ u_of PicScalingMatrixPresentFlag 1 has_more no_matrix
+    ∷ []
+
+abbrev pub has_matrix : PpsSoFar → Bool
+has_matrix s = has_more s && s.pps.pic_scaling_matrix_present_flag
+
+-- the lists of 64 entries are there only with 8x8 transforms
+abbrev pub has_large_lists : PpsSoFar → Bool
+has_large_lists s = has_matrix s && s.pps.transform_8x8_mode_flag
+
+unfoldable pub small_list_rows : List PpsRow
+small_list_rows = map (within ScalingList (λ s. s.pps.scaling_lists) has_matrix) (list_rows 0 6)
+
+unfoldable pub large_list_rows : List PpsRow
+large_list_rows = map (within ScalingList (λ s. s.pps.scaling_lists) has_large_lists) (list_rows 6 2)
+
+abbrev pub second_offset_rows : List PpsRow
+second_offset_rows = se SecondChromaQpIndexOffset has_more (negsuc 11) (pos 12) (Range ranges.ChromaOffset) ∷ []
+
+-- what stands behind the first part
+abbrev pub more_rows : List PpsRow
+more_rows = transform_rows ++ (small_list_rows ++ (large_list_rows ++ second_offset_rows))
 
 -- the whole table
 unfoldable pub pps_rows : List PpsRow
-pps_rows = id_rows ++ (prediction_rows ++ (quantisation_rows ++ more_rows))
+pps_rows = id_rows ++ (coding_rows ++ (prediction_rows ++ (quantisation_rows ++ (slice_rows ++ more_rows))))

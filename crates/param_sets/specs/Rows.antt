@@ -1,5 +1,5 @@
 -- The rows of the tables of parameter sets: a field, its code, where it is present, its range.
-use Rattle.std.specs.Prelude.{ℕ, Bool, true, ℤ, Option, nat_abs, ◌==◌}
+use Rattle.std.specs.Prelude.{ℕ, Bool, true, ℤ, Option, nat_abs, ◌==◌, ◌&&◌}
 use Rattle.param_sets.specs.declared.fault.SetFault.{SetFault}
 use Rattle.param_sets.specs.declared.fault.SetFault.TheVariants.{Cut}
 use Rattle.param_sets.specs.Grammar.{Fixed, Unsigned, Signed, Row}
@@ -40,3 +40,14 @@ always s = true
 -- a flag from its value
 abbrev pub flag_of : ℤ → Bool
 flag_of v = nat_abs v == 1
+
+-- a row of a part of the values, where a condition on them holds
+abbrev pub within : {F G S T E : Type 0} → (F → G) → (T → S) → (T → Bool) → Row F S E → Row G T E
+within field part holds row = record {
+  field = field row.field;
+  code = row.code;
+  present = λ t. holds t && row.present (part t);
+  cut = row.cut;
+  long = row.long;
+  wrong = λ t. row.wrong (part t);
+}

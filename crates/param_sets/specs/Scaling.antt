@@ -1,7 +1,17 @@
--- The syntax of scaling lists (ITU-T H.264, 7.3.2.1.1.1).
-use Rattle.std.specs.Prelude.{ℕ, zero, suc, ◌==◌, Bool, false, not, List, [], ◌∷◌, ◌++◌, Option, Some, None, ℤ, pos, ◌+ℤ◌, unsigned_abs, if◌then◌else◌}
+-- The syntax of scaling lists (ITU-T H.264, 7.3.2.1.1.1), which sequence and picture parameter sets share.
+use Rattle.std.specs.Prelude.{ℕ, zero, suc, ◌==◌, Bool, false, not, List, [], ◌∷◌, ◌++◌, replicate, Option, Some, None, ℤ, pos, negsuc, nat_lt, ◌+ℤ◌, unsigned_abs, if◌then◌else◌}
 use Rattle.std.specs.Int.{int_rem_euclid}
 use Rattle.std.specs.List.{fold}
+use Rattle.param_sets.specs.declared.fault.SetFault.{SetFault}
+use Rattle.param_sets.specs.declared.fault.SetFault.TheVariants.{Range}
+use Rattle.param_sets.specs.declared.fault.SetField.TheVariants as ranges
+use Rattle.param_sets.specs.Grammar.{Row}
+use Rattle.param_sets.specs.Rows.{u, se, always, flag_of}
+
+-- the fields of a list, in the standard's names
+pub data ListField : Type 0 where
+  ScalingListPresentFlag : ListField
+  DeltaScale : ListField
 
 -- a list as it was read: its deltas; nothing where its present flag is 0
 abbrev pub Deltas : Type 0
@@ -37,3 +47,27 @@ is_reading j [] = false
 is_reading zero (list ∷ []) = goes_on list
 is_reading zero (list ∷ more) = false
 is_reading (suc j) (list ∷ more) = is_reading j more
+
+-- what a field says of the lists
+abbrev pub take_list : ListField → ℤ → List Deltas → List Deltas
+take_list ScalingListPresentFlag v lists = add_list lists (flag_of v)
+take_list DeltaScale v lists = add_delta lists v
+
+abbrev pub ListRow : Type 0
+ListRow = Row ListField (List Deltas) SetFault
+
+abbrev pub present_row : ListRow
+present_row = u ScalingListPresentFlag 1 always
+
+-- a delta of list number j, where the list goes on
+abbrev pub delta_row : ℕ → ListRow
+delta_row j = se DeltaScale (is_reading j) (negsuc 127) (pos 127) (Range ranges.Delta)
+
+-- how many entries list number j has: 4x4 in lists 0 to 5, 8x8 behind them
+abbrev pub list_size : ℕ → ℕ
+list_size j = if nat_lt j 6 then 16 else 64
+
+-- this many lists from number j on
+unfoldable pub list_rows : ℕ → ℕ → List ListRow
+list_rows j zero = []
+list_rows j (suc more) = present_row ∷ (replicate (list_size j) (delta_row j) ++ list_rows (suc j) more)

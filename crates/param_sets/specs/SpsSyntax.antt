@@ -1,6 +1,6 @@
 -- Sequence parameter sets: the table of their syntax (ITU-T H.264, 7.3.2.1.1) and what its fields say (7.4.2.1.1).
-use Rattle.std.specs.Prelude.{◌≡◌, ℕ, ◌==◌, Bool, true, false, List, [], ◌∷◌, ◌++◌, length, replicate, Option, Some, None, ℤ, pos, negsuc, nat_lt, nat_le, ◌&&◌, ◌||◌, if◌then◌else◌, nat_abs}
-use Rattle.std.specs.List.{flat_map}
+use Rattle.std.specs.Prelude.{◌≡◌, ℕ, ◌==◌, Bool, true, false, List, [], ◌∷◌, ◌++◌, length, map, replicate, Option, Some, None, ℤ, pos, nat_lt, nat_le, ◌&&◌, ◌||◌, if◌then◌else◌, nat_abs}
+use Rattle.std.specs.List.{list_any}
 use Rattle.param_sets.specs.declared.fault.SetFault.{SetFault}
 use Rattle.param_sets.specs.declared.fault.SetFault.TheVariants.{Range, Profile, Chroma444, Interlaced, RefFrames, OutsidePath}
 use Rattle.param_sets.specs.declared.fault.SetField.TheVariants as ranges
@@ -10,8 +10,8 @@ use Rattle.param_sets.specs.declared.sps.ChromaFormat.TheVariants.{Monochrome, Y
 use Rattle.param_sets.specs.declared.sps.PicOrderCntType.{PicOrderCntType}
 use Rattle.param_sets.specs.declared.sps.PicOrderCntType.TheVariants.{Zero, One, Two}
 use Rattle.param_sets.specs.Grammar.{Row}
-use Rattle.param_sets.specs.Rows.{u, u_of, ue, ue_of, se, se_any, always, flag_of}
-use Rattle.param_sets.specs.Scaling.{add_list, add_delta, is_reading}
+use Rattle.param_sets.specs.Rows.{u, u_of, ue, ue_of, se_any, within, always, flag_of}
+use Rattle.param_sets.specs.Scaling.{ListField, take_list, list_rows}
 
 -- the fields, in the standard's names
 pub data SpsField : Type 0 where
@@ -25,8 +25,7 @@ pub data SpsField : Type 0 where
   BitDepthChromaMinus8 : SpsField
   QpprimeYZeroTransformBypassFlag : SpsField
   SeqScalingMatrixPresentFlag : SpsField
-  SeqScalingListPresentFlag : SpsField
-  DeltaScale : SpsField
+  ScalingList : ListField → SpsField
   Log2MaxFrameNumMinus4 : SpsField
   PicOrderCntTypeCode : SpsField
   Log2MaxPicOrderCntLsbMinus4 : SpsField
@@ -88,8 +87,7 @@ take BitDepthLumaMinus8 v s = record s { bit_depth_luma_minus8 = nat_abs v }
 take BitDepthChromaMinus8 v s = record s { bit_depth_chroma_minus8 = nat_abs v }
 take QpprimeYZeroTransformBypassFlag v s = record s { qpprime_y_zero_transform_bypass_flag = flag_of v }
 take SeqScalingMatrixPresentFlag v s = record s { seq_scaling_matrix_present_flag = flag_of v }
-take SeqScalingListPresentFlag v s = record s { scaling_lists = add_list s.scaling_lists (flag_of v) }
-take DeltaScale v s = record s { scaling_lists = add_delta s.scaling_lists v }
+take (ScalingList field) v s = record s { scaling_lists = take_list field v s.scaling_lists }
 take Log2MaxFrameNumMinus4 v s = record s { log2_max_frame_num_minus4 = nat_abs v }
 take PicOrderCntTypeCode v s = record s { pic_order_cnt_type = count_type (nat_abs v) }
 take Log2MaxPicOrderCntLsbMinus4 v s = record s { log2_max_pic_order_cnt_lsb_minus4 = nat_abs v }
@@ -108,12 +106,9 @@ take Direct8x8InferenceFlag v s = record s { direct_8x8_inference_flag = flag_of
 abbrev pub SpsRow : Type 0
 SpsRow = Row SpsField Sps SetFault
 
--- Baseline and Main; the profiles with chroma formats aren't read yet
+-- Baseline, Main and the high profiles without 4:4:4
 abbrev pub profile_range : ℤ → Option SetFault
-profile_range v =
-    if nat_abs v == 66 || nat_abs v == 77 then None
-    else if nat_abs v == 100 || nat_abs v == 110 || nat_abs v == 122 then Some OutsidePath
-    else Some Profile
+profile_range v = if list_any (λ profile. profile == nat_abs v) (66 ∷ 77 ∷ 100 ∷ 110 ∷ 122 ∷ []) then None else Some Profile
 
 abbrev pub flag_row : SpsRow
 flag_row = u ConstraintSetFlag 1 always
@@ -142,26 +137,19 @@ abbrev pub is_high : Sps → Bool
 is_high s = s.profile_idc == 100 || s.profile_idc == 110 || s.profile_idc == 122
 
 abbrev pub has_matrix : Sps → Bool
-has_matrix s = s.seq_scaling_matrix_present_flag
+has_matrix s = is_high s && s.seq_scaling_matrix_present_flag
 
 abbrev pub chroma_range : ℤ → Option SetFault
 chroma_range v =
     if nat_le (nat_abs v) 2 then None else if nat_abs v == 3 then Some Chroma444 else Some (Range ranges.ChromaFormat)
 
-abbrev pub present_row : SpsRow
-present_row = u SeqScalingListPresentFlag 1 has_matrix
-
--- an entry of scaling list number j, where the list goes on
-abbrev pub delta_row : ℕ → SpsRow
-delta_row j = se DeltaScale (λ s. is_reading j s.scaling_lists) (negsuc 127) (pos 127) (Range ranges.Delta)
-
--- scaling list number j, of n entries
-unfoldable pub scaling_list_rows : ℕ → ℕ → List SpsRow
-scaling_list_rows j n = present_row ∷ replicate n (delta_row j)
-
--- six lists of 16 entries, and two of 64
+-- the eight scaling lists
 unfoldable pub scaling_rows : List SpsRow
-scaling_rows = flat_map (λ j. scaling_list_rows j (if nat_lt j 6 then 16 else 64)) (0 ∷ 1 ∷ 2 ∷ 3 ∷ 4 ∷ 5 ∷ 6 ∷ 7 ∷ [])
+scaling_rows = map (within ScalingList (λ s. s.scaling_lists) has_matrix) (list_rows 0 8)
+
+-- scaling lists aren't read yet
+abbrev pub no_matrix : ℤ → Option SetFault
+no_matrix v = if flag_of v then Some OutsidePath else None
 
 abbrev pub high_fields : List SpsRow
 high_fields =
@@ -169,7 +157,7 @@ high_fields =
     ∷ ue BitDepthLumaMinus8 is_high 6 (Range ranges.BitDepth)
     ∷ ue BitDepthChromaMinus8 is_high 6 (Range ranges.BitDepth)
     ∷ u QpprimeYZeroTransformBypassFlag 1 is_high
-    ∷ u SeqScalingMatrixPresentFlag 1 is_high
+    ∷ u_of SeqScalingMatrixPresentFlag 1 is_high no_matrix
     ∷ []
 
 abbrev pub high_rows : List SpsRow

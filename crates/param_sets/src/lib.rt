@@ -7,6 +7,7 @@
 mod at_most;
 mod fault;
 mod offsets;
+mod pic_parameter_set;
 mod pps;
 mod scaling;
 mod seq_parameter_set;
@@ -16,6 +17,7 @@ pub mod syntax;
 pub use at_most::AtMost;
 pub use fault::{SetFault, SetField};
 pub use offsets::Offsets;
+pub use pic_parameter_set::read_pps;
 pub use pps::{Pps, WeightedBipred};
 pub use scaling::{ScalingList, ScalingLists};
 pub use seq_parameter_set::read_sps;

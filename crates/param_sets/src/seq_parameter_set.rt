@@ -1,12 +1,12 @@
 //! The syntax of sequence parameter sets, section by section of its table (7.3.2.1.1).
 
-ghost use Rattle.std.specs.Prelude.{◌≡◌, ◌⊎◌, IfOk, IfErr, Ok, Err, pos, [], false};
-ghost use Rattle.param_sets.specs.Grammar.{Fixed};
+ghost use Rattle.std.specs.Prelude.{◌≡◌, ◌⊎◌, IfOk, OnOk, IfErr, Ok, Err, pos, [], true, false};
+ghost use Rattle.param_sets.specs.Grammar.{Fixed, Unsigned};
 ghost use Rattle.param_sets.specs.Reading.{rows_at, value_at};
 ghost use Rattle.param_sets.specs.Answer.{Reads, Stores, flag_value};
 ghost use Rattle.param_sets.specs.Sets.{IsSps, SpsHasFault, sps_at, Answers, IsShown};
 ghost use Rattle.param_sets.specs.declared.fault.SetFault.{SetFault};
-ghost use Rattle.param_sets.specs.SpsSyntax.{take, no_sps, profile_range, frames_only, is_high, beginning_rows, constraint_rows, level_rows, count_rows, type_zero_rows, type_one_rows, with_offsets, IsCycleOf, offset_rows, typed_rows, frame_rows, size_rows, sps_rows};
+ghost use Rattle.param_sets.specs.SpsSyntax.{take, no_sps, profile_range, chroma_range, no_matrix, high_fields, high_rows, frames_only, is_high, has_matrix, beginning_rows, constraint_rows, level_rows, count_rows, type_zero_rows, type_one_rows, with_offsets, IsCycleOf, offset_rows, typed_rows, frame_rows, size_rows, sps_rows};
 ghost use Rattle.param_sets.specs.declared.sps.Sps.{Sps};
 
 use crate::at_most::AtMost;
@@ -14,20 +14,18 @@ use crate::fault::{SetFault, SetField};
 use crate::offsets::Offsets;
 use crate::scaling::ScalingLists;
 use crate::sps::{ChromaFormat, PicOrderCntType, Sps};
-use crate::syntax::{behind_header, bounded, fixed, flag, se_any, ue};
+use crate::syntax::{behind_header, bounded, fixed, flag, se_any, ue, ue_any};
 use expgolomb::Bits;
 use std::alloc::Global;
 
 // profile_idc.
 #[tactic(auto, using(crate::proofs::Fields::narrow_ok, crate::proofs::Fields::narrow_err))]
 fn profile_idc(bits: &mut Bits<'_>) -> Result<u8, SetFault>
-    ensures plain { IfOk result (λ v. (v ≡ 66) ⊎ (v ≡ 77)) }
-    ensures exact { Reads pos result bits.new (value_at (Fixed 8) SetFault.Cut SetFault.Cut profile_range bits.old) }
+    ensures { Reads pos result bits.new (value_at (Fixed 8) SetFault.Cut SetFault.Cut profile_range bits.old) }
 {
     let profile = fixed(bits, 8, SetFault::Cut)? as u8;
     match profile {
-        66 | 77 => Ok(profile),
-        100 | 110 | 122 => Err(SetFault::OutsidePath),
+        66 | 77 | 100 | 110 | 122 => Ok(profile),
         _ => Err(SetFault::Profile),
     }
 }
@@ -62,7 +60,7 @@ fn level_and_id(bits: &mut Bits<'_>) -> Result<(u8, AtMost<31>), SetFault>
 // The beginning of a set: what isn't read yet has the value that is inferred where it stays absent.
 fn beginning(alloc: Global, bits: &mut Bits<'_>) -> Result<Sps, SetFault>
     ensures exact { Reads (λ s. s) result bits.new (rows_at take beginning_rows no_sps bits.old) }
-    ensures plain { IfOk result (λ s. (is_high s ≡ false) × (s.scaling_lists ≡ []) × (s.seq_scaling_matrix_present_flag ≡ false) × (s.offset_for_ref_frame ≡ [])) }
+    ensures none { IfOk result (λ s. s.offset_for_ref_frame ≡ []) }
 {
     let profile_idc = profile_idc(bits)?;
     let constraint_set_flags = constraint_set_flags(bits)?;
@@ -92,6 +90,67 @@ fn beginning(alloc: Global, bits: &mut Bits<'_>) -> Result<Sps, SetFault>
         pic_height_in_map_units_minus1: 0,
         direct_8x8_inference_flag: false,
     })
+}
+
+// chroma_format_idc, but for 4:4:4.
+fn chroma_format_idc(bits: &mut Bits<'_>) -> Result<u32, SetFault>
+    ensures { Reads pos result bits.new
+        (value_at Unsigned SetFault.Cut (SetFault.Range SetField.ChromaFormat) chroma_range bits.old) }
+{
+    let wrong = SetFault::Range {
+        field: SetField::ChromaFormat,
+    };
+    match ue_any(bits, SetFault::Cut, wrong)? {
+        3 => Err(SetFault::Chroma444),
+        idc if idc < 3 => Ok(idc),
+        _ => Err(wrong),
+    }
+}
+
+/// Reads seq_scaling_matrix_present_flag or pic_scaling_matrix_present_flag: scaling lists aren't read yet.
+pub fn no_scaling_matrix(bits: &mut Bits<'_>) -> Result<bool, SetFault>
+    ensures exact { Reads flag_value result bits.new (value_at (Fixed 1) SetFault.Cut SetFault.Cut no_matrix bits.old) }
+    ensures none { IfOk result (λ flag. flag ≡ false) }
+{
+    if flag(bits, SetFault::Cut)? {
+        Err(SetFault::OutsidePath)
+    } else {
+        Ok(false)
+    }
+}
+
+// What the high profiles have before their lists.
+#[tactic(auto, unfolding(crate::specs::Reading::rows_at))]
+fn chroma_and_depths(bits: &mut Bits<'_>, sps: &mut Sps) -> Result<(), SetFault>
+    requires { is_high sps.old ≡ true }
+    ensures exact { Reads (λ _. sps.new) result bits.new (rows_at take high_fields sps.old bits.old) }
+    ensures none { OnOk result (has_matrix sps.new ≡ false) }
+    ensures same { sps.new.offset_for_ref_frame ≡ sps.old.offset_for_ref_frame }
+{
+    let deep = SetFault::Range {
+        field: SetField::BitDepth,
+    };
+    sps.chroma_format_idc = match chroma_format_idc(bits)? {
+        0 => ChromaFormat::Monochrome,
+        1 => ChromaFormat::Yuv420,
+        _ => ChromaFormat::Yuv422,
+    };
+    sps.bit_depth_luma_minus8 = bounded(bits, deep)?;
+    sps.bit_depth_chroma_minus8 = bounded(bits, deep)?;
+    sps.qpprime_y_zero_transform_bypass_flag = flag(bits, SetFault::Cut)?;
+    sps.seq_scaling_matrix_present_flag = no_scaling_matrix(bits)?;
+    Ok(())
+}
+
+// What the high profiles have.
+fn high(bits: &mut Bits<'_>, sps: &mut Sps) -> Result<(), SetFault>
+    ensures exact { Stores (λ _. sps.new) result bits.new (rows_at take high_rows sps.old bits.old) }
+    ensures same { sps.new.offset_for_ref_frame ≡ sps.old.offset_for_ref_frame }
+{
+    if sps.is_high() {
+        chroma_and_depths(bits, sps)?;
+    }
+    Ok(())
 }
 
 #[tactic(auto, unfolding(crate::specs::Reading::rows_at))]
@@ -230,6 +289,7 @@ fn seq_parameter_set_data(alloc: Global, bits: &mut Bits<'_>) -> Result<Sps, Set
     ensures { Stores (λ s. s) result bits.new (rows_at take sps_rows no_sps bits.old) }
 {
     let mut sps = beginning(alloc, bits)?;
+    high(bits, &mut sps)?;
     frame_num_and_count_type(bits, &mut sps)?;
     counts(alloc, bits, &mut sps)?;
     frames(bits, &mut sps)?;

@@ -1,4 +1,5 @@
 ghost use Rattle.std.specs.Prelude.{◌≡◌, ◌≤◌, ◌+◌, ◌*◌, ◌^◌};
+ghost use Rattle.param_sets.specs.SpsSyntax.{is_high};
 
 use crate::at_most::AtMost;
 use crate::offsets::Offsets;
@@ -49,6 +50,13 @@ pub struct Sps {
 }
 
 impl Sps {
+    /// Whether the profile is one that sends a chroma format, bit depths and scaling lists.
+    pub fn is_high(&self) -> bool
+        ensures { result ≡ is_high self.now }
+    {
+        matches!(self.profile_idc, 100 | 110 | 122)
+    }
+
     /// MaxFrameNum, the modulus of frame_num (7.4.2.1.1).
     pub fn max_frame_num(&self) -> u32
         ensures value { result ≡ 2 ^ (self.now.log2_max_frame_num_minus4 + 4) }

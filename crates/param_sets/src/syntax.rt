@@ -1,7 +1,7 @@
 //! The fields of a syntax table, one at a time.
 
-ghost use Rattle.std.specs.Prelude.{◌≡◌, ◌<◌, ◌≤◌, ◌^◌, pos, [], Err, IfOk, IfErr, IsTrue, int_le, ◌&&◌};
-ghost use Rattle.param_sets.specs.Grammar.{Fixed, Unsigned, Signed};
+ghost use Rattle.std.specs.Prelude.{◌≡◌, ◌<◌, ◌≤◌, ◌^◌, pos, [], Ok, Err, IfOk, IfErr, IsTrue, int_le, ◌&&◌};
+ghost use Rattle.param_sets.specs.Grammar.{Fixed, Unsigned, Signed, MoreData};
 ghost use Rattle.param_sets.specs.Reading.{value_at, checked};
 ghost use Rattle.param_sets.specs.Ranges.{any, at_most, between};
 ghost use Rattle.param_sets.specs.Sets.{behind_first};
@@ -68,6 +68,27 @@ pub fn se<E: Drop>(bits: &mut Bits<'_>, least: i32, most: i32, cut: E, wrong: E)
         Ok(_) => Err(wrong),
         Err(fault) => Err(which(fault, cut, wrong)),
     }
+}
+
+/// Reads a signed number of at most 8 bits, se(v).
+pub fn small(bits: &mut Bits<'_>, least: i8, most: i8, wrong: SetFault) -> Result<i8, SetFault>
+    ensures { Reads (λ v. v) result bits.new (value_at Signed SetFault.Cut wrong (between least most wrong) bits.old) }
+{
+    let value = se(
+        bits,
+        i32::from(least),
+        i32::from(most),
+        SetFault::Cut,
+        wrong,
+    )?;
+    Ok(value as i8)
+}
+
+/// Whether more_rbsp_data() holds.
+pub fn more_data(bits: &Bits<'_>) -> bool
+    ensures { value_at MoreData SetFault.Cut SetFault.Cut any bits.now ≡ Ok (flag_value result, bits.now) }
+{
+    bits.more_data()
 }
 
 /// Reads a signed number, se(v).

@@ -28,6 +28,23 @@ fn reads_a_baseline_set(rt: HostRuntime) {
 }
 
 #[test]
+fn reads_a_high_set(rt: HostRuntime) {
+    // 4:2:2, depths of 14 and 13 bits, the bypass flag, no scaling lists.
+    let sps = sps_of(&rt, &[0x67, 0x64, 0x00, 0x0A, 0xB3, 0x9A, 0xB4, 0xF2]);
+    assert_eq!(rt; sps.profile_idc, 100);
+    assert!(rt; sps.is_high());
+    assert_eq!(rt; sps.chroma_format_idc, ChromaFormat::Yuv422);
+    assert_eq!(rt; sps.bit_depth_luma_minus8.get(), 6);
+    assert_eq!(rt; sps.bit_depth_chroma_minus8.get(), 5);
+    assert!(rt; sps.qpprime_y_zero_transform_bypass_flag);
+    assert!(rt; !sps.seq_scaling_matrix_present_flag);
+    assert_eq!(rt; sps.pic_order_cnt_type, PicOrderCntType::Two);
+    let sps = sps_of(&rt, &[0x67, 0x7A, 0x00, 0x0A, 0xF2, 0xD3, 0xC8]);
+    assert_eq!(rt; sps.chroma_format_idc, ChromaFormat::Monochrome);
+    assert_eq!(rt; sps.max_num_ref_frames.get(), 1);
+}
+
+#[test]
 fn reads_the_greatest_values(rt: HostRuntime) {
     // Id 31, log2_max_frame_num_minus4 12, type 0 with 12, 16 frames with gaps, 65,536 by 65,536 macroblocks.
     let sps = sps_of(
@@ -69,8 +86,8 @@ fn refused_cycle_of_offsets(rt: HostRuntime) -> Result<(), Fail> {
 
 #[test]
 fn names_the_first_fault_of_an_sps(rt: HostRuntime) {
-    use SetFault::{Cut, Interlaced, OutsidePath, Profile, Range, RefFrames};
-    let faults: [(&[u8], SetFault); 19] = [
+    use SetFault::{Chroma444, Cut, Interlaced, OutsidePath, Profile, Range, RefFrames};
+    let faults: [(&[u8], SetFault); 23] = [
         (&[], Cut),
         (&[0x67], Cut),
         (&[0x67, 66, 0], Cut),
@@ -78,7 +95,26 @@ fn names_the_first_fault_of_an_sps(rt: HostRuntime) {
         (&[0x67, 88, 0], Profile),
         (&[0x67, 65], Profile),
         (&[0x67, 244, 0], Profile),
-        (&[0x67, 100, 0], OutsidePath),
+        (&[0x67, 100, 0, 10, 0x93], Chroma444),
+        (
+            &[0x67, 100, 0, 10, 0x97],
+            Range {
+                field: SetField::ChromaFormat,
+            },
+        ),
+        (
+            &[0x67, 110, 0, 10, 0xA1, 0x10],
+            Range {
+                field: SetField::BitDepth,
+            },
+        ),
+        (
+            &[0x67, 122, 0, 10, 0xA8, 0x80],
+            Range {
+                field: SetField::BitDepth,
+            },
+        ),
+        (&[0x67, 100, 0, 10, 0xAD], OutsidePath),
         // Id 32, and an id with 32 zeros.
         (
             &[0x67, 66, 0, 10, 0x04, 0x20],
@@ -139,6 +175,151 @@ fn names_the_first_fault_of_an_sps(rt: HostRuntime) {
     ];
     for (payload, fault) in faults {
         match read_sps(rt.alloc(), payload) {
+            Ok(_) => panic!(rt; "no {fault} in {payload:?}"),
+            Err(shown) => assert_eq!(rt; shown, fault, "in {payload:?}"),
+        }
+    }
+}
+
+/// The picture parameter set of a payload that has one.
+fn pps_of(rt: &(impl Abort + AllocGlobal), payload: &[u8]) -> Pps {
+    match read_pps(rt.alloc(), payload) {
+        Ok(pps) => pps,
+        Err(fault) => panic!(rt; "{fault} in {payload:?}"),
+    }
+}
+
+#[test]
+fn reads_a_plain_picture_set(rt: HostRuntime) {
+    // 1 1 0 0 1 1 1 0 00 1 1 1 0 0 0, and the stop bit.
+    let pps = pps_of(&rt, &[0x68, 0xCE, 0x38, 0x80]);
+    assert_eq!(rt; pps.pic_parameter_set_id, 0);
+    assert_eq!(rt; pps.seq_parameter_set_id.get(), 0);
+    assert!(rt; !pps.entropy_coding_mode_flag);
+    assert!(rt; !pps.weighted_pred_flag);
+    assert_eq!(rt; pps.weighted_bipred_idc, WeightedBipred::Default);
+    assert_eq!(rt; pps.second_chroma_qp_index_offset, 0);
+    assert!(rt; pps_of(&rt, &[0x68, 0xCF, 0x38, 0x80]).weighted_pred_flag);
+}
+
+#[test]
+fn reads_the_ends_of_a_picture_set(rt: HostRuntime) {
+    // Ids 255 and 31, all flags, 32 entries, implicit weights, the least offsets; a second offset of 12.
+    let pps = pps_of(
+        &rt,
+        &[
+            0x68, 0x00, 0x80, 0x02, 0x0E, 0x08, 0x01, 0x06, 0x03, 0xE8, 0x35, 0x0C, 0xF8, 0x31,
+        ],
+    );
+    assert_eq!(rt; pps.pic_parameter_set_id, 255);
+    assert_eq!(rt; pps.seq_parameter_set_id.get(), 31);
+    assert!(rt; pps.entropy_coding_mode_flag);
+    assert!(rt; pps.bottom_field_pic_order_in_frame_present_flag);
+    assert_eq!(rt; pps.num_ref_idx_l0_default_active_minus1.get(), 31);
+    assert_eq!(rt; pps.num_ref_idx_l1_default_active_minus1.get(), 31);
+    assert_eq!(rt; pps.weighted_bipred_idc, WeightedBipred::Implicit);
+    assert_eq!(rt; pps.pic_init_qp_minus26, -62);
+    assert_eq!(rt; pps.pic_init_qs_minus26, -26);
+    assert_eq!(rt; pps.chroma_qp_index_offset, -12);
+    assert!(rt; pps.deblocking_filter_control_present_flag);
+    assert!(rt; pps.constrained_intra_pred_flag);
+    assert!(rt; pps.redundant_pic_cnt_present_flag);
+    assert!(rt; pps.transform_8x8_mode_flag);
+    assert_eq!(rt; pps.second_chroma_qp_index_offset, 12);
+    // The greatest offsets, the second one inferred.
+    let pps = pps_of(&rt, &[0x68, 0xCE, 0x41, 0x90, 0x32, 0x0C, 0x08]);
+    assert_eq!(rt; pps.weighted_bipred_idc, WeightedBipred::Explicit);
+    assert_eq!(rt; pps.pic_init_qp_minus26, 25);
+    assert_eq!(rt; pps.pic_init_qs_minus26, 25);
+    assert_eq!(rt; pps.second_chroma_qp_index_offset, 12);
+}
+
+#[test]
+fn names_the_first_fault_of_a_pps(rt: HostRuntime) {
+    use SetFault::{Cut, OutsidePath, Range, SliceGroups};
+    let faults: [(&[u8], SetFault); 19] = [
+        (&[], Cut),
+        (&[0x68], Cut),
+        (&[0x68, 0xCE], Cut),
+        (&[0x68, 0xCE, 0x38, 0x01], Cut),
+        (
+            &[0x68, 0x00, 0x80, 0xCE, 0x38, 0x80],
+            Range {
+                field: SetField::PpsId,
+            },
+        ),
+        (
+            &[0x68, 0x82, 0x13, 0x8E, 0x20],
+            Range {
+                field: SetField::SpsId,
+            },
+        ),
+        (&[0x68, 0xC4, 0x80], SliceGroups),
+        (&[0x68, 0xC0, 0, 0, 0, 0, 0x80], SliceGroups),
+        (
+            &[0x68, 0xC8, 0x21, 0x8E, 0x20],
+            Range {
+                field: SetField::ActiveCount,
+            },
+        ),
+        (
+            &[0x68, 0xCC, 0x10, 0x8E, 0x20],
+            Range {
+                field: SetField::ActiveCount,
+            },
+        ),
+        (
+            &[0x68, 0xCE, 0xF8, 0x80],
+            Range {
+                field: SetField::BipredIdc,
+            },
+        ),
+        (
+            &[0x68, 0xCE, 0x00, 0xFF, 0x88],
+            Range {
+                field: SetField::InitQp,
+            },
+        ),
+        (
+            &[0x68, 0xCE, 0x01, 0xA6, 0x20],
+            Range {
+                field: SetField::InitQp,
+            },
+        ),
+        (
+            &[0x68, 0xCE, 0x20, 0xDE, 0x20],
+            Range {
+                field: SetField::InitQs,
+            },
+        ),
+        (
+            &[0x68, 0xCE, 0x20, 0xD2, 0x20],
+            Range {
+                field: SetField::InitQs,
+            },
+        ),
+        (
+            &[0x68, 0xCE, 0x30, 0xD0, 0x80],
+            Range {
+                field: SetField::ChromaOffset,
+            },
+        ),
+        (
+            &[0x68, 0xCE, 0x30, 0xD8, 0x80],
+            Range {
+                field: SetField::ChromaOffset,
+            },
+        ),
+        (
+            &[0x68, 0xCE, 0x38, 0x03, 0x50],
+            Range {
+                field: SetField::ChromaOffset,
+            },
+        ),
+        (&[0x68, 0xCE, 0x38, 0x60], OutsidePath),
+    ];
+    for (payload, fault) in faults {
+        match read_pps(rt.alloc(), payload) {
             Ok(_) => panic!(rt; "no {fault} in {payload:?}"),
             Err(shown) => assert_eq!(rt; shown, fault, "in {payload:?}"),
         }

@@ -23,24 +23,24 @@ behind_flags profile flags p q r read flagged = behind_profile profile p q read 
 pub returns-in_err-profile_idc-clause-exact : goal.returns-in_err-profile_idc-clause-exact
 returns-in_err-profile_idc-clause-exact c =
     let p = err_from_is_err_and c.from_residual.result c.from_residual.ensures.1 in
-    rw (p.1, p.2) (rows_stop take profile_row (constraint_rows ++ level_rows) no_sps c.args.bits.now c.in_err-profile_idc.field-0.0 refl c.in_err-profile_idc.ensures.exact)
+    rw (p.1, p.2) (rows_stop take profile_row (constraint_rows ++ level_rows) no_sps c.args.bits.now c.in_err-profile_idc.field-0.0 refl c.in_err-profile_idc.ensures)
 
 pub returns-in_err-constraint_set_flags-clause-exact :
     goal.returns-in_err-constraint_set_flags-clause-exact
 returns-in_err-constraint_set_flags-clause-exact c =
     let p = err_from_is_err_and c.from_residual-in_err-constraint_set_flags.result c.from_residual-in_err-constraint_set_flags.ensures.1 in
     let profile = c.in_ok-profile_idc.profile_idc in
-    rw (p.1, p.2) (behind_profile profile c.args.bits.now c.profile_idc.new.bits c.in_ok-profile_idc.ensures.exact ∙ behind_err take constraint_rows level_rows (with_profile profile) c.profile_idc.new.bits c.in_err-constraint_set_flags.field-0.0 (c.in_err-constraint_set_flags.ensures (with_profile profile)))
+    rw (p.1, p.2) (behind_profile profile c.args.bits.now c.profile_idc.new.bits c.in_ok-profile_idc.ensures ∙ behind_err take constraint_rows level_rows (with_profile profile) c.profile_idc.new.bits c.in_err-constraint_set_flags.field-0.0 (c.in_err-constraint_set_flags.ensures (with_profile profile)))
 
 pub returns-in_err-level_idc-clause-exact : goal.returns-in_err-level_idc-clause-exact
 returns-in_err-level_idc-clause-exact c =
     let p = err_from_is_err_and c.from_residual-in_err-level_idc.result c.from_residual-in_err-level_idc.ensures.1 in
     let profile = c.in_ok-profile_idc.profile_idc in
     let flags = c.in_ok-constraint_set_flags.constraint_set_flags in
-    rw (p.1, p.2) (behind_flags profile flags c.args.bits.now c.profile_idc.new.bits c.constraint_set_flags.new.bits c.in_ok-profile_idc.ensures.exact (c.in_ok-constraint_set_flags.ensures (with_profile profile)) ∙ c.in_err-level_idc.ensures (with_flags profile flags))
+    rw (p.1, p.2) (behind_flags profile flags c.args.bits.now c.profile_idc.new.bits c.constraint_set_flags.new.bits c.in_ok-profile_idc.ensures (c.in_ok-constraint_set_flags.ensures (with_profile profile)) ∙ c.in_err-level_idc.ensures (with_flags profile flags))
 
 pub returns-clause-exact : goal.returns-clause-exact
 returns-clause-exact c =
     let profile = c.in_ok-profile_idc.profile_idc in
     let flags = c.in_ok-constraint_set_flags.constraint_set_flags in
-    rw (c.new.ensures, c.new-2.ensures, c.new-3.ensures, c.new-4.ensures, c.new-5.ensures, c.new-6.ensures, c.new-7.ensures) (behind_flags profile flags c.args.bits.now c.profile_idc.new.bits c.constraint_set_flags.new.bits c.in_ok-profile_idc.ensures.exact (c.in_ok-constraint_set_flags.ensures (with_profile profile)) ∙ c.in_ok-level_idc.ensures (with_flags profile flags))
+    rw (c.new.ensures, c.new-2.ensures, c.new-3.ensures, c.new-4.ensures, c.new-5.ensures, c.new-6.ensures, c.new-7.ensures) (behind_flags profile flags c.args.bits.now c.profile_idc.new.bits c.constraint_set_flags.new.bits c.in_ok-profile_idc.ensures (c.in_ok-constraint_set_flags.ensures (with_profile profile)) ∙ c.in_ok-level_idc.ensures (with_flags profile flags))

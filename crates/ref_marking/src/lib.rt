@@ -20,3 +20,4 @@ pub use fault::MarkFault;
 pub use frames::{Frame, Term};
 pub use marked_frames::Marks;
 pub use marking::mark;
+pub use numbers::frame_num_wrap;

@@ -1,25 +1,20 @@
 //! FrameNumWrap and picNumX (8.2.4.1, 8.2.5.4.1).
 
-ghost use Rattle.std.specs.Prelude.{◌≡◌, pos};
-ghost use Rattle.order_count.specs.FrameNumbers.{max_frame_num};
+ghost use Rattle.std.specs.Prelude.{◌≡◌, ◌≤ℤ◌, pos, negsuc};
 ghost use Rattle.ref_marking.specs.PicNums.{frame_num_wrap};
 ghost use Rattle.ref_marking.specs.Operations.{pic_num_x};
 
+use order_count::max_frame_num;
 use param_sets::Sps;
 
-// MaxFrameNum.
-fn max_frame_num(sps: &Sps) -> i64
-    ensures { result ≡ pos (max_frame_num sps.now) }
-{
-    1 << (sps.log2_max_frame_num_minus4.get() + 4)
-}
-
-// FrameNumWrap of a FrameNum, for a picture with this frame_num.
-pub(crate) fn frame_num_wrap(sps: &Sps, frame_num: u16, number: u16) -> i64
-    ensures { result ≡ frame_num_wrap sps.now frame_num number }
+/// FrameNumWrap of a FrameNum, for a picture with this frame_num (8-27): PicNum of the short-term frame that has it.
+pub fn frame_num_wrap(sps: &Sps, frame_num: u16, number: u16) -> i64
+    ensures value { result ≡ frame_num_wrap sps.now frame_num number }
+    ensures low { negsuc 65535 ≤ℤ result }
+    ensures high { result ≤ℤ pos 65535 }
 {
     if number > frame_num {
-        i64::from(number) - max_frame_num(sps)
+        i64::from(number) - i64::from(max_frame_num(sps))
     } else {
         i64::from(number)
     }

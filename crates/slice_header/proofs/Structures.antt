@@ -4,6 +4,9 @@ use Rattle.expgolomb.specs.Bits.{Place}
 use Rattle.expgolomb.proofs.ExpGolomb.{ok_is}
 use Rattle.param_sets.specs.Reading.{◌>>=◌}
 use Rattle.param_sets.proofs.Tables.{rows_found, rows_only, rows_fault, fault_rows}
+use Rattle.slice_header.specs.declared.fault.HeaderFault.{HeaderFault}
+use Rattle.slice_header.specs.declared.fault.HeaderFault.TheVariants.{Cut, Value, Memory, OutsidePath}
+use Rattle.slice_header.specs.HeaderAnswer.{Refuses}
 use Rattle.slice_header.specs.Structures.{Table, Syntax, Says, Structure, HasTable, HasSyntax, SyntaxHasFault, table_at, syntax_at}
 
 bind_ok : {A B E : Type 0} (r : Result A E) (f : A → Result B E) (y : B) → (r >>= f) ≡ Ok y → (x : A) × (r ≡ Ok x) × (f x ≡ Ok y)
@@ -59,3 +62,16 @@ fault_syntax (Structure table more) p e (inl first) =
     ap (λ r. r >>= (λ y. syntax_at (more y.0 y.1.before) y.1)) (fault_rows table.take table.rows table.absent p e first)
 fault_syntax (Structure table more) p e (inr (s, mid, has, behind)) =
     ap (λ r. r >>= (λ y. syntax_at (more y.0 y.1.before) y.1)) (table_only table p s mid has) ∙ fault_syntax (more s mid.before) mid e behind
+
+-- a fault behind structures that were read
+pub refuses_is : {A : Type 0} (e : HeaderFault) (read : Result A HeaderFault) → read ≡ Err e → Refuses e read
+refuses_is Cut read is = is
+refuses_is Value read is = is
+refuses_is Memory read is = tt
+refuses_is OutsidePath read is = is
+
+pub refuses_all : {A B : Type 0} (e : HeaderFault) (r : Result A HeaderFault) (read : Result B HeaderFault) → ((d : HeaderFault) → r ≡ Err d → read ≡ Err d) → Refuses e r → Refuses e read
+refuses_all Cut r read all is = all Cut is
+refuses_all Value r read all is = all Value is
+refuses_all Memory r read all is = tt
+refuses_all OutsidePath r read all is = all OutsidePath is

@@ -24,7 +24,7 @@ abbrev pub no_marking : Bool → DecRefPicMarking
 no_marking is_idr = if is_idr then Idr (flag_of (pos 0)) (flag_of (pos 0)) else SlidingWindow
 
 -- The marking of a picture that is IDR or not, where it is a reference; long-term marking isn't read yet.
-abbrev pub marking_table : Bool → Bool → Table MarkingField DecRefPicMarking HeaderFault
+unfoldable pub marking_table : Bool → Bool → Table MarkingField DecRefPicMarking HeaderFault
 marking_table is_reference is_idr = record {
   take = take_marking;
   rows =

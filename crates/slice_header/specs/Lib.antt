@@ -1,5 +1,6 @@
 pub mod Structures
 pub mod CodeFaults
+pub mod HeaderAnswer
 pub mod HeaderRows
 pub mod SliceTypes
 pub mod FrontSyntax

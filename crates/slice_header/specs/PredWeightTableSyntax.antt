@@ -15,7 +15,7 @@ abbrev pub take_weight : WeightField → ℤ → Option PredWeightTable → Opti
 take_weight LumaLog2WeightDenom v table = table
 
 -- The table, where the slice has one, which isn't read yet.
-abbrev pub weight_table : Bool → Table WeightField (Option PredWeightTable) HeaderFault
+unfoldable pub weight_table : Bool → Table WeightField (Option PredWeightTable) HeaderFault
 weight_table is_there = record {
   take = take_weight;
   rows = ue_of LumaLog2WeightDenom (λ s. is_there) (λ s v. Some OutsidePath) ∷ [];

@@ -14,7 +14,7 @@ abbrev pub take_modification : ModificationField → ℤ → List RefPicListModi
 take_modification RefPicListModificationFlag v commands = commands
 
 -- The commands of a list of so many active entries, where the slice has it; those of a flag that is 1 aren't read yet.
-abbrev pub modification_table : Bool → ℕ → ℕ → Table ModificationField (List RefPicListModification) HeaderFault
+unfoldable pub modification_table : Bool → ℕ → ℕ → Table ModificationField (List RefPicListModification) HeaderFault
 modification_table is_there active max_frame_num = record {
   take = take_modification;
   rows = u_of RefPicListModificationFlag 1 (λ s. is_there) not_set ∷ [];

@@ -4,6 +4,13 @@ use Rattle.slice_header.specs.declared.fault.HeaderFault.{HeaderFault}
 use Rattle.slice_header.specs.declared.fault.HeaderFault.TheVariants.{Value}
 use Rattle.slice_header.specs.declared.slice_types.SliceType.{SliceType}
 use Rattle.slice_header.specs.declared.slice_headers.SliceHeader.{SliceHeader}
+use Rattle.slice_header.specs.declared.headers.HeaderFields.{HeaderFields}
+use Rattle.slice_header.specs.declared.prediction.Prediction.{Prediction}
+use Rattle.slice_header.specs.declared.prediction.ActiveCounts.{ActiveCounts}
+use Rattle.slice_header.specs.declared.coding.Coding.{Coding}
+use Rattle.slice_header.specs.declared.coding.Deblocking.{Deblocking}
+use Rattle.slice_header.specs.declared.picture_fields.Numbers.{Numbers}
+use Rattle.slice_header.specs.declared.picture_fields.OrderCounts.{OrderCounts}
 use Rattle.param_sets.specs.declared.sps.Sps.{Sps}
 use Rattle.param_sets.specs.declared.pps.Pps.{Pps}
 use Rattle.param_sets.specs.declared.pps.WeightedBipred.{WeightedBipred}
@@ -32,15 +39,11 @@ pub data NumberField : Type 0 where
   FrameNum : NumberField
   IdrPicId : NumberField
 
-pub record Numbers : Type 0 where
-  pub frame_num : ℕ
-  pub idr_pic_id : ℕ
-
 abbrev pub take_number : NumberField → ℤ → Numbers → Numbers
 take_number FrameNum v s = record s { frame_num = nat_abs v }
 take_number IdrPicId v s = record s { idr_pic_id = nat_abs v }
 
-abbrev pub number_table : Bool → Sps → Table NumberField Numbers HeaderFault
+unfoldable pub number_table : Bool → Sps → Table NumberField Numbers HeaderFault
 number_table is_idr sps = record {
   take = take_number;
   rows =
@@ -57,12 +60,6 @@ pub data OrderField : Type 0 where
   DeltaPicOrderCnt0 : OrderField
   DeltaPicOrderCnt1 : OrderField
 
-pub record OrderCounts : Type 0 where
-  pub pic_order_cnt_lsb : ℕ
-  pub delta_pic_order_cnt_bottom : ℤ
-  pub delta_pic_order_cnt0 : ℤ
-  pub delta_pic_order_cnt1 : ℤ
-
 abbrev pub take_order : OrderField → ℤ → OrderCounts → OrderCounts
 take_order PicOrderCntLsb v s = record s { pic_order_cnt_lsb = nat_abs v }
 take_order DeltaPicOrderCntBottom v s = record s { delta_pic_order_cnt_bottom = v }
@@ -73,7 +70,7 @@ take_order DeltaPicOrderCnt1 v s = record s { delta_pic_order_cnt1 = v }
 abbrev pub has_deltas : Sps → Bool
 has_deltas sps = is_type_one sps && not sps.delta_pic_order_always_zero_flag
 
-abbrev pub order_table : Sps → Pps → Table OrderField OrderCounts HeaderFault
+unfoldable pub order_table : Sps → Pps → Table OrderField OrderCounts HeaderFault
 order_table sps pps = record {
   take = take_order;
   rows =
@@ -90,42 +87,46 @@ order_table sps pps = record {
   };
 }
 
--- what is said of redundant pictures, direct prediction and the lengths of the lists
+-- redundant pictures and direct prediction
 pub data PredictionField : Type 0 where
   RedundantPicCnt : PredictionField
   DirectSpatialMvPredFlag : PredictionField
-  NumRefIdxActiveOverrideFlag : PredictionField
-  NumRefIdxL0ActiveMinus1 : PredictionField
-  NumRefIdxL1ActiveMinus1 : PredictionField
-
-pub record Prediction : Type 0 where
-  pub redundant_pic_cnt : ℕ
-  pub direct_spatial_mv_pred_flag : Bool
-  pub num_ref_idx_active_override_flag : Bool
-  pub num_ref_idx_l0_active_minus1 : ℕ
-  pub num_ref_idx_l1_active_minus1 : ℕ
 
 abbrev pub take_prediction : PredictionField → ℤ → Prediction → Prediction
 take_prediction RedundantPicCnt v s = record s { redundant_pic_cnt = nat_abs v }
 take_prediction DirectSpatialMvPredFlag v s = record s { direct_spatial_mv_pred_flag = flag_of v }
-take_prediction NumRefIdxActiveOverrideFlag v s = record s { num_ref_idx_active_override_flag = flag_of v }
-take_prediction NumRefIdxL0ActiveMinus1 v s = record s { num_ref_idx_l0_active_minus1 = nat_abs v }
-take_prediction NumRefIdxL1ActiveMinus1 v s = record s { num_ref_idx_l1_active_minus1 = nat_abs v }
 
--- An absent active count is the picture parameter set's where the slice has the list.
-abbrev pub prediction_table : SliceType → Pps → Table PredictionField Prediction HeaderFault
+unfoldable pub prediction_table : SliceType → Pps → Table PredictionField Prediction HeaderFault
 prediction_table slice_type pps = record {
   take = take_prediction;
   rows =
       ue RedundantPicCnt (λ s. pps.redundant_pic_cnt_present_flag) 127
       ∷ u DirectSpatialMvPredFlag 1 (λ s. is_b slice_type)
-      ∷ u NumRefIdxActiveOverrideFlag 1 (λ s. has_list slice_type)
+      ∷ [];
+  absent = record { redundant_pic_cnt = 0; direct_spatial_mv_pred_flag = false };
+}
+
+-- the lengths of the lists
+pub data ActiveField : Type 0 where
+  NumRefIdxActiveOverrideFlag : ActiveField
+  NumRefIdxL0ActiveMinus1 : ActiveField
+  NumRefIdxL1ActiveMinus1 : ActiveField
+
+abbrev pub take_active : ActiveField → ℤ → ActiveCounts → ActiveCounts
+take_active NumRefIdxActiveOverrideFlag v s = record s { num_ref_idx_active_override_flag = flag_of v }
+take_active NumRefIdxL0ActiveMinus1 v s = record s { num_ref_idx_l0_active_minus1 = nat_abs v }
+take_active NumRefIdxL1ActiveMinus1 v s = record s { num_ref_idx_l1_active_minus1 = nat_abs v }
+
+-- An absent active count is the picture parameter set's where the slice has the list.
+unfoldable pub active_table : SliceType → Pps → Table ActiveField ActiveCounts HeaderFault
+active_table slice_type pps = record {
+  take = take_active;
+  rows =
+      u NumRefIdxActiveOverrideFlag 1 (λ s. has_list slice_type)
       ∷ ue NumRefIdxL0ActiveMinus1 (λ s. s.num_ref_idx_active_override_flag) 31
       ∷ ue NumRefIdxL1ActiveMinus1 (λ s. s.num_ref_idx_active_override_flag && is_b slice_type) 31
       ∷ [];
   absent = record {
-    redundant_pic_cnt = 0;
-    direct_spatial_mv_pred_flag = false;
     num_ref_idx_active_override_flag = false;
     num_ref_idx_l0_active_minus1 = if has_list slice_type then pps.num_ref_idx_l0_default_active_minus1 else 0;
     num_ref_idx_l1_active_minus1 = if is_b slice_type then pps.num_ref_idx_l1_default_active_minus1 else 0;
@@ -141,90 +142,115 @@ abbrev pub is_weighted : SliceType → Pps → Bool
 is_weighted slice_type pps =
     is_p slice_type && pps.weighted_pred_flag || is_b slice_type && is_explicit pps.weighted_bipred_idc
 
--- the fields behind the marking
+-- entropy coding and quantisation
 pub data CodingField : Type 0 where
   CabacInitIdc : CodingField
   SliceQpDelta : CodingField
-  DisableDeblockingFilterIdc : CodingField
-  SliceAlphaC0OffsetDiv2 : CodingField
-  SliceBetaOffsetDiv2 : CodingField
-
-pub record Coding : Type 0 where
-  pub cabac_init_idc : ℕ
-  pub slice_qp_delta : ℤ
-  pub disable_deblocking_filter_idc : ℕ
-  pub slice_alpha_c0_offset_div2 : ℤ
-  pub slice_beta_offset_div2 : ℤ
 
 abbrev pub take_coding : CodingField → ℤ → Coding → Coding
 take_coding CabacInitIdc v s = record s { cabac_init_idc = nat_abs v }
 take_coding SliceQpDelta v s = record s { slice_qp_delta = v }
-take_coding DisableDeblockingFilterIdc v s = record s { disable_deblocking_filter_idc = nat_abs v }
-take_coding SliceAlphaC0OffsetDiv2 v s = record s { slice_alpha_c0_offset_div2 = v }
-take_coding SliceBetaOffsetDiv2 v s = record s { slice_beta_offset_div2 = v }
 
--- whether offsets of the deblocking filter are sent
-abbrev pub has_offsets : Pps → Coding → Bool
-has_offsets pps s = pps.deblocking_filter_control_present_flag && not (s.disable_deblocking_filter_idc == 1)
-
-abbrev pub coding_table : SliceType → Pps → Table CodingField Coding HeaderFault
+unfoldable pub coding_table : SliceType → Pps → Table CodingField Coding HeaderFault
 coding_table slice_type pps = record {
   take = take_coding;
   rows =
       ue CabacInitIdc (λ s. pps.entropy_coding_mode_flag && not (is_i slice_type)) 2
       ∷ se SliceQpDelta always (negsuc 86) (pos 87)
-      ∷ ue DisableDeblockingFilterIdc (λ s. pps.deblocking_filter_control_present_flag) 2
+      ∷ [];
+  absent = record { cabac_init_idc = 0; slice_qp_delta = pos 0 };
+}
+
+-- the deblocking filter
+pub data DeblockingField : Type 0 where
+  DisableDeblockingFilterIdc : DeblockingField
+  SliceAlphaC0OffsetDiv2 : DeblockingField
+  SliceBetaOffsetDiv2 : DeblockingField
+
+abbrev pub take_deblocking : DeblockingField → ℤ → Deblocking → Deblocking
+take_deblocking DisableDeblockingFilterIdc v s = record s { disable_deblocking_filter_idc = nat_abs v }
+take_deblocking SliceAlphaC0OffsetDiv2 v s = record s { slice_alpha_c0_offset_div2 = v }
+take_deblocking SliceBetaOffsetDiv2 v s = record s { slice_beta_offset_div2 = v }
+
+-- whether its offsets are sent
+abbrev pub has_offsets : Pps → Deblocking → Bool
+has_offsets pps s = pps.deblocking_filter_control_present_flag && not (s.disable_deblocking_filter_idc == 1)
+
+unfoldable pub deblocking_table : Pps → Table DeblockingField Deblocking HeaderFault
+deblocking_table pps = record {
+  take = take_deblocking;
+  rows =
+      ue DisableDeblockingFilterIdc (λ s. pps.deblocking_filter_control_present_flag) 2
       ∷ se SliceAlphaC0OffsetDiv2 (has_offsets pps) (negsuc 5) (pos 6)
       ∷ se SliceBetaOffsetDiv2 (has_offsets pps) (negsuc 5) (pos 6)
       ∷ [];
   absent = record {
-    cabac_init_idc = 0;
-    slice_qp_delta = pos 0;
     disable_deblocking_filter_idc = 0;
     slice_alpha_c0_offset_div2 = pos 0;
     slice_beta_offset_div2 = pos 0;
   };
 }
 
--- The whole header, of a unit with this nal_ref_idc and nal_unit_type; each structure behind the other, and the header
--- that they say. Numbers of bits are the distances of places.
+-- the header of these fields of a unit with this nal_ref_idc and nal_unit_type
+abbrev pub header_from : ℕ → ℕ → HeaderFields → SliceHeader
+header_from nal_ref_idc nal_unit_type fields = record {
+  nal_ref_idc = nal_ref_idc;
+  nal_unit_type = nal_unit_type;
+  first_mb_in_slice = fields.front.first_mb_in_slice;
+  slice_type = fields.front.slice_type;
+  pic_parameter_set_id = fields.front.pic_parameter_set_id;
+  frame_num = fields.numbers.frame_num;
+  idr_pic_id = fields.numbers.idr_pic_id;
+  pic_order_cnt_lsb = fields.orders.pic_order_cnt_lsb;
+  delta_pic_order_cnt_bottom = fields.orders.delta_pic_order_cnt_bottom;
+  delta_pic_order_cnt0 = fields.orders.delta_pic_order_cnt0;
+  delta_pic_order_cnt1 = fields.orders.delta_pic_order_cnt1;
+  redundant_pic_cnt = fields.prediction.redundant_pic_cnt;
+  direct_spatial_mv_pred_flag = fields.prediction.direct_spatial_mv_pred_flag;
+  num_ref_idx_l0_active_minus1 = fields.active.num_ref_idx_l0_active_minus1;
+  num_ref_idx_l1_active_minus1 = fields.active.num_ref_idx_l1_active_minus1;
+  ref_pic_list_modification_l0 = fields.list0;
+  ref_pic_list_modification_l1 = fields.list1;
+  pred_weight_table = fields.weights;
+  dec_ref_pic_marking = fields.marking;
+  cabac_init_idc = fields.coding.cabac_init_idc;
+  slice_qp_delta = fields.coding.slice_qp_delta;
+  disable_deblocking_filter_idc = fields.deblocking.disable_deblocking_filter_idc;
+  slice_alpha_c0_offset_div2 = fields.deblocking.slice_alpha_c0_offset_div2;
+  slice_beta_offset_div2 = fields.deblocking.slice_beta_offset_div2;
+  header_bit_size = fields.behind;
+  dec_ref_pic_marking_bit_size = fields.marking_bits;
+  pic_order_cnt_bit_size = fields.order_bits;
+}
+
+-- The whole header, each structure behind the other, and what they say. The size of a structure in bits is the
+-- distance of the places around it.
 unfoldable pub header_syntax : ℕ → ℕ → Sps → Pps → Syntax SliceHeader HeaderFault
 header_syntax nal_ref_idc nal_unit_type sps pps =
     Structure (front_table (at_most (pic_size_in_mbs sps - 1) Value)) (λ front _.
     Structure (number_table (nal_unit_type == 5) sps) (λ numbers orders_from.
     Structure (order_table sps pps) (λ orders orders_to.
     Structure (prediction_table front.slice_type pps) (λ prediction _.
-    Structure (modification_table (has_list front.slice_type) prediction.num_ref_idx_l0_active_minus1 (max_frame_num sps)) (λ list0 _.
-    Structure (modification_table (is_b front.slice_type) prediction.num_ref_idx_l1_active_minus1 (max_frame_num sps)) (λ list1 _.
+    Structure (active_table front.slice_type pps) (λ active _.
+    Structure (modification_table (has_list front.slice_type) active.num_ref_idx_l0_active_minus1 (max_frame_num sps)) (λ list0 _.
+    Structure (modification_table (is_b front.slice_type) active.num_ref_idx_l1_active_minus1 (max_frame_num sps)) (λ list1 _.
     Structure (weight_table (is_weighted front.slice_type pps)) (λ weights marking_from.
     Structure (marking_table (not (nal_ref_idc == 0)) (nal_unit_type == 5)) (λ marking marking_to.
-    Structure (coding_table front.slice_type pps) (λ coding behind.
-    Says record {
-      nal_ref_idc = nal_ref_idc;
-      nal_unit_type = nal_unit_type;
-      first_mb_in_slice = front.first_mb_in_slice;
-      slice_type = front.slice_type;
-      pic_parameter_set_id = front.pic_parameter_set_id;
-      frame_num = numbers.frame_num;
-      idr_pic_id = numbers.idr_pic_id;
-      pic_order_cnt_lsb = orders.pic_order_cnt_lsb;
-      delta_pic_order_cnt_bottom = orders.delta_pic_order_cnt_bottom;
-      delta_pic_order_cnt0 = orders.delta_pic_order_cnt0;
-      delta_pic_order_cnt1 = orders.delta_pic_order_cnt1;
-      redundant_pic_cnt = prediction.redundant_pic_cnt;
-      direct_spatial_mv_pred_flag = prediction.direct_spatial_mv_pred_flag;
-      num_ref_idx_l0_active_minus1 = prediction.num_ref_idx_l0_active_minus1;
-      num_ref_idx_l1_active_minus1 = prediction.num_ref_idx_l1_active_minus1;
-      ref_pic_list_modification_l0 = list0;
-      ref_pic_list_modification_l1 = list1;
-      pred_weight_table = weights;
-      dec_ref_pic_marking = marking;
-      cabac_init_idc = coding.cabac_init_idc;
-      slice_qp_delta = coding.slice_qp_delta;
-      disable_deblocking_filter_idc = coding.disable_deblocking_filter_idc;
-      slice_alpha_c0_offset_div2 = coding.slice_alpha_c0_offset_div2;
-      slice_beta_offset_div2 = coding.slice_beta_offset_div2;
-      header_bit_size = behind;
-      dec_ref_pic_marking_bit_size = marking_to - marking_from;
-      pic_order_cnt_bit_size = orders_to - orders_from;
-    })))))))))
+    Structure (coding_table front.slice_type pps) (λ coding _.
+    Structure (deblocking_table pps) (λ deblocking behind.
+    Says (header_from nal_ref_idc nal_unit_type record {
+      front = front;
+      numbers = numbers;
+      orders = orders;
+      prediction = prediction;
+      active = active;
+      list0 = list0;
+      list1 = list1;
+      weights = weights;
+      marking = marking;
+      coding = coding;
+      deblocking = deblocking;
+      order_bits = orders_to - orders_from;
+      marking_bits = marking_to - marking_from;
+      behind = behind;
+    }))))))))))))

@@ -8,10 +8,10 @@ use Rattle.param_sets.specs.declared.pps.Pps.{Pps}
 use Rattle.param_sets.specs.Ranges.{any}
 use Rattle.param_sets.specs.Sets.{behind_first}
 use Rattle.slice_header.specs.declared.fault.HeaderFault.{HeaderFault}
-use Rattle.slice_header.specs.declared.fault.HeaderFault.TheVariants.{Memory}
 use Rattle.slice_header.specs.declared.front.HeaderFront.{HeaderFront}
 use Rattle.slice_header.specs.declared.slice_headers.SliceHeader.{SliceHeader}
 use Rattle.slice_header.specs.declared.slice_types.SliceType.{SliceType}
+use Rattle.slice_header.specs.HeaderAnswer.{Refuses}
 use Rattle.slice_header.specs.FrontSyntax.{front_table, type_table}
 use Rattle.slice_header.specs.SliceHeaderSyntax.{header_syntax}
 use Rattle.slice_header.specs.Structures.{Syntax, HasSyntax, SyntaxHasFault, table_at, syntax_at}
@@ -57,5 +57,4 @@ slice_type_at unit = type_of (table_at (type_table any) (unit_bits unit))
 -- a call answers what reading gives, unless memory ran out
 abbrev pub Answers : {A : Type 0} → Result A HeaderFault → Result A HeaderFault → Type 0
 Answers (Ok x) read = read ≡ Ok x
-Answers (Err Memory) read = Unit {0}
-Answers (Err e) read = read ≡ Err e
+Answers (Err e) read = Refuses e read

@@ -1,6 +1,6 @@
 //! The fields of a slice header, one at a time.
 
-ghost use Rattle.std.specs.Prelude.{◌≡◌, ◌<◌, ◌≤◌, ◌^◌, pos, IfOk, IsTrue, int_le, ◌&&◌, MatchResult, []};
+ghost use Rattle.std.specs.Prelude.{◌≡◌, ◌<◌, ◌≤◌, ◌+◌, ◌^◌, pos, IfOk, IsTrue, int_le, ◌&&◌, MatchResult, []};
 ghost use Rattle.param_sets.specs.Grammar.{Fixed, Unsigned, Signed};
 ghost use Rattle.param_sets.specs.Reading.{value_at};
 ghost use Rattle.param_sets.specs.Ranges.{any, at_most, between};
@@ -22,7 +22,8 @@ pub fn behind_first(payload: &[u8]) -> Result<Bits<'_>, HeaderFault>
 /// Reads a flag, u(1).
 #[tactic(auto, unfolding(param_sets::specs::Reading::value_at))]
 pub fn flag(bits: &mut Bits<'_>) -> Result<bool, HeaderFault>
-    ensures { Reads flag_value result bits.new (value_at (Fixed 1) HeaderFault.Cut HeaderFault.Cut any bits.old) }
+    ensures exact { Reads flag_value result bits.new (value_at (Fixed 1) HeaderFault.Cut HeaderFault.Cut any bits.old) }
+    ensures near { bits.new.before ≤ bits.old.before + 63 }
 {
     Ok(bits.bit()?)
 }
@@ -34,6 +35,7 @@ pub fn fixed(bits: &mut Bits<'_>, n: u8) -> Result<u32, HeaderFault>
     requires few { n ≤ 32 }
     ensures exact { Reads pos result bits.new (value_at (Fixed n) HeaderFault.Cut HeaderFault.Cut any bits.old) }
     ensures below { IfOk result (λ v. v < 2 ^ n) }
+    ensures near { bits.new.before ≤ bits.old.before + 63 }
 {
     Ok(bits.fixed(n)?)
 }
@@ -41,7 +43,8 @@ pub fn fixed(bits: &mut Bits<'_>, n: u8) -> Result<u32, HeaderFault>
 /// Reads an unsigned number, ue(v).
 #[tactic(auto, unfolding(param_sets::specs::Reading::value_at))]
 pub fn ue_any(bits: &mut Bits<'_>) -> Result<u32, HeaderFault>
-    ensures { Reads pos result bits.new (value_at Unsigned HeaderFault.Cut HeaderFault.Value any bits.old) }
+    ensures exact { Reads pos result bits.new (value_at Unsigned HeaderFault.Cut HeaderFault.Value any bits.old) }
+    ensures near { bits.new.before ≤ bits.old.before + 63 }
 {
     Ok(bits.ue()?)
 }
@@ -51,6 +54,7 @@ pub fn ue_any(bits: &mut Bits<'_>) -> Result<u32, HeaderFault>
 pub fn ue(bits: &mut Bits<'_>, most: u32) -> Result<u32, HeaderFault>
     ensures exact { Reads pos result bits.new (value_at Unsigned HeaderFault.Cut HeaderFault.Value (at_most most HeaderFault.Value) bits.old) }
     ensures bound { IfOk result (λ v. v ≤ most) }
+    ensures near { bits.new.before ≤ bits.old.before + 63 }
 {
     let value = bits.ue()?;
     if value <= most {
@@ -63,7 +67,8 @@ pub fn ue(bits: &mut Bits<'_>, most: u32) -> Result<u32, HeaderFault>
 /// Reads a signed number, se(v).
 #[tactic(auto, unfolding(param_sets::specs::Reading::value_at))]
 pub fn se_any(bits: &mut Bits<'_>) -> Result<i32, HeaderFault>
-    ensures { Reads (λ v. v) result bits.new (value_at Signed HeaderFault.Cut HeaderFault.Value any bits.old) }
+    ensures exact { Reads (λ v. v) result bits.new (value_at Signed HeaderFault.Cut HeaderFault.Value any bits.old) }
+    ensures near { bits.new.before ≤ bits.old.before + 63 }
 {
     Ok(bits.se()?)
 }
@@ -73,6 +78,7 @@ pub fn se_any(bits: &mut Bits<'_>) -> Result<i32, HeaderFault>
 pub fn se(bits: &mut Bits<'_>, least: i32, most: i32) -> Result<i32, HeaderFault>
     ensures exact { Reads (λ v. v) result bits.new (value_at Signed HeaderFault.Cut HeaderFault.Value (between least most HeaderFault.Value) bits.old) }
     ensures bounds { IfOk result (λ v. IsTrue (int_le least v && int_le v most)) }
+    ensures near { bits.new.before ≤ bits.old.before + 63 }
 {
     let value = bits.se()?;
     if value >= least && value <= most {

@@ -1,6 +1,6 @@
 //! The front of a slice header, which is read without parameter sets.
 
-ghost use Rattle.std.specs.Prelude.{◌≡◌};
+ghost use Rattle.std.specs.Prelude.{◌≡◌, ◌≤◌, ◌+◌};
 ghost use Rattle.std.specs.Result.{result_ok};
 ghost use Rattle.param_sets.specs.Ranges.{any, at_most};
 ghost use Rattle.param_sets.specs.Answer.{Reads};
@@ -86,7 +86,8 @@ fn any_type(bits: &mut Bits<'_>) -> Result<SliceType, HeaderFault>
 /// Reads the first fields of a header, where first_mb_in_slice is at most this much.
 #[tactic(auto, unfolding(crate::specs::Structures::table_at, param_sets::specs::Reading::rows_at))]
 pub fn header_front(bits: &mut Bits<'_>, most: u32) -> Result<HeaderFront, HeaderFault>
-    ensures { Reads (λ front. front) result bits.new (table_at (front_table (at_most most HeaderFault.Value)) bits.old) }
+    ensures exact { Reads (λ front. front) result bits.new (table_at (front_table (at_most most HeaderFault.Value)) bits.old) }
+    ensures near { bits.new.before ≤ bits.old.before + 189 }
 {
     let first_mb_in_slice = ue(bits, most)?;
     let slice_type = slice_type_of(ue(bits, 9)?);

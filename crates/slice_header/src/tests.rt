@@ -1,5 +1,9 @@
 use super::*;
 use annexb::{Nal, split};
+use param_sets::{
+    AtMost, ChromaFormat, Offsets, PicOrderCntType, Pps, ScalingLists, Sps, WeightedBipred,
+};
+use std::alloc::Global;
 use std::process::Abort;
 use std::test::Fail;
 
@@ -66,6 +70,134 @@ fn fronts_that_cannot_be_read(rt: HostRuntime) -> Result<(), Fail> {
             (Err(HeaderFault::Value), None),
             (Err(HeaderFault::Value), Some(SliceType::P)),
             (Err(HeaderFault::Value), None),
+        ],
+    )
+}
+
+/// One macroblock, frame numbers of four bits, order count type 2.
+fn small_sps(alloc: Global) -> Sps {
+    Sps {
+        profile_idc: 66,
+        constraint_set_flags: [false; 6],
+        level_idc: 10,
+        seq_parameter_set_id: AtMost::new(0),
+        chroma_format_idc: ChromaFormat::Yuv420,
+        bit_depth_luma_minus8: AtMost::new(0),
+        bit_depth_chroma_minus8: AtMost::new(0),
+        qpprime_y_zero_transform_bypass_flag: false,
+        seq_scaling_matrix_present_flag: false,
+        scaling_lists: ScalingLists::new(alloc),
+        log2_max_frame_num_minus4: AtMost::new(0),
+        pic_order_cnt_type: PicOrderCntType::Two,
+        log2_max_pic_order_cnt_lsb_minus4: AtMost::new(0),
+        delta_pic_order_always_zero_flag: false,
+        offset_for_non_ref_pic: 0,
+        offset_for_top_to_bottom_field: 0,
+        num_ref_frames_in_pic_order_cnt_cycle: 0,
+        offset_for_ref_frame: Offsets::new(alloc),
+        max_num_ref_frames: AtMost::new(1),
+        gaps_in_frame_num_value_allowed_flag: false,
+        pic_width_in_mbs_minus1: 0,
+        pic_height_in_map_units_minus1: 0,
+        direct_8x8_inference_flag: true,
+    }
+}
+
+/// No flag set, each number 0.
+fn small_pps(alloc: Global) -> Pps {
+    Pps {
+        pic_parameter_set_id: 0,
+        seq_parameter_set_id: AtMost::new(0),
+        entropy_coding_mode_flag: false,
+        bottom_field_pic_order_in_frame_present_flag: false,
+        num_ref_idx_l0_default_active_minus1: AtMost::new(0),
+        num_ref_idx_l1_default_active_minus1: AtMost::new(0),
+        weighted_pred_flag: false,
+        weighted_bipred_idc: WeightedBipred::Default,
+        pic_init_qp_minus26: 0,
+        pic_init_qs_minus26: 0,
+        chroma_qp_index_offset: 0,
+        deblocking_filter_control_present_flag: false,
+        constrained_intra_pred_flag: false,
+        redundant_pic_cnt_present_flag: false,
+        transform_8x8_mode_flag: false,
+        pic_scaling_matrix_present_flag: false,
+        scaling_lists: ScalingLists::new(alloc),
+        second_chroma_qp_index_offset: 0,
+    }
+}
+
+/// What is compared of a header: its type, frame_num and three sizes in bits.
+fn summary(header: &SliceHeader) -> (SliceType, u16, u32, u32, u32) {
+    (
+        header.slice_type,
+        header.frame_num,
+        header.header_bit_size,
+        header.dec_ref_pic_marking_bit_size,
+        header.pic_order_cnt_bit_size,
+    )
+}
+
+/// The headers of the units of a text with these parameter sets.
+fn headers_are(
+    rt: &(impl Abort + AllocGlobal),
+    sps: &Sps,
+    pps: &Pps,
+    text: &[u8],
+    headers: &[Result<(SliceType, u16, u32, u32, u32), HeaderFault>],
+) -> Result<(), Fail> {
+    let nals = split(rt.alloc(), text)?;
+    assert_eq!(rt; nals.len(), headers.len());
+    for (nal, header) in nals.iter().zip(headers) {
+        let found = match read(rt.alloc(), nal, sps, pps) {
+            Ok(found) => Ok(summary(&found)),
+            Err(fault) => Err(fault),
+        };
+        assert_eq!(rt; found, *header, "in {:?}", nal.bytes());
+    }
+    Ok(())
+}
+
+#[test]
+fn headers(rt: HostRuntime) -> Result<(), Fail> {
+    let (sps, pps) = (small_sps(rt.alloc()), small_pps(rt.alloc()));
+    let text = [
+        0, 0, 1, 0x65, 0x88, 0x84, 0x80, 0, 0, 1, 0x41, 0x9A, 0x23, 0, 0, 1, 0x41, 0x9A, 0x43, //
+        // A frame that is no reference: no marking.
+        0, 0, 1, 0x01, 0x9A, 0x47,
+    ];
+    headers_are(
+        &rt,
+        &sps,
+        &pps,
+        &text,
+        &[
+            Ok((SliceType::I, 0, 25, 2, 0)),
+            Ok((SliceType::P, 1, 23, 1, 0)),
+            Ok((SliceType::P, 2, 23, 1, 0)),
+            Ok((SliceType::P, 2, 22, 0, 0)),
+        ],
+    )
+}
+
+#[test]
+fn headers_that_cannot_be_read(rt: HostRuntime) -> Result<(), Fail> {
+    let (sps, pps) = (small_sps(rt.alloc()), small_pps(rt.alloc()));
+    let text = [
+        // Cut in frame_num; first_mb_in_slice 1.
+        0, 0, 1, 0x41, 0x9A, 0, 0, 1, 0x41, 0x4C, 0xD1, //
+        // A slice_qp_delta of -88: 10110000 behind seven zeros.
+        0, 0, 1, 0x41, 0x9A, 0x20, 0x05, 0x80,
+    ];
+    headers_are(
+        &rt,
+        &sps,
+        &pps,
+        &text,
+        &[
+            Err(HeaderFault::Cut),
+            Err(HeaderFault::Value),
+            Err(HeaderFault::Value),
         ],
     )
 }

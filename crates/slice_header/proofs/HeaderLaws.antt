@@ -1,0 +1,139 @@
+-- Headers: from a front of a unit they are those of the whole, and what is read is what the unit has.
+use Rattle.std.proofs.Common.{◌≡◌, ℕ, ◌≤◌, Bool, List, [], length, take, drop, Result, Ok, Err, refl, sym, ◌∙◌, ap, subst, arith, inl, inr, ◌⊎◌, IfOk, IfErr}
+use Rattle.std.specs.List.{AllByRecursion}
+use Rattle.std.proofs.lemmas.Bool.{cases_lt}
+use Rattle.std.proofs.lemmas.List.{take_all}
+use Rattle.expgolomb.specs.Bits.{Place, bits_of}
+use Rattle.expgolomb.proofs.ExpGolomb.{ok_is}
+use Rattle.param_sets.specs.declared.sps.Sps.{Sps}
+use Rattle.param_sets.specs.declared.pps.Pps.{Pps}
+use Rattle.param_sets.specs.Sets.{behind_first}
+use Rattle.slice_header.specs.declared.fault.HeaderFault.{HeaderFault}
+use Rattle.slice_header.specs.declared.fault.HeaderFault.TheVariants.{Cut, Value, Memory, OutsidePath}
+use Rattle.slice_header.specs.declared.slice_headers.SliceHeader.{SliceHeader}
+use Rattle.slice_header.specs.SliceHeaders.{IsSliceHeader, HeaderHasFault, Answers, header_at, read_value, syntax_of, unit_bits}
+use Rattle.slice_header.specs.SliceHeaderSyntax.{header_syntax, number_table, order_table, prediction_table, active_table, coding_table, deblocking_table}
+use Rattle.slice_header.specs.RefPicListModificationSyntax.{modification_table}
+use Rattle.slice_header.specs.PredWeightTableSyntax.{weight_table}
+use Rattle.slice_header.specs.DecRefPicMarkingSyntax.{marking_table}
+use Rattle.slice_header.specs.Structures.{Syntax, syntax_at}
+use Rattle.slice_header.proofs.Extensions.{CutIs, AllCutsAre, behind_extended, syntax_extended}
+use Rattle.slice_header.proofs.Fronts.{front_missing, behind_first-front}
+use Rattle.slice_header.proofs.Structures.{syntax_found, syntax_only, syntax_fault, fault_syntax}
+
+-- an empty payload has no header
+pub header_missing : (nal_ref_idc nal_unit_type : ℕ) (sps : Sps) (pps : Pps) → syntax_at (header_syntax nal_ref_idc nal_unit_type sps pps) (behind_first []) ≡ Err Cut
+unfolding header_syntax syntax_at
+header_missing nal_ref_idc nal_unit_type sps pps = rw front_missing refl
+
+-- each field that is cut is Cut
+modification_cuts : (is_there : Bool) (active most : ℕ) → AllByRecursion (CutIs Cut) (modification_table is_there active most).rows
+unfolding modification_table
+modification_cuts is_there active most = (record { fault = refl; plain = tt }, tt)
+
+weight_cuts : (is_there : Bool) → AllByRecursion (CutIs Cut) (weight_table is_there).rows
+unfolding weight_table
+weight_cuts is_there = (record { fault = refl; plain = tt }, tt)
+
+marking_cuts : (is_reference is_idr : Bool) → AllByRecursion (CutIs Cut) (marking_table is_reference is_idr).rows
+unfolding marking_table
+marking_cuts is_reference is_idr = (record { fault = refl; plain = tt }, (record { fault = refl; plain = tt }, (record { fault = refl; plain = tt }, tt)))
+
+pub header_cuts : (nal_ref_idc nal_unit_type : ℕ) (sps : Sps) (pps : Pps) → AllCutsAre Cut (header_syntax nal_ref_idc nal_unit_type sps pps)
+unfolding header_syntax number_table order_table prediction_table active_table coding_table deblocking_table
+header_cuts nal_ref_idc nal_unit_type sps pps = (
+  (record { fault = refl; plain = tt }, (record { fault = refl; plain = tt }, (record { fault = refl; plain = tt }, tt))),
+  λ front _. (
+    (record { fault = refl; plain = tt }, (record { fault = refl; plain = tt }, tt)),
+    λ numbers _. (
+      (record { fault = refl; plain = tt }, (record { fault = refl; plain = tt }, (record { fault = refl; plain = tt }, (record { fault = refl; plain = tt }, tt)))),
+      λ orders _. (
+        (record { fault = refl; plain = tt }, (record { fault = refl; plain = tt }, tt)),
+        λ prediction _. (
+          (record { fault = refl; plain = tt }, (record { fault = refl; plain = tt }, (record { fault = refl; plain = tt }, tt))),
+          λ active _. (
+            modification_cuts _ _ _,
+            λ list0 _. (
+              modification_cuts _ _ _,
+              λ list1 _. (
+                weight_cuts _,
+                λ weights _. (
+                  marking_cuts _ _,
+                  λ marking _. (
+                    (record { fault = refl; plain = tt }, (record { fault = refl; plain = tt }, tt)),
+                    λ coding _.
+                        ((record { fault = refl; plain = tt }, (record { fault = refl; plain = tt }, (record { fault = refl; plain = tt }, tt))), λ deblocking _. tt),
+                  ),
+                ),
+              ),
+            ),
+          ),
+        ),
+      ),
+    ),
+  ),
+)
+
+same_value : {A : Type 0} (more : List Bool) (r : Result (A × Place) HeaderFault) → read_value (behind_extended more r) ≡ read_value r
+same_value more (Ok x) = refl
+same_value more (Err e) = refl
+
+-- what a front says that isn't cut is what the whole payload says
+front_says : {A : Type 0} (syntax : Syntax A HeaderFault) → AllCutsAre Cut syntax → (n : ℕ) (payload : List ℕ) → 1 ≤ n → (syntax_at syntax (behind_first (take n payload)) ≡ Err Cut → ⊥) → read_value (syntax_at syntax (behind_first payload)) ≡ read_value (syntax_at syntax (behind_first (take n payload)))
+front_says syntax cuts n payload some uncut =
+    elim (cases_lt n (length payload)) [
+      | inl inside ↦
+          let p = behind_first (take n payload) in
+          let more = bits_of (drop n payload) in
+          ap (λ q. read_value (syntax_at syntax q)) (behind_first-front n payload some (omega arith))
+          ∙ (ap read_value (syntax_extended Cut more syntax cuts p uncut) ∙ same_value more (syntax_at syntax p))
+      | inr all ↦ ap (λ bytes. read_value (syntax_at syntax (behind_first bytes))) (sym (take_all n payload all))
+    ]
+
+no_cut : {A : Type 0} (r : Result (A × Place) HeaderFault) (answer : Result A HeaderFault) → (answer ≡ Err Cut → ⊥) → read_value r ≡ answer → r ≡ Err Cut → ⊥
+no_cut r answer other is cut = other (sym is ∙ ap read_value cut)
+
+-- so an answer from a front is the answer, where it isn't cut or the front is all
+pub answers_whole : {A : Type 0} (syntax : Syntax A HeaderFault) → AllCutsAre Cut syntax → (n : ℕ) (payload : List ℕ) → 1 ≤ n → (answer : Result A HeaderFault) → Answers answer (read_value (syntax_at syntax (behind_first (take n payload)))) → (answer ≡ Err Cut → length payload ≤ n) → Answers answer (read_value (syntax_at syntax (behind_first payload)))
+answers_whole syntax cuts n payload some (Ok x) is all = front_says syntax cuts n payload some (no_cut _ (Ok x) (λ same. cc) is) ∙ is
+answers_whole syntax cuts n payload some (Err Memory) is all = tt
+answers_whole syntax cuts n payload some (Err Value) is all = front_says syntax cuts n payload some (no_cut _ (Err Value) (λ same. cc) is) ∙ is
+answers_whole syntax cuts n payload some (Err OutsidePath) is all = front_says syntax cuts n payload some (no_cut _ (Err OutsidePath) (λ same. cc) is) ∙ is
+answers_whole syntax cuts n payload some (Err Cut) is all =
+    ap (λ bytes. read_value (syntax_at syntax (behind_first bytes))) (sym (take_all n payload (all refl))) ∙ is
+
+-- a value that was read with its place
+with_place : {A : Type 0} (r : Result (A × Place) HeaderFault) (x : A) → read_value r ≡ Ok x → (q : Place) × (r ≡ Ok (x, q))
+with_place (Ok y) x is = (y.1, ap (λ z. Ok (z, y.1)) (ok_is y.0 x is))
+with_place (Err e) x is = cc
+
+fault_is : {A : Type 0} (r : Result (A × Place) HeaderFault) (e : HeaderFault) → read_value r ≡ Err e → r ≡ Err e
+fault_is (Ok y) e is = cc
+fault_is (Err d) e is = ap Err (cc)
+
+-- the laws of the answer
+module _ (unit : List ℕ) (sps : Sps) (pps : Pps) where
+  pub header_found : (answer : Result SliceHeader HeaderFault) → Answers answer (header_at unit sps pps) → IfOk answer (λ header. IsSliceHeader unit sps pps header)
+  unfolding header_at
+  header_found (Ok header) is =
+      let read = with_place (syntax_at (syntax_of unit sps pps) (unit_bits unit)) header is in
+      record { behind = read.0; fields = syntax_found (syntax_of unit sps pps) (unit_bits unit) (header, read.0) read.1 }
+  header_found (Err e) is = tt
+
+  pub header_only : (answer : Result SliceHeader HeaderFault) → Answers answer (header_at unit sps pps) → (header : SliceHeader) → IsSliceHeader unit sps pps header → Answers answer (Ok header)
+  unfolding header_at
+  header_only answer is header has =
+      subst (Answers answer) (ap read_value (syntax_only (syntax_of unit sps pps) (unit_bits unit) header has.behind has.fields)) is
+
+  pub header_fault : (answer : Result SliceHeader HeaderFault) → Answers answer (header_at unit sps pps) → IfErr answer (λ fault. (fault ≡ Memory) ⊎ HeaderHasFault unit sps pps fault)
+  unfolding header_at
+  header_fault (Ok header) is = tt
+  header_fault (Err Memory) is = inl refl
+  header_fault (Err Cut) is = inr (syntax_fault (syntax_of unit sps pps) (unit_bits unit) Cut (fault_is _ Cut is))
+  header_fault (Err Value) is = inr (syntax_fault (syntax_of unit sps pps) (unit_bits unit) Value (fault_is _ Value is))
+  header_fault (Err OutsidePath) is = inr (syntax_fault (syntax_of unit sps pps) (unit_bits unit) OutsidePath (fault_is _ OutsidePath is))
+
+  pub header_refused : (answer : Result SliceHeader HeaderFault) → Answers answer (header_at unit sps pps) → (fault : HeaderFault) → HeaderHasFault unit sps pps fault → Answers answer (Err fault)
+  unfolding header_at
+  header_refused answer is fault has =
+      subst (Answers answer) (ap read_value (fault_syntax (syntax_of unit sps pps) (unit_bits unit) fault has)) is

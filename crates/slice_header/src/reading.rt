@@ -1,0 +1,85 @@
+//! Reads the header of a unit.
+
+ghost use Rattle.std.specs.Prelude.{◌≡◌, ◌⊎◌, IfOk, IfErr, Ok, Err, IsTrue, ◌↔◌};
+ghost use Rattle.param_sets.specs.Sets.{behind_first};
+ghost use Rattle.slice_header.specs.SliceHeaders.{IsSliceHeader, HeaderHasFault, Answers, header_at, read_value, syntax_of};
+ghost use Rattle.slice_header.specs.Structures.{syntax_at};
+ghost use Rattle.slice_header.specs.declared.fault.HeaderFault.{HeaderFault};
+ghost use Rattle.slice_header.specs.declared.slice_headers.SliceHeader.{SliceHeader};
+
+use crate::fault::HeaderFault;
+use crate::fields::behind_first;
+use crate::headers::{header_fields, header_from};
+use crate::slice_headers::SliceHeader;
+use annexb::{Nal, payload, payload_front};
+use param_sets::{Pps, Sps};
+use std::alloc::Global;
+
+// As many bytes as most headers take.
+const FRONT_LEN: usize = 64;
+
+/// Reads the header of a slice with the parameter sets that it names: the first field that can't be read is what is
+/// refused. Memory is taken where the header is long or has many commands.
+pub fn read(alloc: Global, nal: &Nal<'_>, sps: &Sps, pps: &Pps) -> Result<SliceHeader, HeaderFault>
+    // What is read is the unit's header, and where it has one that is read.
+    ensures found { IfOk result (λ header. IsSliceHeader nal.now sps.now pps.now header) }
+    ensures only { (header : SliceHeader) → IsSliceHeader nal.now sps.now pps.now header → Answers result (Ok header) }
+    // A refusal is that of the first field that shows one, and where there is such a field it is refused.
+    ensures fault { IfErr result (λ fault. (fault ≡ HeaderFault.Memory) ⊎ HeaderHasFault nal.now sps.now pps.now fault) }
+    ensures refused { (fault : HeaderFault) → HeaderHasFault nal.now sps.now pps.now fault → Answers result (Err fault) }
+    ensures exact { Answers result (header_at nal.now sps.now pps.now) }
+{
+    read_exactly(alloc, nal, sps, pps)
+}
+
+// The header from a front of the unit, or from all of it where that is cut.
+fn read_exactly(
+    alloc: Global,
+    nal: &Nal<'_>,
+    sps: &Sps,
+    pps: &Pps,
+) -> Result<SliceHeader, HeaderFault>
+    ensures { Answers result (header_at nal.now sps.now pps.now) }
+{
+    let mut front = [0; FRONT_LEN];
+    let len = payload_front(nal, &mut front);
+    let answer = header_of(alloc, nal, &front[..len], sps, pps);
+    if is_cut_short(&answer, len) {
+        whole(alloc, nal, sps, pps)
+    } else {
+        answer
+    }
+}
+
+// Whether a full front was cut, so that more bytes may follow it.
+fn is_cut_short(answer: &Result<SliceHeader, HeaderFault>, len: usize) -> bool
+    ensures { IsTrue result ↔ ((answer.now ≡ Err HeaderFault.Cut) × (len ≡ 64)) }
+{
+    match answer {
+        Err(HeaderFault::Cut) => len == FRONT_LEN,
+        _ => false,
+    }
+}
+
+// The header from the whole payload.
+fn whole(alloc: Global, nal: &Nal<'_>, sps: &Sps, pps: &Pps) -> Result<SliceHeader, HeaderFault>
+    ensures { Answers result (header_at nal.now sps.now pps.now) }
+{
+    let payload = payload(alloc, nal)?;
+    header_of(alloc, nal, &payload, sps, pps)
+}
+
+// The header that these bytes of the unit's payload have.
+fn header_of(
+    alloc: Global,
+    nal: &Nal<'_>,
+    payload: &[u8],
+    sps: &Sps,
+    pps: &Pps,
+) -> Result<SliceHeader, HeaderFault>
+    ensures { Answers result (read_value (syntax_at (syntax_of nal.now sps.now pps.now) (behind_first payload.now))) }
+{
+    let mut bits = behind_first(payload)?;
+    let fields = header_fields(alloc, nal, &mut bits, sps, pps)?;
+    Ok(header_from(nal, fields))
+}

@@ -4,3 +4,9 @@ mod Places
 mod Turns
 mod Least
 mod Slides
+mod Firsts
+mod Outcomes
+mod Tests
+mod Leasts
+mod StepLaws
+pub mod MarkingLaws

@@ -1,10 +1,12 @@
 //! Decoded reference picture marking of a picture (8.2.5.1).
 
-ghost use Rattle.std.specs.Prelude.{◌≡◌, IsTrue};
+ghost use Rattle.std.specs.Prelude.{◌≡◌, IsTrue, Result};
+ghost use Rattle.ref_marking.specs.declared.fault.MarkFault.{MarkFault};
+ghost use Rattle.ref_marking.specs.MarkedFrames.{Marked};
 ghost use Rattle.order_count.specs.PicOrderCnt.{are_in_range};
 ghost use Rattle.order_count.specs.Resetting.{counts_after_reset};
 ghost use Rattle.ref_marking.specs.declared.frames.Term.TheVariants.{ShortTerm};
-ghost use Rattle.ref_marking.specs.Marking.{current_frame, idr_marked};
+ghost use Rattle.ref_marking.specs.Marking.{current_frame, idr_marked, Joins, JoinsAs, MarksPicture};
 ghost use Rattle.ref_marking.specs.MarksAfter.{marks_after, adaptively_marked, joined, joined_as};
 
 use crate::au_id::AuId;
@@ -27,7 +29,7 @@ use slice_header::{DecRefPicMarking, MemoryManagementControlOperation as Operati
 ///   max_num_ref_frames; 4, 5 or 6 stands twice; 5 stands with 1, 2 or 3.
 /// - `NoShortTerm`: the sliding window is full and has no short-term frame.
 /// - `TooManyReferences`: as many frames are marked already as may be. It is looked for last.
-#[tactic(auto, unfolding(crate::specs::MarksAfter::marks_after))]
+#[tactic(auto, using(crate::proofs::MarkingLaws::marks, crate::proofs::MarkingLaws::marks_only), unfolding(crate::specs::MarksAfter::marks_after))]
 pub fn mark(
     marks: &Marks,
     id: AuId,
@@ -36,6 +38,8 @@ pub fn mark(
     counts: Counts,
 ) -> Result<Marks, MarkFault>
     requires { IsTrue (are_in_range (counts_after_reset header.now counts)) }
+    ensures marked { MarksPicture id sps.now header.now counts marks.now result }
+    ensures only { (other : Result Marked MarkFault) → MarksPicture id sps.now header.now counts marks.now other → other ≡ result }
     ensures exact { result ≡ marks_after marks.now id sps.now header.now counts }
 {
     if !header.is_reference() {
@@ -89,9 +93,10 @@ fn mark_idr(long_term_reference_flag: bool, current: Frame) -> Marks
 
 impl Marks {
     // The current frame joins the others, where there is room for it.
-    #[tactic(auto, unfolding(crate::specs::MarksAfter::joined))]
+    #[tactic(auto, using(crate::proofs::StepLaws::joins), unfolding(crate::specs::MarksAfter::joined))]
     fn join(mut self, sps: &Sps, current: Frame) -> Result<Marks, MarkFault>
-        ensures { result ≡ joined sps.now current self }
+        ensures step { Joins sps.now current self result }
+        ensures exact { result ≡ joined sps.now current self }
     {
         if self.frames.len() >= most_frames(sps) {
             return Err(MarkFault::TooManyReferences);
@@ -120,14 +125,15 @@ impl Marks {
 
     // The current frame joins the others: with an index as a long-term frame, and another frame that holds the index is
     // freed (8.2.5.4.6).
-    #[tactic(auto, unfolding(crate::specs::MarksAfter::holder_freed))]
+    #[tactic(auto, using(crate::proofs::StepLaws::joins_as), unfolding(crate::specs::MarksAfter::holder_freed))]
     fn join_as(
         self,
         sps: &Sps,
         current: Frame,
         long_term_frame_idx: Option<u32>,
     ) -> Result<Marks, MarkFault>
-        ensures { result ≡ joined_as long_term_frame_idx sps.now (λ term. record current { term = term }) self }
+        ensures step { JoinsAs long_term_frame_idx sps.now (λ term. record current { term = term }) self result }
+        ensures exact { result ≡ joined_as long_term_frame_idx sps.now (λ term. record current { term = term }) self }
     {
         let Some(idx) = long_term_frame_idx else {
             return self.join(sps, current.with_term(Term::ShortTerm));

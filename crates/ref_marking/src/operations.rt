@@ -4,6 +4,7 @@ ghost use Rattle.std.specs.Prelude.{◌≡◌, ◌<◌, length, slice_set, slice
 ghost use Rattle.ref_marking.specs.declared.frames.Frame.{Frame};
 ghost use Rattle.ref_marking.specs.MarkedFrames.{as_long_term};
 ghost use Rattle.ref_marking.specs.declared.fault.MarkFault.TheVariants.{BadMarking};
+ghost use Rattle.ref_marking.specs.Operations.{FreesShortTerm, FreesLongTerm, AssignsLongTerm, LimitsLongTerm, Operates, OperatesAll};
 ghost use Rattle.ref_marking.specs.MarksAfter.{allows_idx, short_term_freed, long_term_freed, long_term_assigned, long_term_limited, operated, all_operated};
 
 use crate::fault::MarkFault;
@@ -15,14 +16,15 @@ use slice_header::MemoryManagementControlOperation as Operation;
 
 impl Marks {
     // 1: a short-term frame is freed (8.2.5.4.1).
-    #[tactic(auto, unfolding(crate::specs::MarksAfter::short_term_freed))]
+    #[tactic(auto, using(crate::proofs::StepLaws::frees_short_term), unfolding(crate::specs::MarksAfter::short_term_freed))]
     fn free_short_term(
         self,
         sps: &Sps,
         frame_num: u16,
         difference_of_pic_nums_minus1: u32,
     ) -> Result<Marks, MarkFault>
-        ensures { result ≡ short_term_freed sps.now frame_num difference_of_pic_nums_minus1 self }
+        ensures step { FreesShortTerm sps.now frame_num difference_of_pic_nums_minus1 self result }
+        ensures exact { result ≡ short_term_freed sps.now frame_num difference_of_pic_nums_minus1 self }
     {
         let number = pic_num_x(frame_num, difference_of_pic_nums_minus1);
         let place = self.short_term_place(sps, frame_num, number);
@@ -30,16 +32,17 @@ impl Marks {
     }
 
     // 2: a long-term frame is freed (8.2.5.4.2).
-    #[tactic(auto, unfolding(crate::specs::MarksAfter::long_term_freed))]
+    #[tactic(auto, using(crate::proofs::StepLaws::frees_long_term), unfolding(crate::specs::MarksAfter::long_term_freed))]
     fn free_long_term(self, long_term_pic_num: u32) -> Result<Marks, MarkFault>
-        ensures { result ≡ long_term_freed long_term_pic_num self }
+        ensures step { FreesLongTerm long_term_pic_num self result }
+        ensures exact { result ≡ long_term_freed long_term_pic_num self }
     {
         let place = self.long_term_place(long_term_pic_num);
         self.without(place, MarkFault::BadMarking)
     }
 
     // 3: a short-term frame becomes long-term, and another frame that holds the index is freed (8.2.5.4.3).
-    #[tactic(auto, unfolding(crate::specs::MarksAfter::long_term_assigned))]
+    #[tactic(auto, using(crate::proofs::StepLaws::assigns_long_term), unfolding(crate::specs::MarksAfter::long_term_assigned))]
     fn assign_long_term(
         self,
         sps: &Sps,
@@ -47,7 +50,8 @@ impl Marks {
         difference_of_pic_nums_minus1: u32,
         long_term_frame_idx: u32,
     ) -> Result<Marks, MarkFault>
-        ensures { result ≡ long_term_assigned sps.now frame_num difference_of_pic_nums_minus1 long_term_frame_idx self }
+        ensures step { AssignsLongTerm sps.now frame_num difference_of_pic_nums_minus1 long_term_frame_idx self result }
+        ensures exact { result ≡ long_term_assigned sps.now frame_num difference_of_pic_nums_minus1 long_term_frame_idx self }
     {
         let long_term_frame_idx = self.allowed(long_term_frame_idx)?;
         let number = pic_num_x(frame_num, difference_of_pic_nums_minus1);
@@ -77,13 +81,14 @@ impl Marks {
     }
 
     // 4: the greatest index is set, and long-term frames above it are freed (8.2.5.4.4).
-    #[tactic(auto, unfolding(crate::specs::MarksAfter::long_term_limited))]
+    #[tactic(auto, using(crate::proofs::StepLaws::limits_long_term), unfolding(crate::specs::MarksAfter::long_term_limited))]
     fn limit_long_term(
         mut self,
         sps: &Sps,
         max_long_term_frame_idx_plus1: u32,
     ) -> Result<Marks, MarkFault>
-        ensures { result ≡ long_term_limited sps.now max_long_term_frame_idx_plus1 self }
+        ensures step { LimitsLongTerm sps.now max_long_term_frame_idx_plus1 self result }
+        ensures exact { result ≡ long_term_limited sps.now max_long_term_frame_idx_plus1 self }
     {
         if max_long_term_frame_idx_plus1 > u32::from(sps.max_num_ref_frames.get()) {
             return Err(MarkFault::BadMarking);
@@ -107,9 +112,10 @@ impl Marks {
     }
 
     // An operation, but for the current frame.
-    #[tactic(auto, unfolding(crate::specs::MarksAfter::operated))]
+    #[tactic(auto, using(crate::proofs::StepLaws::operates), unfolding(crate::specs::MarksAfter::operated))]
     fn operate(self, sps: &Sps, frame_num: u16, operation: Operation) -> Result<Marks, MarkFault>
-        ensures { result ≡ operated sps.now frame_num operation self }
+        ensures step { Operates sps.now frame_num operation self result }
+        ensures exact { result ≡ operated sps.now frame_num operation self }
     {
         match operation {
             Operation::FreeShortTerm {
@@ -136,13 +142,15 @@ impl Marks {
     }
 
     // The operations, one after the other.
+    #[tactic(auto, using(crate::proofs::StepLaws::operates_all))]
     pub(crate) fn operate_all(
         self,
         sps: &Sps,
         frame_num: u16,
         operations: &[Operation],
     ) -> Result<Marks, MarkFault>
-        ensures { result ≡ all_operated sps.now frame_num operations.now self }
+        ensures step { OperatesAll sps.now frame_num operations.now self result }
+        ensures exact { result ≡ all_operated sps.now frame_num operations.now self }
     {
         let mut marks = self;
         for operation in operations {

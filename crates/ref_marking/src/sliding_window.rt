@@ -5,6 +5,7 @@ ghost use Rattle.std.specs.Int.{int_min};
 ghost use Rattle.std.specs.List.{reduce};
 ghost use Rattle.ref_marking.specs.MarkedFrames.{most_frames};
 ghost use Rattle.ref_marking.specs.PicNums.{pic_num};
+ghost use Rattle.ref_marking.specs.SlidingWindow.{SlidesWindow};
 ghost use Rattle.ref_marking.specs.MarksAfter.{window_slid};
 
 use crate::fault::MarkFault;
@@ -31,9 +32,10 @@ impl Marks {
     }
 
     // Frees the short-term frame of the least FrameNumWrap, where as many frames are marked as may be.
-    #[tactic(auto, unfolding(crate::specs::MarksAfter::window_slid))]
+    #[tactic(auto, using(crate::proofs::StepLaws::slides_window), unfolding(crate::specs::MarksAfter::window_slid))]
     pub(crate) fn slide_window(self, sps: &Sps, frame_num: u16) -> Result<Marks, MarkFault>
-        ensures { result ≡ window_slid sps.now frame_num self }
+        ensures step { SlidesWindow sps.now frame_num self result }
+        ensures exact { result ≡ window_slid sps.now frame_num self }
     {
         if self.frames.len() != most_frames(sps) {
             return Ok(self);

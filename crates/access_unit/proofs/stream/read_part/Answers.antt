@@ -1,0 +1,9 @@
+-- The length comes first, then the NAL units.
+use Rattle.std.proofs.Common.{arith}
+use Rattle.std.proofs.lemmas.Grind.{common_steps}
+use Rattle.access_unit.proofs.Texts.{IsReadAs-units}
+use Rattle.access_unit.proofs.stream.read_part.Goals as goal
+
+pub returns-else-is_too_long : goal.returns-else-is_too_long
+returns-else-is_too_long c =
+    IsReadAs-units _ _ c.requires (grind (arith, common_steps)) _ c.unit_of.ensures.ok c.unit_of.ensures.err

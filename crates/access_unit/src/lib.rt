@@ -1,0 +1,26 @@
+//! Access units of H.264 (ITU-T H.264, 7.4.1.2.3).
+//!
+//! A text is read as one access unit, or as a stream of them, or refused by number. A unit owns its bytes once and
+//! shares them, and its parameter sets are read once. What its slices' headers say is left to the crates above.
+#![tactic(auto)]
+
+mod checks;
+mod laws;
+mod parameter_sets;
+mod parts;
+mod refused;
+mod shared;
+mod shared_nal;
+mod stream;
+mod unit;
+
+pub use laws::one_answer;
+pub use parameter_sets::ParameterSet;
+pub use refused::Refused;
+pub use shared::Shared;
+pub use shared_nal::SharedNal;
+pub use stream::{StreamRefused, read_stream};
+pub use unit::{Unit, read_unit};
+
+#[cfg(test)]
+mod tests;

@@ -1,0 +1,118 @@
+//! Access units (7.4.1.2.3).
+ghost use Rattle.std.specs.Prelude.{◌≡◌, ℕ, ◌≤◌, List, length, None, IfOk, IfErr, IsErrOf, IsOkUnless, All, MatchOption};
+ghost use Rattle.std.specs.List.{filter};
+ghost use Rattle.annexb.specs.NalUnit.{IsUnit, is_slice};
+ghost use Rattle.annexb.specs.ByteStream.{HasUnits, joined};
+ghost use Rattle.access_unit.specs.Sets.{sets_of};
+ghost use Rattle.access_unit.specs.Refusals.{refusal_of, most_bytes};
+ghost use Rattle.access_unit.specs.Answers.{IsSplit, IsAccepted, IsReadAs};
+ghost use Rattle.access_unit.specs.Stored.{IsShown, units_in};
+
+use crate::parameter_sets::ParameterSet;
+use crate::parts::Parts;
+use crate::refused::Refused;
+use crate::shared_nal::SharedNal;
+use annexb::{Nal, SplitFault, join, split};
+use bytes::Bytes;
+use std::alloc::{AllocError, Global};
+use std::marker::Model;
+
+/// How many bytes the text of an access unit has at most.
+pub(crate) const MOST_BYTES: usize = 4_194_304;
+
+/// How many bytes a start code has.
+pub(crate) const START_CODE_LEN: usize = 3;
+
+/// An access unit that shows no refusal: its NAL units, with the slices and the parameter sets among
+/// them. It owns their bytes once. Clauses see the bytes of the NAL units.
+#[derive(Debug, Drop)]
+pub struct Unit {
+    parts: Parts,
+}
+
+impl Model for Unit {
+    ghost use Rattle.std.specs.Prelude.{ℕ, List};
+    ghost use Rattle.access_unit.specs.Stored.{IsOfUnit};
+
+    ghost Value = { List (List ℕ) };
+
+    ghost view = { λ unit. unit.parts.nals.items };
+
+    ghost invariant = { λ unit. IsOfUnit unit.parts };
+}
+
+impl Unit {
+    /// The NAL units, in order.
+    pub fn nals(&self) -> &[SharedNal]
+        ensures value { result.now ≡ self.now }
+        // Joined, they are a text that is read as this access unit.
+        ensures accepted { IsAccepted (joined self.now) self.now }
+    {
+        self.parts.nals.as_slice()
+    }
+
+    /// The slices among the NAL units, in order: one or more.
+    pub fn slices(&self) -> &[SharedNal]
+        ensures { result.now ≡ filter is_slice self.now }
+    {
+        self.parts.slices.as_slice()
+    }
+
+    /// The parameter sets among the NAL units, in order.
+    pub fn sets(&self) -> &[ParameterSet]
+        ensures { result.now ≡ sets_of self.now }
+    {
+        self.parts.sets.as_slice()
+    }
+}
+
+/// The access unit of a text, or the text's refusal. Memory is the answer only for a text of NAL
+/// units that isn't too long.
+pub fn read_unit(alloc: Global, text: &[u8]) -> Result<Unit, Refused>
+    ensures read { IsReadAs text.now result }
+    // A text of an access unit is refused for want of memory alone.
+    ensures only { (units : List (List ℕ)) → IsAccepted text.now units
+        → IfOk result (λ unit. unit ≡ units) × IsOkUnless result Refused.Memory }
+    ensures memory { IsErrOf result Refused.Memory
+        → (length text.now ≤ most_bytes) × (units : List (List ℕ)) × HasUnits text.now units }
+{
+    if text.len() > MOST_BYTES {
+        return Err(Refused::TooLarge);
+    }
+    match split_units(alloc, text)? {
+        Some(nals) => unit_of(alloc, &nals),
+        None => Err(Refused::Split),
+    }
+}
+
+/// The NAL units of the text, or nothing where it doesn't split.
+pub(crate) fn split_units(alloc: Global, text: &[u8]) -> Result<Option<Vec<Nal<'_>>>, AllocError>
+    ensures ok { IfOk result (λ split. IsSplit text.now (units_in split)) }
+    ensures err { IfErr result (λ _. (units : List (List ℕ)) × HasUnits text.now units) }
+{
+    match split(alloc, text) {
+        Ok(nals) => Ok(Some(nals)),
+        Err(fault) => match fault {
+            SplitFault::Memory => Err(AllocError),
+            _ => Ok(None),
+        },
+    }
+}
+
+/// The access unit of the NAL units, or their refusal.
+pub(crate) fn unit_of(alloc: Global, nals: &[Nal<'_>]) -> Result<Unit, Refused>
+    requires short { length (joined nals.now) ≤ most_bytes }
+    ensures ok { IfOk result (λ unit. (unit ≡ nals.now) × (refusal_of nals.now ≡ None)) }
+    ensures err { IfErr result (IsShown (refusal_of nals.now)) }
+{
+    let mut text = Bytes::from_vec(join(alloc, nals)?)?;
+    let mut parts = Parts::with_capacity(alloc, nals.len())?;
+    for nal in nals {
+        let coded = text.split_to(START_CODE_LEN + nal.bytes().len())?;
+        parts.add(alloc, SharedNal::new(coded))?;
+    }
+    if parts.slices.is_empty() {
+        return Err(Refused::NoPicture);
+    }
+    Ok(Unit { parts })
+}

@@ -5,6 +5,7 @@ pub mod Refusals
 pub mod CountTypes
 pub mod Parts
 pub mod HighProfiles
+pub mod ListRows
 pub mod SpsSections
 pub mod Sections
 pub mod PpsSections

@@ -10,7 +10,6 @@ use Rattle.param_sets.specs.Grammar.{MoreData, Row}
 use Rattle.param_sets.specs.Rows.{u, u_of, ue, se, within, always, flag_of}
 use Rattle.param_sets.specs.Ranges.{any, at_most}
 use Rattle.param_sets.specs.Scaling.{ListField, take_list, list_rows}
-use Rattle.param_sets.specs.SpsSyntax.{no_matrix}
 
 -- the fields, in the standard's names; MoreRbspData is whether more_rbsp_data() holds, and has no bits
 pub data PpsField : Type 0 where
@@ -153,7 +152,7 @@ abbrev pub transform_rows : List PpsRow
 transform_rows =
     record { field = MoreRbspData; code = MoreData; present = always; cut = Cut; long = Cut; wrong = λ s. any }
     ∷ u Transform8x8ModeFlag 1 has_more
-    ∷ u_of PicScalingMatrixPresentFlag 1 has_more no_matrix
+    ∷ u PicScalingMatrixPresentFlag 1 has_more
     ∷ []
 
 abbrev pub has_matrix : PpsSoFar → Bool
@@ -169,12 +168,20 @@ small_list_rows = map (within ScalingList (λ s. s.pps.scaling_lists) has_matrix
 unfoldable pub large_list_rows : List PpsRow
 large_list_rows = map (within ScalingList (λ s. s.pps.scaling_lists) has_large_lists) (list_rows 6 2)
 
+-- the scaling lists
+abbrev pub pic_list_rows : List PpsRow
+pic_list_rows = small_list_rows ++ large_list_rows
+
+-- how many lists a set with lists has
+abbrev pub list_count : Pps → ℕ
+list_count s = if s.transform_8x8_mode_flag then 8 else 6
+
 abbrev pub second_offset_rows : List PpsRow
 second_offset_rows = se SecondChromaQpIndexOffset has_more (negsuc 11) (pos 12) (Range ranges.ChromaOffset) ∷ []
 
 -- what stands behind the first part
 abbrev pub more_rows : List PpsRow
-more_rows = transform_rows ++ (small_list_rows ++ (large_list_rows ++ second_offset_rows))
+more_rows = transform_rows ++ (pic_list_rows ++ second_offset_rows)
 
 -- the whole table
 unfoldable pub pps_rows : List PpsRow

@@ -17,9 +17,13 @@ pub data ListField : Type 0 where
 abbrev pub Deltas : Type 0
 Deltas = Option (List ℤ)
 
+-- nextScale behind a delta
+abbrev pub scale_behind : ℕ → ℤ → ℕ
+scale_behind last delta = unsigned_abs (int_rem_euclid (pos last +ℤ delta) (pos 256))
+
 -- nextScale behind these deltas: 8 at first, and 0 where the list is over
 abbrev pub next_scale : List ℤ → ℕ
-next_scale deltas = fold (λ last delta. unsigned_abs (int_rem_euclid (pos last +ℤ delta) (pos 256))) 8 deltas
+next_scale deltas = fold scale_behind 8 deltas
 
 -- a list that is present, with one more delta
 abbrev pub with_delta : Deltas → ℤ → Deltas

@@ -2,7 +2,7 @@
 use Rattle.std.specs.Prelude.{◌≡◌, ℕ, ◌==◌, Bool, true, false, List, [], ◌∷◌, ◌++◌, length, map, replicate, Option, Some, None, ℤ, pos, nat_lt, nat_le, ◌&&◌, ◌||◌, if◌then◌else◌, nat_abs}
 use Rattle.std.specs.List.{list_any}
 use Rattle.param_sets.specs.declared.fault.SetFault.{SetFault}
-use Rattle.param_sets.specs.declared.fault.SetFault.TheVariants.{Range, Profile, Chroma444, Interlaced, RefFrames, OutsidePath}
+use Rattle.param_sets.specs.declared.fault.SetFault.TheVariants.{Range, Profile, Chroma444, Interlaced, RefFrames}
 use Rattle.param_sets.specs.declared.fault.SetField.TheVariants as ranges
 use Rattle.param_sets.specs.declared.sps.Sps.{Sps}
 use Rattle.param_sets.specs.declared.sps.ChromaFormat.{ChromaFormat}
@@ -147,17 +147,13 @@ chroma_range v =
 unfoldable pub scaling_rows : List SpsRow
 scaling_rows = map (within ScalingList (λ s. s.scaling_lists) has_matrix) (list_rows 0 8)
 
--- scaling lists aren't read yet
-abbrev pub no_matrix : ℤ → Option SetFault
-no_matrix v = if flag_of v then Some OutsidePath else None
-
 abbrev pub high_fields : List SpsRow
 high_fields =
     ue_of ChromaFormatIdc is_high chroma_range (Range ranges.ChromaFormat)
     ∷ ue BitDepthLumaMinus8 is_high 6 (Range ranges.BitDepth)
     ∷ ue BitDepthChromaMinus8 is_high 6 (Range ranges.BitDepth)
     ∷ u QpprimeYZeroTransformBypassFlag 1 is_high
-    ∷ u_of SeqScalingMatrixPresentFlag 1 is_high no_matrix
+    ∷ u SeqScalingMatrixPresentFlag 1 is_high
     ∷ []
 
 abbrev pub high_rows : List SpsRow

@@ -10,6 +10,7 @@ mod offsets;
 mod pic_parameter_set;
 mod pps;
 mod scaling;
+mod scaling_list;
 mod seq_parameter_set;
 mod sps;
 pub mod syntax;

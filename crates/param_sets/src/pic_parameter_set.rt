@@ -5,14 +5,14 @@ ghost use Rattle.param_sets.specs.Reading.{rows_at};
 ghost use Rattle.param_sets.specs.Answer.{Reads, Stores};
 ghost use Rattle.param_sets.specs.Sets.{IsPps, PpsHasFault, pps_at, Answers, IsShown};
 ghost use Rattle.param_sets.specs.declared.fault.SetFault.{SetFault};
-ghost use Rattle.param_sets.specs.PpsSyntax.{PpsSoFar, take, no_pps, so_far, id_rows, coding_rows, prediction_rows, quantisation_rows, slice_rows, transform_rows, second_offset_rows, more_rows, pps_rows};
+ghost use Rattle.param_sets.specs.PpsSyntax.{PpsSoFar, take, no_pps, so_far, id_rows, coding_rows, prediction_rows, quantisation_rows, slice_rows, transform_rows, pic_list_rows, list_count, second_offset_rows, more_rows, pps_rows};
 ghost use Rattle.param_sets.specs.declared.pps.Pps.{Pps};
 
 use crate::at_most::AtMost;
 use crate::fault::{SetFault, SetField};
 use crate::pps::{Pps, WeightedBipred};
 use crate::scaling::ScalingLists;
-use crate::seq_parameter_set::no_scaling_matrix;
+use crate::scaling_list::scaling_lists;
 use crate::syntax::{behind_header, bounded, fixed_at_most, flag, more_data, small, ue};
 use expgolomb::Bits;
 use std::alloc::Global;
@@ -20,7 +20,8 @@ use std::alloc::Global;
 // The beginning of a set: what isn't read yet has the value that is inferred where it stays absent.
 #[tactic(auto, unfolding(crate::specs::Reading::rows_at))]
 fn beginning(alloc: Global, bits: &mut Bits<'_>) -> Result<Pps, SetFault>
-    ensures { Reads (so_far false) result bits.new (rows_at take id_rows no_pps bits.old) }
+    ensures exact { Reads (so_far false) result bits.new (rows_at take id_rows no_pps bits.old) }
+    ensures none { IfOk result (λ pps. pps.scaling_lists ≡ []) }
 {
     let wrong = SetFault::Range {
         field: SetField::PpsId,
@@ -56,7 +57,8 @@ fn beginning(alloc: Global, bits: &mut Bits<'_>) -> Result<Pps, SetFault>
 
 #[tactic(auto, unfolding(crate::specs::Reading::rows_at))]
 fn coding(bits: &mut Bits<'_>, pps: &mut Pps) -> Result<(), SetFault>
-    ensures { Reads (λ _. so_far false pps.new) result bits.new (rows_at take coding_rows (so_far false pps.old) bits.old) }
+    ensures exact { Reads (λ _. so_far false pps.new) result bits.new (rows_at take coding_rows (so_far false pps.old) bits.old) }
+    ensures same { pps.new.scaling_lists ≡ pps.old.scaling_lists }
 {
     pps.entropy_coding_mode_flag = flag(bits, SetFault::Cut)?;
     pps.bottom_field_pic_order_in_frame_present_flag = flag(bits, SetFault::Cut)?;
@@ -66,7 +68,8 @@ fn coding(bits: &mut Bits<'_>, pps: &mut Pps) -> Result<(), SetFault>
 
 #[tactic(auto, unfolding(crate::specs::Reading::rows_at))]
 fn prediction(bits: &mut Bits<'_>, pps: &mut Pps) -> Result<(), SetFault>
-    ensures { Reads (λ _. so_far false pps.new) result bits.new (rows_at take prediction_rows (so_far false pps.old) bits.old) }
+    ensures exact { Reads (λ _. so_far false pps.new) result bits.new (rows_at take prediction_rows (so_far false pps.old) bits.old) }
+    ensures same { pps.new.scaling_lists ≡ pps.old.scaling_lists }
 {
     let wrong = SetFault::Range {
         field: SetField::ActiveCount,
@@ -87,7 +90,8 @@ fn prediction(bits: &mut Bits<'_>, pps: &mut Pps) -> Result<(), SetFault>
 
 #[tactic(auto, unfolding(crate::specs::Reading::rows_at))]
 fn quantisation(bits: &mut Bits<'_>, pps: &mut Pps) -> Result<(), SetFault>
-    ensures { Reads (λ _. so_far false pps.new) result bits.new (rows_at take quantisation_rows (so_far false pps.old) bits.old) }
+    ensures exact { Reads (λ _. so_far false pps.new) result bits.new (rows_at take quantisation_rows (so_far false pps.old) bits.old) }
+    ensures same { pps.new.scaling_lists ≡ pps.old.scaling_lists }
 {
     let wrong = SetFault::Range {
         field: SetField::InitQp,
@@ -107,7 +111,8 @@ fn quantisation(bits: &mut Bits<'_>, pps: &mut Pps) -> Result<(), SetFault>
 
 #[tactic(auto, unfolding(crate::specs::Reading::rows_at))]
 fn slices(bits: &mut Bits<'_>, pps: &mut Pps) -> Result<(), SetFault>
-    ensures { Reads (λ _. so_far false pps.new) result bits.new (rows_at take slice_rows (so_far false pps.old) bits.old) }
+    ensures exact { Reads (λ _. so_far false pps.new) result bits.new (rows_at take slice_rows (so_far false pps.old) bits.old) }
+    ensures same { pps.new.scaling_lists ≡ pps.old.scaling_lists }
 {
     pps.deblocking_filter_control_present_flag = flag(bits, SetFault::Cut)?;
     pps.constrained_intra_pred_flag = flag(bits, SetFault::Cut)?;
@@ -119,13 +124,13 @@ fn slices(bits: &mut Bits<'_>, pps: &mut Pps) -> Result<(), SetFault>
 #[tactic(auto, unfolding(crate::specs::Reading::rows_at))]
 fn transform(bits: &mut Bits<'_>, pps: &mut Pps) -> Result<bool, SetFault>
     ensures exact { Reads (λ more. so_far more pps.new) result bits.new (rows_at take transform_rows (so_far false pps.old) bits.old) }
-    ensures none { IfOk result (λ more. more ≡ true → pps.new.pic_scaling_matrix_present_flag ≡ false) }
+    ensures same { pps.new.scaling_lists ≡ pps.old.scaling_lists }
 {
     if !more_data(bits) {
         return Ok(false);
     }
     pps.transform_8x8_mode_flag = flag(bits, SetFault::Cut)?;
-    pps.pic_scaling_matrix_present_flag = no_scaling_matrix(bits)?;
+    pps.pic_scaling_matrix_present_flag = flag(bits, SetFault::Cut)?;
     Ok(true)
 }
 
@@ -140,11 +145,31 @@ fn second_offset(bits: &mut Bits<'_>, pps: &mut Pps) -> Result<(), SetFault>
     Ok(())
 }
 
+// The scaling lists, where there is more data.
+fn pic_scaling_lists(alloc: Global, bits: &mut Bits<'_>, pps: &mut Pps) -> Result<(), SetFault>
+    requires { pps.old.scaling_lists ≡ [] }
+    ensures { Stores (λ _. so_far true pps.new) result bits.new (rows_at take pic_list_rows (so_far true pps.old) bits.old) }
+{
+    if pps.pic_scaling_matrix_present_flag {
+        pps.scaling_lists = scaling_lists(alloc, bits, list_count(pps))?;
+    }
+    Ok(())
+}
+
+// How many scaling lists a set with lists has.
+fn list_count(pps: &Pps) -> u8
+    ensures { result ≡ list_count pps.now }
+{
+    if pps.transform_8x8_mode_flag { 8 } else { 6 }
+}
+
 // What stands behind the first part.
-fn more(bits: &mut Bits<'_>, pps: &mut Pps) -> Result<(), SetFault>
+fn more(alloc: Global, bits: &mut Bits<'_>, pps: &mut Pps) -> Result<(), SetFault>
+    requires { pps.old.scaling_lists ≡ [] }
     ensures { (more : Bool) × Stores (λ _. so_far more pps.new) result bits.new (rows_at take more_rows (so_far false pps.old) bits.old) }
 {
     if transform(bits, pps)? {
+        pic_scaling_lists(alloc, bits, pps)?;
         second_offset(bits, pps)?;
     }
     Ok(())
@@ -159,7 +184,7 @@ fn pic_parameter_set_rbsp(alloc: Global, bits: &mut Bits<'_>) -> Result<Pps, Set
     prediction(bits, &mut pps)?;
     quantisation(bits, &mut pps)?;
     slices(bits, &mut pps)?;
-    more(bits, &mut pps)?;
+    more(alloc, bits, &mut pps)?;
     Ok(pps)
 }
 

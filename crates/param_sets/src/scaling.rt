@@ -1,5 +1,8 @@
-ghost use Rattle.std.specs.Prelude.{◌≡◌, ℤ, List, [], Option};
+//! Scaling lists as they were read (7.3.2.1.1.1).
 
+ghost use Rattle.std.specs.Prelude.{◌≡◌, ℤ, List, [], ◌∷◌, ◌++◌, Option, IfOk, IfErr};
+
+use crate::fault::SetFault;
 use std::alloc::Global;
 use std::marker::Model;
 
@@ -15,6 +18,33 @@ impl Model for ScalingList {
     ghost view = { λ l. l.deltas.items };
 }
 
+impl ScalingList {
+    /// A list of which nothing is read.
+    pub fn new(alloc: Global) -> Self
+        ensures { result ≡ [] }
+    {
+        ScalingList {
+            deltas: Vec::new(alloc),
+        }
+    }
+
+    /// One more delta.
+    pub fn push(&mut self, delta: i8) -> Result<(), SetFault>
+        ensures pushed { IfOk result (λ _. self.new ≡ self.old ++ delta ∷ []) }
+        ensures memory { IfErr result (λ fault. fault ≡ SetFault.Memory) }
+    {
+        self.deltas.push(delta)?;
+        Ok(())
+    }
+
+    /// The deltas, in order.
+    pub fn deltas(&self) -> &[i8]
+        ensures { result.now ≡ self.now }
+    {
+        self.deltas.as_slice()
+    }
+}
+
 /// The scaling lists of a parameter set as they were read, each or nothing.
 #[derive(Debug, Drop)]
 pub struct ScalingLists {
@@ -28,11 +58,28 @@ impl Model for ScalingLists {
 }
 
 impl ScalingLists {
+    /// No lists.
     pub fn new(alloc: Global) -> Self
         ensures { result ≡ [] }
     {
         ScalingLists {
             lists: Vec::new(alloc),
         }
+    }
+
+    /// One more list.
+    pub fn push(&mut self, list: Option<ScalingList>) -> Result<(), SetFault>
+        ensures pushed { IfOk result (λ _. self.new ≡ self.old ++ list ∷ []) }
+        ensures memory { IfErr result (λ fault. fault ≡ SetFault.Memory) }
+    {
+        self.lists.push(list)?;
+        Ok(())
+    }
+
+    /// The lists, in order.
+    pub fn as_slice(&self) -> &[Option<ScalingList>]
+        ensures { result.now ≡ self.now }
+    {
+        self.lists.as_slice()
     }
 }

@@ -1,18 +1,19 @@
 //! The syntax of sequence parameter sets, section by section of its table (7.3.2.1.1).
 
-ghost use Rattle.std.specs.Prelude.{◌≡◌, ◌⊎◌, IfOk, OnOk, IfErr, Ok, Err, pos, [], true, false};
+ghost use Rattle.std.specs.Prelude.{◌≡◌, ◌⊎◌, IfOk, IfErr, Ok, Err, pos, [], true, false};
 ghost use Rattle.param_sets.specs.Grammar.{Fixed, Unsigned};
 ghost use Rattle.param_sets.specs.Reading.{rows_at, value_at};
 ghost use Rattle.param_sets.specs.Answer.{Reads, Stores, flag_value};
 ghost use Rattle.param_sets.specs.Sets.{IsSps, SpsHasFault, sps_at, Answers, IsShown};
 ghost use Rattle.param_sets.specs.declared.fault.SetFault.{SetFault};
-ghost use Rattle.param_sets.specs.SpsSyntax.{take, no_sps, profile_range, chroma_range, no_matrix, high_fields, high_rows, frames_only, is_high, has_matrix, beginning_rows, constraint_rows, level_rows, count_rows, type_zero_rows, type_one_rows, with_offsets, IsCycleOf, offset_rows, typed_rows, frame_rows, size_rows, sps_rows};
+ghost use Rattle.param_sets.specs.SpsSyntax.{take, no_sps, profile_range, chroma_range, high_fields, high_rows, scaling_rows, frames_only, is_high, beginning_rows, constraint_rows, level_rows, count_rows, type_zero_rows, type_one_rows, with_offsets, IsCycleOf, offset_rows, typed_rows, frame_rows, size_rows, sps_rows};
 ghost use Rattle.param_sets.specs.declared.sps.Sps.{Sps};
 
 use crate::at_most::AtMost;
 use crate::fault::{SetFault, SetField};
 use crate::offsets::Offsets;
 use crate::scaling::ScalingLists;
+use crate::scaling_list::scaling_lists;
 use crate::sps::{ChromaFormat, PicOrderCntType, Sps};
 use crate::syntax::{behind_header, bounded, fixed, flag, se_any, ue, ue_any};
 use expgolomb::Bits;
@@ -60,7 +61,7 @@ fn level_and_id(bits: &mut Bits<'_>) -> Result<(u8, AtMost<31>), SetFault>
 // The beginning of a set: what isn't read yet has the value that is inferred where it stays absent.
 fn beginning(alloc: Global, bits: &mut Bits<'_>) -> Result<Sps, SetFault>
     ensures exact { Reads (λ s. s) result bits.new (rows_at take beginning_rows no_sps bits.old) }
-    ensures none { IfOk result (λ s. s.offset_for_ref_frame ≡ []) }
+    ensures none { IfOk result (λ s. (s.scaling_lists ≡ []) × (s.offset_for_ref_frame ≡ [])) }
 {
     let profile_idc = profile_idc(bits)?;
     let constraint_set_flags = constraint_set_flags(bits)?;
@@ -107,24 +108,13 @@ fn chroma_format_idc(bits: &mut Bits<'_>) -> Result<u32, SetFault>
     }
 }
 
-/// Reads seq_scaling_matrix_present_flag or pic_scaling_matrix_present_flag: scaling lists aren't read yet.
-pub fn no_scaling_matrix(bits: &mut Bits<'_>) -> Result<bool, SetFault>
-    ensures exact { Reads flag_value result bits.new (value_at (Fixed 1) SetFault.Cut SetFault.Cut no_matrix bits.old) }
-    ensures none { IfOk result (λ flag. flag ≡ false) }
-{
-    if flag(bits, SetFault::Cut)? {
-        Err(SetFault::OutsidePath)
-    } else {
-        Ok(false)
-    }
-}
-
 // What the high profiles have before their lists.
 #[tactic(auto, unfolding(crate::specs::Reading::rows_at))]
 fn chroma_and_depths(bits: &mut Bits<'_>, sps: &mut Sps) -> Result<(), SetFault>
     requires { is_high sps.old ≡ true }
     ensures exact { Reads (λ _. sps.new) result bits.new (rows_at take high_fields sps.old bits.old) }
-    ensures none { OnOk result (has_matrix sps.new ≡ false) }
+    ensures high { is_high sps.new ≡ true }
+    ensures none { sps.new.scaling_lists ≡ sps.old.scaling_lists }
     ensures same { sps.new.offset_for_ref_frame ≡ sps.old.offset_for_ref_frame }
 {
     let deep = SetFault::Range {
@@ -138,17 +128,32 @@ fn chroma_and_depths(bits: &mut Bits<'_>, sps: &mut Sps) -> Result<(), SetFault>
     sps.bit_depth_luma_minus8 = bounded(bits, deep)?;
     sps.bit_depth_chroma_minus8 = bounded(bits, deep)?;
     sps.qpprime_y_zero_transform_bypass_flag = flag(bits, SetFault::Cut)?;
-    sps.seq_scaling_matrix_present_flag = no_scaling_matrix(bits)?;
+    sps.seq_scaling_matrix_present_flag = flag(bits, SetFault::Cut)?;
+    Ok(())
+}
+
+// The scaling lists of a high profile.
+fn seq_scaling_lists(alloc: Global, bits: &mut Bits<'_>, sps: &mut Sps) -> Result<(), SetFault>
+    requires high { is_high sps.old ≡ true }
+    requires none { sps.old.scaling_lists ≡ [] }
+    ensures exact { Stores (λ _. sps.new) result bits.new (rows_at take scaling_rows sps.old bits.old) }
+    ensures same { sps.new.offset_for_ref_frame ≡ sps.old.offset_for_ref_frame }
+{
+    if sps.seq_scaling_matrix_present_flag {
+        sps.scaling_lists = scaling_lists(alloc, bits, 8)?;
+    }
     Ok(())
 }
 
 // What the high profiles have.
-fn high(bits: &mut Bits<'_>, sps: &mut Sps) -> Result<(), SetFault>
+fn high(alloc: Global, bits: &mut Bits<'_>, sps: &mut Sps) -> Result<(), SetFault>
+    requires { sps.old.scaling_lists ≡ [] }
     ensures exact { Stores (λ _. sps.new) result bits.new (rows_at take high_rows sps.old bits.old) }
     ensures same { sps.new.offset_for_ref_frame ≡ sps.old.offset_for_ref_frame }
 {
     if sps.is_high() {
         chroma_and_depths(bits, sps)?;
+        seq_scaling_lists(alloc, bits, sps)?;
     }
     Ok(())
 }
@@ -289,7 +294,7 @@ fn seq_parameter_set_data(alloc: Global, bits: &mut Bits<'_>) -> Result<Sps, Set
     ensures { Stores (λ s. s) result bits.new (rows_at take sps_rows no_sps bits.old) }
 {
     let mut sps = beginning(alloc, bits)?;
-    high(bits, &mut sps)?;
+    high(alloc, bits, &mut sps)?;
     frame_num_and_count_type(bits, &mut sps)?;
     counts(alloc, bits, &mut sps)?;
     frames(bits, &mut sps)?;

@@ -86,8 +86,8 @@ fn refused_cycle_of_offsets(rt: HostRuntime) -> Result<(), Fail> {
 
 #[test]
 fn names_the_first_fault_of_an_sps(rt: HostRuntime) {
-    use SetFault::{Chroma444, Cut, Interlaced, OutsidePath, Profile, Range, RefFrames};
-    let faults: [(&[u8], SetFault); 23] = [
+    use SetFault::{Chroma444, Cut, Interlaced, Profile, Range, RefFrames};
+    let faults: [(&[u8], SetFault); 25] = [
         (&[], Cut),
         (&[0x67], Cut),
         (&[0x67, 66, 0], Cut),
@@ -114,7 +114,20 @@ fn names_the_first_fault_of_an_sps(rt: HostRuntime) {
                 field: SetField::BitDepth,
             },
         ),
-        (&[0x67, 100, 0, 10, 0xAD], OutsidePath),
+        (&[0x67, 100, 0, 10, 0xAD], Cut),
+        // Deltas of 128 and of -129.
+        (
+            &[0x67, 100, 0, 10, 0xAD, 0x80, 0x40, 0x00],
+            Range {
+                field: SetField::Delta,
+            },
+        ),
+        (
+            &[0x67, 100, 0, 10, 0xAD, 0x80, 0x40, 0xC0],
+            Range {
+                field: SetField::Delta,
+            },
+        ),
         // Id 32, and an id with 32 zeros.
         (
             &[0x67, 66, 0, 10, 0x04, 0x20],
@@ -181,6 +194,71 @@ fn names_the_first_fault_of_an_sps(rt: HostRuntime) {
     }
 }
 
+/// The list has these deltas.
+fn has_deltas(rt: &impl Abort, lists: &ScalingLists, j: usize, deltas: &[i8]) {
+    match lists.as_slice().get(j) {
+        Some(Some(list)) => assert_eq!(rt; list.deltas(), deltas, "list {j}"),
+        _ => panic!(rt; "no list {j}"),
+    }
+}
+
+/// The list is not sent.
+fn is_absent(rt: &impl Abort, lists: &ScalingLists, j: usize) {
+    match lists.as_slice().get(j) {
+        Some(None) => {}
+        _ => panic!(rt; "list {j}"),
+    }
+}
+
+#[test]
+fn refused_scaling_lists(rt: HostRuntime) -> Result<(), Fail> {
+    // List 0 by its first delta -8, list 3 by deltas 2 and -10, the others not sent.
+    let payload = [
+        0x67, 0x64, 0x00, 0x0A, 0xAD, 0x84, 0x49, 0x02, 0xA1, 0x69, 0xE4,
+    ];
+    let sps = read_sps(rt.alloc(), &payload)?;
+    assert!(rt; sps.seq_scaling_matrix_present_flag);
+    assert_eq!(rt; sps.scaling_lists.as_slice().len(), 8);
+    has_deltas(&rt, &sps.scaling_lists, 0, &[-8]);
+    has_deltas(&rt, &sps.scaling_lists, 3, &[2, -10]);
+    for j in [1, 2, 4, 5, 6, 7] {
+        is_absent(&rt, &sps.scaling_lists, j);
+    }
+    assert_eq!(rt; sps.pic_order_cnt_type, PicOrderCntType::Two);
+    assert_eq!(rt; sps.max_num_ref_frames.get(), 1);
+    Ok(())
+}
+
+#[test]
+fn reads_the_lists_of_a_picture_set(rt: HostRuntime) {
+    // Without 8x8 transforms six lists, the last by delta -8, and a second offset of 3.
+    let pps = pps_of(&rt, &[0x68, 0xCE, 0x38, 0x41, 0x08, 0x9A]);
+    assert!(rt; !pps.transform_8x8_mode_flag);
+    assert_eq!(rt; pps.scaling_lists.as_slice().len(), 6);
+    is_absent(&rt, &pps.scaling_lists, 4);
+    has_deltas(&rt, &pps.scaling_lists, 5, &[-8]);
+    assert_eq!(rt; pps.second_chroma_qp_index_offset, 3);
+    // With them eight, of which list 6 has 64 deltas of 1, and a second offset of -2.
+    let mut payload = [0x49; 29];
+    payload[..4].copy_from_slice(&[0x68, 0xCE, 0x38, 0xC0]);
+    for i in 0..8 {
+        payload[4 + 3 * i] = 0xA4;
+        payload[5 + 3 * i] = 0x92;
+        payload[6 + 3 * i] = 0x49;
+    }
+    for i in 1..8 {
+        payload[4 + 3 * i] = 0x24;
+    }
+    payload[28] = 0x0B;
+    let pps = pps_of(&rt, &payload);
+    assert!(rt; pps.transform_8x8_mode_flag);
+    assert_eq!(rt; pps.scaling_lists.as_slice().len(), 8);
+    is_absent(&rt, &pps.scaling_lists, 5);
+    has_deltas(&rt, &pps.scaling_lists, 6, &[1; 64]);
+    is_absent(&rt, &pps.scaling_lists, 7);
+    assert_eq!(rt; pps.second_chroma_qp_index_offset, -2);
+}
+
 /// The picture parameter set of a payload that has one.
 fn pps_of(rt: &(impl Abort + AllocGlobal), payload: &[u8]) -> Pps {
     match read_pps(rt.alloc(), payload) {
@@ -236,7 +314,7 @@ fn reads_the_ends_of_a_picture_set(rt: HostRuntime) {
 
 #[test]
 fn names_the_first_fault_of_a_pps(rt: HostRuntime) {
-    use SetFault::{Cut, OutsidePath, Range, SliceGroups};
+    use SetFault::{Cut, Range, SliceGroups};
     let faults: [(&[u8], SetFault); 19] = [
         (&[], Cut),
         (&[0x68], Cut),
@@ -316,7 +394,7 @@ fn names_the_first_fault_of_a_pps(rt: HostRuntime) {
                 field: SetField::ChromaOffset,
             },
         ),
-        (&[0x68, 0xCE, 0x38, 0x60], OutsidePath),
+        (&[0x68, 0xCE, 0x38, 0x60], Cut),
     ];
     for (payload, fault) in faults {
         match read_pps(rt.alloc(), payload) {

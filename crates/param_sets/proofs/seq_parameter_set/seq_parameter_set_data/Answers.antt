@@ -11,6 +11,9 @@ returns-in_err-sps c =
     let p = err_from_is_err_and c.from_residual.result c.from_residual.ensures.1 in
     rw (p.1, p.2) (not_begun c.args.bits.now c.in_err-sps.field-0.0 c.in_err-sps.ensures.exact)
 
+pub high-requires : goal.high-requires
+high-requires c = c.in_ok-sps.ensures.none.0
+
 pub returns-in_err-high : goal.returns-in_err-high
 returns-in_err-high c =
     let x = err_from_is_err_and c.from_residual-in_err-high.result c.from_residual-in_err-high.ensures.1 in
@@ -36,7 +39,7 @@ returns-in_err-frame_num_and_count_type c =
 
 pub counts-requires : goal.counts-requires
 counts-requires c =
-    c.frame_num_and_count_type.ensures.same ∙ c.high.ensures.same ∙ c.in_ok-sps.ensures.none
+    c.frame_num_and_count_type.ensures.same ∙ c.high.ensures.same ∙ c.in_ok-sps.ensures.none.1
 
 pub returns-in_err-counts : goal.returns-in_err-counts
 returns-in_err-counts c =

@@ -12,7 +12,7 @@ pub fn max_frame_num(sps: &Sps) -> u32
     ensures value { result ≡ max_frame_num sps.now }
     ensures bound { result ≤ 2 ^ 16 }
 {
-    1 << (sps.log2_max_frame_num_minus4.get() + 4)
+    sps.max_frame_num()
 }
 
 /// FrameNumOffset of a picture of type 1 or 2 (8-6).

@@ -21,3 +21,6 @@ pub use counts::Counts;
 pub use fault::OrderRange;
 pub use frame_numbers::max_frame_num;
 pub use resetting::{after_reset, resets};
+
+#[cfg(test)]
+mod tests;

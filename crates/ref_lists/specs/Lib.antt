@@ -1,0 +1,3 @@
+pub mod InitialLists
+pub mod Modification
+pub mod ReferenceLists

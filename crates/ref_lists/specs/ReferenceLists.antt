@@ -1,0 +1,104 @@
+-- Reference picture lists of a slice (ITU-T H.264, 8.2.4).
+use Rattle.std.specs.Prelude.{◌≡◌, ℕ, ◌+◌, Bool, true, false, ◌&&◌, ◌||◌, ◌==◌, List, [], ◌∷◌, length, map, filter, Option, Some, is_none, Result, Ok, Err, ℤ, if◌then◌else◌}
+use Rattle.std.specs.List.{list_any}
+use Rattle.std.specs.Ordering.{int_eq}
+use Rattle.param_sets.specs.declared.sps.Sps.{Sps}
+use Rattle.slice_header.specs.declared.slice_headers.SliceHeader.{SliceHeader}
+use Rattle.slice_header.specs.declared.slice_types.SliceType.{SliceType}
+use Rattle.slice_header.specs.declared.slice_types.SliceType.TheVariants.{B, I, Si}
+use Rattle.order_count.specs.PicOrderCnt.{pic_order_cnt}
+use Rattle.order_count.specs.declared.counts.Counts.{Counts}
+use Rattle.ref_marking.specs.MarkedFrames.{Marked}
+use Rattle.ref_marking.specs.declared.frames.Frame.{Frame}
+use Rattle.ref_lists.specs.declared.fault.ListFault.{ListFault}
+use Rattle.ref_lists.specs.declared.fault.ListFault.TheVariants.{OrderTie, NoReference, BadModification}
+use Rattle.ref_lists.specs.declared.initial_lists.ListOrder.{ListOrder}
+use Rattle.ref_lists.specs.declared.initial_lists.ListOrder.TheVariants.{ByPicNum, BelowFirst, AboveFirst}
+use Rattle.ref_marking.specs.PicNums.{long_term_pic_num}
+use Rattle.ref_lists.specs.InitialLists.{IsInitialList, initial_list, exchanged, cut}
+use Rattle.ref_lists.specs.Modification.{modified}
+
+-- slices with a list 0, and those with a list 1 too
+abbrev pub has_list_0 : SliceType → Bool
+has_list_0 I = false
+has_list_0 Si = false
+has_list_0 type = true
+
+abbrev pub has_list_1 : SliceType → Bool
+has_list_1 B = true
+has_list_1 type = false
+
+-- how many entries the lists have
+abbrev pub active_l0 : SliceHeader → ℕ
+active_l0 header = if has_list_0 header.slice_type then header.num_ref_idx_l0_active_minus1 + 1 else 0
+
+abbrev pub active_l1 : SliceHeader → ℕ
+active_l1 header = if has_list_1 header.slice_type then header.num_ref_idx_l1_active_minus1 + 1 else 0
+
+-- one of the numbers stands twice
+abbrev pub has_repeat : List ℤ → Bool
+has_repeat [] = false
+has_repeat (number ∷ numbers) = list_any (int_eq number) numbers || has_repeat numbers
+
+-- PicOrderCnt of each short-term frame
+abbrev pub short_term_counts : List Frame → List ℤ
+short_term_counts frames = map (λ frame. pic_order_cnt frame.counts) (filter (λ frame. is_none (long_term_pic_num frame)) frames)
+
+-- in a B slice, a short-term frame has the PicOrderCnt of another or of the picture
+abbrev pub has_order_tie : Marked → SliceHeader → Counts → Bool
+has_order_tie marks header counts =
+    has_list_1 header.slice_type && has_repeat (pic_order_cnt counts ∷ short_term_counts marks.frames)
+
+-- a slice with a list, and no frame for it
+abbrev pub lacks_reference : Marked → SliceHeader → Bool
+lacks_reference marks header = has_list_0 header.slice_type && length marks.frames == 0
+
+-- the orders of the initial lists
+abbrev pub order_l0 : SliceHeader → Counts → ListOrder
+order_l0 header counts = if has_list_1 header.slice_type then BelowFirst (pic_order_cnt counts) else ByPicNum
+
+abbrev pub order_l1 : Counts → ListOrder
+order_l1 counts = AboveFirst (pic_order_cnt counts)
+
+module _ (marks : Marked) (sps : Sps) (header : SliceHeader) where
+  -- the lists by their initial ones, cut and modified
+  abbrev pub list_l0 : List ℕ → Option (List (Option ℕ))
+  list_l0 initial =
+      modified sps header.frame_num marks.frames header.ref_pic_list_modification_l0
+      (cut (active_l0 header) initial)
+
+  abbrev pub list_l1 : List ℕ → Option (List (Option ℕ))
+  list_l1 initial =
+      modified sps header.frame_num marks.frames header.ref_pic_list_modification_l1
+      (cut (active_l1 header) initial)
+
+-- both lists, unless a command of one names no marked frame
+abbrev pub both : {A : Type 0} → Option A → Option A → Result (A × A) ListFault
+both (Some list_0) (Some list_1) = Ok (list_0, list_1)
+both list_0 list_1 = Err BadModification
+
+-- What the slice has, where these are the frames in the orders of list 0 and list 1: the first fault that it shows,
+-- or its lists.
+abbrev pub lists_from :
+    Marked → Sps → SliceHeader → Counts → (initial_0 initial_1 : List ℕ)
+    → Result (List (Option ℕ) × List (Option ℕ)) ListFault
+lists_from marks sps header counts initial_0 initial_1 =
+    if has_order_tie marks header counts then Err OrderTie
+    else if lacks_reference marks header then Err NoReference
+    else both (list_l0 marks sps header initial_0) (list_l1 marks sps header (exchanged initial_0 initial_1))
+
+-- what a slice has
+pub record AreLists (marks : Marked) (sps : Sps) (header : SliceHeader) (counts : Counts)
+    (answer : Result (List (Option ℕ) × List (Option ℕ)) ListFault) : Type 0 where
+  pub initial_0 : List ℕ
+  pub initial_1 : List ℕ
+  pub in_order_0 : IsInitialList sps header.frame_num (order_l0 header counts) marks.frames initial_0
+  pub in_order_1 : IsInitialList sps header.frame_num (order_l1 counts) marks.frames initial_1
+  pub answer_is : answer ≡ lists_from marks sps header counts initial_0 initial_1
+
+-- the same as a function
+unfoldable pub lists_of :
+    Marked → Sps → SliceHeader → Counts → Result (List (Option ℕ) × List (Option ℕ)) ListFault
+lists_of marks sps header counts =
+    lists_from marks sps header counts
+    (initial_list sps header.frame_num (order_l0 header counts) marks.frames) (initial_list sps header.frame_num (order_l1 counts) marks.frames)

@@ -1,0 +1,148 @@
+//! Construction of the lists of a slice (8.2.4).
+
+ghost use Rattle.std.specs.Prelude.{◌≡◌, ◌+◌, ◌∷◌, ◌≤◌, true, false, nat_eq, length, ok_or};
+ghost use Rattle.std.specs.List.{IsDistinct, list_any};
+ghost use Rattle.std.specs.Ordering.{int_eq};
+ghost use Rattle.order_count.specs.declared.counts.Counts.{Counts};
+ghost use Rattle.ref_lists.specs.InitialLists.{cut};
+ghost use Rattle.ref_lists.specs.Modification.{modified};
+ghost use Rattle.ref_lists.specs.declared.fault.ListFault.TheVariants.{BadModification};
+ghost use Rattle.ref_lists.specs.ReferenceLists.{has_list_0, has_list_1, has_repeat, short_term_counts, lists_of};
+
+use crate::fault::ListFault;
+use crate::initial_lists::{ListOrder, exchange, initial_list};
+use crate::modification::modified;
+use crate::reference_list::List;
+use arrayvec::ArrayVec;
+use order_count::Counts;
+use param_sets::{AtMost, Sps};
+use ref_marking::{Frame, Marks};
+use slice_header::{RefPicListModifications, SliceHeader, SliceType};
+
+/// List 0 and list 1 of a slice, from the frames marked before its picture and the picture's counts.
+pub fn lists(
+    marks: &Marks,
+    sps: &Sps,
+    header: &SliceHeader,
+    counts: Counts,
+) -> Result<(List, List), ListFault>
+    ensures { result ≡ lists_of marks.now sps.now header.now counts }
+{
+    match header.slice_type {
+        SliceType::I | SliceType::Si => Ok((List::new(), List::new())),
+        SliceType::P | SliceType::Sp => p_lists(marks, sps, header),
+        SliceType::B => b_lists(marks, sps, header, counts),
+    }
+}
+
+fn p_lists(marks: &Marks, sps: &Sps, header: &SliceHeader) -> Result<(List, List), ListFault>
+    requires has_list_0 { has_list_0 header.now.slice_type ≡ true }
+    requires lacks_list_1 { has_list_1 header.now.slice_type ≡ false }
+    ensures { (counts : Counts) → result ≡ lists_of marks.now sps.now header.now counts }
+{
+    let frames = marks.frames();
+    if frames.is_empty() {
+        return Err(ListFault::NoReference);
+    }
+    let initial = initial_list(frames, ListOrder::ByPicNum, sps, header.frame_num);
+    let list_0 = final_list(
+        &initial,
+        header.num_ref_idx_l0_active_minus1,
+        &header.ref_pic_list_modification_l0,
+        frames,
+        sps,
+        header.frame_num,
+    )?;
+    Ok((list_0, List::new()))
+}
+
+fn b_lists(
+    marks: &Marks,
+    sps: &Sps,
+    header: &SliceHeader,
+    counts: Counts,
+) -> Result<(List, List), ListFault>
+    requires { has_list_1 header.now.slice_type ≡ true }
+    ensures { result ≡ lists_of marks.now sps.now header.now counts }
+{
+    let frames = marks.frames();
+    let pic_order_cnt = counts.pic_order_cnt();
+    if has_repeat(&counts_with(pic_order_cnt, frames)) {
+        return Err(ListFault::OrderTie);
+    }
+    if frames.is_empty() {
+        return Err(ListFault::NoReference);
+    }
+    let below_first = ListOrder::BelowFirst { pic_order_cnt };
+    let above_first = ListOrder::AboveFirst { pic_order_cnt };
+    let initial_0 = initial_list(frames, below_first, sps, header.frame_num);
+    let mut initial_1 = initial_list(frames, above_first, sps, header.frame_num);
+    exchange(&mut initial_1, &initial_0);
+    let list_0 = final_list(
+        &initial_0,
+        header.num_ref_idx_l0_active_minus1,
+        &header.ref_pic_list_modification_l0,
+        frames,
+        sps,
+        header.frame_num,
+    )?;
+    let list_1 = final_list(
+        &initial_1,
+        header.num_ref_idx_l1_active_minus1,
+        &header.ref_pic_list_modification_l1,
+        frames,
+        sps,
+        header.frame_num,
+    )?;
+    Ok((list_0, list_1))
+}
+
+/// An initial list, cut to its active entries and modified.
+fn final_list(
+    initial: &[u8],
+    num_ref_idx_active_minus1: AtMost<31>,
+    commands: &RefPicListModifications,
+    frames: &[Frame],
+    sps: &Sps,
+    frame_num: u16,
+) -> Result<List, ListFault>
+    requires few { length frames.now ≤ 16 }
+    requires once { IsDistinct nat_eq initial.now }
+    ensures { result ≡ ok_or (modified sps.now frame_num frames.now commands.now
+        (cut (num_ref_idx_active_minus1 + 1) initial.now)) BadModification }
+{
+    let active = usize::from(num_ref_idx_active_minus1.get()) + 1;
+    let list = List::cut(initial, active);
+    modified(list, commands.as_slice(), frames, sps, frame_num)
+}
+
+fn counts_with(pic_order_cnt: i32, frames: &[Frame]) -> ArrayVec<i32, 17>
+    requires { length frames.now ≤ 16 }
+    ensures { result.items ≡ pic_order_cnt ∷ short_term_counts frames.now }
+{
+    let mut counts = ArrayVec::new();
+    counts.push(pic_order_cnt);
+    for frame in frames {
+        if frame.long_term_pic_num().is_none() {
+            counts.push(frame.counts.pic_order_cnt());
+        }
+    }
+    counts
+}
+
+fn has_repeat(numbers: &[i32]) -> bool
+    ensures { result ≡ has_repeat numbers.now }
+{
+    for (index, number) in numbers.iter().enumerate() {
+        if is_among(*number, &numbers[index + 1..]) {
+            return true;
+        }
+    }
+    false
+}
+
+fn is_among(number: i32, numbers: &[i32]) -> bool
+    ensures { result ≡ list_any (int_eq number) numbers.now }
+{
+    numbers.iter().any(|other| number == *other)
+}

@@ -1,12 +1,12 @@
 -- More bits behind those that are there: what was read stays read, but for a code that was cut.
-use Rattle.std.proofs.Common.{◌≡◌, ℕ, Bool, true, false, cond, List, [], ◌∷◌, ◌++◌, Result, Ok, Err, ℤ, refl, ◌∙◌, ap, inl, inr, replicate, append_assoc}
+use Rattle.std.proofs.Common.{◌≡◌, ℕ, zero, suc, Bool, true, false, cond, List, [], ◌∷◌, ◌++◌, Option, None, Some, Result, Ok, Err, ℤ, refl, ◌∙◌, ap, inl, inr, replicate, append_assoc}
 use Rattle.std.specs.List.{AllByRecursion}
 use Rattle.expgolomb.specs.Bits.{Place}
 use Rattle.expgolomb.specs.Codes.{Follows}
 use Rattle.param_sets.specs.Grammar.{Code, Fixed, Unsigned, Signed, MoreData, HasCode, IsTooLongAt, Row}
 use Rattle.param_sets.specs.Reading.{◌>>=◌, field_at, rows_at}
 use Rattle.param_sets.proofs.Tables.{field_found, field_only, field_fault, fault_field}
-use Rattle.slice_header.specs.Structures.{Table, Syntax, Says, Structure, table_at, syntax_at}
+use Rattle.slice_header.specs.Structures.{Table, Syntax, Says, Here, Structure, followed_by, counted, end_or, ended, table_at, syntax_at}
 
 -- the place with more bits at the end
 abbrev pub extended : List Bool → Place → Place
@@ -89,12 +89,35 @@ table_extended cut more table all p uncut = rows_extended cut more table.take ta
 -- structures whose rows all have this fault where they are cut
 abbrev pub AllCutsAre : {A E : Type 0} → E → Syntax A E → Type 0
 AllCutsAre cut (Says a) = Unit {0}
-AllCutsAre cut (Structure {F} {S} table more) = AllByRecursion (CutIs cut) table.rows × ((s : S) (place : ℕ) → AllCutsAre cut (more s place))
+AllCutsAre cut (Here next) = (place : ℕ) → AllCutsAre cut (next place)
+AllCutsAre cut (Structure {F} {S} table next) = AllByRecursion (CutIs cut) table.rows × ((s : S) → AllCutsAre cut (next s))
 
 pub syntax_extended : {A E : Type 0} (cut : E) (more : List Bool) (syntax : Syntax A E) → AllCutsAre cut syntax → (p : Place) → (syntax_at syntax p ≡ Err cut → ⊥) → syntax_at syntax (extended more p) ≡ behind_extended more (syntax_at syntax p)
 unfolding syntax_at
 syntax_extended cut more (Says a) all p uncut = refl
+syntax_extended cut more (Here next) all p uncut = syntax_extended cut more (next p.before) (all p.before) p uncut
 syntax_extended {A} {E} cut more (Structure {F} {S} table next) all p uncut =
-    let f = λ (x : S × Place). syntax_at (next x.0 x.1.before) x.1 in
+    let f = λ (x : S × Place). syntax_at (next x.0) x.1 in
     ap (λ r. r >>= f) (table_extended cut more table all.0 p (first_uncut cut (table_at table p) f uncut))
-    ∙ bind_extended cut more (table_at table p) f (λ x read after. syntax_extended cut more (next x.0 x.1.before) (all.1 x.0 x.1.before) x.1 after) uncut
+    ∙ bind_extended cut more (table_at table p) f (λ x read after. syntax_extended cut more (next x.0) (all.1 x.0) x.1 after) uncut
+
+-- and those behind one another
+pub followed_by_cuts : {A B E : Type 0} (cut : E) (syntax : Syntax A E) (more : A → Syntax B E) → AllCutsAre cut syntax → ((a : A) → AllCutsAre cut (more a)) → AllCutsAre cut (followed_by syntax more)
+unfolding followed_by
+followed_by_cuts cut (Says a) more all rest = rest a
+followed_by_cuts cut (Here next) more all rest = λ place. followed_by_cuts cut (next place) more (all place) rest
+followed_by_cuts cut (Structure table next) more all rest = (all.0, λ s. followed_by_cuts cut (next s) more (all.1 s) rest)
+
+pub counted_cuts : {X E : Type 0} (cut : E) (item : Syntax X E) → AllCutsAre cut item → (n : ℕ) (items : List X) → AllCutsAre cut (counted item n items)
+unfolding counted
+counted_cuts cut item all zero items = tt
+counted_cuts cut item all (suc n) items = followed_by_cuts cut item (λ x. counted item n (items ++ x ∷ [])) all (λ x. counted_cuts cut item all n (items ++ x ∷ []))
+
+end_or_cuts : {X E : Type 0} (cut : E) (items : List X) (more : List X → Syntax (List X) E) → ((xs : List X) → AllCutsAre cut (more xs)) → (item : Option X) → AllCutsAre cut (end_or items more item)
+end_or_cuts cut items more all None = tt
+end_or_cuts cut items more all (Some x) = all (items ++ x ∷ [])
+
+pub ended_cuts : {F X E : Type 0} (cut : E) (table : Bool → Table F (Option X) E) → ((room : Bool) → AllByRecursion (CutIs cut) (table room).rows) → (n : ℕ) (items : List X) → AllCutsAre cut (ended table n items)
+unfolding ended
+ended_cuts cut table all zero items = (all false, λ item. tt)
+ended_cuts cut table all (suc n) items = (all true, λ item. end_or_cuts cut items (λ more. ended table n more) (λ more. ended_cuts cut table all n more) item)

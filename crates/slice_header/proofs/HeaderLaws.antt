@@ -1,5 +1,5 @@
 -- Headers: from a front of a unit they are those of the whole, and what is read is what the unit has.
-use Rattle.std.proofs.Common.{◌≡◌, ℕ, ◌≤◌, Bool, List, [], length, take, drop, Result, Ok, Err, refl, sym, ◌∙◌, ap, subst, arith, inl, inr, ◌⊎◌, IfOk, IfErr}
+use Rattle.std.proofs.Common.{◌≡◌, ℕ, ◌+◌, ◌≤◌, Bool, true, false, List, [], length, take, drop, Result, Ok, Err, refl, sym, ◌∙◌, ap, subst, arith, inl, inr, ◌⊎◌, IfOk, IfErr}
 use Rattle.std.specs.List.{AllByRecursion}
 use Rattle.std.proofs.lemmas.Bool.{cases_lt}
 use Rattle.std.proofs.lemmas.List.{take_all}
@@ -9,15 +9,19 @@ use Rattle.param_sets.specs.declared.sps.Sps.{Sps}
 use Rattle.param_sets.specs.declared.pps.Pps.{Pps}
 use Rattle.param_sets.specs.Sets.{behind_first}
 use Rattle.slice_header.specs.declared.fault.HeaderFault.{HeaderFault}
-use Rattle.slice_header.specs.declared.fault.HeaderFault.TheVariants.{Cut, Value, Memory, OutsidePath}
+use Rattle.slice_header.specs.declared.fault.HeaderFault.TheVariants.{Cut, Value, Memory}
+use Rattle.slice_header.specs.declared.slice_types.SliceType.{SliceType}
+use Rattle.slice_header.specs.declared.marking_syntax.MarkingFlags.{MarkingFlags}
+use Rattle.slice_header.specs.declared.weight_syntax.Denominators.{Denominators}
+use Rattle.slice_header.specs.declared.pred_weight_table.PredWeightTable.{PredWeightTable}
 use Rattle.slice_header.specs.declared.slice_headers.SliceHeader.{SliceHeader}
 use Rattle.slice_header.specs.SliceHeaders.{IsSliceHeader, HeaderHasFault, Answers, header_at, read_value, syntax_of, unit_bits}
-use Rattle.slice_header.specs.SliceHeaderSyntax.{header_syntax, number_table, order_table, prediction_table, active_table, coding_table, deblocking_table}
-use Rattle.slice_header.specs.RefPicListModificationSyntax.{modification_table}
-use Rattle.slice_header.specs.PredWeightTableSyntax.{weight_table}
-use Rattle.slice_header.specs.DecRefPicMarkingSyntax.{marking_table}
+use Rattle.slice_header.specs.SliceHeaderSyntax.{header_syntax, number_table, order_table, prediction_table, active_table, weights_of, coding_table, deblocking_table}
+use Rattle.slice_header.specs.RefPicListModificationSyntax.{flag_table, command_table, commands_if, modification_syntax}
+use Rattle.slice_header.specs.PredWeightTableSyntax.{denominator_table, luma_table, chroma_rows, chroma_table, entry_syntax, entries_syntax, weight_syntax, weights_if}
+use Rattle.slice_header.specs.DecRefPicMarkingSyntax.{marking_table, operation_table, operations_syntax, operations_if, marking_behind, marking_syntax}
 use Rattle.slice_header.specs.Structures.{Syntax, syntax_at}
-use Rattle.slice_header.proofs.Extensions.{CutIs, AllCutsAre, behind_extended, syntax_extended}
+use Rattle.slice_header.proofs.Extensions.{CutIs, AllCutsAre, followed_by_cuts, counted_cuts, ended_cuts, extended, behind_extended, syntax_extended}
 use Rattle.slice_header.proofs.Fronts.{front_missing, behind_first-front}
 use Rattle.slice_header.proofs.Structures.{syntax_found, syntax_only, syntax_fault, fault_syntax}
 
@@ -27,47 +31,104 @@ unfolding header_syntax syntax_at
 header_missing nal_ref_idc nal_unit_type sps pps = rw front_missing refl
 
 -- each field that is cut is Cut
-modification_cuts : (is_there : Bool) (active most : ℕ) → AllByRecursion (CutIs Cut) (modification_table is_there active most).rows
-unfolding modification_table
-modification_cuts is_there active most = (record { fault = refl; plain = tt }, tt)
+flag_cuts : (is_there : Bool) → AllByRecursion (CutIs Cut) (flag_table is_there).rows
+unfolding flag_table
+flag_cuts is_there = (record { fault = refl; plain = tt }, tt)
 
-weight_cuts : (is_there : Bool) → AllByRecursion (CutIs Cut) (weight_table is_there).rows
-unfolding weight_table
-weight_cuts is_there = (record { fault = refl; plain = tt }, tt)
+command_cuts : (most : ℕ) (room : Bool) → AllByRecursion (CutIs Cut) (command_table most room).rows
+unfolding command_table
+command_cuts most room = (record { fault = refl; plain = tt }, (record { fault = refl; plain = tt }, (record { fault = refl; plain = tt }, tt)))
 
-marking_cuts : (is_reference is_idr : Bool) → AllByRecursion (CutIs Cut) (marking_table is_reference is_idr).rows
+commands_cuts : (active most : ℕ) (flag : Bool) → AllCutsAre Cut (commands_if active most flag)
+commands_cuts active most false = tt
+commands_cuts active most true = ended_cuts Cut (command_table most) (command_cuts most) (active + 1) []
+
+modification_cuts : (is_there : Bool) (active most : ℕ) → AllCutsAre Cut (modification_syntax is_there active most)
+unfolding modification_syntax
+modification_cuts is_there active most = (flag_cuts is_there, commands_cuts active most)
+
+denominator_cuts : (has_chroma : Bool) → AllByRecursion (CutIs Cut) (denominator_table has_chroma).rows
+unfolding denominator_table
+denominator_cuts has_chroma = (record { fault = refl; plain = tt }, (record { fault = refl; plain = tt }, tt))
+
+luma_cuts : (n : ℕ) → AllByRecursion (CutIs Cut) (luma_table n).rows
+unfolding luma_table
+luma_cuts n = (record { fault = refl; plain = tt }, (record { fault = refl; plain = tt }, (record { fault = refl; plain = tt }, tt)))
+
+chroma_cuts : (has_chroma : Bool) (n : ℕ) → AllByRecursion (CutIs Cut) (chroma_table has_chroma n).rows
+unfolding chroma_table chroma_rows
+chroma_cuts has_chroma n = (record { fault = refl; plain = tt }, (record { fault = refl; plain = tt }, (record { fault = refl; plain = tt }, (record { fault = refl; plain = tt }, (record { fault = refl; plain = tt }, tt)))))
+
+entry_cuts : (has_chroma : Bool) (d : Denominators) → AllCutsAre Cut (entry_syntax has_chroma d)
+unfolding entry_syntax
+entry_cuts has_chroma d = (luma_cuts d.luma_log2_weight_denom, λ luma. (chroma_cuts has_chroma d.chroma_log2_weight_denom, λ chroma. tt))
+
+entries_cuts : (has_chroma : Bool) (d : Denominators) (count : ℕ) → AllCutsAre Cut (entries_syntax has_chroma d count)
+unfolding entries_syntax
+entries_cuts has_chroma d count = counted_cuts Cut (entry_syntax has_chroma d) (entry_cuts has_chroma d) count []
+
+weight_cuts : (has_chroma : Bool) (l0 l1 : ℕ) → AllCutsAre Cut (weight_syntax has_chroma l0 l1)
+unfolding weight_syntax
+weight_cuts has_chroma l0 l1 = (
+  denominator_cuts has_chroma,
+  λ d.
+      followed_by_cuts Cut (entries_syntax has_chroma d l0) _ (entries_cuts has_chroma d l0) (λ w0.
+      followed_by_cuts Cut (entries_syntax has_chroma d l1) _ (entries_cuts has_chroma d l1) (λ w1. tt)),
+)
+
+weights_cuts : (is_there : Bool) (table : Syntax PredWeightTable HeaderFault) → AllCutsAre Cut table → AllCutsAre Cut (weights_if is_there table)
+weights_cuts false table all = tt
+weights_cuts true table all = followed_by_cuts Cut table _ all (λ w. tt)
+
+weights_of_cuts : (t : SliceType) (l0 l1 : ℕ) (sps : Sps) (pps : Pps) → AllCutsAre Cut (weights_of t l0 l1 sps pps)
+unfolding weights_of
+weights_of_cuts t l0 l1 sps pps = weights_cuts _ _ (weight_cuts _ _ _)
+
+flags_cuts : (is_reference is_idr : Bool) → AllByRecursion (CutIs Cut) (marking_table is_reference is_idr).rows
 unfolding marking_table
-marking_cuts is_reference is_idr = (record { fault = refl; plain = tt }, (record { fault = refl; plain = tt }, (record { fault = refl; plain = tt }, tt)))
+flags_cuts is_reference is_idr = (record { fault = refl; plain = tt }, (record { fault = refl; plain = tt }, (record { fault = refl; plain = tt }, tt)))
+
+operation_cuts : (room : Bool) → AllByRecursion (CutIs Cut) (operation_table room).rows
+unfolding operation_table
+operation_cuts room = (record { fault = refl; plain = tt }, (record { fault = refl; plain = tt }, (record { fault = refl; plain = tt }, (record { fault = refl; plain = tt }, (record { fault = refl; plain = tt }, tt)))))
+
+operations_cuts : AllCutsAre Cut operations_syntax
+unfolding operations_syntax
+operations_cuts = ended_cuts Cut operation_table operation_cuts 64 []
+
+behind_cuts : (is_idr : Bool) (flags : MarkingFlags) → AllCutsAre Cut (marking_behind is_idr flags)
+behind_cuts true flags = tt
+behind_cuts false flags = go flags.adaptive_ref_pic_marking_mode_flag
+  where
+    go : (is_adaptive : Bool) → AllCutsAre Cut (operations_if is_adaptive)
+    go false = tt
+    go true = followed_by_cuts Cut operations_syntax _ operations_cuts (λ operations. tt)
+
+marking_cuts : (is_reference is_idr : Bool) → AllCutsAre Cut (marking_syntax is_reference is_idr)
+unfolding marking_syntax
+marking_cuts is_reference is_idr = (flags_cuts is_reference is_idr, behind_cuts is_idr)
 
 pub header_cuts : (nal_ref_idc nal_unit_type : ℕ) (sps : Sps) (pps : Pps) → AllCutsAre Cut (header_syntax nal_ref_idc nal_unit_type sps pps)
 unfolding header_syntax number_table order_table prediction_table active_table coding_table deblocking_table
 header_cuts nal_ref_idc nal_unit_type sps pps = (
   (record { fault = refl; plain = tt }, (record { fault = refl; plain = tt }, (record { fault = refl; plain = tt }, tt))),
-  λ front _. (
+  λ front. (
     (record { fault = refl; plain = tt }, (record { fault = refl; plain = tt }, tt)),
-    λ numbers _. (
+    λ numbers orders_from. (
       (record { fault = refl; plain = tt }, (record { fault = refl; plain = tt }, (record { fault = refl; plain = tt }, (record { fault = refl; plain = tt }, tt)))),
-      λ orders _. (
+      λ orders orders_to. (
         (record { fault = refl; plain = tt }, (record { fault = refl; plain = tt }, tt)),
-        λ prediction _. (
+        λ prediction. (
           (record { fault = refl; plain = tt }, (record { fault = refl; plain = tt }, (record { fault = refl; plain = tt }, tt))),
-          λ active _. (
-            modification_cuts _ _ _,
-            λ list0 _. (
-              modification_cuts _ _ _,
-              λ list1 _. (
-                weight_cuts _,
-                λ weights _. (
-                  marking_cuts _ _,
-                  λ marking _. (
-                    (record { fault = refl; plain = tt }, (record { fault = refl; plain = tt }, tt)),
-                    λ coding _.
-                        ((record { fault = refl; plain = tt }, (record { fault = refl; plain = tt }, (record { fault = refl; plain = tt }, tt))), λ deblocking _. tt),
-                  ),
-                ),
-              ),
-            ),
-          ),
+          λ active.
+              followed_by_cuts Cut (modification_syntax _ _ _) _ (modification_cuts _ _ _) (λ list0.
+              followed_by_cuts Cut (modification_syntax _ _ _) _ (modification_cuts _ _ _) (λ list1.
+              followed_by_cuts Cut (weights_of _ _ _ _ _) _ (weights_of_cuts _ _ _ _ _) (λ weights marking_from.
+              followed_by_cuts Cut (marking_syntax _ _) _ (marking_cuts _ _) (λ marking marking_to. (
+                (record { fault = refl; plain = tt }, (record { fault = refl; plain = tt }, tt)),
+                λ coding.
+                    ((record { fault = refl; plain = tt }, (record { fault = refl; plain = tt }, (record { fault = refl; plain = tt }, tt))), λ deblocking behind. tt),
+              ))))),
         ),
       ),
     ),
@@ -98,7 +159,6 @@ pub answers_whole : {A : Type 0} (syntax : Syntax A HeaderFault) → AllCutsAre 
 answers_whole syntax cuts n payload some (Ok x) is all = front_says syntax cuts n payload some (no_cut _ (Ok x) (λ same. cc) is) ∙ is
 answers_whole syntax cuts n payload some (Err Memory) is all = tt
 answers_whole syntax cuts n payload some (Err Value) is all = front_says syntax cuts n payload some (no_cut _ (Err Value) (λ same. cc) is) ∙ is
-answers_whole syntax cuts n payload some (Err OutsidePath) is all = front_says syntax cuts n payload some (no_cut _ (Err OutsidePath) (λ same. cc) is) ∙ is
 answers_whole syntax cuts n payload some (Err Cut) is all =
     ap (λ bytes. read_value (syntax_at syntax (behind_first bytes))) (sym (take_all n payload (all refl))) ∙ is
 
@@ -131,7 +191,6 @@ module _ (unit : List ℕ) (sps : Sps) (pps : Pps) where
   header_fault (Err Memory) is = inl refl
   header_fault (Err Cut) is = inr (syntax_fault (syntax_of unit sps pps) (unit_bits unit) Cut (fault_is _ Cut is))
   header_fault (Err Value) is = inr (syntax_fault (syntax_of unit sps pps) (unit_bits unit) Value (fault_is _ Value is))
-  header_fault (Err OutsidePath) is = inr (syntax_fault (syntax_of unit sps pps) (unit_bits unit) OutsidePath (fault_is _ OutsidePath is))
 
   pub header_refused : (answer : Result SliceHeader HeaderFault) → Answers answer (header_at unit sps pps) → (fault : HeaderFault) → HeaderHasFault unit sps pps fault → Answers answer (Err fault)
   unfolding header_at

@@ -2,18 +2,14 @@
 -- Cut, and one that is too long is out of range.
 use Rattle.std.specs.Prelude.{ℕ, Bool, ℤ, Option, Some, None, nat_abs, ◌==◌, if◌then◌else◌}
 use Rattle.slice_header.specs.declared.fault.HeaderFault.{HeaderFault}
-use Rattle.slice_header.specs.declared.fault.HeaderFault.TheVariants.{Cut, Value, OutsidePath}
+use Rattle.slice_header.specs.declared.fault.HeaderFault.TheVariants.{Cut, Value}
 use Rattle.param_sets.specs.Grammar.{Fixed, Unsigned, Signed, Row}
 use Rattle.param_sets.specs.Ranges.{any, at_most, between}
 
--- u(n), whose values have this range
-abbrev pub u_of : {F S : Type 0} → F → ℕ → (S → Bool) → (ℤ → Option HeaderFault) → Row F S HeaderFault
-u_of field n present range =
-    record { field = field; code = Fixed n; present = present; cut = Cut; long = Cut; wrong = λ s. range }
-
 -- u(n), any value
 abbrev pub u : {F S : Type 0} → F → ℕ → (S → Bool) → Row F S HeaderFault
-u field n present = u_of field n present any
+u field n present =
+    record { field = field; code = Fixed n; present = present; cut = Cut; long = Cut; wrong = λ s. any }
 
 -- ue(v), whose values have this range
 abbrev pub ue_of : {F S : Type 0} → F → (S → Bool) → (S → ℤ → Option HeaderFault) → Row F S HeaderFault
@@ -37,7 +33,3 @@ se_any field present =
 abbrev pub se : {F S : Type 0} → F → (S → Bool) → ℤ → ℤ → Row F S HeaderFault
 se field present least most =
     record { field = field; code = Signed; present = present; cut = Cut; long = Value; wrong = λ s. between least most Value }
-
--- what isn't read yet where it isn't 0
-abbrev pub not_set : ℤ → Option HeaderFault
-not_set v = if nat_abs v == 0 then None else Some OutsidePath

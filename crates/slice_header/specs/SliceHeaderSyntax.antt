@@ -1,10 +1,11 @@
 -- Slice headers: the tables of their syntax (ITU-T H.264, 7.3.3) and what their fields say (7.4.3).
-use Rattle.std.specs.Prelude.{ℕ, ◌+◌, ◌-◌, ◌*◌, ◌^◌, ◌==◌, Bool, true, false, not, ◌&&◌, ◌||◌, [], ◌∷◌, ℤ, pos, negsuc, nat_abs, if◌then◌else◌}
+use Rattle.std.specs.Prelude.{ℕ, ◌+◌, ◌-◌, ◌*◌, ◌^◌, ◌==◌, Bool, true, false, not, ◌&&◌, ◌||◌, [], ◌∷◌, ℤ, pos, negsuc, nat_abs, if◌then◌else◌, Option}
 use Rattle.slice_header.specs.declared.fault.HeaderFault.{HeaderFault}
 use Rattle.slice_header.specs.declared.fault.HeaderFault.TheVariants.{Value}
 use Rattle.slice_header.specs.declared.slice_types.SliceType.{SliceType}
 use Rattle.slice_header.specs.declared.slice_headers.SliceHeader.{SliceHeader}
 use Rattle.slice_header.specs.declared.headers.HeaderFields.{HeaderFields}
+use Rattle.slice_header.specs.declared.pred_weight_table.PredWeightTable.{PredWeightTable}
 use Rattle.slice_header.specs.declared.prediction.Prediction.{Prediction}
 use Rattle.slice_header.specs.declared.prediction.ActiveCounts.{ActiveCounts}
 use Rattle.slice_header.specs.declared.coding.Coding.{Coding}
@@ -12,6 +13,8 @@ use Rattle.slice_header.specs.declared.coding.Deblocking.{Deblocking}
 use Rattle.slice_header.specs.declared.picture_fields.Numbers.{Numbers}
 use Rattle.slice_header.specs.declared.picture_fields.OrderCounts.{OrderCounts}
 use Rattle.param_sets.specs.declared.sps.Sps.{Sps}
+use Rattle.param_sets.specs.declared.sps.ChromaFormat.{ChromaFormat}
+use Rattle.param_sets.specs.declared.sps.ChromaFormat.TheVariants.{Monochrome}
 use Rattle.param_sets.specs.declared.pps.Pps.{Pps}
 use Rattle.param_sets.specs.declared.pps.WeightedBipred.{WeightedBipred}
 use Rattle.param_sets.specs.declared.pps.WeightedBipred.TheVariants.{Explicit}
@@ -21,10 +24,10 @@ use Rattle.param_sets.specs.SpsSyntax.{is_type_zero, is_type_one}
 use Rattle.slice_header.specs.HeaderRows.{u, ue, se, se_any}
 use Rattle.slice_header.specs.SliceTypes.{is_p, is_b, is_i, has_list}
 use Rattle.slice_header.specs.FrontSyntax.{front_table}
-use Rattle.slice_header.specs.RefPicListModificationSyntax.{modification_table}
-use Rattle.slice_header.specs.PredWeightTableSyntax.{weight_table}
-use Rattle.slice_header.specs.DecRefPicMarkingSyntax.{marking_table}
-use Rattle.slice_header.specs.Structures.{Table, Syntax, Says, Structure}
+use Rattle.slice_header.specs.RefPicListModificationSyntax.{modification_syntax}
+use Rattle.slice_header.specs.PredWeightTableSyntax.{weight_syntax, weights_if}
+use Rattle.slice_header.specs.DecRefPicMarkingSyntax.{marking_syntax}
+use Rattle.slice_header.specs.Structures.{Table, Syntax, Says, Here, Structure, followed_by}
 
 -- the number of macroblocks of a picture
 abbrev pub pic_size_in_mbs : Sps → ℕ
@@ -223,21 +226,37 @@ header_from nal_ref_idc nal_unit_type fields = record {
   pic_order_cnt_bit_size = fields.order_bits;
 }
 
+abbrev pub is_monochrome : ChromaFormat → Bool
+is_monochrome Monochrome = true
+is_monochrome format = false
+
+-- the table of weights, where the slice has one: of list 0, and of list 1 in a B slice
+unfoldable pub weights_of : SliceType → ℕ → ℕ → Sps → Pps → Syntax (Option PredWeightTable) HeaderFault
+weights_of slice_type active_l0_minus1 active_l1_minus1 sps pps =
+    weights_if (is_weighted slice_type pps)
+    (weight_syntax (not (is_monochrome sps.chroma_format_idc)) (active_l0_minus1 + 1)
+    (if is_b slice_type then active_l1_minus1 + 1 else 0))
+
 -- The whole header, each structure behind the other, and what they say. The size of a structure in bits is the
 -- distance of the places around it.
 unfoldable pub header_syntax : ℕ → ℕ → Sps → Pps → Syntax SliceHeader HeaderFault
 header_syntax nal_ref_idc nal_unit_type sps pps =
-    Structure (front_table (at_most (pic_size_in_mbs sps - 1) Value)) (λ front _.
-    Structure (number_table (nal_unit_type == 5) sps) (λ numbers orders_from.
-    Structure (order_table sps pps) (λ orders orders_to.
-    Structure (prediction_table front.slice_type pps) (λ prediction _.
-    Structure (active_table front.slice_type pps) (λ active _.
-    Structure (modification_table (has_list front.slice_type) active.num_ref_idx_l0_active_minus1 (max_frame_num sps)) (λ list0 _.
-    Structure (modification_table (is_b front.slice_type) active.num_ref_idx_l1_active_minus1 (max_frame_num sps)) (λ list1 _.
-    Structure (weight_table (is_weighted front.slice_type pps)) (λ weights marking_from.
-    Structure (marking_table (not (nal_ref_idc == 0)) (nal_unit_type == 5)) (λ marking marking_to.
-    Structure (coding_table front.slice_type pps) (λ coding _.
-    Structure (deblocking_table pps) (λ deblocking behind.
+    Structure (front_table (at_most (pic_size_in_mbs sps - 1) Value)) (λ front.
+    Structure (number_table (nal_unit_type == 5) sps) (λ numbers.
+    Here (λ orders_from.
+    Structure (order_table sps pps) (λ orders.
+    Here (λ orders_to.
+    Structure (prediction_table front.slice_type pps) (λ prediction.
+    Structure (active_table front.slice_type pps) (λ active.
+    followed_by (modification_syntax (has_list front.slice_type) active.num_ref_idx_l0_active_minus1 (max_frame_num sps)) (λ list0.
+    followed_by (modification_syntax (is_b front.slice_type) active.num_ref_idx_l1_active_minus1 (max_frame_num sps)) (λ list1.
+    followed_by (weights_of front.slice_type active.num_ref_idx_l0_active_minus1 active.num_ref_idx_l1_active_minus1 sps pps) (λ weights.
+    Here (λ marking_from.
+    followed_by (marking_syntax (not (nal_ref_idc == 0)) (nal_unit_type == 5)) (λ marking.
+    Here (λ marking_to.
+    Structure (coding_table front.slice_type pps) (λ coding.
+    Structure (deblocking_table pps) (λ deblocking.
+    Here (λ behind.
     Says (header_from nal_ref_idc nal_unit_type record {
       front = front;
       numbers = numbers;
@@ -253,4 +272,4 @@ header_syntax nal_ref_idc nal_unit_type sps pps =
       order_bits = orders_to - orders_from;
       marking_bits = marking_to - marking_from;
       behind = behind;
-    }))))))))))))
+    })))))))))))))))))

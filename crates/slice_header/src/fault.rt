@@ -20,9 +20,6 @@ pub enum HeaderFault {
     /// A growth was refused.
     #[error("out of memory")]
     Memory,
-    /// What this program doesn't read yet.
-    #[error("outside what is read")]
-    OutsidePath,
 }
 
 impl From<AllocError> for HeaderFault {

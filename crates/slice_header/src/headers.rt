@@ -1,10 +1,10 @@
 //! Reads a slice header, structure by structure (7.3.3).
 
-ghost use Rattle.std.specs.Prelude.{◌≡◌, ◌+◌, ◌-◌, ◌≤◌};
+ghost use Rattle.std.specs.Prelude.{◌≡◌, ◌+◌, ◌≤◌, not, if◌then◌else◌};
 ghost use Rattle.annexb.specs.NalUnit.{nal_ref_idc, nal_unit_type};
 ghost use Rattle.slice_header.specs.HeaderAnswer.{Stores};
 ghost use Rattle.slice_header.specs.SliceHeaders.{syntax_of};
-ghost use Rattle.slice_header.specs.SliceHeaderSyntax.{pic_size_in_mbs, max_frame_num, is_weighted, header_from};
+ghost use Rattle.slice_header.specs.SliceHeaderSyntax.{weights_of, is_weighted, is_monochrome, header_from};
 ghost use Rattle.slice_header.specs.SliceTypes.{has_list, is_b};
 ghost use Rattle.slice_header.specs.Structures.{syntax_at};
 
@@ -23,7 +23,7 @@ use crate::slice_types::SliceType;
 use crate::weight_syntax::pred_weight_table;
 use annexb::Nal;
 use expgolomb::Bits;
-use param_sets::{Pps, Sps, WeightedBipred};
+use param_sets::{ChromaFormat, Pps, Sps, WeightedBipred};
 use std::alloc::Global;
 
 /// The structures of a header, and the places around two of them.
@@ -58,8 +58,8 @@ pub fn header_fields(
     ensures { Stores (λ fields. header_from (nal_ref_idc nal.now) (nal_unit_type nal.now) fields) result bits.new (syntax_at (syntax_of nal.now sps.now pps.now) bits.old) }
 {
     let is_idr = nal.nal_unit_type() == 5;
-    let max_frame_num = max_frame_num(sps);
-    let front = header_front(bits, last_macroblock(sps))?;
+    let max_frame_num = sps.max_frame_num();
+    let front = header_front(bits, (sps.pic_size_in_mbs() - 1) as u32)?;
     let numbers = picture_numbers(bits, is_idr, sps)?;
     let orders_from = bits.place() as u32;
     let orders = order_counts(bits, sps, pps)?;
@@ -76,9 +76,9 @@ pub fn header_fields(
     )?;
     let l1 = active.num_ref_idx_l1_active_minus1.get();
     let list1 = ref_pic_list_modification(alloc, bits, is_b(front.slice_type), l1, max_frame_num)?;
-    let weights = pred_weight_table(bits, is_weighted(front.slice_type, pps))?;
+    let weights = weights(alloc, bits, front.slice_type, l0, l1, sps, pps)?;
     let marking_from = bits.place() as u32;
-    let marking = dec_ref_pic_marking(bits, nal.nal_ref_idc() != 0, is_idr)?;
+    let marking = dec_ref_pic_marking(alloc, bits, nal.nal_ref_idc() != 0, is_idr)?;
     let marking_to = bits.place() as u32;
     let coding = coding_fields(bits, front.slice_type, pps)?;
     let deblocking = deblocking_fields(bits, pps)?;
@@ -135,19 +135,46 @@ pub fn header_from(nal: &Nal<'_>, fields: HeaderFields) -> SliceHeader
     }
 }
 
-// The number of a picture's last macroblock.
-fn last_macroblock(sps: &Sps) -> u32
-    ensures { result ≡ pic_size_in_mbs sps.now - 1 }
+// The table of weights, where the slice has one.
+fn weights(
+    alloc: Global,
+    bits: &mut Bits<'_>,
+    slice_type: SliceType,
+    l0: u8,
+    l1: u8,
+    sps: &Sps,
+    pps: &Pps,
+) -> Result<Option<PredWeightTable>, HeaderFault>
+    requires few_l0 { l0 ≤ 31 }
+    requires few_l1 { l1 ≤ 31 }
+    ensures exact { Stores (λ weights. weights) result bits.new (syntax_at (weights_of slice_type l0 l1 sps.now pps.now) bits.old) }
+    ensures near { bits.new.before ≤ bits.old.before + 40000 }
 {
-    let width = sps.pic_width_in_mbs_minus1 as u64 + 1;
-    let height = sps.pic_height_in_map_units_minus1 as u64 + 1;
-    (width * height - 1) as u32
+    if is_weighted(slice_type, pps) {
+        let list1 = active_l1(slice_type, l1);
+        let table = pred_weight_table(alloc, bits, has_chroma(sps), l0 + 1, list1)?;
+        Ok(Some(table))
+    } else {
+        Ok(None)
+    }
 }
 
-fn max_frame_num(sps: &Sps) -> u32
-    ensures { result ≡ max_frame_num sps.now }
+// How many entries of list 1 have weights.
+fn active_l1(slice_type: SliceType, l1: u8) -> u8
+    requires { l1 ≤ 31 }
+    ensures value { result ≡ (if is_b slice_type then l1 + 1 else 0) }
+    ensures few { result ≤ 32 }
 {
-    1 << (sps.log2_max_frame_num_minus4.get() + 4)
+    if is_b(slice_type) { l1 + 1 } else { 0 }
+}
+
+fn has_chroma(sps: &Sps) -> bool
+    ensures { result ≡ not (is_monochrome sps.now.chroma_format_idc) }
+{
+    match sps.chroma_format_idc {
+        ChromaFormat::Monochrome => false,
+        _ => true,
+    }
 }
 
 fn has_list(slice_type: SliceType) -> bool

@@ -1,10 +1,10 @@
 //! Weights of explicit weighted prediction (7.3.3.2, 7.4.3.2).
 
-ghost use Rattle.std.specs.Prelude.{◌≡◌, List, []};
+ghost use Rattle.std.specs.Prelude.{◌≡◌, List, [], ◌∷◌, ◌++◌, OnOk, OnErr};
 ghost use Rattle.slice_header.specs.declared.pred_weight_table.PredWeight.{PredWeight};
 
 use smallvec::SmallVec;
-use std::alloc::Global;
+use std::alloc::{AllocError, Global};
 use std::marker::Model;
 
 /// The weights and offsets of one entry of a list. An absent weight is 2 to the power of its denominator, an absent
@@ -39,6 +39,15 @@ impl PredWeights {
         PredWeights {
             weights: SmallVec::new(alloc),
         }
+    }
+
+    /// One entry more, behind the others.
+    pub fn push(&mut self, weight: PredWeight) -> Result<(), AllocError>
+        ensures ok { OnOk result (self.new ≡ self.old ++ weight ∷ []) }
+        ensures err { OnErr result (self.new ≡ self.old) }
+    {
+        self.weights.push(weight)?;
+        Ok(())
     }
 
     /// The weights, in the order of the list.

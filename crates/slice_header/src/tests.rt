@@ -201,3 +201,143 @@ fn headers_that_cannot_be_read(rt: HostRuntime) -> Result<(), Fail> {
         ],
     )
 }
+
+#[test]
+fn b_pictures(rt: HostRuntime) -> Result<(), Fail> {
+    let (mut sps, pps) = (small_sps(rt.alloc()), small_pps(rt.alloc()));
+    sps.pic_order_cnt_type = PicOrderCntType::Zero;
+    let text = [
+        0, 0, 1, 0x65, 0x88, 0x84, 0x0C, 0, 0, 1, 0x41, 0x9A, 0x28, 0x30, //
+        0, 0, 1, 0x01, 0x9E, 0x45, 0x18,
+    ];
+    headers_are(
+        &rt,
+        &sps,
+        &pps,
+        &text,
+        &[
+            Ok((SliceType::I, 0, 29, 2, 4)),
+            Ok((SliceType::P, 1, 27, 1, 4)),
+            Ok((SliceType::B, 2, 28, 0, 4)),
+        ],
+    )
+}
+
+/// The header of the one unit of a text.
+fn header_of(
+    rt: &(impl Abort + AllocGlobal),
+    sps: &Sps,
+    pps: &Pps,
+    text: &[u8],
+) -> Result<SliceHeader, Fail> {
+    let nals = split(rt.alloc(), text)?;
+    match nals.as_slice() {
+        [nal] => Ok(read(rt.alloc(), nal, sps, pps)?),
+        _ => panic!(rt; "more units than one"),
+    }
+}
+
+#[test]
+fn weights(rt: HostRuntime) -> Result<(), Fail> {
+    let (sps, mut pps) = (small_sps(rt.alloc()), small_pps(rt.alloc()));
+    pps.weighted_pred_flag = true;
+    let header = header_of(&rt, &sps, &pps, &[0, 0, 1, 0x41, 0x9A, 0x26, 0x30])?;
+    assert_eq!(rt; summary(&header), (SliceType::P, 1, 27, 1, 0));
+    let Some(table) = &header.pred_weight_table else {
+        panic!(&rt; "no table");
+    };
+    assert_eq!(rt; table.luma_log2_weight_denom, 0);
+    assert!(rt; table.weights_l1.as_slice().is_empty());
+    let one = PredWeight {
+        luma_weight: 1,
+        luma_offset: 0,
+        cb_weight: 1,
+        cb_offset: 0,
+        cr_weight: 1,
+        cr_offset: 0,
+    };
+    assert_eq!(rt; table.weights_l0.as_slice(), [one].as_slice());
+    Ok(())
+}
+
+#[test]
+fn commands_and_operations(rt: HostRuntime) -> Result<(), Fail> {
+    let (sps, pps) = (small_sps(rt.alloc()), small_pps(rt.alloc()));
+    // 1 00110 1 0001, 1 and 010: two entries, 1: commands 1 011, 011 1 and the end 00100, 1: operations 00100 010 1,
+    // 010 1, 00111 010 and the end 1, and 1: a slice_qp_delta of 0.
+    let text = [0, 0, 1, 0x41, 0x9A, 0x35, 0xB7, 0x24, 0x8A, 0xA7, 0x58];
+    let header = header_of(&rt, &sps, &pps, &text)?;
+    assert_eq!(rt; summary(&header), (SliceType::P, 1, 61, 23, 0));
+    assert_eq!(rt; header.num_ref_idx_l0_active_minus1.get(), 1);
+    let commands = [
+        RefPicListModification::Subtract {
+            abs_diff_pic_num_minus1: 2,
+        },
+        RefPicListModification::LongTerm {
+            long_term_pic_num: 0,
+        },
+    ];
+    assert_eq!(rt;
+        header.ref_pic_list_modification_l0.as_slice(),
+        commands.as_slice()
+    );
+    let DecRefPicMarking::Adaptive { operations } = &header.dec_ref_pic_marking else {
+        panic!(&rt; "no operations");
+    };
+    let wanted = [
+        MemoryManagementControlOperation::AssignLongTerm {
+            difference_of_pic_nums_minus1: 1,
+            long_term_frame_idx: 0,
+        },
+        MemoryManagementControlOperation::FreeShortTerm {
+            difference_of_pic_nums_minus1: 0,
+        },
+        MemoryManagementControlOperation::CurrentLongTerm {
+            long_term_frame_idx: 1,
+        },
+    ];
+    assert_eq!(rt; operations.as_slice(), wanted.as_slice());
+    Ok(())
+}
+
+#[test]
+fn commands_that_cannot_be_read(rt: HostRuntime) -> Result<(), Fail> {
+    let (sps, pps) = (small_sps(rt.alloc()), small_pps(rt.alloc()));
+    let text = [
+        // A second command for one entry; its code cut; a difference of 16; a command 4.
+        0, 0, 1, 0x41, 0x9A, 0x2F, 0, 0, 1, 0x41, 0x9A, 0x2E, //
+        0, 0, 1, 0x41, 0x9A, 0x2C, 0x22, 0, 0, 1, 0x41, 0x9A, 0x29, 0x40,
+    ];
+    headers_are(
+        &rt,
+        &sps,
+        &pps,
+        &text,
+        &[
+            Err(HeaderFault::Value),
+            Err(HeaderFault::Cut),
+            Err(HeaderFault::Value),
+            Err(HeaderFault::Value),
+        ],
+    )
+}
+
+#[test]
+fn refused_growth_is_memory(rt: HostRuntime) {
+    let (sps, pps) = (small_sps(rt.alloc()), small_pps(rt.alloc()));
+    // 32 operations 011 with 0000001000000, each of two bytes, in a header of 538 bits.
+    let mut text = [0x40; 71];
+    text[..6].copy_from_slice(&[0, 0, 1, 0x41, 0x99, 0x09]);
+    for i in 0..32usize {
+        text[6 + 2 * i] = 0x60;
+    }
+    text[70] = 0xC0;
+    if let Ok(nals) = split(rt.alloc(), &text) {
+        for nal in &nals {
+            match read(rt.alloc(), nal, &sps, &pps) {
+                Ok(header) => assert_eq!(&rt; summary(&header), (SliceType::P, 1, 538, 514, 0)),
+                Err(fault) => assert_eq!(&rt; fault, HeaderFault::Memory),
+            }
+        }
+    }
+}

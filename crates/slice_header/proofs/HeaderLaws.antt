@@ -21,7 +21,7 @@ use Rattle.slice_header.specs.RefPicListModificationSyntax.{flag_table, command_
 use Rattle.slice_header.specs.PredWeightTableSyntax.{denominator_table, luma_table, chroma_rows, chroma_table, entry_syntax, entries_syntax, weight_syntax, weights_if}
 use Rattle.slice_header.specs.DecRefPicMarkingSyntax.{marking_table, operation_table, operations_syntax, operations_if, marking_behind, marking_syntax}
 use Rattle.slice_header.specs.Structures.{Syntax, syntax_at}
-use Rattle.slice_header.proofs.Extensions.{CutIs, AllCutsAre, followed_by_cuts, counted_cuts, ended_cuts, extended, behind_extended, syntax_extended}
+use Rattle.slice_header.proofs.Extensions.{CutIs, AllCutsAre, followed_by_cuts, counted_cuts, ended_cuts, behind_extended, syntax_extended}
 use Rattle.slice_header.proofs.Fronts.{front_missing, behind_first-front}
 use Rattle.slice_header.proofs.Structures.{syntax_found, syntax_only, syntax_fault, fault_syntax}
 

@@ -1,5 +1,5 @@
 -- Reading structures: what is read is what they say, or their first fault, and nothing else is.
-use Rattle.std.proofs.Common.{List, ℕ, zero, suc, Bool, true, false, [], ◌∷◌, ◌++◌, Option, Some, None, ◌≡◌, Result, Ok, Err, refl, sym, ◌∙◌, ap, inl, inr, ◌⊎◌}
+use Rattle.std.proofs.Common.{List, ℕ, suc, Bool, true, false, [], ◌∷◌, ◌++◌, Option, Some, None, ◌≡◌, Result, Ok, Err, refl, sym, ◌∙◌, ap, inl, inr, ◌⊎◌}
 use Rattle.expgolomb.specs.Bits.{Place}
 use Rattle.expgolomb.proofs.ExpGolomb.{ok_is}
 use Rattle.param_sets.specs.Reading.{◌>>=◌}

@@ -1,6 +1,6 @@
 -- The rows of the tables of slice headers: a field, its code, where it is present, its range. A code that is cut is
 -- Cut, and one that is too long is out of range.
-use Rattle.std.specs.Prelude.{ℕ, Bool, ℤ, Option, Some, None, nat_abs, ◌==◌, if◌then◌else◌}
+use Rattle.std.specs.Prelude.{ℕ, Bool, ℤ, Option}
 use Rattle.slice_header.specs.declared.fault.HeaderFault.{HeaderFault}
 use Rattle.slice_header.specs.declared.fault.HeaderFault.TheVariants.{Cut, Value}
 use Rattle.param_sets.specs.Grammar.{Fixed, Unsigned, Signed, Row}

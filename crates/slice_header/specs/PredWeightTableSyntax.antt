@@ -1,5 +1,5 @@
 -- pred_weight_table() (ITU-T H.264, 7.3.3.2, 7.4.3.2).
-use Rattle.std.specs.Prelude.{ℕ, ◌+◌, ◌^◌, Bool, true, false, ◌&&◌, if◌then◌else◌, List, [], ◌∷◌, Option, Some, None, ℤ, pos, negsuc, nat_abs}
+use Rattle.std.specs.Prelude.{ℕ, ◌^◌, Bool, true, false, List, [], ◌∷◌, Option, Some, None, ℤ, pos, negsuc, nat_abs}
 use Rattle.slice_header.specs.declared.fault.HeaderFault.{HeaderFault}
 use Rattle.slice_header.specs.declared.pred_weight_table.PredWeight.{PredWeight}
 use Rattle.slice_header.specs.declared.pred_weight_table.PredWeightTable.{PredWeightTable}

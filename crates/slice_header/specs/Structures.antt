@@ -1,5 +1,5 @@
 -- Syntax structures one behind the other, where a later one may depend on what an earlier one says (ITU-T H.264, 7.3).
-use Rattle.std.specs.Prelude.{◌≡◌, ℕ, zero, suc, Bool, true, false, List, [], ◌∷◌, ◌++◌, Option, Some, None, Result, Ok, Err, ℤ, ◌⊎◌}
+use Rattle.std.specs.Prelude.{◌≡◌, ℕ, zero, suc, Bool, true, false, List, [], ◌∷◌, ◌++◌, Option, Some, None, Result, Ok, ℤ, ◌⊎◌}
 use Rattle.expgolomb.specs.Bits.{Place}
 use Rattle.param_sets.specs.Grammar.{Row, Header, values, HasRows, HasFault}
 use Rattle.param_sets.specs.Reading.{rows_at, ◌>>=◌}

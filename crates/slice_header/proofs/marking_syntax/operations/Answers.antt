@@ -1,5 +1,5 @@
 -- Operation by operation, up to the end.
-use Rattle.std.proofs.Common.{refl, ◌≡◌, ◌+◌, ◌-◌, suc, [], ap, sym, ◌∙◌, arith}
+use Rattle.std.proofs.Common.{refl, ◌≡◌, ◌+◌, ◌-◌, suc, ap, sym, ◌∙◌, arith}
 use Rattle.std.proofs.lemmas.Result.{err_from_is_err_and}
 use Rattle.slice_header.specs.DecRefPicMarkingSyntax.{operation_table, operations_syntax}
 use Rattle.slice_header.specs.Structures.{syntax_at, ended}

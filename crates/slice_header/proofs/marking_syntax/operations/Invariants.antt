@@ -1,4 +1,4 @@
-use Rattle.std.proofs.Common.{◌≡◌, ◌≤◌, ◌+◌, ◌-◌, ◌*◌, []}
+use Rattle.std.proofs.Common.{◌≡◌, ◌≤◌, ◌+◌, ◌-◌, ◌*◌}
 use Rattle.slice_header.specs.DecRefPicMarkingSyntax.{operation_table, operations_syntax}
 use Rattle.slice_header.specs.Structures.{syntax_at, ended}
 use Rattle.slice_header.proofs.marking_syntax.operations.Given as goal

@@ -1,5 +1,5 @@
 -- The flag, and the commands where it is 1.
-use Rattle.std.proofs.Common.{◌≡◌, ◌+◌, [], Result, subst, sym, refl}
+use Rattle.std.proofs.Common.{◌≡◌, ◌+◌, [], subst, sym, refl}
 use Rattle.std.proofs.lemmas.Result.{err_from_is_err_and}
 use Rattle.slice_header.specs.HeaderAnswer.{Stores}
 use Rattle.slice_header.specs.RefPicListModificationSyntax.{command_table, modification_syntax}

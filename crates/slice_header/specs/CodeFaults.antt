@@ -4,6 +4,7 @@ use Rattle.expgolomb.specs.declared.fault.CodeFault.TheVariants as code
 use Rattle.slice_header.specs.declared.fault.HeaderFault.{HeaderFault}
 use Rattle.slice_header.specs.declared.fault.HeaderFault.TheVariants.{Cut, Value}
 
+-- by its kind
 abbrev pub fault_of : CodeFault → HeaderFault
 fault_of code.Cut = Cut
 fault_of code.TooLong = Value

@@ -17,11 +17,13 @@ pub data MarkingField : Type 0 where
   LongTermReferenceFlag : MarkingField
   AdaptiveRefPicMarkingModeFlag : MarkingField
 
+-- what a field's value says
 abbrev pub take_marking : MarkingField → ℤ → MarkingFlags → MarkingFlags
 take_marking NoOutputOfPriorPicsFlag v s = record s { no_output_of_prior_pics_flag = flag_of v }
 take_marking LongTermReferenceFlag v s = record s { long_term_reference_flag = flag_of v }
 take_marking AdaptiveRefPicMarkingModeFlag v s = record s { adaptive_ref_pic_marking_mode_flag = flag_of v }
 
+-- of a picture that is a reference: two flags where it is IDR, else one
 unfoldable pub marking_table : Bool → Bool → Table MarkingField MarkingFlags HeaderFault
 marking_table is_reference is_idr = record {
   take = take_marking;
@@ -56,6 +58,7 @@ operation_of code =
     else if code == 6 then Some (CurrentLongTerm 0)
     else None
 
+-- what a field's value says
 abbrev pub take_operation : OperationField → ℤ → Option MemoryManagementControlOperation → Option MemoryManagementControlOperation
 take_operation OperationCode v s = operation_of (nat_abs v)
 take_operation DifferenceOfPicNumsMinus1 v (Some (FreeShortTerm n)) = Some (FreeShortTerm (nat_abs v))
@@ -71,20 +74,24 @@ abbrev pub operation_range : Bool → ℤ → Option HeaderFault
 operation_range has_room v =
     if nat_abs v == 0 then None else if has_room && nat_le (nat_abs v) 6 then None else Some Value
 
+-- operations 1 and 3
 abbrev pub has_difference : Option MemoryManagementControlOperation → Bool
 has_difference (Some (FreeShortTerm n)) = true
 has_difference (Some (AssignLongTerm n idx)) = true
 has_difference s = false
 
+-- operation 2
 abbrev pub has_long_term_num : Option MemoryManagementControlOperation → Bool
 has_long_term_num (Some (FreeLongTerm n)) = true
 has_long_term_num s = false
 
+-- operations 3 and 6
 abbrev pub has_index : Option MemoryManagementControlOperation → Bool
 has_index (Some (AssignLongTerm n idx)) = true
 has_index (Some (CurrentLongTerm idx)) = true
 has_index s = false
 
+-- operation 4
 abbrev pub has_limit : Option MemoryManagementControlOperation → Bool
 has_limit (Some (LimitLongTerm n)) = true
 has_limit s = false

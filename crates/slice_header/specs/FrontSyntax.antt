@@ -25,6 +25,7 @@ take_front FirstMbInSlice v s = record s { first_mb_in_slice = nat_abs v }
 take_front SliceTypeCode v s = record s { slice_type = slice_type_of (nat_abs v) }
 take_front PicParameterSetId v s = record s { pic_parameter_set_id = nat_abs v }
 
+-- a row of these fields
 abbrev pub FrontRow : Type 0
 FrontRow = Row FrontField HeaderFront HeaderFault
 
@@ -32,9 +33,11 @@ FrontRow = Row FrontField HeaderFront HeaderFault
 abbrev pub first_mb_row : (ℤ → Option HeaderFault) → FrontRow
 first_mb_row range = ue_of FirstMbInSlice always (λ s. range)
 
+-- slice_type, 0 to 9
 abbrev pub slice_type_row : FrontRow
 slice_type_row = ue SliceTypeCode always 9
 
+-- pic_parameter_set_id, 0 to 255
 abbrev pub parameter_set_row : FrontRow
 parameter_set_row = ue PicParameterSetId always 255
 

@@ -16,10 +16,12 @@ pub data DenominatorField : Type 0 where
   LumaLog2WeightDenom : DenominatorField
   ChromaLog2WeightDenom : DenominatorField
 
+-- what a field's value says
 abbrev pub take_denominator : DenominatorField → ℤ → Denominators → Denominators
 take_denominator LumaLog2WeightDenom v s = record s { luma_log2_weight_denom = nat_abs v }
 take_denominator ChromaLog2WeightDenom v s = record s { chroma_log2_weight_denom = nat_abs v }
 
+-- luma's, and chroma's where there is chroma
 unfoldable pub denominator_table : Bool → Table DenominatorField Denominators HeaderFault
 denominator_table has_chroma = record {
   take = take_denominator;
@@ -36,11 +38,13 @@ pub data LumaField : Type 0 where
   LumaWeightValue : LumaField
   LumaOffset : LumaField
 
+-- what a field's value says
 abbrev pub take_luma : LumaField → ℤ → LumaWeight → LumaWeight
 take_luma LumaWeightFlag v s = record s { luma_weight_flag = flag_of v }
 take_luma LumaWeightValue v s = record s { luma_weight = v }
 take_luma LumaOffset v s = record s { luma_offset = v }
 
+-- a flag, and where it is 1 weight and offset
 unfoldable pub luma_table : ℕ → Table LumaField LumaWeight HeaderFault
 luma_table log2_denom = record {
   take = take_luma;
@@ -60,6 +64,7 @@ pub data ChromaField : Type 0 where
   CrWeight : ChromaField
   CrOffset : ChromaField
 
+-- what a field's value says
 abbrev pub take_chroma : ChromaField → ℤ → ChromaWeight → ChromaWeight
 take_chroma ChromaWeightFlag v s = record s { chroma_weight_flag = flag_of v }
 take_chroma CbWeight v s = record s { cb_weight = v }
@@ -86,6 +91,7 @@ inferred_chroma flag log2_denom = record {
   cr_offset = pos 0;
 }
 
+-- a flag where there is chroma, and where it is 1 weights and offsets of Cb and Cr
 unfoldable pub chroma_table : Bool → ℕ → Table ChromaField ChromaWeight HeaderFault
 chroma_table has_chroma log2_denom = record {
   take = take_chroma;
@@ -93,6 +99,7 @@ chroma_table has_chroma log2_denom = record {
   absent = inferred_chroma false log2_denom;
 }
 
+-- both together
 abbrev pub pred_weight : LumaWeight → ChromaWeight → PredWeight
 pred_weight luma chroma = record {
   luma_weight = luma.luma_weight;

@@ -12,9 +12,11 @@ use Rattle.slice_header.specs.Structures.{Table, Syntax, Says, Structure, ended}
 pub data ModificationFlag : Type 0 where
   RefPicListModificationFlag : ModificationFlag
 
+-- what its value says
 abbrev pub take_flag : ModificationFlag → ℤ → Bool → Bool
 take_flag RefPicListModificationFlag v s = flag_of v
 
+-- the flag, where the slice has the list
 unfoldable pub flag_table : Bool → Table ModificationFlag Bool HeaderFault
 flag_table is_there = record {
   take = take_flag;
@@ -36,6 +38,7 @@ command_of idc =
     else if idc == 2 then Some (LongTerm 0)
     else None
 
+-- what a field's value says
 abbrev pub take_command : CommandField → ℤ → Option RefPicListModification → Option RefPicListModification
 take_command ModificationOfPicNumsIdc v s = command_of (nat_abs v)
 take_command AbsDiffPicNumMinus1 v (Some (Subtract n)) = Some (Subtract (nat_abs v))
@@ -48,11 +51,13 @@ abbrev pub idc_range : Bool → ℤ → Option HeaderFault
 idc_range has_room v =
     if nat_abs v == 3 then None else if has_room && nat_le (nat_abs v) 2 then None else Some Value
 
+-- commands 0 and 1
 abbrev pub has_difference : Option RefPicListModification → Bool
 has_difference (Some (Subtract n)) = true
 has_difference (Some (Add n)) = true
 has_difference s = false
 
+-- command 2
 abbrev pub has_long_term_num : Option RefPicListModification → Bool
 has_long_term_num (Some (LongTerm n)) = true
 has_long_term_num s = false

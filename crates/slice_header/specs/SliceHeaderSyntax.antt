@@ -42,10 +42,12 @@ pub data NumberField : Type 0 where
   FrameNum : NumberField
   IdrPicId : NumberField
 
+-- what a field's value says
 abbrev pub take_number : NumberField → ℤ → Numbers → Numbers
 take_number FrameNum v s = record s { frame_num = nat_abs v }
 take_number IdrPicId v s = record s { idr_pic_id = nat_abs v }
 
+-- frame_num, and idr_pic_id of an IDR picture
 unfoldable pub number_table : Bool → Sps → Table NumberField Numbers HeaderFault
 number_table is_idr sps = record {
   take = take_number;
@@ -63,6 +65,7 @@ pub data OrderField : Type 0 where
   DeltaPicOrderCnt0 : OrderField
   DeltaPicOrderCnt1 : OrderField
 
+-- what a field's value says
 abbrev pub take_order : OrderField → ℤ → OrderCounts → OrderCounts
 take_order PicOrderCntLsb v s = record s { pic_order_cnt_lsb = nat_abs v }
 take_order DeltaPicOrderCntBottom v s = record s { delta_pic_order_cnt_bottom = v }
@@ -73,6 +76,7 @@ take_order DeltaPicOrderCnt1 v s = record s { delta_pic_order_cnt1 = v }
 abbrev pub has_deltas : Sps → Bool
 has_deltas sps = is_type_one sps && not sps.delta_pic_order_always_zero_flag
 
+-- type 0 has pic_order_cnt_lsb, and type 1 deltas
 unfoldable pub order_table : Sps → Pps → Table OrderField OrderCounts HeaderFault
 order_table sps pps = record {
   take = take_order;
@@ -95,10 +99,12 @@ pub data PredictionField : Type 0 where
   RedundantPicCnt : PredictionField
   DirectSpatialMvPredFlag : PredictionField
 
+-- what a field's value says
 abbrev pub take_prediction : PredictionField → ℤ → Prediction → Prediction
 take_prediction RedundantPicCnt v s = record s { redundant_pic_cnt = nat_abs v }
 take_prediction DirectSpatialMvPredFlag v s = record s { direct_spatial_mv_pred_flag = flag_of v }
 
+-- where the picture parameter set announces redundant pictures, and in a B slice
 unfoldable pub prediction_table : SliceType → Pps → Table PredictionField Prediction HeaderFault
 prediction_table slice_type pps = record {
   take = take_prediction;
@@ -115,6 +121,7 @@ pub data ActiveField : Type 0 where
   NumRefIdxL0ActiveMinus1 : ActiveField
   NumRefIdxL1ActiveMinus1 : ActiveField
 
+-- what a field's value says
 abbrev pub take_active : ActiveField → ℤ → ActiveCounts → ActiveCounts
 take_active NumRefIdxActiveOverrideFlag v s = record s { num_ref_idx_active_override_flag = flag_of v }
 take_active NumRefIdxL0ActiveMinus1 v s = record s { num_ref_idx_l0_active_minus1 = nat_abs v }
@@ -136,6 +143,7 @@ active_table slice_type pps = record {
   };
 }
 
+-- weighted_bipred_idc 1
 abbrev pub is_explicit : WeightedBipred → Bool
 is_explicit Explicit = true
 is_explicit bipred = false
@@ -150,10 +158,12 @@ pub data CodingField : Type 0 where
   CabacInitIdc : CodingField
   SliceQpDelta : CodingField
 
+-- what a field's value says
 abbrev pub take_coding : CodingField → ℤ → Coding → Coding
 take_coding CabacInitIdc v s = record s { cabac_init_idc = nat_abs v }
 take_coding SliceQpDelta v s = record s { slice_qp_delta = v }
 
+-- cabac_init_idc but in I slices, and slice_qp_delta, from -87 to 87 (this program's own range)
 unfoldable pub coding_table : SliceType → Pps → Table CodingField Coding HeaderFault
 coding_table slice_type pps = record {
   take = take_coding;
@@ -170,6 +180,7 @@ pub data DeblockingField : Type 0 where
   SliceAlphaC0OffsetDiv2 : DeblockingField
   SliceBetaOffsetDiv2 : DeblockingField
 
+-- what a field's value says
 abbrev pub take_deblocking : DeblockingField → ℤ → Deblocking → Deblocking
 take_deblocking DisableDeblockingFilterIdc v s = record s { disable_deblocking_filter_idc = nat_abs v }
 take_deblocking SliceAlphaC0OffsetDiv2 v s = record s { slice_alpha_c0_offset_div2 = v }
@@ -179,6 +190,7 @@ take_deblocking SliceBetaOffsetDiv2 v s = record s { slice_beta_offset_div2 = v 
 abbrev pub has_offsets : Pps → Deblocking → Bool
 has_offsets pps s = pps.deblocking_filter_control_present_flag && not (s.disable_deblocking_filter_idc == 1)
 
+-- where the picture parameter set announces them
 unfoldable pub deblocking_table : Pps → Table DeblockingField Deblocking HeaderFault
 deblocking_table pps = record {
   take = take_deblocking;
@@ -226,6 +238,7 @@ header_from nal_ref_idc nal_unit_type fields = record {
   pic_order_cnt_bit_size = fields.order_bits;
 }
 
+-- chroma_format_idc 0
 abbrev pub is_monochrome : ChromaFormat → Bool
 is_monochrome Monochrome = true
 is_monochrome format = false

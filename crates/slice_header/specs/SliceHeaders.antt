@@ -51,6 +51,7 @@ abbrev pub type_of : Result (HeaderFront × Place) HeaderFault → Option SliceT
 type_of (Ok x) = Some x.0.slice_type
 type_of (Err e) = None
 
+-- the same as a function of the unit
 unfoldable pub slice_type_at : List ℕ → Option SliceType
 slice_type_at unit = type_of (table_at (type_table any) (unit_bits unit))
 

@@ -12,14 +12,17 @@ slice_type_of code =
     else if code % 5 == 3 then Sp
     else Si
 
+-- whether the slice is a P slice
 abbrev pub is_p : SliceType → Bool
 is_p P = true
 is_p t = false
 
+-- a B slice
 abbrev pub is_b : SliceType → Bool
 is_b B = true
 is_b t = false
 
+-- an I slice
 abbrev pub is_i : SliceType → Bool
 is_i I = true
 is_i t = false

@@ -60,27 +60,22 @@ pub fn header_fields(
     let is_idr = nal.nal_unit_type() == 5;
     let max_frame_num = sps.max_frame_num();
     let front = header_front(bits, (sps.pic_size_in_mbs() - 1) as u32)?;
+    let slice_type = front.slice_type;
     let numbers = picture_numbers(bits, is_idr, sps)?;
     let orders_from = bits.place() as u32;
     let orders = order_counts(bits, sps, pps)?;
     let orders_to = bits.place() as u32;
-    let prediction = prediction_fields(bits, front.slice_type, pps)?;
-    let active = active_counts(bits, front.slice_type, pps)?;
+    let prediction = prediction_fields(bits, slice_type, pps)?;
+    let active = active_counts(bits, slice_type, pps)?;
     let l0 = active.num_ref_idx_l0_active_minus1.get();
-    let list0 = ref_pic_list_modification(
-        alloc,
-        bits,
-        has_list(front.slice_type),
-        l0,
-        max_frame_num,
-    )?;
+    let list0 = ref_pic_list_modification(alloc, bits, has_list(slice_type), l0, max_frame_num)?;
     let l1 = active.num_ref_idx_l1_active_minus1.get();
-    let list1 = ref_pic_list_modification(alloc, bits, is_b(front.slice_type), l1, max_frame_num)?;
-    let weights = weights(alloc, bits, front.slice_type, l0, l1, sps, pps)?;
+    let list1 = ref_pic_list_modification(alloc, bits, is_b(slice_type), l1, max_frame_num)?;
+    let weights = weights(alloc, bits, slice_type, l0, l1, sps, pps)?;
     let marking_from = bits.place() as u32;
     let marking = dec_ref_pic_marking(alloc, bits, nal.nal_ref_idc() != 0, is_idr)?;
     let marking_to = bits.place() as u32;
-    let coding = coding_fields(bits, front.slice_type, pps)?;
+    let coding = coding_fields(bits, slice_type, pps)?;
     let deblocking = deblocking_fields(bits, pps)?;
     Ok(HeaderFields {
         front,

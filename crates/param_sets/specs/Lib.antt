@@ -7,3 +7,4 @@ pub mod Scaling
 pub mod SpsSyntax
 pub mod PpsSyntax
 pub mod Sets
+pub mod SameSets

@@ -9,6 +9,7 @@ mod fault;
 mod offsets;
 mod pic_parameter_set;
 mod pps;
+mod same_sets;
 mod scaling;
 mod scaling_list;
 mod seq_parameter_set;

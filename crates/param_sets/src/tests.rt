@@ -403,3 +403,12 @@ fn names_the_first_fault_of_a_pps(rt: HostRuntime) {
         }
     }
 }
+
+#[test]
+fn sets_are_same_by_each_field(rt: HostRuntime) {
+    let first = sps_of(&rt, &[0x67, 0x42, 0x00, 0x0A, 0xDA, 0x79]);
+    let again = sps_of(&rt, &[0x67, 0x42, 0x00, 0x0A, 0xDA, 0x79]);
+    let other_level = sps_of(&rt, &[0x67, 0x42, 0x00, 0x0B, 0xDA, 0x79]);
+    assert!(rt; first.is_same(&again));
+    assert!(rt; !first.is_same(&other_level));
+}

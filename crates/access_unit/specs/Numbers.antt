@@ -1,7 +1,7 @@
 -- The numbers of refusals.
 use Rattle.std.specs.Prelude.{ℕ}
 use Rattle.access_unit.specs.declared.refused.Refused.{Refused}
-use Rattle.access_unit.specs.declared.refused.Refused.TheVariants.{Split, UnitType, ForbiddenBit, Sps, Pps, Switching, MixedIdr, IdrNotIntra, IdrNotReference, MixedReference, UnitOrder, NoPicture, TwoPictures, TooLarge, Memory, OutsidePath}
+use Rattle.access_unit.specs.declared.refused.Refused.TheVariants.{Split, UnitType, ForbiddenBit, Sps, Pps, Switching, MixedIdr, IdrNotIntra, IdrNotReference, MixedReference, UnitOrder, NoPicture, TwoPictures, TooLarge, Memory}
 
 -- the number that stands for a refusal
 abbrev pub number_of : Refused → ℕ
@@ -20,4 +20,3 @@ number_of NoPicture = 12
 number_of TwoPictures = 13
 number_of TooLarge = 14
 number_of Memory = 15
-number_of OutsidePath = 19

@@ -9,8 +9,8 @@ use Rattle.slice_header.specs.declared.slice_types.SliceType.{SliceType}
 use Rattle.slice_header.specs.declared.slice_types.SliceType.TheVariants as types
 use Rattle.slice_header.specs.SliceHeaders.{slice_type_at}
 use Rattle.access_unit.specs.declared.refused.Refused.{Refused}
-use Rattle.access_unit.specs.declared.refused.Refused.TheVariants.{UnitType, ForbiddenBit, Sps, Pps, Switching, MixedIdr, IdrNotIntra, IdrNotReference, MixedReference, UnitOrder, NoPicture, TwoPictures, TooLarge, OutsidePath}
-use Rattle.access_unit.specs.Sets.{is_sps, is_pps, sps_of, pps_of, is_unreadable, is_outside_path}
+use Rattle.access_unit.specs.declared.refused.Refused.TheVariants.{UnitType, ForbiddenBit, Sps, Pps, Switching, MixedIdr, IdrNotIntra, IdrNotReference, MixedReference, UnitOrder, NoPicture, TwoPictures, TooLarge}
+use Rattle.access_unit.specs.Sets.{is_sps, is_pps, sps_of, pps_of, is_unreadable}
 
 -- a refusal, and whether it is shown
 abbrev pub Row : Type 0
@@ -37,19 +37,13 @@ header_rows unit =
 
 -- by what its payload is read as, where it has a parameter set
 abbrev pub read_rows : {A : Type 0} → Refused → Result A SetFault → List Row
-read_rows refused read = (refused, is_unreadable read) ∷ (OutsidePath, is_outside_path read) ∷ []
-
--- a parameter set that this program doesn't read yet
-abbrev pub has_outside_set : List ℕ → Bool
-has_outside_set unit =
-    (is_sps unit && is_outside_path (sps_of unit)) || (is_pps unit && is_outside_path (pps_of unit))
+read_rows refused read = (refused, is_unreadable read) ∷ []
 
 -- by its parameter set
 unfoldable pub set_rows : List ℕ → List Row
 set_rows unit =
     (Sps, is_sps unit && is_unreadable (sps_of unit))
     ∷ (Pps, is_pps unit && is_unreadable (pps_of unit))
-    ∷ (OutsidePath, has_outside_set unit)
     ∷ []
 
 -- slice_type SP or SI
@@ -95,8 +89,7 @@ mixes_reference (first ∷ slices) unit = not (same (is_not_reference first) (is
 -- by the slices before it
 unfoldable pub order_rows : List (List ℕ) → List ℕ → List Row
 order_rows slices unit =
-    (OutsidePath, is_slice unit && has_slice slices)
-    ∷ (Switching, is_slice unit && is_switching (slice_type_at unit))
+    (Switching, is_slice unit && is_switching (slice_type_at unit))
     ∷ (MixedIdr, is_slice unit && mixes_idr slices unit)
     ∷ (IdrNotIntra, is_idr unit && is_inter (slice_type_at unit))
     ∷ (IdrNotReference, is_idr unit && is_not_reference unit)
@@ -106,7 +99,7 @@ order_rows slices unit =
     ∷ (TooLarge, is_slice unit && nat_le 256 (length slices))
     ∷ []
 
--- the least refusal that a NAL unit shows behind those before it; OutsidePath stands before Switching
+-- the least refusal that a NAL unit shows behind those before it
 unfoldable pub refusal_at : List (List ℕ) → List ℕ → Option Refused
 refusal_at before unit =
     first_shown (header_rows unit ++ set_rows unit ++ order_rows (filter is_slice before) unit)

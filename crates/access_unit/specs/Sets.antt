@@ -30,13 +30,7 @@ pps_of unit = pps_at (payload_of unit)
 -- a set that isn't read
 abbrev pub is_unreadable : {A : Type 0} → Result A SetFault → Bool
 is_unreadable (Ok set) = false
-is_unreadable (Err faults.OutsidePath) = false
 is_unreadable (Err fault) = true
-
--- a set that isn't read yet
-abbrev pub is_outside_path : {A : Type 0} → Result A SetFault → Bool
-is_outside_path (Err faults.OutsidePath) = true
-is_outside_path read = false
 
 -- a set that was read
 abbrev pub set_read : {A : Type 0} → (A → ParameterSet) → Result A SetFault → Option ParameterSet

@@ -46,9 +46,7 @@ fn check_slice(slices: &[SharedNal], nal: &Nal<'_>) -> Result<(), Refused>
 {
     let slice_type = slice_type(nal);
     let is_idr = nal.nal_unit_type() == 5;
-    if !slices.is_empty() {
-        Err(Refused::OutsidePath)
-    } else if is_switching(slice_type) {
+    if is_switching(slice_type) {
         Err(Refused::Switching)
     } else if mixes_idr(slices, nal) {
         Err(Refused::MixedIdr)

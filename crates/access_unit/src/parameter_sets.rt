@@ -40,7 +40,6 @@ fn sps_of(alloc: Global, nal: &Nal<'_>) -> Result<Shared<Sps>, Refused>
     match read_sps(alloc, &payload(alloc, nal)?) {
         Ok(sps) => Ok(Shared::new(alloc, sps)?),
         Err(SetFault::Memory) => Err(Refused::Memory),
-        Err(SetFault::OutsidePath) => Err(Refused::OutsidePath),
         Err(_) => Err(Refused::Sps),
     }
 }
@@ -54,7 +53,6 @@ fn pps_of(alloc: Global, nal: &Nal<'_>) -> Result<Shared<Pps>, Refused>
     match read_pps(alloc, &payload(alloc, nal)?) {
         Ok(pps) => Ok(Shared::new(alloc, pps)?),
         Err(SetFault::Memory) => Err(Refused::Memory),
-        Err(SetFault::OutsidePath) => Err(Refused::OutsidePath),
         Err(_) => Err(Refused::Pps),
     }
 }

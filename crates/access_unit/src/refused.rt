@@ -55,13 +55,10 @@ pub enum Refused {
     /// A growth was refused.
     #[error("out of memory")]
     Memory,
-    /// What this program doesn't read yet; it stands between Pps and Switching.
-    #[error("outside what is read")]
-    OutsidePath,
 }
 
 impl Refused {
-    /// The refusal's number: 1 to 15 in the order above, and 19.
+    /// The refusal's number, from 1 in the order above.
     pub fn number(self) -> u8
         ensures { result ≡ number_of self }
     {
@@ -81,7 +78,6 @@ impl Refused {
             Refused::TwoPictures => 13,
             Refused::TooLarge => 14,
             Refused::Memory => 15,
-            Refused::OutsidePath => 19,
         }
     }
 }

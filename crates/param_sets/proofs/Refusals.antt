@@ -1,7 +1,7 @@
 -- Faults that are read or that memory shows.
 use Rattle.std.proofs.Common.{◌≡◌, Result, Err}
 use Rattle.param_sets.specs.declared.fault.SetFault.{SetFault}
-use Rattle.param_sets.specs.declared.fault.SetFault.TheVariants.{Memory, Cut, Range, Profile, Chroma444, Interlaced, SliceGroups, RefFrames, OutsidePath}
+use Rattle.param_sets.specs.declared.fault.SetFault.TheVariants.{Memory, Cut, Range, Profile, Chroma444, Interlaced, SliceGroups, RefFrames}
 use Rattle.param_sets.specs.Answer.{Refuses}
 
 -- a fault that is read is refused
@@ -14,7 +14,6 @@ refused Chroma444 r is = is
 refused Interlaced r is = is
 refused SliceGroups r is = is
 refused RefFrames r is = is
-refused OutsidePath r is = is
 
 -- what is refused of one reading is refused of another that has the same faults
 pub refused_by : {X Y : Type 0} (e : SetFault) (r : Result X SetFault) (s : Result Y SetFault) → (r ≡ Err e → s ≡ Err e) → Refuses e r → Refuses e s
@@ -26,4 +25,3 @@ refused_by Chroma444 r s same h = same h
 refused_by Interlaced r s same h = same h
 refused_by SliceGroups r s same h = same h
 refused_by RefFrames r s same h = same h
-refused_by OutsidePath r s same h = same h

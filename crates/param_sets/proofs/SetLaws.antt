@@ -3,7 +3,7 @@ use Rattle.std.proofs.Common.{◌≡◌, Result, Ok, Err, IfOk, IfErr, refl, sub
 use Rattle.expgolomb.specs.Bits.{Place}
 use Rattle.expgolomb.proofs.ExpGolomb.{ok_is}
 use Rattle.param_sets.specs.declared.fault.SetFault.{SetFault}
-use Rattle.param_sets.specs.declared.fault.SetFault.TheVariants.{Memory, Cut, Range, Profile, Chroma444, Interlaced, SliceGroups, RefFrames, OutsidePath}
+use Rattle.param_sets.specs.declared.fault.SetFault.TheVariants.{Memory, Cut, Range, Profile, Chroma444, Interlaced, SliceGroups, RefFrames}
 use Rattle.param_sets.specs.Sets.{Answers, IsShown, first_of}
 
 -- the answer is a set that is there
@@ -22,7 +22,6 @@ shown_by (Err Chroma444) read P exact law = law Chroma444 exact
 shown_by (Err Interlaced) read P exact law = law Interlaced exact
 shown_by (Err SliceGroups) read P exact law = law SliceGroups exact
 shown_by (Err RefFrames) read P exact law = law RefFrames exact
-shown_by (Err OutsidePath) read P exact law = law OutsidePath exact
 
 -- what reading gives is what is answered
 pub only_by : {A : Type 0} (r read given : Result A SetFault) → Answers r read → read ≡ given → Answers r given

@@ -72,9 +72,6 @@ pub enum SetFault {
     /// A growth was refused.
     #[error("out of memory")]
     Memory,
-    /// What this program doesn't read: no row of these tables gives it.
-    #[error("outside what is read")]
-    OutsidePath,
 }
 
 impl From<AllocError> for SetFault {

@@ -1,0 +1,117 @@
+-- What keeps a picture whose slices are read from being decoded, before it is counted (ITU-T H.264, 7.4.1.2.4 and 7.4.3).
+use Rattle.std.specs.Prelude.{ℕ, ◌+◌, ◌%◌, ◌==◌, nat_lt, Bool, true, false, not, ◌&&◌, ◌||◌, List, [], ◌∷◌, Option, None, Some, if◌then◌else◌}
+use Rattle.std.specs.Bool.{beq}
+use Rattle.std.specs.Ordering.{int_eq}
+use Rattle.std.specs.List.{list_any}
+use lib.Pointwise.{pointwise}
+use Rattle.param_sets.specs.declared.sps.Sps.{Sps}
+use Rattle.slice_header.specs.declared.slice_headers.SliceHeader.{SliceHeader}
+use Rattle.slice_header.specs.declared.dec_ref_pic_marking.DecRefPicMarking.{DecRefPicMarking}
+use Rattle.slice_header.specs.declared.dec_ref_pic_marking.DecRefPicMarking.TheVariants.{Idr, SlidingWindow, Adaptive}
+use Rattle.slice_header.specs.declared.dec_ref_pic_marking.MemoryManagementControlOperation.{MemoryManagementControlOperation}
+use Rattle.slice_header.specs.declared.dec_ref_pic_marking.MemoryManagementControlOperation.TheVariants.{FreeShortTerm, FreeLongTerm, AssignLongTerm, LimitLongTerm, FreeAll, CurrentLongTerm}
+use Rattle.order_count.specs.Pictures.{is_idr, is_reference}
+use Rattle.order_count.specs.FrameNumbers.{max_frame_num}
+use Rattle.ref_marking.specs.declared.frames.Frame.{Frame}
+use Rattle.ref_marking.specs.declared.frames.Term.{Term}
+use Rattle.ref_marking.specs.declared.frames.Term.TheVariants.{ShortTerm, LongTerm}
+use Rattle.request_core.specs.declared.fault.ValidityFault.{ValidityFault}
+use Rattle.request_core.specs.declared.fault.ValidityFault.TheVariants.{Redundant, SliceOrder, SliceMismatch, NoIdr, SpsChange, IdrFrameNum, FrameNumGap, FrameNumRepeat}
+use Rattle.param_sets.specs.SameSets.{same_sps}
+use Rattle.request_core.specs.States.{FoldState}
+use Rattle.request_core.specs.Slices.{SliceRead}
+
+-- a fault, and whether it is shown
+abbrev pub Row : Type 0
+Row = ValidityFault × Bool
+
+-- the first fault that is shown
+abbrev pub first_shown : List Row → Option ValidityFault
+first_shown [] = None
+first_shown ((fault, shown) ∷ rows) = if shown then Some fault else first_shown rows
+
+-- redundant_pic_cnt isn't 0
+abbrev pub is_redundant : SliceRead → Bool
+is_redundant slice = not (slice.header.redundant_pic_cnt == 0)
+
+-- first_mb_in_slice rises from slice to slice
+abbrev pub rises_from : ℕ → List SliceRead → Bool
+rises_from last [] = true
+rises_from last (slice ∷ slices) =
+    nat_lt last slice.header.first_mb_in_slice && rises_from slice.header.first_mb_in_slice slices
+
+-- the same operation with the same operands
+abbrev pub same_operation : MemoryManagementControlOperation → MemoryManagementControlOperation → Bool
+same_operation (FreeShortTerm a) (FreeShortTerm b) = a == b
+same_operation (FreeLongTerm a) (FreeLongTerm b) = a == b
+same_operation (AssignLongTerm a i) (AssignLongTerm b j) = a == b && i == j
+same_operation (LimitLongTerm a) (LimitLongTerm b) = a == b
+same_operation FreeAll FreeAll = true
+same_operation (CurrentLongTerm i) (CurrentLongTerm j) = i == j
+same_operation a b = false
+
+-- the same dec_ref_pic_marking
+abbrev pub same_marking : DecRefPicMarking → DecRefPicMarking → Bool
+same_marking (Idr no_output long_term) (Idr no_output' long_term') = beq no_output no_output' && beq long_term long_term'
+same_marking SlidingWindow SlidingWindow = true
+same_marking (Adaptive operations) (Adaptive operations') = pointwise same_operation operations operations'
+same_marking a b = false
+
+-- two slices agree in what the slices of a picture share
+abbrev pub same_picture : SliceRead → SliceRead → Bool
+same_picture a b =
+    a.sps.seq_parameter_set_id == b.sps.seq_parameter_set_id
+    && a.header.frame_num == b.header.frame_num
+    && a.header.idr_pic_id == b.header.idr_pic_id
+    && a.header.pic_order_cnt_lsb == b.header.pic_order_cnt_lsb
+    && int_eq a.header.delta_pic_order_cnt_bottom b.header.delta_pic_order_cnt_bottom
+    && int_eq a.header.delta_pic_order_cnt0 b.header.delta_pic_order_cnt0
+    && int_eq a.header.delta_pic_order_cnt1 b.header.delta_pic_order_cnt1
+    && same_marking a.header.dec_ref_pic_marking b.header.dec_ref_pic_marking
+
+-- the slices by themselves
+abbrev pub slice_rows : SliceRead → List SliceRead → List Row
+slice_rows first others =
+    (Redundant, list_any is_redundant (first ∷ others))
+    ∷ (SliceOrder, not (first.header.first_mb_in_slice == 0 && rises_from 0 others))
+    ∷ (SliceMismatch, list_any (λ other. not (same_picture first other)) others)
+    ∷ []
+
+-- the active set is this one
+abbrev pub is_active : Sps → Option Sps → Bool
+is_active sps None = false
+is_active sps (Some active) = same_sps active sps
+
+abbrev pub is_none : Option Sps → Bool
+is_none None = true
+is_none (Some active) = false
+
+-- a short-term frame with this frame_num
+abbrev pub is_short_term : ℕ → Frame → Bool
+is_short_term frame_num frame = by_term frame.term && frame.frame_num == frame_num
+  where
+    by_term : Term → Bool
+    by_term ShortTerm = true
+    by_term term = false
+
+-- frame_num follows that of the last reference picture, or is the same (7.4.3)
+abbrev pub follows : FoldState → Sps → SliceHeader → Bool
+follows state sps header =
+    header.frame_num == state.prev_ref_frame_num
+    || header.frame_num == (state.prev_ref_frame_num + 1) % max_frame_num sps
+
+-- frame_num is that of the last reference picture, or of a short-term frame
+abbrev pub repeats : FoldState → SliceHeader → Bool
+repeats state header =
+    header.frame_num == state.prev_ref_frame_num
+    || list_any (is_short_term header.frame_num) state.marks.frames
+
+-- the picture behind those before it
+abbrev pub picture_rows : FoldState → Sps → SliceHeader → List Row
+picture_rows state sps header =
+    (NoIdr, not (is_idr header) && is_none state.active)
+    ∷ (SpsChange, not (is_idr header) && not (is_active sps state.active))
+    ∷ (IdrFrameNum, is_idr header && not (header.frame_num == 0))
+    ∷ (FrameNumGap, not (is_idr header) && not (follows state sps header))
+    ∷ (FrameNumRepeat, not (is_idr header) && is_reference header && repeats state header)
+    ∷ []

@@ -1,0 +1,128 @@
+-- The fold over a stream (ITU-T H.264, 8.2): one step of it, and all.
+use Rattle.std.specs.Prelude.{◌≡◌, ℕ, Bool, ◌||◌, List, [], ◌∷◌, map, filter, Option, None, Some, Result, Ok, Err, if◌then◌else◌, ⊤}
+use Rattle.annexb.specs.NalUnit.{is_slice}
+use Rattle.param_sets.specs.Reading.{◌>>=◌}
+use Rattle.access_unit.specs.Sets.{sets_of}
+use Rattle.order_count.specs.declared.counts.Counts.{Counts}
+use Rattle.order_count.specs.declared.fault.OrderRange as counting
+use Rattle.order_count.specs.Anchors.{anchor_after_of}
+use Rattle.order_count.specs.Counting.{counts_of}
+use Rattle.order_count.specs.Pictures.{is_idr, is_reference}
+use Rattle.order_count.specs.PicOrderCnt.{pic_order_cnt}
+use Rattle.order_count.specs.Resetting.{has_operation_five, counts_after_reset}
+use Rattle.ref_marking.specs.declared.fault.MarkFault.{MarkFault}
+use Rattle.ref_marking.specs.declared.fault.MarkFault.TheVariants as marking
+use Rattle.ref_marking.specs.MarkedFrames.{Marked}
+use Rattle.ref_marking.specs.MarksAfter.{marks_after}
+use Rattle.ref_lists.specs.declared.fault.ListFault.{ListFault}
+use Rattle.ref_lists.specs.declared.fault.ListFault.TheVariants as listing
+use Rattle.ref_lists.specs.ReferenceLists.{lists_of}
+use Rattle.request_core.specs.declared.fault.ValidityFault.{ValidityFault}
+use Rattle.request_core.specs.declared.fault.ValidityFault.TheVariants.{MissingPps, OrderRange, OrderTie, NoReference, BadModification, BadMarking, TooManyReferences}
+use Rattle.request_core.specs.declared.outcome.Plan.{Plan}
+use Rattle.request_core.specs.declared.outcome.Outcome.{Outcome}
+use Rattle.request_core.specs.declared.outcome.Outcome.TheVariants as outcomes
+use Rattle.request_core.specs.ParameterSets.{put_all}
+use Rattle.request_core.specs.States.{FoldState, no_units}
+use Rattle.request_core.specs.Numbers.{gathered}
+use Rattle.request_core.specs.Slices.{SliceRead, slice_at}
+use Rattle.request_core.specs.Faults.{first_shown, slice_rows, picture_rows}
+use Rattle.request_core.specs.Requests.{ListedSlice, requests_of}
+
+-- nothing, or the fault that is shown
+abbrev pub passes : Option ValidityFault → Result ⊤ ValidityFault
+passes None = Ok record {}
+passes (Some fault) = Err fault
+
+-- the counts, or the fault of having none
+abbrev pub counted : Result Counts counting.OrderRange → Result Counts ValidityFault
+counted (Ok counts) = Ok counts
+counted (Err range) = Err OrderRange
+
+-- the fault of having no lists
+abbrev pub list_fault : ListFault → ValidityFault
+list_fault listing.OrderTie = OrderTie
+list_fault listing.NoReference = NoReference
+list_fault listing.BadModification = BadModification
+
+-- the slice with its lists, or the fault of having none
+abbrev pub with_lists : SliceRead → Result (List (Option ℕ) × List (Option ℕ)) ListFault → Result ListedSlice ValidityFault
+with_lists slice (Ok lists) = Ok (record { slice = slice; list_0 = lists.0; list_1 = lists.1 })
+with_lists slice (Err fault) = Err (list_fault fault)
+
+abbrev pub listed : Marked → Counts → SliceRead → Result ListedSlice ValidityFault
+listed marks counts slice = with_lists slice (lists_of marks slice.sps slice.header counts)
+
+-- the frames that are marked behind the picture, or the fault of its marking
+abbrev pub marked : Result Marked MarkFault → Result Marked ValidityFault
+marked (Ok marks) = Ok marks
+marked (Err marking.TooManyReferences) = Err TooManyReferences
+marked (Err fault) = Err BadMarking
+
+-- the frame_num that the next picture has to follow (7.4.3)
+abbrev pub next_ref_frame_num : FoldState → SliceRead → ℕ
+next_ref_frame_num state slice =
+    if is_reference slice.header then (if has_operation_five slice.header then 0 else slice.header.frame_num)
+    else state.prev_ref_frame_num
+
+-- the state behind a picture
+abbrev pub state_after : FoldState → SliceRead → Counts → Marked → FoldState
+state_after state slice counts marks = record {
+  tables = state.tables;
+  active = if is_idr slice.header then Some slice.sps else state.active;
+  anchor = anchor_after_of state.anchor slice.sps slice.header counts;
+  prev_ref_frame_num = next_ref_frame_num state slice;
+  marks = marks;
+}
+
+-- the plan of a picture
+abbrev pub plan_of : FoldState → ℕ → SliceRead → Counts → List ListedSlice → Plan
+plan_of state id first counts slices = record {
+  requests = requests_of state.marks.frames id slices;
+  counts = counts;
+  order = pic_order_cnt (counts_after_reset first.header counts);
+  begins_period = is_idr first.header || has_operation_five first.header;
+}
+
+-- what a picture leads to whose slices agree: the state behind it and its plan, or the first fault
+unfoldable pub picture_behind : FoldState → ℕ → SliceRead → List SliceRead → Result (FoldState × Plan) ValidityFault
+picture_behind state id first slices =
+    passes (first_shown (picture_rows state first.sps first.header)) >>= λ passed.
+    counted (counts_of state.anchor first.sps first.header) >>= λ counts.
+    gathered (map (listed state.marks counts) slices) >>= λ slices.
+    marked (marks_after state.marks id first.sps first.header counts) >>= λ marks.
+    Ok (state_after state first counts marks, plan_of state id first counts slices)
+
+-- slices make a picture; a unit has one at least
+abbrev pub picture_of : FoldState → ℕ → List SliceRead → Result (FoldState × Plan) ValidityFault
+picture_of state id [] = Err MissingPps
+picture_of state id (first ∷ others) =
+    passes (first_shown (slice_rows first others)) >>= λ passed. picture_behind state id first (first ∷ others)
+
+-- the state in which a unit's sets are put
+abbrev pub with_sets : FoldState → List (List ℕ) → FoldState
+with_sets state unit = record state { tables = put_all state.tables (sets_of unit) }
+
+-- what a state leads to in which the sets of the unit are put
+abbrev pub planned : FoldState → ℕ → List (List ℕ) → Result (FoldState × Plan) ValidityFault
+planned state id unit =
+    gathered (map (slice_at state.tables) (filter is_slice unit)) >>= picture_of state id
+
+-- a unit with a fault leaves all but its sets as it was
+abbrev pub outcome_of : FoldState → Result (FoldState × Plan) ValidityFault → FoldState × Outcome
+outcome_of state (Ok planned) = (planned.0, outcomes.Plan planned.1)
+outcome_of state (Err fault) = (state, outcomes.Fault fault)
+
+-- one step: the state behind a unit, and what becomes of the unit
+unfoldable pub fold_step : FoldState → ℕ → List (List ℕ) → FoldState × Outcome
+fold_step state id unit = outcome_of (with_sets state unit) (planned (with_sets state unit) id unit)
+
+-- the outcomes of the units behind a state, each with its id
+abbrev pub outcomes_from : FoldState → List (ℕ × List (List ℕ)) → List Outcome
+outcomes_from state [] = []
+outcomes_from state (unit ∷ units) =
+    (fold_step state unit.0 unit.1).1 ∷ outcomes_from (fold_step state unit.0 unit.1).0 units
+
+-- the outcomes of a stream
+abbrev pub outcomes_of : List (ℕ × List (List ℕ)) → List Outcome
+outcomes_of stream = outcomes_from no_units stream

@@ -1,0 +1,21 @@
+-- What slices give, one behind the other.
+use Rattle.std.specs.Prelude.{List, [], ◌∷◌, ◌++◌, Option, None, Some, Result, Ok, Err}
+use Rattle.request_core.specs.declared.fault.ValidityFault.{ValidityFault}
+use Rattle.request_core.specs.Numbers.{lower}
+
+-- what was found: the items, unless there was a fault
+abbrev pub found : {A : Type 0} → List A → Option ValidityFault → Result (List A) ValidityFault
+found items None = Ok items
+found items (Some fault) = Err fault
+
+-- the lower of a fault and one before it
+abbrev pub lower_behind : Option ValidityFault → ValidityFault → ValidityFault
+lower_behind None fault = fault
+lower_behind (Some before) fault = lower before fault
+
+-- what is found with one answer more
+abbrev pub behind : {A : Type 0} → Result (List A) ValidityFault → Result A ValidityFault → Result (List A) ValidityFault
+behind (Ok items) (Ok item) = Ok (items ++ item ∷ [])
+behind (Ok items) (Err fault) = Err fault
+behind (Err before) (Ok item) = Err before
+behind (Err before) (Err fault) = Err (lower before fault)

@@ -1,0 +1,84 @@
+//! The slices of a unit, each with its header and the sets that it names.
+
+ghost use Rattle.std.specs.Prelude.{◌≡◌, ◌∷◌, map, Ok, Err};
+ghost use Rattle.request_core.specs.Numbers.{joined, gathered, lower};
+ghost use Rattle.request_core.specs.Slices.{slice_at, header_fault};
+ghost use Rattle.request_core.specs.Answers.{Answers, AnswersAs, StopsAt};
+
+use crate::fault::ValidityFault;
+use crate::gathered::Gathered;
+use crate::stop::Stop;
+use crate::tables::Tables;
+use access_unit::{Shared, SharedNal};
+use param_sets::Sps;
+use slice_header::{HeaderFault, SliceHeader, peek, read};
+use std::alloc::Global;
+use std::marker::Model;
+
+/// A slice: its NAL unit, the sequence parameter set that it names, and its header.
+#[derive(Debug, Drop)]
+pub(crate) struct Slice {
+    pub(crate) nal: SharedNal,
+    pub(crate) sps: Shared<Sps>,
+    pub(crate) header: SliceHeader,
+}
+
+impl Model for Slice {
+    ghost use Rattle.request_core.specs.Slices.{SliceRead};
+
+    ghost Value = { SliceRead };
+
+    ghost view = { λ slice. record { nal = slice.nal; sps = slice.sps; header = slice.header } };
+}
+
+/// The slices of these NAL units, or the least fault that any shows.
+pub(crate) fn read_slices(
+    alloc: Global,
+    tables: &Tables,
+    nals: &[SharedNal],
+) -> Result<Vec<Slice>, Stop>
+    ensures { AnswersAs (λ slices. slices.items) result (gathered (map (slice_at tables.now) nals.now)) }
+{
+    let mut slices = Gathered::with_capacity(alloc, nals.len())?;
+    for nal in nals {
+        slices.add(read_slice(alloc, tables, nal))?;
+    }
+    slices.finish()
+}
+
+/// The slice of a NAL unit, or the fault that it shows.
+#[tactic(auto, unfolding(crate::specs::Slices::slice_at))]
+fn read_slice(alloc: Global, tables: &Tables, nal: &SharedNal) -> Result<Slice, Stop>
+    ensures { Answers result (slice_at tables.now nal.now) }
+{
+    let unit = nal.nal();
+    let front = match peek(&unit) {
+        Ok(front) => front,
+        Err(fault) => return Err(stop(fault)),
+    };
+    let Some(pps) = tables.pps(front.pic_parameter_set_id) else {
+        return Err(Stop::Fault(ValidityFault::MissingPps));
+    };
+    let Some(sps) = tables.sps(pps.seq_parameter_set_id.get()) else {
+        return Err(Stop::Fault(ValidityFault::MissingSps));
+    };
+    match read(alloc, &unit, sps, pps) {
+        Ok(header) => Ok(Slice {
+            nal: nal.clone()?,
+            sps: sps.clone()?,
+            header,
+        }),
+        Err(fault) => Err(stop(fault)),
+    }
+}
+
+/// A header's fault as the fault of its unit.
+fn stop(fault: HeaderFault) -> Stop
+    ensures { StopsAt result fault }
+{
+    match fault {
+        HeaderFault::Cut => Stop::Fault(ValidityFault::HeaderCut),
+        HeaderFault::Value => Stop::Fault(ValidityFault::HeaderValue),
+        HeaderFault::Memory => Stop::Memory,
+    }
+}

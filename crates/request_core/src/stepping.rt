@@ -1,0 +1,232 @@
+//! One step of the fold over a stream.
+
+ghost use Rattle.std.specs.Prelude.{◌≡◌, ◌<◌, ◌∷◌, ◌++◌, ◌+◌, ◌^◌, List, Result, Ok, Some, None, IsTrue, IfOk, OnOk, OnErr, if◌then◌else◌};
+ghost use Rattle.request_core.specs.declared.fault.ValidityFault.{ValidityFault};
+ghost use Rattle.request_core.specs.declared.outcome.Plan.{Plan as PlanValue};
+ghost use Rattle.request_core.specs.States.{FoldState};
+ghost use Rattle.request_core.specs.ParameterSets.{put_all};
+ghost use Rattle.order_count.specs.Counting.{counts_of};
+ghost use Rattle.order_count.specs.Pictures.{is_idr};
+ghost use Rattle.order_count.specs.PicOrderCnt.{are_in_range};
+ghost use Rattle.order_count.specs.Resetting.{counts_after_reset};
+ghost use Rattle.request_core.specs.Faults.{first_shown, slice_rows, picture_rows};
+ghost use Rattle.request_core.specs.Fold.{passes, picture_behind, picture_of, planned, with_sets, outcome_of, fold_step, state_after, plan_of, next_ref_frame_num};
+ghost use Rattle.request_core.specs.Answers.{AnswersAs};
+
+use crate::checks::{picture_fault, slice_fault};
+use crate::fault::ValidityFault;
+use crate::outcome::{Outcome, Plan};
+use crate::planning::{Listed, count_picture, list_picture, mark_picture, requests_of};
+use crate::slices::{Slice, read_slices};
+use crate::state::State;
+use crate::steps::Steps;
+use crate::stop::Stop;
+use crate::tables::Tables;
+use access_unit::{ParameterSet, Shared, Unit};
+use order_count::{Counts, after_reset, anchor_after, resets};
+use param_sets::Sps;
+use ref_marking::{AuId, Marks};
+use std::alloc::{AllocError, Global};
+
+#[tactic(auto, unfolding(crate::specs::Fold::fold_step))]
+/// One step of the fold: the state behind the unit, and what becomes of the unit.
+///
+/// It counts one step where it answers. Where memory runs out nothing is changed, and nothing counted.
+pub fn step(
+    alloc: Global,
+    state: &State,
+    id: AuId,
+    unit: &Unit,
+    steps: &mut Steps,
+) -> Result<(State, Outcome), AllocError>
+    requires { steps.old + 1 < 2 ^ 64 }
+    ensures value { IfOk result (λ answer. answer ≡ fold_step state.now id unit.now) }
+    ensures counted { OnOk result (steps.new ≡ steps.old + 1) }
+    ensures kept { OnErr result (steps.new ≡ steps.old) }
+{
+    let state = with_sets(alloc, state, unit)?;
+    let planned = plan(alloc, &state, id, unit);
+    let answer = answer(state, planned)?;
+    steps.raise();
+    Ok(answer)
+}
+
+/// What becomes of the unit, by what the state leads to in which its sets are put.
+fn answer(
+    state: State,
+    planned: Result<(State, Plan), Stop>,
+) -> Result<(State, Outcome), AllocError>
+    ensures { (says : Result (FoldState × PlanValue) ValidityFault) → AnswersAs (λ planned. planned) planned says
+        → IfOk result (λ answer. answer ≡ outcome_of state says) }
+{
+    match planned {
+        Ok((after, plan)) => Ok((after, Outcome::Plan(plan))),
+        Err(Stop::Fault(fault)) => Ok((state, Outcome::Fault(fault))),
+        Err(Stop::Memory) => Err(AllocError),
+    }
+}
+
+/// The state in which the unit's parameter sets are put.
+fn with_sets(alloc: Global, state: &State, unit: &Unit) -> Result<State, AllocError>
+    ensures { IfOk result (λ after. after ≡ with_sets state.now unit.now) }
+{
+    Ok(State {
+        tables: tables_with(alloc, &state.tables, unit.sets())?,
+        active: shared_active(state)?,
+        anchor: state.anchor,
+        prev_ref_frame_num: state.prev_ref_frame_num,
+        marks: state.marks.copy(),
+    })
+}
+
+/// The tables with these sets; where there are none, the same tables shared.
+fn tables_with(
+    alloc: Global,
+    tables: &Shared<Tables>,
+    sets: &[ParameterSet],
+) -> Result<Shared<Tables>, AllocError>
+    ensures { IfOk result (λ after. after ≡ put_all tables.now sets.now) }
+{
+    if sets.is_empty() {
+        return tables.clone();
+    }
+    let mut after = tables.copy(alloc)?;
+    for set in sets {
+        after.put(set)?;
+    }
+    Ok(Shared::new(alloc, after)?)
+}
+
+/// The set of the last IDR picture, shared.
+fn shared_active(state: &State) -> Result<Option<Shared<Sps>>, AllocError>
+    ensures { IfOk result (λ active. active ≡ state.now.active) }
+{
+    match &state.active {
+        Some(active) => Ok(Some(active.clone()?)),
+        None => Ok(None),
+    }
+}
+
+/// What the unit leads to in a state in which its sets are put.
+fn plan(alloc: Global, state: &State, id: AuId, unit: &Unit) -> Result<(State, Plan), Stop>
+    ensures { AnswersAs (λ planned. planned) result (planned state.now id unit.now) }
+{
+    let slices = read_slices(alloc, &state.tables, unit.slices())?;
+    plan_picture(alloc, state, id, slices.as_slice())
+}
+
+/// What the slices of a picture lead to.
+fn plan_picture(
+    alloc: Global,
+    state: &State,
+    id: AuId,
+    slices: &[Slice],
+) -> Result<(State, Plan), Stop>
+    ensures { AnswersAs (λ planned. planned) result (picture_of state.now id slices.now) }
+{
+    match slices {
+        [first, others @ ..] => {
+            pass(slice_fault(first, others))?;
+            plan_first(alloc, state, id, first, slices)
+        }
+        [] => Err(Stop::Fault(ValidityFault::MissingPps)),
+    }
+}
+
+/// What the slices of a picture lead to, whose first slice is this one, where they agree.
+fn plan_first(
+    alloc: Global,
+    state: &State,
+    id: AuId,
+    first: &Slice,
+    slices: &[Slice],
+) -> Result<(State, Plan), Stop>
+    ensures { AnswersAs (λ planned. planned) result (picture_behind state.now id first.now slices.now) }
+{
+    follow(state, first)?;
+    let counts = count_picture(state, first)?;
+    let listed = list_picture(alloc, state, counts, slices)?;
+    let marks = mark_picture(state, id, first, counts)?;
+    let plan = make_plan(alloc, state, id, first, counts, listed.as_slice())?;
+    Ok((state_after(state, first, counts, marks)?, plan))
+}
+
+/// The plan of a picture.
+fn make_plan(
+    alloc: Global,
+    state: &State,
+    id: AuId,
+    first: &Slice,
+    counts: Counts,
+    slices: &[Listed<'_>],
+) -> Result<Plan, AllocError>
+    requires { IsTrue (are_in_range (counts_after_reset first.now.header counts)) }
+    ensures { IfOk result (λ plan. plan ≡ plan_of state.now id first.now counts slices.now) }
+{
+    Ok(Plan {
+        requests: requests_of(alloc, &state.marks, id, slices)?,
+        counts,
+        order: after_reset(&first.header, counts).pic_order_cnt(),
+        begins_period: first.header.is_idr() || resets(&first.header),
+    })
+}
+
+/// Ends the planning at the first fault that the picture shows behind those before it.
+fn follow(state: &State, first: &Slice) -> Result<(), Stop>
+    ensures { AnswersAs (λ passed. record {}) result (passes (first_shown (picture_rows state.now first.now.sps first.now.header))) }
+{
+    pass(picture_fault(state, &first.sps, &first.header))
+}
+
+/// Ends the planning at a fault.
+fn pass(fault: Option<ValidityFault>) -> Result<(), Stop>
+    ensures { AnswersAs (λ passed. record {}) result (passes fault) }
+{
+    match fault {
+        Some(fault) => Err(Stop::Fault(fault)),
+        None => Ok(()),
+    }
+}
+
+/// The state behind a picture.
+fn state_after(
+    state: &State,
+    slice: &Slice,
+    counts: Counts,
+    marks: Marks,
+) -> Result<State, AllocError>
+    requires { counts_of state.now.anchor slice.now.sps slice.now.header ≡ Ok counts }
+    ensures { IfOk result (λ after. after ≡ state_after state.now slice.now counts marks) }
+{
+    Ok(State {
+        tables: state.tables.clone()?,
+        active: next_active(state, slice)?,
+        anchor: anchor_after(&state.anchor, &slice.sps, &slice.header, counts),
+        prev_ref_frame_num: next_ref_frame_num(state, slice),
+        marks,
+    })
+}
+
+/// The set of the last IDR picture behind this one.
+fn next_active(state: &State, slice: &Slice) -> Result<Option<Shared<Sps>>, AllocError>
+    ensures { IfOk result (λ active. active ≡ (if is_idr slice.now.header then Some slice.now.sps else state.now.active)) }
+{
+    if slice.header.is_idr() {
+        Ok(Some(slice.sps.clone()?))
+    } else {
+        shared_active(state)
+    }
+}
+
+/// The frame_num that the next picture has to follow.
+fn next_ref_frame_num(state: &State, slice: &Slice) -> u16
+    ensures { result ≡ next_ref_frame_num state.now slice.now }
+{
+    if !slice.header.is_reference() {
+        state.prev_ref_frame_num
+    } else if resets(&slice.header) {
+        0
+    } else {
+        slice.header.frame_num
+    }
+}

@@ -1,0 +1,133 @@
+//! The parameter sets that a stream has sent (7.4.1.2.1).
+
+ghost use Rattle.std.specs.Prelude.{◌≡◌, ◌<◌, None, Some, IfOk, OnOk, length, option_map, replicate, set};
+ghost use Rattle.request_core.specs.ParameterSets.{no_sets, put, put_all, sps_under, pps_under};
+
+use access_unit::{ParameterSet, Shared};
+use param_sets::{Pps, Sps};
+use std::alloc::{AllocError, Global};
+use std::marker::Model;
+
+/// How many ids sequence parameter sets have.
+const MOST_SPS: usize = 32;
+
+/// How many ids picture parameter sets have.
+const MOST_PPS: usize = 256;
+
+/// The set that was sent last under each id.
+#[derive(Debug, Drop)]
+pub(crate) struct Tables {
+    sps: Vec<Option<Shared<Sps>>>,
+    pps: Vec<Option<Shared<Pps>>>,
+}
+
+impl Model for Tables {
+    ghost use Rattle.std.specs.Prelude.{◌≡◌, length};
+    ghost use Rattle.request_core.specs.ParameterSets.{ParameterSets};
+
+    ghost Value = { ParameterSets };
+
+    ghost view = { λ tables. record { sps = tables.sps.items; pps = tables.pps.items } };
+
+    ghost invariant = { λ tables. (length tables.sps.items ≡ 32) × (length tables.pps.items ≡ 256) };
+}
+
+impl Tables {
+    /// No sets.
+    pub(crate) fn new(alloc: Global) -> Result<Tables, AllocError>
+        ensures { IfOk result (λ tables. tables ≡ no_sets) }
+    {
+        Ok(Tables {
+            sps: empty_places(alloc, MOST_SPS)?,
+            pps: empty_places(alloc, MOST_PPS)?,
+        })
+    }
+
+    /// The same sets, shared.
+    pub(crate) fn copy(&self, alloc: Global) -> Result<Tables, AllocError>
+        ensures { IfOk result (λ tables. tables ≡ self.now) }
+    {
+        Ok(Tables {
+            sps: copied(alloc, &self.sps)?,
+            pps: copied(alloc, &self.pps)?,
+        })
+    }
+
+    #[tactic(auto, unfolding(crate::specs::ParameterSets::put))]
+    /// Puts a set into the place of its id.
+    pub(crate) fn put(&mut self, set: &ParameterSet) -> Result<(), AllocError>
+        ensures { OnOk result (self.new ≡ put self.old set.now) }
+    {
+        match set {
+            ParameterSet::Sps(sps) => {
+                let id = usize::from(sps.seq_parameter_set_id.get());
+                put_in(&mut self.sps, id, sps.clone()?);
+            }
+            ParameterSet::Pps(pps) => {
+                let id = usize::from(pps.pic_parameter_set_id);
+                put_in(&mut self.pps, id, pps.clone()?);
+            }
+        }
+        Ok(())
+    }
+
+    /// The sequence parameter set under an id.
+    pub(crate) fn sps(&self, id: u8) -> Option<&Shared<Sps>>
+        requires { id < 32 }
+        ensures { option_map (λ set. set.now) result ≡ sps_under self.now id }
+    {
+        self.sps[usize::from(id)].as_ref()
+    }
+
+    /// The picture parameter set under an id.
+    pub(crate) fn pps(&self, id: u8) -> Option<&Shared<Pps>>
+        ensures { option_map (λ set. set.now) result ≡ pps_under self.now id }
+    {
+        self.pps[usize::from(id)].as_ref()
+    }
+}
+
+/// Puts a set into a place.
+fn put_in<T: Drop>(places: &mut Vec<Option<Shared<T>>>, id: usize, value: Shared<T>)
+    requires { id < length places.old.items }
+    ensures { places.new.items ≡ set places.old.items id (Some value) }
+{
+    places[id] = Some(value);
+}
+
+/// This many places with no set.
+fn empty_places<T>(alloc: Global, count: usize) -> Result<Vec<Option<T>>, AllocError>
+where
+    T: Drop,
+    ensures { IfOk result (λ places. places.items ≡ replicate count None) }
+{
+    let mut places = Vec::with_capacity(alloc, count)?;
+    for _ in 0..count {
+        places.push(None)?;
+    }
+    Ok(places)
+}
+
+/// The same places, their sets shared.
+fn copied<T: Drop>(
+    alloc: Global,
+    places: &[Option<Shared<T>>],
+) -> Result<Vec<Option<Shared<T>>>, AllocError>
+    ensures { IfOk result (λ copy. copy.items ≡ places.now) }
+{
+    let mut copy = Vec::with_capacity(alloc, places.len())?;
+    for place in places {
+        copy.push(shared(place)?)?;
+    }
+    Ok(copy)
+}
+
+/// The same set with one owner more.
+fn shared<T: Drop>(place: &Option<Shared<T>>) -> Result<Option<Shared<T>>, AllocError>
+    ensures { IfOk result (λ copy. copy ≡ place.now) }
+{
+    match place {
+        Some(set) => Ok(Some(set.clone()?)),
+        None => Ok(None),
+    }
+}

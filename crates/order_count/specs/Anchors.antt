@@ -1,4 +1,4 @@
--- What counting keeps of the pictures before (ITU-T H.264, 8.2.1.1 and 8.2.1.2).
+-- What counting keeps of the pictures before (ITU-T H.264, 8.2.1.1 and 8.2.1.2). What the type doesn't read is 0.
 use Rattle.std.specs.Prelude.{pos, if◌then◌else◌}
 use Rattle.param_sets.specs.declared.sps.Sps.{Sps}
 use Rattle.param_sets.specs.declared.sps.PicOrderCntType.{PicOrderCntType}

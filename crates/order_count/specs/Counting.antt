@@ -1,4 +1,4 @@
--- The counts of a picture, and what counting keeps of it (ITU-T H.264, 8.2.1).
+-- The counts of a picture by its type of counting, where they have 32 bits (ITU-T H.264, 8.2.1).
 use Rattle.std.specs.Prelude.{◌^◌, Bool, true, ◌&&◌, nat_lt, Result, Ok, Err, if◌then◌else◌}
 use Rattle.param_sets.specs.declared.sps.Sps.{Sps}
 use Rattle.param_sets.specs.declared.sps.PicOrderCntType.{PicOrderCntType}
@@ -23,12 +23,14 @@ by_type Two anchor sps header = type_two (frame_num_offset anchor sps header) he
 -- FrameNumOffset is below 2^32, where the type reads it
 abbrev pub has_small_offset : PicOrderCntType → Anchor → Sps → SliceHeader → Bool
 has_small_offset Zero anchor sps header = true
-has_small_offset type anchor sps header = nat_lt (frame_num_offset anchor sps header) (2 ^ 32)
+has_small_offset One anchor sps header = nat_lt (frame_num_offset anchor sps header) (2 ^ 32)
+has_small_offset Two anchor sps header = nat_lt (frame_num_offset anchor sps header) (2 ^ 32)
 
 -- the counts of a picture, where they and what is kept of them are in range
 unfoldable pub counts_of : Anchor → Sps → SliceHeader → Result Counts OrderRange
 counts_of anchor sps header =
-    if has_small_offset sps.pic_order_cnt_type anchor sps header && are_in_range counts && are_in_range (counts_after_reset header counts)
+    if has_small_offset sps.pic_order_cnt_type anchor sps header
+    && are_in_range counts && are_in_range (counts_after_reset header counts)
     then Ok counts
     else Err (record {})
   where

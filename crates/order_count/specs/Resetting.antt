@@ -9,6 +9,7 @@ use Rattle.slice_header.specs.declared.dec_ref_pic_marking.MemoryManagementContr
 use Rattle.order_count.specs.declared.counts.Counts.{Counts}
 use Rattle.order_count.specs.PicOrderCnt.{pic_order_cnt}
 
+-- memory_management_control_operation is 5
 abbrev pub is_five : MemoryManagementControlOperation → Bool
 is_five FreeAll = true
 is_five operation = false

@@ -36,5 +36,6 @@ counts_from expected sps header = record {
   bottom = expected +ℤ header.delta_pic_order_cnt0 +ℤ sps.offset_for_top_to_bottom_field +ℤ header.delta_pic_order_cnt1;
 }
 
+-- the counts of a picture of type 1
 unfoldable pub type_one : (frame_num_offset : ℕ) → Sps → SliceHeader → Counts
 type_one frame_num_offset sps header = counts_from (expected_pic_order_cnt frame_num_offset sps header) sps header

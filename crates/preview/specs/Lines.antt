@@ -1,0 +1,50 @@
+-- The lines of a valid unit (docs/OUTPUT.md).
+use Rattle.std.specs.Prelude.{ℕ, ◌++◌, List, [], ◌∷◌, Option, Some, None, codes, decimal, if◌then◌else◌}
+use Rattle.std.specs.Fmt.{signed_decimal}
+use Rattle.std.specs.List.{join_by}
+use Rattle.request_core.specs.declared.request.DpbEntry.{DpbEntry}
+use Rattle.slice_header.specs.declared.slice_types.SliceType.{SliceType}
+use Rattle.slice_header.specs.declared.slice_types.SliceType.TheVariants.{P, B, I, Sp, Si}
+use Rattle.preview.specs.declared.lines.UnitLine.{UnitLine}
+use Rattle.preview.specs.declared.lines.RequestLine.{RequestLine}
+
+-- the line of the unit itself
+abbrev pub unit_line : UnitLine → List ℕ
+unit_line line = codes "unit " ++ (decimal line.id ++ (codes " position " ++ (decimal line.position
+    ++ (codes " counts " ++ (signed_decimal line.counts.top ++ (codes " " ++ (signed_decimal line.counts.bottom
+    ++ (codes " requests " ++ (decimal line.requests ++ codes "\n")))))))))
+
+-- timestamp, number and flags of an entry: valid and active, and whether it's long-term
+abbrev pub entry_text : DpbEntry → List ℕ
+entry_text entry = decimal entry.reference_ts ++ (codes ":" ++ (signed_decimal entry.pic_num
+    ++ (codes ":" ++ decimal (if entry.is_long_term then 7 else 3))))
+
+-- a place, or x for a missing entry
+abbrev pub place_text : Option ℕ → List ℕ
+place_text (Some place) = decimal place
+place_text None = codes "x"
+
+-- the texts joined by commas, - where there's none
+abbrev pub list_text : {A : Type 0} → (A → List ℕ) → List A → List ℕ
+list_text text [] = codes "-"
+list_text text (x ∷ xs) = join_by text (codes ",") (x ∷ xs)
+
+-- slice_type modulo 5
+abbrev pub type_number : SliceType → ℕ
+type_number P = 0
+type_number B = 1
+type_number I = 2
+type_number Sp = 3
+type_number Si = 4
+
+-- the line of a request
+abbrev pub request_line : RequestLine → List ℕ
+request_line line = let request = line.request.now in
+    codes "request " ++ (decimal line.id ++ (codes "." ++ (decimal line.slice
+    ++ (codes " ts " ++ (decimal request.timestamp ++ (codes " bits " ++ (decimal request.header_bit_size
+    ++ (codes " type " ++ (decimal (type_number request.slice_type)
+    ++ (codes " frame " ++ (decimal request.frame_num
+    ++ (codes " dpb " ++ (list_text entry_text request.dpb.items
+    ++ (codes " l0 " ++ (list_text place_text request.ref_pic_list0
+    ++ (codes " l1 " ++ (list_text place_text request.ref_pic_list1
+    ++ (codes " hold " ++ (decimal (if request.hold then 1 else 0) ++ codes "\n")))))))))))))))))))

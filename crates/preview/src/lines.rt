@@ -1,0 +1,148 @@
+//! The lines of a unit (docs/OUTPUT.md).
+
+ghost use Rattle.std.specs.Prelude.{Some};
+ghost use Rattle.preview.specs.Lines.{entry_text, list_text, place_text, request_line, unit_line};
+
+use order_count::Counts;
+use ref_marking::AuId;
+use request_core::{DpbEntry, Request, ValidityFault};
+use std::fmt;
+use std::fmt::{Display, Formatter, Write};
+
+/// V4L2_H264_DPB_ENTRY_FLAG_VALID and V4L2_H264_DPB_ENTRY_FLAG_ACTIVE, which each entry has.
+const VALID_AND_ACTIVE: u32 = 0x01 + 0x02;
+
+/// V4L2_H264_DPB_ENTRY_FLAG_LONG_TERM.
+const LONG_TERM: u32 = 0x04;
+
+/// The line of a valid unit.
+#[derive(Drop)]
+pub struct UnitLine {
+    pub id: AuId,
+    pub position: usize,
+    pub counts: Counts,
+    pub requests: usize,
+}
+
+impl Display for UnitLine {
+    ghost output = { λ line. Some (unit_line line) };
+
+    fn fmt<W: Write>(&self, f: &mut Formatter<W>) -> fmt::Result {
+        let (id, position, requests) = (self.id.number(), self.position, self.requests);
+        let Counts { top, bottom } = self.counts;
+        write!(f, "unit {id} position {position} ")?;
+        writeln!(f, "counts {top} {bottom} requests {requests}")
+    }
+}
+
+/// The line of a unit with a fault.
+#[derive(Drop)]
+pub struct FaultLine {
+    pub id: AuId,
+    pub fault: ValidityFault,
+}
+
+impl Display for FaultLine {
+    fn fmt<W: Write>(&self, f: &mut Formatter<W>) -> fmt::Result {
+        let (id, fault) = (self.id.number(), self.fault);
+        let number = fault as u8;
+        writeln!(f, "unit {id} fault {number} {fault}")
+    }
+}
+
+/// The line of a request.
+#[derive(Drop)]
+pub struct RequestLine<'a> {
+    pub id: AuId,
+    /// The place of the slice in its unit, from 0.
+    pub slice: usize,
+    pub request: &'a Request,
+}
+
+impl<'a> Display for RequestLine<'a> {
+    ghost output = { λ line. Some (request_line line) };
+
+    fn fmt<W: Write>(&self, f: &mut Formatter<W>) -> fmt::Result {
+        let (id, slice, request) = (self.id.number(), self.slice, self.request);
+        let (timestamp, bits) = (request.timestamp, request.header_bit_size);
+        let (slice_type, frame_num) = (request.slice_type as u8, request.frame_num);
+        let dpb = Dpb(request.dpb.as_slice());
+        let l0 = List(request.ref_pic_list0.entries());
+        let l1 = List(request.ref_pic_list1.entries());
+        let hold = request.hold as u8;
+        write!(f, "request {id}.{slice} ts {timestamp} bits {bits} ")?;
+        write!(f, "type {slice_type} frame {frame_num} dpb {dpb} ")?;
+        writeln!(f, "l0 {l0} l1 {l1} hold {hold}")
+    }
+}
+
+/// The entries of a decoded picture buffer.
+#[derive(Drop)]
+struct Dpb<'a>(&'a [DpbEntry]);
+
+impl<'a> Display for Dpb<'a> {
+    ghost output = { λ dpb. Some (list_text entry_text dpb.0.now) };
+
+    fn fmt<W: Write>(&self, f: &mut Formatter<W>) -> fmt::Result {
+        let Some((first, others)) = self.0.split_first() else {
+            return write!(f, "-");
+        };
+        write!(f, "{}", Entry(*first))?;
+        for entry in others {
+            write!(f, ",{}", Entry(*entry))?;
+        }
+        Ok(())
+    }
+}
+
+/// An entry of a decoded picture buffer.
+#[derive(Drop)]
+struct Entry(DpbEntry);
+
+impl Display for Entry {
+    ghost output = { λ entry. Some (entry_text entry.0) };
+
+    fn fmt<W: Write>(&self, f: &mut Formatter<W>) -> fmt::Result {
+        let DpbEntry {
+            reference_ts,
+            pic_num,
+            is_long_term,
+        } = self.0;
+        let flags = VALID_AND_ACTIVE + if is_long_term { LONG_TERM } else { 0 };
+        write!(f, "{reference_ts}:{pic_num}:{flags}")
+    }
+}
+
+/// The entries of a reference picture list.
+#[derive(Drop)]
+struct List<'a>(&'a [Option<u8>]);
+
+impl<'a> Display for List<'a> {
+    ghost output = { λ list. Some (list_text place_text list.0.now) };
+
+    fn fmt<W: Write>(&self, f: &mut Formatter<W>) -> fmt::Result {
+        let Some((first, others)) = self.0.split_first() else {
+            return write!(f, "-");
+        };
+        write!(f, "{}", Place(*first))?;
+        for place in others {
+            write!(f, ",{}", Place(*place))?;
+        }
+        Ok(())
+    }
+}
+
+/// An entry of a reference picture list: a place in the decoded picture buffer, or missing.
+#[derive(Drop)]
+struct Place(Option<u8>);
+
+impl Display for Place {
+    ghost output = { λ place. Some (place_text place.0) };
+
+    fn fmt<W: Write>(&self, f: &mut Formatter<W>) -> fmt::Result {
+        match self.0 {
+            Some(index) => write!(f, "{index}"),
+            None => write!(f, "x"),
+        }
+    }
+}

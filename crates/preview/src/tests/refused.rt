@@ -1,0 +1,78 @@
+//! Runs of which any growth of memory may be refused.
+
+use super::{A, P1};
+use crate::command_line::run_on;
+use crate::plan::plan_on;
+use crate::status::Status;
+use std::process::Abort;
+
+/// What a run is said to have written, or that memory was wanted.
+fn assert_told_or_out_of_memory(
+    rt: &impl Abort,
+    status: Status,
+    output: &[u8],
+    errors: &[u8],
+    wanted: (Status, &str),
+) {
+    if errors == b"out of memory\n".as_slice() {
+        assert_eq!(rt; status, Status::Failure);
+        assert!(rt;
+            output.is_empty(),
+            "nothing is printed where memory is wanted"
+        );
+    } else {
+        assert_eq!(rt; status, wanted.0);
+        assert_eq!(rt; output, wanted.1.as_bytes());
+        assert!(rt; errors.is_empty());
+    }
+}
+
+/// Plans a stream, over memory that isn't refused for what is written.
+fn plans_or_wants_memory(rt: &(impl Abort + AllocGlobal), text: &[u8], wanted: (Status, &str)) {
+    let (mut output, mut errors) = ([0u8; 512], [0u8; 64]);
+    let (mut writer, mut teller) = (output.as_mut_slice(), errors.as_mut_slice());
+    let status = plan_on(rt.alloc(), "-", &mut &*text, &mut writer, &mut teller);
+    let (written, told) = (
+        512usize.saturating_sub(writer.len()),
+        64usize.saturating_sub(teller.len()),
+    );
+    let (output, errors) = (output.split_at(written).0, errors.split_at(told).0);
+    assert_told_or_out_of_memory(rt, status, output, errors, wanted);
+}
+
+#[test]
+fn refused_plan(rt: HostRuntime) {
+    let mut text = [0; 29];
+    text[..23].copy_from_slice(&A);
+    text[23..].copy_from_slice(&P1);
+    let lines = "unit 1 position 0 counts 0 0 requests 1\n\
+request 1.0 ts 1000 bits 25 type 2 frame 0 dpb - l0 - l1 - hold 0\n\
+unit 2 position 1 counts 2 2 requests 1\n\
+request 2.0 ts 2000 bits 23 type 0 frame 1 dpb 1000:0:3 l0 0 l1 - hold 0\n";
+    plans_or_wants_memory(&rt, &text, (Status::Success, lines));
+}
+
+#[test]
+fn refused_refusal(rt: HostRuntime) {
+    let refused = "unit 0 refused 12 NoPicture\n";
+    plans_or_wants_memory(&rt, A.split_at(16).0, (Status::Failure, refused));
+}
+
+#[test]
+fn refused_command_line(rt: HostRuntime) {
+    let (mut output, mut errors) = ([0u8; 512], [0u8; 64]);
+    let (mut writer, mut teller) = (output.as_mut_slice(), errors.as_mut_slice());
+    let status = run_on(
+        &rt,
+        &["preview", "plan", "no/such.264"],
+        &mut writer,
+        &mut teller,
+    );
+    assert_eq!(rt; writer.len(), 512);
+    let told = 64usize.saturating_sub(teller.len());
+    let errors = errors.split_at(told).0;
+    assert_eq!(rt; status, Status::Failure);
+    assert!(rt;
+        errors == b"out of memory\n".as_slice() || errors == b"cannot read no/such.264\n".as_slice()
+    );
+}

@@ -15,7 +15,7 @@ use Rattle.access_unit.specs.declared.refused.Refused.TheVariants as refusals
 use Rattle.access_unit.specs.declared.stream.StreamRefused.{StreamRefused}
 use Rattle.access_unit.specs.declared.stream.StreamRefused.TheVariants as stream
 use Rattle.access_unit.specs.Answers.{IsAccepted, IsRefused}
-use Rattle.access_unit.specs.Streams.{HasAccessUnits, AreAccepted, IsOfUnit, IsStreamReadAs}
+use Rattle.access_unit.specs.Streams.{HasAccessUnits, AreAccepted, IsRefusalOfUnit, IsStreamReadAs}
 use Rattle.access_unit.proofs.Texts.{never_refused}
 
 all_units : (bytes : List ℕ) (units : List (List ℕ)) → AreUnits bytes units → All IsUnit units
@@ -93,7 +93,7 @@ module _ (text : List ℕ) (units : List (List ℕ)) (ranges : List (Range ℕ))
 
     -- or it is the first that is refused
     pub IsStreamReadAs-refused : IsCut units parts → (refused : Refused) (stream_refused : StreamRefused)
-        → (refused ≡ refusals.Memory) ⊎ IsRefused (joined part) refused → IsOfUnit at refused stream_refused → IsStreamReadAs text (Err stream_refused)
+        → (refused ≡ refusals.Memory) ⊎ IsRefused (joined part) refused → IsRefusalOfUnit at refused stream_refused → IsStreamReadAs text (Err stream_refused)
     IsStreamReadAs-refused cut refused stream_refused read_as is =
         ⊎_elim
         (λ (both : (refused ≡ refusals.Memory) × (stream_refused ≡ stream.Memory)). rw both.1 tt)

@@ -34,8 +34,8 @@ IsStreamReadAs text (Err (Unit index refused)) =
 IsStreamReadAs text (Err Memory) = ⊤
 
 -- the refusal of a stream is that of the unit at the index, or memory is wanted for both
-abbrev pub IsOfUnit : ℕ → Refused → StreamRefused → Type 0
-IsOfUnit index refused stream_refused =
+abbrev pub IsRefusalOfUnit : ℕ → Refused → StreamRefused → Type 0
+IsRefusalOfUnit index refused stream_refused =
     ((refused ≡ units.Memory) × (stream_refused ≡ Memory))
     ⊎ ((refused ≢ units.Memory) × (stream_refused ≡ Unit index refused))
 

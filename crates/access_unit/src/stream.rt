@@ -3,7 +3,7 @@ ghost use Rattle.std.specs.Prelude.{◌≡◌, ℕ, List, length, nat_lt, IfOk, 
 ghost use Rattle.annexb.specs.ByteStream.{HasUnits, joined};
 ghost use Rattle.access_unit.specs.Refusals.{most_bytes};
 ghost use Rattle.access_unit.specs.Answers.{IsReadAs};
-ghost use Rattle.access_unit.specs.Streams.{HasAccessUnits, AreAccepted, IsOfUnit, IsStreamReadAs, number_of};
+ghost use Rattle.access_unit.specs.Streams.{HasAccessUnits, AreAccepted, IsRefusalOfUnit, IsStreamReadAs, number_of};
 ghost use Rattle.access_unit.specs.declared.stream.StreamRefused.TheVariants.{Memory};
 
 use crate::refused::Refused;
@@ -40,7 +40,7 @@ impl StreamRefused {
 
     /// The refusal of a stream whose unit at the index is refused so.
     fn of_unit(index: usize, refused: Refused) -> StreamRefused
-        ensures { IsOfUnit index refused result }
+        ensures { IsRefusalOfUnit index refused result }
     {
         match refused {
             Refused::Memory => StreamRefused::Memory,

@@ -10,6 +10,8 @@ const SPS: [u8; 6] = [0x67, 0x42, 0x00, 0x0A, 0xDA, 0x79];
 const PPS: [u8; 4] = [0x68, 0xCE, 0x38, 0x80];
 /// A slice of an IDR picture: first_mb_in_slice 0, slice_type 7 (I).
 const IDR: [u8; 4] = [0x65, 0x88, 0x84, 0x80];
+/// A slice of an IDR picture behind its first: first_mb_in_slice 1, slice_type 7 (I).
+const NEXT_IDR: [u8; 4] = [0x65, 0x42, 0x21, 0x30];
 /// A slice of a picture that refers to others: first_mb_in_slice 0, slice_type 5 (P).
 const P: [u8; 3] = [0x41, 0x9A, 0x23];
 
@@ -182,12 +184,56 @@ fn refuses_by_the_least_of_the_first(rt: HostRuntime) -> Result<(), Fail> {
 }
 
 #[test]
-fn refuses_what_is_not_read_yet(rt: HostRuntime) -> Result<(), Fail> {
-    // Profile 100, and a second slice, before what else it shows.
-    is_refused(&rt, &[&[0x67, 0x64, 0x00, 0x0A, 0xAD, 0x84]], 19)?;
-    is_refused(&rt, &[&IDR, &[0x65, 0x42, 0x21, 0x30]], 19)?;
-    is_refused(&rt, &[&IDR, &[0x41, 0x90, 0x80]], 19)?;
-    is_refused(&rt, &[&IDR, &IDR], 19)
+fn reads_several_slices(rt: HostRuntime) {
+    reads_as(
+        &rt,
+        &[
+            0, 0, 1, 0x65, 0x88, 0x84, 0x80, 0, 0, 1, 0x65, 0x42, 0x21, 0x30, 0, 0, 1, 12, 0x80, 0,
+            0, 1, 0x25, 0x42, 0x21, 0x30,
+        ],
+        &[&IDR, &NEXT_IDR, &[12, 0x80], &[0x25, 0x42, 0x21, 0x30]],
+    );
+}
+
+#[test]
+fn refuses_slices_by_those_before_them(rt: HostRuntime) -> Result<(), Fail> {
+    let refusals: [(&[&[u8]], u8); 9] = [
+        (&[&IDR, &[0x41, 0x42, 0x21]], 7),
+        (&[&P, &NEXT_IDR], 7),
+        (&[&P, &[0x01, 0x42, 0x21]], 10),
+        (&[&[0x01, 0x9A, 0x23], &[0x41, 0x42, 0x21]], 10),
+        (&[&IDR, &IDR], 13),
+        // The least: an SP slice, a slice of another kind, an IDR slice that isn't a reference.
+        (&[&IDR, &[0x41, 0x90, 0x80]], 6),
+        (&[&IDR, &P], 7),
+        (&[&IDR, &[0x05, 0x88, 0x84, 0x80]], 9),
+        (&[&P, &[0x01, 0x9A, 0x23]], 10),
+    ];
+    for (nals, number) in refusals {
+        is_refused(&rt, nals, number)?;
+    }
+    Ok(())
+}
+
+#[test]
+fn refuses_a_slice_too_many(rt: HostRuntime) -> Result<(), Fail> {
+    let mut text = text_of(rt.alloc(), &[&IDR])?;
+    append(&mut text, 255, &NEXT_IDR)?;
+    assert_eq!(rt; read_unit(rt.alloc(), &text)?.slices().len(), 256);
+    let len = text.len();
+    append(&mut text, 1, &NEXT_IDR)?;
+    match read_unit(rt.alloc(), &text) {
+        Ok(_) => panic!(&rt; "257 slices were read"),
+        Err(refused) => assert_eq!(rt; refused, Refused::TooLarge),
+    }
+    // One that begins a picture too.
+    text.truncate(len);
+    append(&mut text, 1, &IDR)?;
+    match read_unit(rt.alloc(), &text) {
+        Ok(_) => panic!(&rt; "257 slices were read"),
+        Err(refused) => assert_eq!(rt; refused, Refused::TwoPictures),
+    }
+    Ok(())
 }
 
 #[test]

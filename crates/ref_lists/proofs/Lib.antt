@@ -4,3 +4,4 @@ pub mod Entries
 pub mod Puts
 pub mod Modifications
 pub mod SliceLists
+pub mod ListLaws

@@ -1,5 +1,5 @@
 -- What the lists of a slice are, by its type.
-use Rattle.std.proofs.Common.{◌≡◌, ℕ, ◌+◌, ◌<◌, ◌∷◌, Bool, true, false, ◌==◌, ◌||◌, List, [], length, drop, get_or, Option, Some, None, ok_or, Ok, Err, ℤ, pos, refl, ap, ◌∙◌}
+use Rattle.std.proofs.Common.{◌≡◌, ℕ, ◌+◌, ◌<◌, ◌∷◌, Bool, true, false, ◌==◌, ◌||◌, List, [], length, drop, get_or, Option, Some, None, if◌then◌else◌, Result, Ok, Err, ℤ, pos, refl, ap, ◌∙◌}
 use Rattle.std.specs.List.{list_any}
 use Rattle.std.specs.Ordering.{int_eq}
 use Rattle.std.proofs.lemmas.List.{drop_more}
@@ -7,6 +7,7 @@ use Rattle.param_sets.specs.declared.sps.Sps.{Sps}
 use Rattle.slice_header.specs.declared.slice_headers.SliceHeader.{SliceHeader}
 use Rattle.slice_header.specs.declared.slice_types.SliceType.{SliceType}
 use Rattle.slice_header.specs.declared.slice_types.SliceType.TheVariants.{P, B, I, Sp, Si}
+use Rattle.slice_header.specs.declared.ref_pic_list_modification.RefPicListModification.{RefPicListModification}
 use Rattle.order_count.specs.PicOrderCnt.{pic_order_cnt}
 use Rattle.order_count.specs.declared.counts.Counts.{Counts}
 use Rattle.ref_marking.specs.MarkedFrames.{Marked}
@@ -14,9 +15,9 @@ use Rattle.ref_lists.specs.declared.fault.ListFault.{ListFault}
 use Rattle.ref_lists.specs.declared.fault.ListFault.TheVariants.{OrderTie, NoReference, BadModification}
 use Rattle.ref_lists.specs.declared.initial_lists.ListOrder.{ListOrder}
 use Rattle.ref_lists.specs.declared.initial_lists.ListOrder.TheVariants.{ByPicNum, BelowFirst, AboveFirst}
-use Rattle.ref_lists.specs.InitialLists.{exchanged, cut, initial_list}
-use Rattle.ref_lists.specs.Modification.{modified}
-use Rattle.ref_lists.specs.ReferenceLists.{has_list_0, has_list_1, has_repeat, short_term_counts, both, lists_of}
+use Rattle.ref_lists.specs.InitialLists.{Entries, exchanged, cut, initial_list}
+use Rattle.ref_lists.specs.Modification.{has_bad_command}
+use Rattle.ref_lists.specs.ReferenceLists.{has_list_0, has_list_1, has_repeat, short_term_counts, list_by, lists_of}
 
 has_list_0-from_1 : (type : SliceType) → has_list_1 type ≡ true → has_list_0 type ≡ true
 has_list_0-from_1 P has = refl
@@ -33,29 +34,44 @@ module _ (numbers : List ℤ) (index : ℕ) (below : index < length numbers) whe
   pub has_repeat_more : list_any (int_eq (get_or numbers index (pos 0))) (drop (index + 1) numbers) ≡ false → has_repeat (drop index numbers) ≡ has_repeat (drop (index + 1) numbers)
   has_repeat_more none = ap has_repeat (drop_more numbers index (pos 0) below) ∙ ap (λ b. b || has_repeat (drop (index + 1) numbers)) none
 
+-- what a list is, or the fault of its commands
+abbrev pub outcome : {A : Type 0} → Bool → A → Result A ListFault
+outcome bad list = if bad then Err BadModification else Ok list
+
 -- how the answers for both lists make one
-module _ {A : Type 0} where
-  pub both-Err : (list_0 list_1 : Option A) (fault : ListFault) → ok_or list_0 BadModification ≡ Err fault → both list_0 list_1 ≡ Err fault
-  both-Err None list_1 fault is = cc
-  both-Err (Some entries) list_1 fault is = cc
+module _ {A : Type 0} (list_0 list_1 : A) where
+  pub both-Err : (bad_0 bad_1 : Bool) (fault : ListFault) → outcome bad_0 list_0 ≡ Err fault → outcome {A = A × A} (bad_0 || bad_1) (list_0, list_1) ≡ Err fault
+  both-Err true bad_1 fault is = cc
+  both-Err false bad_1 fault is = cc
 
-  pub both-Ok-Err : (list_0 list_1 : Option A) (entries : A) (fault : ListFault) → ok_or list_0 BadModification ≡ Ok entries → ok_or list_1 BadModification ≡ Err fault → both list_0 list_1 ≡ Err fault
-  both-Ok-Err None list_1 entries fault is is' = cc
-  both-Ok-Err (Some some) None entries fault is is' = cc
-  both-Ok-Err (Some some) (Some other) entries fault is is' = cc
+  pub both-Ok-Err : (bad_0 bad_1 : Bool) (entries : A) (fault : ListFault) → outcome bad_0 list_0 ≡ Ok entries → outcome bad_1 list_1 ≡ Err fault
+      → outcome {A = A × A} (bad_0 || bad_1) (list_0, list_1) ≡ Err fault
+  both-Ok-Err true bad_1 entries fault is is' = cc
+  both-Ok-Err false true entries fault is is' = cc
+  both-Ok-Err false false entries fault is is' = cc
 
-  pub both-Ok : (list_0 list_1 : Option A) (entries others : A) → ok_or list_0 BadModification ≡ Ok entries → ok_or list_1 BadModification ≡ Ok others → both list_0 list_1 ≡ Ok (entries, others)
-  both-Ok None list_1 entries others is is' = cc
-  both-Ok (Some some) None entries others is is' = cc
-  both-Ok (Some some) (Some other) entries others is is' = cc
+  pub both-Ok : (bad_0 bad_1 : Bool) (entries others : A) → outcome bad_0 list_0 ≡ Ok entries → outcome bad_1 list_1 ≡ Ok others
+      → outcome {A = A × A} (bad_0 || bad_1) (list_0, list_1) ≡ Ok (entries, others)
+  both-Ok true bad_1 entries others is is' = cc
+  both-Ok false true entries others is is' = cc
+  both-Ok false false entries others is is' = cc
 
 module _ (marks : Marked) (sps : Sps) (header : SliceHeader) where
   abbrev pub initial : ListOrder → List ℕ
   initial order = initial_list sps header.frame_num order marks.frames
 
-  abbrev pub final_l0 : ListOrder → Option (List (Option ℕ))
-  final_l0 order = modified sps header.frame_num marks.frames header.ref_pic_list_modification_l0
-      (cut (header.num_ref_idx_l0_active_minus1 + 1) (initial order))
+  -- a list with so many active entries by its initial list, and whether a command of it is bad
+  abbrev pub bad : ℕ → List RefPicListModification → Bool
+  bad active commands = has_bad_command sps header.frame_num marks.frames active commands
+
+  abbrev pub bad_0 : Bool
+  bad_0 = bad (header.num_ref_idx_l0_active_minus1 + 1) header.ref_pic_list_modification_l0
+
+  abbrev pub bad_1 : Bool
+  bad_1 = bad (header.num_ref_idx_l1_active_minus1 + 1) header.ref_pic_list_modification_l1
+
+  abbrev pub final_0 : ListOrder → Entries
+  final_0 order = list_by marks sps header (header.num_ref_idx_l0_active_minus1 + 1) header.ref_pic_list_modification_l0 (initial order)
 
   pub lists_of-none : has_list_0 header.slice_type ≡ false → has_list_1 header.slice_type ≡ false → (counts : Counts) → lists_of marks sps header counts ≡ Ok ([], [])
   unfolding lists_of
@@ -65,12 +81,12 @@ module _ (marks : Marked) (sps : Sps) (header : SliceHeader) where
     abbrev pub ties : Bool
     ties = has_repeat (pic_order_cnt counts ∷ short_term_counts marks.frames)
 
-    abbrev pub final_l1 : Option (List (Option ℕ))
-    final_l1 = modified sps header.frame_num marks.frames header.ref_pic_list_modification_l1
-        (cut (header.num_ref_idx_l1_active_minus1 + 1) (exchanged (initial (BelowFirst (pic_order_cnt counts))) (initial (AboveFirst (pic_order_cnt counts)))))
+    abbrev pub final_1 : Entries
+    final_1 = list_by marks sps header (header.num_ref_idx_l1_active_minus1 + 1) header.ref_pic_list_modification_l1
+        (exchanged (initial (BelowFirst (pic_order_cnt counts))) (initial (AboveFirst (pic_order_cnt counts))))
 
     pub lists_of-p : has_list_0 header.slice_type ≡ true → has_list_1 header.slice_type ≡ false → (length marks.frames == 0) ≡ false
-        → lists_of marks sps header counts ≡ both (final_l0 ByPicNum) (Some [])
+        → lists_of marks sps header counts ≡ outcome {A = Entries × Entries} (bad_0 || false) (final_0 ByPicNum, [])
     unfolding lists_of
     lists_of-p has_0 no_list_1 some = rw (no_list_1, has_0, some) refl
 
@@ -88,6 +104,6 @@ module _ (marks : Marked) (sps : Sps) (header : SliceHeader) where
     lists_of-b_none has_1 apart none = rw (has_1, apart, has_list_0-from_1 header.slice_type has_1, none) refl
 
     pub lists_of-b : has_list_1 header.slice_type ≡ true → ties ≡ false → (length marks.frames == 0) ≡ false
-        → lists_of marks sps header counts ≡ both (final_l0 (BelowFirst (pic_order_cnt counts))) final_l1
+        → lists_of marks sps header counts ≡ outcome {A = Entries × Entries} (bad_0 || bad_1) (final_0 (BelowFirst (pic_order_cnt counts)), final_1)
     unfolding lists_of
     lists_of-b has_1 apart some = rw (has_1, apart, has_list_0-from_1 header.slice_type has_1, some) refl

@@ -76,8 +76,12 @@ exchanged list_0 (first ∷ second ∷ places) =
     if pointwise nat_eq (first ∷ second ∷ places) list_0 then second ∷ first ∷ places else first ∷ second ∷ places
 exchanged list_0 places = places
 
+-- the entries of a list: at each the place of a frame in the marks, or nothing where it is missing
+abbrev pub Entries : Type 0
+Entries = List (Option ℕ)
+
 -- the first entries of a list, as many as are active; where there are no more frames, the rest are missing (8.2.4.2)
-abbrev pub cut : ℕ → List ℕ → List (Option ℕ)
+abbrev pub cut : (active : ℕ) → List ℕ → Entries
 cut zero places = []
 cut (suc active) [] = None ∷ cut active []
 cut (suc active) (place ∷ places) = Some place ∷ cut active places

@@ -1,5 +1,5 @@
 -- Modification of reference picture lists (ITU-T H.264, 8.2.4.3).
-use Rattle.std.specs.Prelude.{ℕ, suc, ◌+◌, Bool, not, nat_eq, List, [], ◌∷◌, ◌++◌, length, take, drop, filter, position, Option, Some, option_and_then, ℤ, pos, ◌+ℤ◌, ◌-ℤ◌, int_lt, if◌then◌else◌}
+use Rattle.std.specs.Prelude.{ℕ, suc, ◌+◌, Bool, not, nat_eq, List, [], ◌∷◌, ◌++◌, length, take, drop, filter, position, ◌||◌, false, Option, Some, None, is_none, ℤ, pos, ◌+ℤ◌, ◌-ℤ◌, int_lt, if◌then◌else◌}
 use Rattle.std.specs.Option.{option_eq}
 use Rattle.std.specs.Ordering.{int_eq}
 use Rattle.param_sets.specs.declared.sps.Sps.{Sps}
@@ -7,7 +7,8 @@ use Rattle.slice_header.specs.declared.ref_pic_list_modification.RefPicListModif
 use Rattle.slice_header.specs.declared.ref_pic_list_modification.RefPicListModification.TheVariants.{Subtract, Add, LongTerm}
 use Rattle.order_count.specs.FrameNumbers.{max_frame_num}
 use Rattle.ref_marking.specs.declared.frames.Frame.{Frame}
-use Rattle.ref_marking.specs.PicNums.{pic_num, long_term_pic_num}
+use Rattle.ref_marking.specs.PicNums.{pic_num, long_term_pic_num, curr_pic_num}
+use Rattle.ref_lists.specs.InitialLists.{Entries}
 use Rattle.ref_lists.specs.declared.modification.PictureNumber.{PictureNumber}
 use Rattle.ref_lists.specs.declared.modification.PictureNumber.TheVariants.{PicNum, LongTermPicNum}
 
@@ -36,25 +37,38 @@ has_number sps frame_num (LongTermPicNum number) frame = option_eq nat_eq (long_
 abbrev pub is_entry_of : ℕ → Option ℕ → Bool
 is_entry_of place entry = option_eq nat_eq entry (Some place)
 
--- The frame at a place in the marks goes to an index of the list, and out behind it; the list keeps its length (8-37).
-abbrev pub put : (index place : ℕ) → List (Option ℕ) → List (Option ℕ)
+-- the frame at a place in the marks goes to an index of the list, and out behind it; the list keeps its length (8-37)
+abbrev pub put : (index place : ℕ) → Entries → Entries
 put index place entries =
     take (length entries) (take index entries ++ Some place ∷ filter (λ entry. not (is_entry_of place entry)) (drop index entries))
 
--- Commands, the first of which is for an index and counts from the last number: each names a frame, which goes to its
--- index. There is no list where a command names no marked frame.
-abbrev pub modified_from :
-    Sps → (frame_num : ℕ) → List Frame → (index : ℕ) → ℤ → List (Option ℕ) → List RefPicListModification
-    → Option (List (Option ℕ))
-modified_from sps frame_num frames index last entries [] = Some entries
-modified_from sps frame_num frames index last entries (command ∷ commands) =
-    let number = no_wrap sps last command in
-    option_and_then
-    (λ place. modified_from sps frame_num frames (suc index) number (put index place entries) commands)
-    (position (has_number sps frame_num (named sps frame_num number command)) frames)
+abbrev pub put_named : ℕ → Option ℕ → Entries → Entries
+put_named index None entries = entries
+put_named index (Some place) entries = put index place entries
 
--- the list after its commands, of which no more count than it has entries; the first counts from CurrPicNum
-abbrev pub modified :
-    Sps → (frame_num : ℕ) → List Frame → List RefPicListModification → List (Option ℕ) → Option (List (Option ℕ))
-modified sps frame_num frames commands entries =
-    modified_from sps frame_num frames 0 (pos frame_num) entries (take (length entries) commands)
+module _ (sps : Sps) (frame_num : ℕ) (frames : List Frame) where
+  -- the place in the marks of the first frame that a command names, by its picNumLXNoWrap
+  abbrev pub place_named : ℤ → RefPicListModification → Option ℕ
+  place_named number command = position (has_number sps frame_num (named sps frame_num number command)) frames
+
+  -- a command names no marked frame, where the first counts from the last number
+  abbrev pub names_no_frame : ℤ → List RefPicListModification → Bool
+  names_no_frame last [] = false
+  names_no_frame last (command ∷ commands) =
+      let number = no_wrap sps last command in
+      is_none (place_named number command) || names_no_frame number commands
+
+  -- the list after commands, the first of which is for an index and counts from the last number
+  abbrev pub modified_from : (index : ℕ) → ℤ → Entries → List RefPicListModification → Entries
+  modified_from index last entries [] = entries
+  modified_from index last entries (command ∷ commands) =
+      let number = no_wrap sps last command in
+      modified_from (suc index) number (put_named index (place_named number command) entries) commands
+
+  -- The commands of a list with so many active entries: the first counts from CurrPicNum, and no more of them count
+  -- than there are entries.
+  abbrev pub has_bad_command : (active : ℕ) → List RefPicListModification → Bool
+  has_bad_command active commands = names_no_frame (curr_pic_num frame_num) (take active commands)
+
+  abbrev pub modified : List RefPicListModification → Entries → Entries
+  modified commands entries = modified_from 0 (curr_pic_num frame_num) entries (take (length entries) commands)

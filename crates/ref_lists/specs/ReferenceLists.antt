@@ -1,11 +1,12 @@
 -- Reference picture lists of a slice (ITU-T H.264, 8.2.4).
-use Rattle.std.specs.Prelude.{◌≡◌, ℕ, ◌+◌, Bool, true, false, ◌&&◌, ◌||◌, ◌==◌, List, [], ◌∷◌, length, map, filter, Option, Some, is_none, Result, Ok, Err, ℤ, if◌then◌else◌}
+use Rattle.std.specs.Prelude.{◌≡◌, ℕ, ◌+◌, ◌<◌, Bool, true, false, ◌&&◌, ◌||◌, ◌==◌, List, [], ◌∷◌, length, map, filter, Option, IfSome, is_none, Result, Ok, Err, ℤ, if◌then◌else◌}
 use Rattle.std.specs.List.{list_any}
 use Rattle.std.specs.Ordering.{int_eq}
 use Rattle.param_sets.specs.declared.sps.Sps.{Sps}
 use Rattle.slice_header.specs.declared.slice_headers.SliceHeader.{SliceHeader}
 use Rattle.slice_header.specs.declared.slice_types.SliceType.{SliceType}
 use Rattle.slice_header.specs.declared.slice_types.SliceType.TheVariants.{B, I, Si}
+use Rattle.slice_header.specs.declared.ref_pic_list_modification.RefPicListModification.{RefPicListModification}
 use Rattle.order_count.specs.PicOrderCnt.{pic_order_cnt}
 use Rattle.order_count.specs.declared.counts.Counts.{Counts}
 use Rattle.ref_marking.specs.MarkedFrames.{Marked}
@@ -15,8 +16,8 @@ use Rattle.ref_lists.specs.declared.fault.ListFault.TheVariants.{OrderTie, NoRef
 use Rattle.ref_lists.specs.declared.initial_lists.ListOrder.{ListOrder}
 use Rattle.ref_lists.specs.declared.initial_lists.ListOrder.TheVariants.{ByPicNum, BelowFirst, AboveFirst}
 use Rattle.ref_marking.specs.PicNums.{long_term_pic_num}
-use Rattle.ref_lists.specs.InitialLists.{IsInitialList, initial_list, exchanged, cut}
-use Rattle.ref_lists.specs.Modification.{modified}
+use Rattle.ref_lists.specs.InitialLists.{Entries, IsInitialList, initial_list, exchanged, cut}
+use Rattle.ref_lists.specs.Modification.{has_bad_command, modified}
 
 -- slices with a list 0, and those with a list 1 too
 abbrev pub has_list_0 : SliceType → Bool
@@ -53,6 +54,12 @@ has_order_tie marks header counts =
 abbrev pub lacks_reference : Marked → SliceHeader → Bool
 lacks_reference marks header = has_list_0 header.slice_type && length marks.frames == 0
 
+-- a command of list 0 or of list 1 names no marked frame
+abbrev pub has_bad_modification : Marked → Sps → SliceHeader → Bool
+has_bad_modification marks sps header =
+    has_bad_command sps header.frame_num marks.frames (active_l0 header) header.ref_pic_list_modification_l0
+    || has_bad_command sps header.frame_num marks.frames (active_l1 header) header.ref_pic_list_modification_l1
+
 -- the orders of the initial lists
 abbrev pub order_l0 : SliceHeader → Counts → ListOrder
 order_l0 header counts = if has_list_1 header.slice_type then BelowFirst (pic_order_cnt counts) else ByPicNum
@@ -60,45 +67,42 @@ order_l0 header counts = if has_list_1 header.slice_type then BelowFirst (pic_or
 abbrev pub order_l1 : Counts → ListOrder
 order_l1 counts = AboveFirst (pic_order_cnt counts)
 
-module _ (marks : Marked) (sps : Sps) (header : SliceHeader) where
-  -- the lists by their initial ones, cut and modified
-  abbrev pub list_l0 : List ℕ → Option (List (Option ℕ))
-  list_l0 initial =
-      modified sps header.frame_num marks.frames header.ref_pic_list_modification_l0
-      (cut (active_l0 header) initial)
+-- a list by its initial list: cut to the active entries, and modified
+abbrev pub list_by : Marked → Sps → SliceHeader → (active : ℕ) → List RefPicListModification → List ℕ → Entries
+list_by marks sps header active commands initial =
+    modified sps header.frame_num marks.frames commands (cut active initial)
 
-  abbrev pub list_l1 : List ℕ → Option (List (Option ℕ))
-  list_l1 initial =
-      modified sps header.frame_num marks.frames header.ref_pic_list_modification_l1
-      (cut (active_l1 header) initial)
-
--- both lists, unless a command of one names no marked frame
-abbrev pub both : {A : Type 0} → Option A → Option A → Result (A × A) ListFault
-both (Some list_0) (Some list_1) = Ok (list_0, list_1)
-both list_0 list_1 = Err BadModification
+-- list 0 and list 1, or why there are none
+abbrev pub Answer : Type 0
+Answer = Result (Entries × Entries) ListFault
 
 -- What the slice has, where these are the frames in the orders of list 0 and list 1: the first fault that it shows,
 -- or its lists.
 abbrev pub lists_from :
-    Marked → Sps → SliceHeader → Counts → (initial_0 initial_1 : List ℕ)
-    → Result (List (Option ℕ) × List (Option ℕ)) ListFault
+    Marked → Sps → SliceHeader → Counts → (initial_0 initial_1 : List ℕ) → Answer
 lists_from marks sps header counts initial_0 initial_1 =
     if has_order_tie marks header counts then Err OrderTie
     else if lacks_reference marks header then Err NoReference
-    else both (list_l0 marks sps header initial_0) (list_l1 marks sps header (exchanged initial_0 initial_1))
+    else if has_bad_modification marks sps header then Err BadModification
+    else Ok (
+      list_by marks sps header (active_l0 header) header.ref_pic_list_modification_l0 initial_0,
+      list_by marks sps header (active_l1 header) header.ref_pic_list_modification_l1 (exchanged initial_0 initial_1),
+    )
 
--- what a slice has
-pub record AreLists (marks : Marked) (sps : Sps) (header : SliceHeader) (counts : Counts)
-    (answer : Result (List (Option ℕ) × List (Option ℕ)) ListFault) : Type 0 where
+-- the construction of the lists of a slice gives this answer
+pub record Constructs (marks : Marked) (sps : Sps) (header : SliceHeader) (counts : Counts) (answer : Answer) : Type 0 where
   pub initial_0 : List ℕ
   pub initial_1 : List ℕ
   pub in_order_0 : IsInitialList sps header.frame_num (order_l0 header counts) marks.frames initial_0
   pub in_order_1 : IsInitialList sps header.frame_num (order_l1 counts) marks.frames initial_1
   pub answer_is : answer ≡ lists_from marks sps header counts initial_0 initial_1
 
+-- a missing entry, or the place of a marked frame
+abbrev pub IsMarked : Marked → Option ℕ → Type 0
+IsMarked marks entry = IfSome entry (λ place. place < length marks.frames)
+
 -- the same as a function
-unfoldable pub lists_of :
-    Marked → Sps → SliceHeader → Counts → Result (List (Option ℕ) × List (Option ℕ)) ListFault
+unfoldable pub lists_of : Marked → Sps → SliceHeader → Counts → Answer
 lists_of marks sps header counts =
     lists_from marks sps header counts
     (initial_list sps header.frame_num (order_l0 header counts) marks.frames) (initial_list sps header.frame_num (order_l1 counts) marks.frames)

@@ -1,13 +1,13 @@
 //! Construction of the lists of a slice (8.2.4).
 
-ghost use Rattle.std.specs.Prelude.{◌≡◌, ◌+◌, ◌∷◌, ◌≤◌, true, false, nat_eq, length, ok_or};
+ghost use Rattle.std.specs.Prelude.{◌↔◌, IsTrue, IsFalse, IfOk, All, ◌≡◌, ◌+◌, ◌∷◌, ◌≤◌, true, false, nat_eq, length, Ok, Err, if◌then◌else◌};
 ghost use Rattle.std.specs.List.{IsDistinct, list_any};
 ghost use Rattle.std.specs.Ordering.{int_eq};
 ghost use Rattle.order_count.specs.declared.counts.Counts.{Counts};
 ghost use Rattle.ref_lists.specs.InitialLists.{cut};
-ghost use Rattle.ref_lists.specs.Modification.{modified};
-ghost use Rattle.ref_lists.specs.declared.fault.ListFault.TheVariants.{BadModification};
-ghost use Rattle.ref_lists.specs.ReferenceLists.{has_list_0, has_list_1, has_repeat, short_term_counts, lists_of};
+ghost use Rattle.ref_lists.specs.Modification.{has_bad_command, modified};
+ghost use Rattle.ref_lists.specs.declared.fault.ListFault.TheVariants.{OrderTie, NoReference, BadModification};
+ghost use Rattle.ref_lists.specs.ReferenceLists.{has_list_0, has_list_1, has_repeat, short_term_counts, has_order_tie, lacks_reference, has_bad_modification, active_l0, active_l1, Answer, Constructs, IsMarked, lists_of};
 
 use crate::fault::ListFault;
 use crate::initial_lists::{ListOrder, exchange, initial_list};
@@ -19,14 +19,37 @@ use param_sets::{AtMost, Sps};
 use ref_marking::{Frame, Marks};
 use slice_header::{RefPicListModifications, SliceHeader, SliceType};
 
-/// List 0 and list 1 of a slice, from the frames marked before its picture and the picture's counts.
+/// List 0 and list 1 of a slice, from the frames marked before its picture and the picture's counts before resetting.
+///
+/// I and SI slices have no lists, P and SP slices have list 0 alone: a list that the slice doesn't have is empty. An
+/// entry is the place of its frame in the marks. Where several frames stand alike or have the number that a command
+/// names, the first in decode order comes first; commands past the last entry are left out.
+///
+/// - `OrderTie`: a short-term frame has the PicOrderCnt of another or of the picture, in a B slice.
+/// - `NoReference`: no frame is marked, in a slice that has a list.
+/// - `BadModification`: a command names no marked frame.
 pub fn lists(
     marks: &Marks,
     sps: &Sps,
     header: &SliceHeader,
     counts: Counts,
 ) -> Result<(List, List), ListFault>
-    ensures { result ≡ lists_of marks.now sps.now header.now counts }
+    ensures constructed { Constructs marks.now sps.now header.now counts result }
+    ensures only { (other : Answer) → Constructs marks.now sps.now header.now counts other → other ≡ result }
+    ensures exact { result ≡ lists_of marks.now sps.now header.now counts }
+
+    // The first of these is answered, and else the lists.
+    ensures order_tie { (result ≡ Err OrderTie) ↔ IsTrue (has_order_tie marks.now header.now counts) }
+    ensures no_reference { (result ≡ Err NoReference)
+        ↔ (IsFalse (has_order_tie marks.now header.now counts) × IsTrue (lacks_reference marks.now header.now)) }
+    ensures bad_modification { (result ≡ Err BadModification)
+        ↔ (IsFalse (has_order_tie marks.now header.now counts) × IsFalse (lacks_reference marks.now header.now)
+        × IsTrue (has_bad_modification marks.now sps.now header.now)) }
+
+    // As many entries as are active, each missing or the place of a frame.
+    ensures lengths { IfOk result
+        (λ lists. (length lists.0 ≡ active_l0 header.now) × (length lists.1 ≡ active_l1 header.now)) }
+    ensures marked { IfOk result (λ lists. All (IsMarked marks.now) lists.0 × All (IsMarked marks.now) lists.1) }
 {
     match header.slice_type {
         SliceType::I | SliceType::Si => Ok((List::new(), List::new())),
@@ -108,8 +131,9 @@ fn final_list(
 ) -> Result<List, ListFault>
     requires few { length frames.now ≤ 16 }
     requires once { IsDistinct nat_eq initial.now }
-    ensures { result ≡ ok_or (modified sps.now frame_num frames.now commands.now
-        (cut (num_ref_idx_active_minus1 + 1) initial.now)) BadModification }
+    ensures { let active = num_ref_idx_active_minus1 + 1 in
+        result ≡ (if has_bad_command sps.now frame_num frames.now active commands.now then Err BadModification
+        else Ok (modified sps.now frame_num frames.now commands.now (cut active initial.now))) }
 {
     let active = usize::from(num_ref_idx_active_minus1.get()) + 1;
     let list = List::cut(initial, active);

@@ -1,8 +1,8 @@
 //! Modification of reference picture lists (8.2.4.3).
 
-ghost use Rattle.std.specs.Prelude.{◌≡◌, ◌<◌, ◌≤◌, ◌+ℤ◌, ◌-ℤ◌, ◌≤ℤ◌, ℕ, length, count_by, ok_or, pos, negsuc, position};
+ghost use Rattle.std.specs.Prelude.{◌≡◌, ◌<◌, ◌≤◌, ◌+ℤ◌, ◌-ℤ◌, ◌≤ℤ◌, ℕ, length, count_by, Ok, Err, if◌then◌else◌, pos, negsuc, position};
 ghost use Rattle.ref_lists.specs.declared.fault.ListFault.TheVariants.{BadModification};
-ghost use Rattle.ref_lists.specs.Modification.{no_wrap, named, has_number, is_entry_of, modified};
+ghost use Rattle.ref_lists.specs.Modification.{no_wrap, named, has_number, is_entry_of, has_bad_command, modified};
 
 use crate::fault::ListFault;
 use crate::reference_list::List;
@@ -28,7 +28,8 @@ pub(crate) fn modified(
 ) -> Result<List, ListFault>
     requires few { length frames.now ≤ 16 }
     requires once { (place : ℕ) → count_by (is_entry_of place) list ≤ 1 }
-    ensures { result ≡ ok_or (modified sps.now frame_num frames.now commands.now list) BadModification }
+    ensures { result ≡ (if has_bad_command sps.now frame_num frames.now (length list) commands.now then Err BadModification
+        else Ok (modified sps.now frame_num frames.now commands.now list)) }
 {
     let count = list.entries().len().min(commands.len());
     let mut number = i64::from(frame_num);

@@ -3,7 +3,7 @@ use Rattle.std.proofs.lemmas.Int.{to_z-of_z}
 use Rattle.std.proofs.lemmas.Result.{err_from_is_err_and}
 use Rattle.ref_lists.specs.declared.initial_lists.ListOrder.TheVariants.{BelowFirst}
 use Rattle.ref_lists.proofs.Places.{IsDistinct-initial_list, IsDistinct-exchanged}
-use Rattle.ref_lists.proofs.SliceLists.{final_l0, final_l1, both-Err, both-Ok-Err, both-Ok, lists_of-tie, lists_of-b_none, lists_of-b}
+use Rattle.ref_lists.proofs.SliceLists.{bad_0, bad_1, final_0, final_1, both-Err, both-Ok-Err, both-Ok, lists_of-tie, lists_of-b_none, lists_of-b}
 use Rattle.order_count.specs.PicOrderCnt.{pic_order_cnt}
 use Rattle.ref_lists.proofs.construction.b_lists.Goals as goal
 
@@ -38,7 +38,8 @@ returns-in_err-list_0 c =
     at (sym c.final_list.ensures ∙ c.in_err-list_0.was) in
     let passed = err_from_is_err_and c.from_residual.result c.from_residual.ensures.1 in
     rw (passed.1, passed.2) (sym (lists_of-b marks c.args.sps.now c.args.header.now c.args.counts c.requires apart some
-    ∙ both-Err (final_l0 marks c.args.sps.now c.args.header.now (BelowFirst (pic_order_cnt c.args.counts))) (final_l1 marks c.args.sps.now c.args.header.now c.args.counts) c.in_err-list_0.field-0.0 fault))
+    ∙ both-Err (final_0 marks c.args.sps.now c.args.header.now (BelowFirst (pic_order_cnt c.args.counts))) (final_1 marks c.args.sps.now c.args.header.now c.args.counts)
+    (bad_0 marks c.args.sps.now c.args.header.now) (bad_1 marks c.args.sps.now c.args.header.now) c.in_err-list_0.field-0.0 fault))
 
 pub final_list-requires-2-clause-once : goal.final_list-requires-2-clause-once
 final_list-requires-2-clause-once c =
@@ -59,7 +60,8 @@ returns-in_err-list_1 c =
     at (sym c.final_list-2.ensures ∙ c.in_err-list_1.was) in
     let passed = err_from_is_err_and c.from_residual-in_err-list_1.result c.from_residual-in_err-list_1.ensures.1 in
     rw (passed.1, passed.2) (sym (lists_of-b marks c.args.sps.now c.args.header.now c.args.counts c.requires apart some
-    ∙ both-Ok-Err (final_l0 marks c.args.sps.now c.args.header.now (BelowFirst (pic_order_cnt c.args.counts))) (final_l1 marks c.args.sps.now c.args.header.now c.args.counts) c.in_ok-list_0.list_0 c.in_err-list_1.field-0.0 list_0 fault))
+    ∙ both-Ok-Err (final_0 marks c.args.sps.now c.args.header.now (BelowFirst (pic_order_cnt c.args.counts))) (final_1 marks c.args.sps.now c.args.header.now c.args.counts)
+    (bad_0 marks c.args.sps.now c.args.header.now) (bad_1 marks c.args.sps.now c.args.header.now) c.in_ok-list_0.list_0 c.in_err-list_1.field-0.0 list_0 fault))
 
 pub returns : goal.returns
 returns c =
@@ -74,4 +76,5 @@ returns c =
     let list_1 = rw (c.deref-3.ensures.0, c.exchange.ensures, c.initial_list-initial_0.ensures, c.initial_list-initial_1.ensures, to_z-of_z w32 picture.result fits, picture.ensures, c.frames-frames.ensures.value)
     at (sym c.final_list-2.ensures ∙ c.in_ok-list_1.was) in
     sym (lists_of-b marks c.args.sps.now c.args.header.now c.args.counts c.requires apart some
-    ∙ both-Ok (final_l0 marks c.args.sps.now c.args.header.now (BelowFirst (pic_order_cnt c.args.counts))) (final_l1 marks c.args.sps.now c.args.header.now c.args.counts) c.in_ok-list_0.list_0 c.in_ok-list_1.list_1 list_0 list_1)
+    ∙ both-Ok (final_0 marks c.args.sps.now c.args.header.now (BelowFirst (pic_order_cnt c.args.counts))) (final_1 marks c.args.sps.now c.args.header.now c.args.counts)
+    (bad_0 marks c.args.sps.now c.args.header.now) (bad_1 marks c.args.sps.now c.args.header.now) c.in_ok-list_0.list_0 c.in_ok-list_1.list_1 list_0 list_1)

@@ -2,7 +2,7 @@ use Rattle.std.proofs.Common.{rules, ◌≡◌, ◌==◌, length, true, false, S
 use Rattle.std.proofs.lemmas.Result.{err_from_is_err_and}
 use Rattle.ref_lists.specs.declared.initial_lists.ListOrder.TheVariants.{ByPicNum}
 use Rattle.ref_lists.proofs.Places.{IsDistinct-initial_list}
-use Rattle.ref_lists.proofs.SliceLists.{final_l0, both-Err, both-Ok, lists_of-p, lists_of-p_none}
+use Rattle.ref_lists.proofs.SliceLists.{bad_0, final_0, both-Err, both-Ok, lists_of-p, lists_of-p_none}
 use Rattle.ref_lists.proofs.construction.p_lists.Goals as goal
 
 pub returns-then-is_empty : goal.returns-then-is_empty
@@ -21,7 +21,7 @@ returns-in_err-list_0 c counts =
     let fault = rw (c.deref.ensures.0, c.initial_list-initial.ensures, c.frames-frames.ensures.value) at (sym c.final_list.ensures ∙ c.in_err-list_0.was) in
     let passed = err_from_is_err_and c.from_residual.result c.from_residual.ensures.1 in
     rw (passed.1, passed.2) (sym (lists_of-p marks c.args.sps.now c.args.header.now counts c.requires.has_list_0 c.requires.lacks_list_1 some
-    ∙ both-Err (final_l0 marks c.args.sps.now c.args.header.now ByPicNum) (Some []) c.in_err-list_0.field-0.0 fault))
+    ∙ both-Err (final_0 marks c.args.sps.now c.args.header.now ByPicNum) [] (bad_0 marks c.args.sps.now c.args.header.now) false c.in_err-list_0.field-0.0 fault))
 
 pub returns : goal.returns
 returns c counts =
@@ -29,4 +29,4 @@ returns c counts =
     let some : (length c.args.marks.now.frames == 0) ≡ false = search rules in
     let list_0 = rw (c.deref.ensures.0, c.initial_list-initial.ensures, c.frames-frames.ensures.value) at (sym c.final_list.ensures ∙ c.in_ok-list_0.was) in
     rw c.new.ensures (sym (lists_of-p marks c.args.sps.now c.args.header.now counts c.requires.has_list_0 c.requires.lacks_list_1 some
-    ∙ both-Ok (final_l0 marks c.args.sps.now c.args.header.now ByPicNum) (Some []) c.in_ok-list_0.list_0 [] list_0 refl))
+    ∙ both-Ok (final_0 marks c.args.sps.now c.args.header.now ByPicNum) [] (bad_0 marks c.args.sps.now c.args.header.now) false c.in_ok-list_0.list_0 [] list_0 refl))

@@ -2,7 +2,7 @@ use Rattle.std.proofs.Common.{rules, ◌≡◌, ◌<◌, ◌∙◌, length, take
 use Rattle.std.proofs.lemmas.Int.{to_z-of_z}
 use Rattle.std.proofs.lemmas.List.{take_min, get_or_default, length-take}
 use Rattle.slice_header.specs.declared.ref_pic_list_modification.RefPicListModification.TheVariants.{Subtract}
-use Rattle.ref_lists.proofs.Modifications.{modified_from-None, IsModifiedTo-more}
+use Rattle.ref_lists.proofs.Modifications.{outcome_from-None, IsModifiedTo-more}
 use Rattle.ref_lists.proofs.modification.modified.Goals as goal
 
 pub returns-in_default : goal.returns-in_default
@@ -18,7 +18,7 @@ returns-in_default c =
     let next = rw taken at c.no_wrap-number.ensures.value in
     let named = rw (taken, to_z-of_z w64 c.no_wrap-number.result fits, next) at c.named-named.ensures in
     let none = sym (rw named at c.place_in.ensures) ∙ c.in_default.is in
-    rw (modified_from-None c.args.sps.now c.args.frame_num c.args.frames.now commands list loop.index (to_z w64 loop.number-bits) loop.list loop.invariant command below read none) refl
+    rw (outcome_from-None c.args.sps.now c.args.frame_num c.args.frames.now commands list loop.index (to_z w64 loop.number-bits) loop.list loop.invariant command below read none) refl
 
 pub loop-index-preserved : goal.loop-index-preserved
 loop-index-preserved c =

@@ -27,6 +27,10 @@ holds idx (LongTerm held) = held == idx
 abbrev pub without_idx : ℕ → List Frame → List Frame
 without_idx idx frames = filter (λ frame. not (holds idx frame.term)) frames
 
+-- the frame with this term
+abbrev pub with_term : Frame → Term → Frame
+with_term frame term = record frame { term = term }
+
 -- the frame as a long-term frame of this LongTermFrameIdx
 abbrev pub as_long_term : ℕ → Frame → Frame
-as_long_term idx frame = record frame { term = LongTerm idx }
+as_long_term idx frame = with_term frame (LongTerm idx)

@@ -70,6 +70,7 @@ impl Default for Frame {
 }
 
 impl Frame {
+    ghost use Rattle.ref_marking.specs.MarkedFrames.{with_term};
     ghost use Rattle.ref_marking.specs.PicNums.{pic_num, long_term_pic_num};
 
     /// PicNum of a short-term frame, for a picture with this frame_num; none of a long-term frame.
@@ -96,7 +97,7 @@ impl Frame {
 
     // The frame with this term.
     pub(crate) fn with_term(self, term: Term) -> Frame
-        ensures { result ≡ record self { term = term } }
+        ensures { result ≡ with_term self term }
     {
         Frame { term, ..self }
     }

@@ -1,3 +1,7 @@
+mod fields;
+mod tables;
+mod writer;
+
 use super::*;
 use annexb::{Nal, split};
 use param_sets::{

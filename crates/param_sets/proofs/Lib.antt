@@ -6,6 +6,9 @@ pub mod CountTypes
 pub mod Parts
 pub mod HighProfiles
 pub mod ListRows
+pub mod ScalingEntries
+pub mod FallBack
+pub mod StandardTables
 pub mod SpsSections
 pub mod Sections
 pub mod PpsSections

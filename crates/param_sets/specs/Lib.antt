@@ -4,7 +4,11 @@ pub mod Ranges
 pub mod Rows
 pub mod Answer
 pub mod Scaling
+pub mod DefaultScalingLists
+pub mod InverseScan
 pub mod SpsSyntax
 pub mod PpsSyntax
+pub mod ScalingMatrix
+pub mod FallBack
 pub mod Sets
 pub mod SameSets

@@ -65,7 +65,7 @@ fn deltas(alloc: Global, bits: &mut Bits<'_>, size: u8) -> Result<ScalingList, S
 }
 
 // nextScale behind a delta.
-fn scale_behind(last: u8, delta: i8) -> u8
+pub fn scale_behind(last: u8, delta: i8) -> u8
     ensures { result ≡ scale_behind last delta }
 {
     (i32::from(last) + i32::from(delta)).rem_euclid(256) as u8

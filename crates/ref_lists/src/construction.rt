@@ -35,7 +35,8 @@ pub fn lists(
     counts: Counts,
 ) -> Result<(List, List), ListFault>
     ensures constructed { Constructs marks.now sps.now header.now counts result }
-    ensures only { (other : Answer) → Constructs marks.now sps.now header.now counts other → other ≡ result }
+    ensures only { (other : Answer) →
+        Constructs marks.now sps.now header.now counts other → other ≡ result }
     ensures exact { result ≡ lists_of marks.now sps.now header.now counts }
 
     // The first of these is answered, and else the lists.
@@ -49,7 +50,8 @@ pub fn lists(
     // As many entries as are active, each missing or the place of a frame.
     ensures lengths { IfOk result
         (λ lists. (length lists.0 ≡ active_l0 header.now) × (length lists.1 ≡ active_l1 header.now)) }
-    ensures marked { IfOk result (λ lists. All (IsMarked marks.now) lists.0 × All (IsMarked marks.now) lists.1) }
+    ensures marked { IfOk result
+        (λ lists. All (IsMarked marks.now) lists.0 × All (IsMarked marks.now) lists.1) }
 {
     match header.slice_type {
         SliceType::I | SliceType::Si => Ok((List::new(), List::new())),
@@ -132,7 +134,8 @@ fn final_list(
     requires few { length frames.now ≤ 16 }
     requires once { IsDistinct nat_eq initial.now }
     ensures { let active = num_ref_idx_active_minus1 + 1 in
-        result ≡ (if has_bad_command sps.now frame_num frames.now active commands.now then Err BadModification
+        result ≡ (if has_bad_command sps.now frame_num frames.now active commands.now
+        then Err BadModification
         else Ok (modified sps.now frame_num frames.now commands.now (cut active initial.now))) }
 {
     let active = usize::from(num_ref_idx_active_minus1.get()) + 1;

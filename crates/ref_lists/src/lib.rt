@@ -14,3 +14,6 @@ mod reference_list;
 pub use construction::lists;
 pub use fault::ListFault;
 pub use reference_list::List;
+
+#[cfg(test)]
+mod tests;

@@ -28,7 +28,8 @@ pub(crate) fn modified(
 ) -> Result<List, ListFault>
     requires few { length frames.now ≤ 16 }
     requires once { (place : ℕ) → count_by (is_entry_of place) list ≤ 1 }
-    ensures { result ≡ (if has_bad_command sps.now frame_num frames.now (length list) commands.now then Err BadModification
+    ensures { result ≡ (if has_bad_command sps.now frame_num frames.now (length list) commands.now
+        then Err BadModification
         else Ok (modified sps.now frame_num frames.now commands.now list)) }
 {
     let count = list.entries().len().min(commands.len());

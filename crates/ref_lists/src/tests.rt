@@ -1,0 +1,452 @@
+use super::*;
+use order_count::{Anchor, Counts, count};
+use param_sets::{AtMost, Sps, read_sps};
+use ref_marking::{AuId, Marks, mark};
+use slice_header::{
+    DecRefPicMarking, MemoryManagementControlOperation, MemoryManagementControlOperations,
+    RefPicListModification as Command, RefPicListModifications, SliceHeader, SliceType,
+};
+use std::alloc::{AllocError, Global};
+use std::process::Abort;
+use std::test::Fail;
+
+// MaxFrameNum 16, MaxPicOrderCntLsb 65536, 16 reference frames.
+const SET: [u8; 8] = [0x67, 0x42, 0x00, 0x0A, 0xE3, 0x42, 0x2F, 0x20];
+
+/// A frame to be marked: its frame_num, its count, and its LongTermFrameIdx, if it is to be a long-term frame.
+type Picture = (u16, u16, Option<u32>);
+
+/// A slice: as many entries are active in both lists.
+#[derive(Clone, Copy)]
+struct Slice<'a> {
+    slice_type: SliceType,
+    frame_num: u16,
+    pic_order_cnt: i32,
+    active: u8,
+    commands_0: &'a [Command],
+    commands_1: &'a [Command],
+}
+
+/// A P slice of PicOrderCnt 6.
+fn p_slice<'a>(frame_num: u16, active: u8, commands_0: &'a [Command]) -> Slice<'a> {
+    Slice {
+        slice_type: SliceType::P,
+        frame_num,
+        pic_order_cnt: 6,
+        active,
+        commands_0,
+        commands_1: &[],
+    }
+}
+
+/// A B slice of frame_num 2.
+fn b_slice<'a>(pic_order_cnt: i32, active: u8, commands_1: &'a [Command]) -> Slice<'a> {
+    Slice {
+        slice_type: SliceType::B,
+        frame_num: 2,
+        pic_order_cnt,
+        active,
+        commands_0: &[],
+        commands_1,
+    }
+}
+
+/// The header of a picture with this frame_num and count, and with these commands of list 0 and list 1.
+fn header(
+    picture: (u16, u16),
+    commands_0: RefPicListModifications,
+    commands_1: RefPicListModifications,
+    dec_ref_pic_marking: DecRefPicMarking,
+) -> SliceHeader {
+    SliceHeader {
+        nal_ref_idc: 1,
+        nal_unit_type: 1,
+        first_mb_in_slice: 0,
+        slice_type: SliceType::P,
+        pic_parameter_set_id: 0,
+        frame_num: picture.0,
+        idr_pic_id: 0,
+        pic_order_cnt_lsb: picture.1,
+        delta_pic_order_cnt_bottom: 0,
+        delta_pic_order_cnt0: 0,
+        delta_pic_order_cnt1: 0,
+        redundant_pic_cnt: 0,
+        direct_spatial_mv_pred_flag: false,
+        num_ref_idx_l0_active_minus1: AtMost::new(0),
+        num_ref_idx_l1_active_minus1: AtMost::new(0),
+        ref_pic_list_modification_l0: commands_0,
+        ref_pic_list_modification_l1: commands_1,
+        pred_weight_table: None,
+        dec_ref_pic_marking,
+        cabac_init_idc: 0,
+        slice_qp_delta: 0,
+        disable_deblocking_filter_idc: 0,
+        slice_alpha_c0_offset_div2: 0,
+        slice_beta_offset_div2: 0,
+        header_bit_size: 0,
+        dec_ref_pic_marking_bit_size: 0,
+        pic_order_cnt_bit_size: 0,
+    }
+}
+
+fn commands(alloc: Global, slice: &[Command]) -> Result<RefPicListModifications, AllocError> {
+    let mut commands = RefPicListModifications::new(alloc);
+    for command in slice {
+        commands.push(*command)?;
+    }
+    Ok(commands)
+}
+
+fn header_of(alloc: Global, slice: &Slice<'_>) -> Result<SliceHeader, AllocError> {
+    let commands_0 = commands(alloc, slice.commands_0)?;
+    let commands_1 = commands(alloc, slice.commands_1)?;
+    let marking = DecRefPicMarking::SlidingWindow;
+    let mut header = header((slice.frame_num, 0), commands_0, commands_1, marking);
+    let active_minus1 = slice.active.saturating_sub(1).min(31);
+    header.slice_type = slice.slice_type;
+    header.num_ref_idx_l0_active_minus1 = AtMost::new(active_minus1);
+    header.num_ref_idx_l1_active_minus1 = AtMost::new(active_minus1);
+    Ok(header)
+}
+
+/// How a picture is marked: as a long-term frame where it has an index.
+fn marking(alloc: Global, index: Option<u32>) -> Result<DecRefPicMarking, AllocError> {
+    let Some(long_term_frame_idx) = index else {
+        return Ok(DecRefPicMarking::SlidingWindow);
+    };
+    let mut operations = MemoryManagementControlOperations::new(alloc);
+    operations.push(MemoryManagementControlOperation::LimitLongTerm {
+        max_long_term_frame_idx_plus1: 16,
+    })?;
+    operations.push(MemoryManagementControlOperation::CurrentLongTerm {
+        long_term_frame_idx,
+    })?;
+    Ok(DecRefPicMarking::Adaptive { operations })
+}
+
+/// The marks behind one picture more.
+fn marked_behind(
+    alloc: Global,
+    sps: &Sps,
+    marks: &Marks,
+    picture: &Picture,
+) -> Result<Marks, Fail> {
+    let marking = marking(alloc, picture.2)?;
+    let none_0 = RefPicListModifications::new(alloc);
+    let none_1 = RefPicListModifications::new(alloc);
+    let header = header((picture.0, picture.1), none_0, none_1, marking);
+    let counts = count(&Anchor::new(), sps, &header)?;
+    let marks = mark(marks, AuId::new(1), sps, &header, counts)?;
+    Ok(marks)
+}
+
+/// The marks behind these pictures.
+fn marked(alloc: Global, sps: &Sps, pictures: &[Picture]) -> Result<Marks, Fail> {
+    let mut marks = Marks::new();
+    for picture in pictures {
+        marks = marked_behind(alloc, sps, &marks, picture)?;
+    }
+    Ok(marks)
+}
+
+/// The lists of a slice behind the pictures.
+fn construct(
+    alloc: Global,
+    pictures: &[Picture],
+    slice: &Slice<'_>,
+) -> Result<Result<(List, List), ListFault>, Fail> {
+    let sps = read_sps(alloc, &SET)?;
+    let marks = marked(alloc, &sps, pictures)?;
+    let header = header_of(alloc, slice)?;
+    let counts = Counts {
+        top: slice.pic_order_cnt,
+        bottom: slice.pic_order_cnt,
+    };
+    Ok(lists(&marks, &sps, &header, counts))
+}
+
+/// Asserts that the slice has these lists.
+fn assert_lists(
+    rt: &(impl Abort + AllocGlobal),
+    pictures: &[Picture],
+    slice: &Slice<'_>,
+    entries_0: &[Option<u8>],
+    entries_1: &[Option<u8>],
+) -> Result<(), Fail> {
+    match construct(rt.alloc(), pictures, slice)? {
+        Ok((list_0, list_1)) => {
+            assert_eq!(rt; list_0.entries(), entries_0);
+            assert_eq!(rt; list_1.entries(), entries_1);
+        }
+        Err(fault) => panic!(rt; "{fault}"),
+    }
+    Ok(())
+}
+
+/// Asserts that the slice has no lists for this reason.
+fn assert_fault(
+    rt: &(impl Abort + AllocGlobal),
+    pictures: &[Picture],
+    slice: &Slice<'_>,
+    fault: ListFault,
+) -> Result<(), Fail> {
+    match construct(rt.alloc(), pictures, slice)? {
+        Ok(_) => panic!(rt; "no fault"),
+        Err(shown) => assert_eq!(rt; shown, fault),
+    }
+    Ok(())
+}
+
+/// Names the short-term frame whose number is lower than the last by the difference.
+fn lower(difference: u32) -> Command {
+    Command::Subtract {
+        abs_diff_pic_num_minus1: difference.saturating_sub(1),
+    }
+}
+
+/// The same, but higher.
+fn higher(difference: u32) -> Command {
+    Command::Add {
+        abs_diff_pic_num_minus1: difference.saturating_sub(1),
+    }
+}
+
+fn long_term(long_term_pic_num: u32) -> Command {
+    Command::LongTerm { long_term_pic_num }
+}
+
+// Short-term frames with FrameNums 15, 0 and 1: for frame_num 2 their PicNums are -1, 0 and 1.
+const THREE: [Picture; 3] = [(15, 0, None), (0, 2, None), (1, 4, None)];
+
+#[test]
+fn p_list(rt: HostRuntime) -> Result<(), Fail> {
+    assert_lists(&rt, &THREE, &p_slice(2, 2, &[]), &[Some(2), Some(1)], &[])?;
+    assert_lists(
+        &rt,
+        &THREE,
+        &p_slice(2, 2, &[lower(3)]),
+        &[Some(0), Some(2)],
+        &[],
+    )
+}
+
+#[test]
+fn picture_numbers_wrap(rt: HostRuntime) -> Result<(), Fail> {
+    // Each command counts from the number before it: 1, then -1 as 15.
+    assert_lists(
+        &rt,
+        &THREE,
+        &p_slice(2, 3, &[lower(1), lower(2)]),
+        &[Some(2), Some(0), Some(1)],
+        &[],
+    )?;
+    // 15 is above CurrPicNum and so -1; from there once around to 0.
+    assert_lists(
+        &rt,
+        &THREE,
+        &p_slice(2, 3, &[higher(13), higher(1)]),
+        &[Some(0), Some(1), Some(2)],
+        &[],
+    )?;
+    // A long-term frame between them leaves the number.
+    assert_lists(
+        &rt,
+        &[(15, 0, None), (0, 2, Some(7)), (1, 4, None)],
+        &p_slice(2, 3, &[lower(1), long_term(7), lower(2)]),
+        &[Some(2), Some(1), Some(0)],
+        &[],
+    )
+}
+
+#[test]
+fn b_lists(rt: HostRuntime) -> Result<(), Fail> {
+    assert_lists(
+        &rt,
+        &[(15, 0, None), (0, 8, None), (1, 4, None)],
+        &b_slice(6, 3, &[]),
+        &[Some(2), Some(0), Some(1)],
+        &[Some(1), Some(2), Some(0)],
+    )?;
+    // Each list has its own commands.
+    assert_lists(
+        &rt,
+        &[(15, 0, None), (0, 8, None), (1, 4, None)],
+        &b_slice(6, 3, &[lower(3)]),
+        &[Some(2), Some(0), Some(1)],
+        &[Some(0), Some(1), Some(2)],
+    )
+}
+
+#[test]
+fn b_lists_are_exchanged_before_they_are_cut(rt: HostRuntime) -> Result<(), Fail> {
+    assert_lists(
+        &rt,
+        &[(0, 4, None), (1, 2, None)],
+        &b_slice(6, 1, &[]),
+        &[Some(0)],
+        &[Some(1)],
+    )?;
+    // One entry isn't exchanged, and two that differ aren't.
+    assert_lists(
+        &rt,
+        &[(0, 4, None)],
+        &b_slice(6, 1, &[]),
+        &[Some(0)],
+        &[Some(0)],
+    )?;
+    assert_lists(
+        &rt,
+        &[(0, 4, None), (1, 8, None)],
+        &b_slice(6, 1, &[]),
+        &[Some(0)],
+        &[Some(1)],
+    )
+}
+
+#[test]
+fn long_term_frames_come_last(rt: HostRuntime) -> Result<(), Fail> {
+    let pictures = [(0, 2, Some(3)), (0, 4, None), (1, 8, Some(1)), (1, 6, None)];
+    assert_lists(
+        &rt,
+        &pictures,
+        &p_slice(2, 4, &[]),
+        &[Some(3), Some(1), Some(2), Some(0)],
+        &[],
+    )?;
+    // Their counts are no ties, and the frame that is named comes first.
+    assert_lists(
+        &rt,
+        &pictures,
+        &b_slice(8, 4, &[long_term(3)]),
+        &[Some(3), Some(1), Some(2), Some(0)],
+        &[Some(0), Some(1), Some(3), Some(2)],
+    )
+}
+
+#[test]
+fn missing_entries(rt: HostRuntime) -> Result<(), Fail> {
+    assert_lists(
+        &rt,
+        &[(0, 0, None)],
+        &p_slice(1, 2, &[]),
+        &[Some(0), None],
+        &[],
+    )?;
+    // A frame that is named twice stands twice, before entries that are missing.
+    assert_lists(
+        &rt,
+        &[(0, 0, None), (1, 2, None)],
+        &p_slice(2, 5, &[lower(1), lower(1), higher(1)]),
+        &[Some(1), Some(0), Some(1), None, None],
+        &[],
+    )
+}
+
+#[test]
+fn sixteen_frames_and_thirty_two_entries(rt: HostRuntime) -> Result<(), Fail> {
+    let pictures = [
+        (0, 0, None),
+        (1, 2, None),
+        (2, 4, None),
+        (3, 6, None),
+        (4, 8, None),
+        (5, 10, None),
+        (6, 12, None),
+        (7, 14, None),
+        (8, 16, None),
+        (9, 18, None),
+        (10, 20, None),
+        (11, 22, None),
+        (12, 24, None),
+        (13, 26, None),
+        (14, 28, None),
+        (15, 30, None),
+    ];
+    let mut entries = [None; 32];
+    for (entry, place) in entries.iter_mut().zip((0..16).rev()) {
+        *entry = Some(place);
+    }
+    assert_lists(&rt, &pictures, &p_slice(15, 32, &[]), &entries, &[])?;
+    // Once around MaxFrameNum each time: one frame 32 times.
+    let around = [lower(16); 32];
+    let entries = [Some(15); 32];
+    assert_lists(&rt, &pictures, &p_slice(15, 32, &around), &entries, &[])
+}
+
+#[test]
+fn intra_slices_have_no_lists(rt: HostRuntime) -> Result<(), Fail> {
+    let commands = [long_term(0)];
+    let slice = Slice {
+        slice_type: SliceType::I,
+        ..p_slice(2, 2, &commands)
+    };
+    assert_lists(&rt, &THREE, &slice, &[], &[])?;
+    assert_lists(&rt, &[], &slice, &[], &[])
+}
+
+#[test]
+fn order_tie(rt: HostRuntime) -> Result<(), Fail> {
+    // With the picture, with a command beside it that names no frame; and with another frame.
+    let tied = [(0, 2, None), (1, 2, None)];
+    assert_fault(
+        &rt,
+        &THREE,
+        &b_slice(4, 2, &[long_term(0)]),
+        ListFault::OrderTie,
+    )?;
+    assert_fault(&rt, &tied, &b_slice(4, 2, &[]), ListFault::OrderTie)?;
+    // Not in a P slice.
+    assert_lists(&rt, &tied, &p_slice(2, 2, &[]), &[Some(1), Some(0)], &[])
+}
+
+#[test]
+fn no_reference(rt: HostRuntime) -> Result<(), Fail> {
+    assert_fault(
+        &rt,
+        &[],
+        &p_slice(2, 2, &[long_term(0)]),
+        ListFault::NoReference,
+    )?;
+    assert_fault(&rt, &[], &b_slice(4, 2, &[]), ListFault::NoReference)
+}
+
+#[test]
+fn bad_modification(rt: HostRuntime) -> Result<(), Fail> {
+    // No short-term frame has PicNum -2, no long-term frame the number 0, in list 1 either.
+    assert_fault(
+        &rt,
+        &THREE,
+        &p_slice(2, 2, &[lower(4)]),
+        ListFault::BadModification,
+    )?;
+    assert_fault(
+        &rt,
+        &THREE,
+        &b_slice(6, 2, &[long_term(0)]),
+        ListFault::BadModification,
+    )?;
+    // The second command is past the only entry.
+    assert_lists(
+        &rt,
+        &THREE,
+        &p_slice(2, 1, &[lower(1), long_term(0)]),
+        &[Some(2)],
+        &[],
+    )
+}
+
+#[test]
+fn copies_and_texts(rt: HostRuntime) -> Result<(), Fail> {
+    match construct(rt.alloc(), &THREE, &p_slice(2, 4, &[]))? {
+        Ok((list_0, list_1)) => {
+            assert_eq!(rt; list_0.copy(), list_0);
+            assert_eq!(rt; list_1, List::new());
+        }
+        Err(fault) => panic!(&rt; "{fault}"),
+    }
+    assert_eq!(rt;
+        format!(in rt.alloc(); "{}", ListFault::OrderTie)?.as_str(),
+        "two pictures have one picture order count"
+    );
+    Ok(())
+}

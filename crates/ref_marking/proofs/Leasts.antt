@@ -12,7 +12,7 @@ use Rattle.ref_marking.specs.PicNums.{pic_num}
 use Rattle.ref_marking.specs.SlidingWindow.{HasLeastFrameNumWrap}
 use Rattle.ref_marking.specs.MarksAfter.{has_pic_num}
 use Rattle.ref_marking.proofs.Firsts.{Agrees}
-use Rattle.ref_marking.proofs.Tests.{number_decides}
+use Rattle.ref_marking.proofs.Decisions.{number_decides}
 
 -- what holds of the numbers holds of each frame that has one
 all_behind : (number : Frame → Option ℤ) (P : ℤ → Type 0) (x : Frame) (xs : List Frame) (numbers : List ℤ) (found : Option ℤ) → number x ≡ found

@@ -6,7 +6,7 @@ mod Least
 mod Slides
 mod Firsts
 mod Outcomes
-mod Tests
+mod Decisions
 mod Leasts
 mod StepLaws
 pub mod MarkingLaws

@@ -23,7 +23,7 @@ use Rattle.ref_marking.specs.Marking.{Joins, JoinsAs}
 use Rattle.ref_marking.specs.MarksAfter.{first, freed, has_pic_num, has_long_term_pic_num, short_term_freed, long_term_freed, allows_idx, assigned, long_term_assigned, long_term_limited, holder_freed, operated, all_operated, least_freed, window_slid, joined, joined_as}
 use Rattle.ref_marking.proofs.Firsts.{first_some, first_none, first_only, none_only}
 use Rattle.ref_marking.proofs.Outcomes.{Gives, outcome_holds, stays_gives, then_gives, frees_gives}
-use Rattle.ref_marking.proofs.Tests.{has_pic_num_agrees, has_long_term_pic_num_agrees, le_decides, allows_decides}
+use Rattle.ref_marking.proofs.Decisions.{has_pic_num_agrees, has_long_term_pic_num_agrees, le_decides, allows_decides}
 use Rattle.ref_marking.proofs.Leasts.{least_agrees, none_agrees}
 
 pub short_term_freed_gives : (sps : Sps) (frame_num difference : ℕ) (before : Marked) → Gives (FreesShortTerm sps frame_num difference) before (short_term_freed sps frame_num difference before)

@@ -1,9 +1,13 @@
 -- The frames that are marked as used for reference (ITU-T H.264, 8.2.5.1).
-use Rattle.std.specs.Prelude.{ℕ, Bool, false, max, not, ◌==◌, List, [], filter, Option, None}
+use Rattle.std.specs.Prelude.{ℕ, Bool, false, max, not, ◌==◌, List, [], filter, Option, None, pos}
 use Rattle.param_sets.specs.declared.sps.Sps.{Sps}
 use Rattle.ref_marking.specs.declared.frames.Frame.{Frame}
 use Rattle.ref_marking.specs.declared.frames.Term.{Term}
 use Rattle.ref_marking.specs.declared.frames.Term.TheVariants.{ShortTerm, LongTerm}
+
+-- a frame before its fields are known
+abbrev pub default_frame : Frame
+default_frame = record { id = 0; frame_num = 0; term = ShortTerm; counts = record { top = pos 0; bottom = pos 0 } }
 
 -- the marked frames in decode order, and MaxLongTermFrameIdx, or None for "no long-term frame indices"
 pub record Marked : Type 0 where
@@ -27,6 +31,10 @@ holds idx (LongTerm held) = held == idx
 abbrev pub without_idx : ℕ → List Frame → List Frame
 without_idx idx frames = filter (λ frame. not (holds idx frame.term)) frames
 
+-- the frame with this term
+abbrev pub with_term : Frame → Term → Frame
+with_term frame term = record frame { term = term }
+
 -- the frame as a long-term frame of this LongTermFrameIdx
 abbrev pub as_long_term : ℕ → Frame → Frame
-as_long_term idx frame = record frame { term = LongTerm idx }
+as_long_term idx frame = with_term frame (LongTerm idx)

@@ -59,6 +59,10 @@ pub struct Frame {
 }
 
 impl Default for Frame {
+    ghost use Rattle.ref_marking.specs.MarkedFrames.{default_frame};
+
+    ghost is_default = { λ frame. frame ≡ default_frame };
+
     fn default() -> Frame {
         Frame {
             id: AuId::new(0),
@@ -70,6 +74,7 @@ impl Default for Frame {
 }
 
 impl Frame {
+    ghost use Rattle.ref_marking.specs.MarkedFrames.{with_term};
     ghost use Rattle.ref_marking.specs.PicNums.{pic_num, long_term_pic_num};
 
     /// PicNum of a short-term frame, for a picture with this frame_num; none of a long-term frame.
@@ -96,7 +101,7 @@ impl Frame {
 
     // The frame with this term.
     pub(crate) fn with_term(self, term: Term) -> Frame
-        ensures { result ≡ record self { term = term } }
+        ensures { result ≡ with_term self term }
     {
         Frame { term, ..self }
     }

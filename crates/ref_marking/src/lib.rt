@@ -21,3 +21,6 @@ pub use frames::{Frame, Term};
 pub use marked_frames::Marks;
 pub use marking::mark;
 pub use numbers::frame_num_wrap;
+
+#[cfg(test)]
+mod tests;

@@ -18,9 +18,15 @@ impl Model for Marks {
 
     ghost Value = { Marked };
 
-    ghost view = { λ marks. record { frames = marks.frames.items; max_long_term_frame_idx = marks.max_long_term_frame_idx } };
+    ghost view = { λ marks. record {
+      frames = marks.frames.items;
+      max_long_term_frame_idx = marks.max_long_term_frame_idx;
+    } };
 
-    ghost inverse = { λ marked. record { frames = record { items = marked.frames }; max_long_term_frame_idx = marked.max_long_term_frame_idx } };
+    ghost inverse = { λ marked. record {
+      frames = record { items = marked.frames };
+      max_long_term_frame_idx = marked.max_long_term_frame_idx;
+    } };
 }
 
 impl Marks {

@@ -2,7 +2,7 @@
 
 ghost use Rattle.std.specs.Prelude.{◌≡◌, IsTrue, Result};
 ghost use Rattle.ref_marking.specs.declared.fault.MarkFault.{MarkFault};
-ghost use Rattle.ref_marking.specs.MarkedFrames.{Marked};
+ghost use Rattle.ref_marking.specs.MarkedFrames.{Marked, with_term};
 ghost use Rattle.order_count.specs.PicOrderCnt.{are_in_range};
 ghost use Rattle.order_count.specs.Resetting.{counts_after_reset};
 ghost use Rattle.ref_marking.specs.declared.frames.Term.TheVariants.{ShortTerm};
@@ -39,7 +39,8 @@ pub fn mark(
 ) -> Result<Marks, MarkFault>
     requires { IsTrue (are_in_range (counts_after_reset header.now counts)) }
     ensures marked { MarksPicture id sps.now header.now counts marks.now result }
-    ensures only { (other : Result Marked MarkFault) → MarksPicture id sps.now header.now counts marks.now other → other ≡ result }
+    ensures only { (other : Result Marked MarkFault) →
+        MarksPicture id sps.now header.now counts marks.now other → other ≡ result }
     ensures exact { result ≡ marks_after marks.now id sps.now header.now counts }
 {
     if !header.is_reference() {
@@ -76,7 +77,7 @@ fn current_frame(id: AuId, header: &SliceHeader, counts: Counts) -> Frame
 
 // The only frame that is marked after an IDR picture.
 fn mark_idr(long_term_reference_flag: bool, current: Frame) -> Marks
-    ensures { result ≡ idr_marked long_term_reference_flag (λ term. record current { term = term }) }
+    ensures { result ≡ idr_marked long_term_reference_flag (with_term current) }
 {
     let mut marks = Marks::new();
     if long_term_reference_flag {
@@ -114,7 +115,7 @@ impl Marks {
         operations: &[Operation],
         current: Frame,
     ) -> Result<Marks, MarkFault>
-        ensures { result ≡ adaptively_marked sps.now frame_num operations.now (λ term. record current { term = term }) self }
+        ensures { result ≡ adaptively_marked sps.now frame_num operations.now (with_term current) self }
     {
         if contradict(operations) {
             return Err(MarkFault::BadMarking);
@@ -132,8 +133,8 @@ impl Marks {
         current: Frame,
         long_term_frame_idx: Option<u32>,
     ) -> Result<Marks, MarkFault>
-        ensures step { JoinsAs long_term_frame_idx sps.now (λ term. record current { term = term }) self result }
-        ensures exact { result ≡ joined_as long_term_frame_idx sps.now (λ term. record current { term = term }) self }
+        ensures step { JoinsAs long_term_frame_idx sps.now (with_term current) self result }
+        ensures exact { result ≡ joined_as long_term_frame_idx sps.now (with_term current) self }
     {
         let Some(idx) = long_term_frame_idx else {
             return self.join(sps, current.with_term(Term::ShortTerm));

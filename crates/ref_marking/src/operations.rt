@@ -16,7 +16,6 @@ use slice_header::MemoryManagementControlOperation as Operation;
 
 impl Marks {
     // 1: a short-term frame is freed (8.2.5.4.1).
-    #[tactic(auto, using(crate::proofs::StepLaws::frees_short_term), unfolding(crate::specs::MarksAfter::short_term_freed))]
     fn free_short_term(
         self,
         sps: &Sps,
@@ -32,7 +31,6 @@ impl Marks {
     }
 
     // 2: a long-term frame is freed (8.2.5.4.2).
-    #[tactic(auto, using(crate::proofs::StepLaws::frees_long_term), unfolding(crate::specs::MarksAfter::long_term_freed))]
     fn free_long_term(self, long_term_pic_num: u32) -> Result<Marks, MarkFault>
         ensures step { FreesLongTerm long_term_pic_num self result }
         ensures exact { result ≡ long_term_freed long_term_pic_num self }
@@ -50,8 +48,10 @@ impl Marks {
         difference_of_pic_nums_minus1: u32,
         long_term_frame_idx: u32,
     ) -> Result<Marks, MarkFault>
-        ensures step { AssignsLongTerm sps.now frame_num difference_of_pic_nums_minus1 long_term_frame_idx self result }
-        ensures exact { result ≡ long_term_assigned sps.now frame_num difference_of_pic_nums_minus1 long_term_frame_idx self }
+        ensures step { AssignsLongTerm sps.now frame_num
+            difference_of_pic_nums_minus1 long_term_frame_idx self result }
+        ensures exact { result ≡ long_term_assigned sps.now frame_num
+            difference_of_pic_nums_minus1 long_term_frame_idx self }
     {
         let long_term_frame_idx = self.allowed(long_term_frame_idx)?;
         let number = pic_num_x(frame_num, difference_of_pic_nums_minus1);
@@ -101,7 +101,8 @@ impl Marks {
 
     // An index that isn't above the greatest.
     pub(crate) fn allowed(&self, long_term_frame_idx: u32) -> Result<u8, MarkFault>
-        ensures { result ≡ (if allows_idx self.now.max_long_term_frame_idx long_term_frame_idx then Ok long_term_frame_idx else Err BadMarking) }
+        ensures { result ≡ (if allows_idx self.now.max_long_term_frame_idx long_term_frame_idx
+            then Ok long_term_frame_idx else Err BadMarking) }
     {
         match self.max_long_term_frame_idx {
             Some(greatest) if long_term_frame_idx <= u32::from(greatest) => {

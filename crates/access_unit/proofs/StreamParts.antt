@@ -1,10 +1,11 @@
 -- The access units of a text, each joined to a text of its own.
-use Rattle.std.proofs.Common.{◌≡◌, ◌≢◌, ◌⊎◌, ⊎_elim, ℕ, ◌+◌, ◌-◌, ◌<◌, ◌≤◌, List, [], ◌∷◌, ◌++◌, length, take, drop, get_or, slice_range, All, Result, Ok, Err, IfOk, refl, ap, sym, ◌∙◌, arith}
+use Rattle.std.proofs.Common.{◌≡◌, ◌≢◌, ⊎_elim, ℕ, ◌-◌, ◌<◌, ◌≤◌, List, [], ◌∷◌, ◌++◌, length, map, take, drop, get_or, slice_range, All, Result, Ok, Err, IfOk, refl, ap, sym, ◌∙◌, arith}
+use Rattle.std.specs.List.{AllZip}
 use Rattle.std.specs.Result.{IsOkUnless}
 use Rattle.std.specs.Global.{Vec}
 use Rattle.std.specs.declared.ops.Range.{Range}
-use Rattle.std.proofs.lemmas.List.{get_or-map, length-map, take_more, take_all, length-take, length-drop}
-use Rattle.std.proofs.lemmas.List.Elements.{All-nil, All-cons, All-push, All-take, All-drop, All-get_or}
+use Rattle.std.proofs.lemmas.List.{length-take, length-drop}
+use Rattle.std.proofs.lemmas.List.Elements.{All-nil, All-cons, All-head, All-tail, All-map, All-take, All-drop, All-get_or}
 use Rattle.annexb.specs.NalUnit.{IsUnit}
 use Rattle.annexb.specs.ByteStream.{AreUnits, HasUnits, joined}
 use Rattle.annexb.specs.AccessUnits.{IsCut, parts_at}
@@ -14,8 +15,9 @@ use Rattle.access_unit.specs.declared.refused.Refused.{Refused}
 use Rattle.access_unit.specs.declared.refused.Refused.TheVariants as refusals
 use Rattle.access_unit.specs.declared.stream.StreamRefused.{StreamRefused}
 use Rattle.access_unit.specs.declared.stream.StreamRefused.TheVariants as stream
-use Rattle.access_unit.specs.Answers.{IsAccepted, IsRefused}
-use Rattle.access_unit.specs.Streams.{HasAccessUnits, AreAccepted, IsRefusalOfUnit, IsStreamReadAs}
+use Rattle.access_unit.specs.Answers.{IsAccepted, IsRefused, IsReadAs}
+use Rattle.access_unit.specs.Gathered.{HasUnitsAt, IsGathered}
+use Rattle.access_unit.specs.Streams.{HasAccessUnits, AreAccepted, IsFirstRefused, IsStreamReadAs}
 use Rattle.access_unit.proofs.Texts.{never_refused}
 
 all_units : (bytes : List ℕ) (units : List (List ℕ)) → AreUnits bytes units → All IsUnit units
@@ -49,70 +51,71 @@ only_stream text parts has accepted (Err (stream.Unit index refused)) (others, h
     let is_refused : IsRefused (joined (get_or parts index [])) refused = rw same at first.is_refused in
     absurd (never_refused _ _ refused (All-get_or (λ part. IsAccepted (joined part) part) parts index [] here accepted) is_refused)
 
--- how many access units are read: those before the place
-pub record AreReadTo (parts : List (List (List ℕ))) (at : ℕ) (units : List (List (List ℕ))) : Type 0 where
-  pub units_are : units ≡ take at parts
-  pub accepted : AreAccepted (take at parts)
+-- each range of a cut has NAL units of the text
+pub HasUnitsAt-ranges : (text : List ℕ) (units : List (List ℕ)) (ranges : List (Range ℕ)) → HasUnits text units
+    → All (λ range. (range.start < range.end) × (range.end ≤ length units)) ranges → All (HasUnitsAt units) ranges
+HasUnitsAt-ranges text units ranges has in_range = λ k d here.
+    let within = in_range k d here in
+    record { ordered = omega arith; within = within.1; has = HasUnits-part text units _ _ has within.0 within.1 }
 
-pub AreReadTo-first : (parts : List (List (List ℕ))) → AreReadTo parts 0 []
-AreReadTo-first parts = record { units_are = refl; accepted = All-nil (λ part. IsAccepted (joined part) part) }
+-- what an access unit's own text is read as
+abbrev pub IsReading : List (List ℕ) → Result (List (List ℕ)) Refused → Type 0
+IsReading part answer = IsReadAs (joined part) answer
 
--- the access unit at a place, by the ranges of a cut
-module _ (text : List ℕ) (units : List (List ℕ)) (ranges : List (Range ℕ)) (has : HasUnits text units)
-    (in_range : All (λ range. (range.start < range.end) × (range.end ≤ length units)) ranges) (at : ℕ) (here : at < length ranges) where
-  abbrev range : Range ℕ
-  range = get_or ranges at (record { start = 0; end = 0 })
+-- joined, each is a text of its NAL units
+abbrev AreOwn : List (List (List ℕ)) → Type 0
+AreOwn parts = All (λ part. HasUnits (joined part) part) parts
 
+-- an access unit that is read is itself
+accepted_part : (part unit : List (List ℕ)) → HasUnits (joined part) part → IsAccepted (joined part) unit
+    → (unit ≡ part) × IsAccepted (joined part) part
+accepted_part part unit has accepted =
+    let same : unit ≡ part = same_reading (joined part) unit part accepted.has has in
+    (same, rw same at accepted)
+
+all_accepted : (parts units : List (List (List ℕ))) → AreOwn parts → AllZip IsReading parts (map Ok units)
+    → (units ≡ parts) × AreAccepted parts
+all_accepted [] [] own read = (refl, All-nil (λ part. IsAccepted (joined part) part))
+all_accepted [] (unit ∷ units) own read = absurd read
+all_accepted (part ∷ parts) [] own read = absurd read
+all_accepted (part ∷ parts) (unit ∷ units) own read =
+    let first = accepted_part part unit (All-head (λ part. HasUnits (joined part) part) part parts own) read.0 in
+    let rest = all_accepted parts units (All-tail (λ part. HasUnits (joined part) part) part parts own) read.1 in
+    (rw (first.0, rest.0) refl, All-cons (λ part. IsAccepted (joined part) part) part parts first.1 rest.1)
+
+first_refused : (parts units : List (List (List ℕ))) (refused : Refused) (others : List (Result (List (List ℕ)) Refused)) → refused ≢ refusals.Memory
+    → AreOwn parts → AllZip IsReading parts (map Ok units ++ Err refused ∷ others) → IsFirstRefused parts (length units) refused
+first_refused [] [] refused others other own read = absurd read
+first_refused [] (unit ∷ units) refused others other own read = absurd read
+first_refused (part ∷ parts) [] refused others other own read = record {
+  in_range = omega arith;
+  is_refused = ⊎_elim (λ memory. absurd (other memory)) (λ is_refused. is_refused) read.0;
+  before = All-nil (λ part. IsAccepted (joined part) part);
+}
+first_refused (part ∷ parts) (unit ∷ units) refused others other own read =
+    let first = accepted_part part unit (All-head (λ part. HasUnits (joined part) part) part parts own) read.0 in
+    let rest = first_refused parts units refused others other (All-tail (λ part. HasUnits (joined part) part) part parts own) read.1 in
+    record {
+      in_range = omega (arith, rest.in_range);
+      is_refused = rest.is_refused;
+      before = All-cons (λ part. IsAccepted (joined part) part) part (take (length units) parts) first.1 rest.before;
+    }
+
+-- what the access units of a text are read as answers for the stream
+module _ (text : List ℕ) (units : List (List ℕ)) (ranges : List (Range ℕ)) (has : HasUnits text units) (own : All (HasUnitsAt units) ranges)
+    (cut : IsCut units (parts_at units ranges)) (answers : List (Result (List (List ℕ)) Refused)) (read : AllZip IsReading (parts_at units ranges) answers) where
   abbrev parts : List (List (List ℕ))
   parts = parts_at units ranges
 
-  abbrev part : List (List ℕ)
-  part = slice_range units range.start range.end
+  own_parts : AreOwn parts
+  own_parts = All-map (λ part. HasUnits (joined part) part) (λ (range : Range ℕ). slice_range units range.start range.end) ranges (λ k d here. (own k d here).has)
 
-  pub part_units : HasUnits (joined part) part
-  part_units =
-      let within = All-get_or (λ range. (range.start < range.end) × (range.end ≤ length units)) ranges at (record { start = 0; end = 0 }) here in_range in
-      HasUnits-part text units range.start range.end has within.0 within.1
-
-  part_is : get_or parts at [] ≡ part
-  part_is = get_or-map (λ (range : Range ℕ). slice_range units range.start range.end) ranges at (record { start = 0; end = 0 }) [] here
-
-  here_too : at < length parts
-  here_too = rw length-map here
-
-  module _ (read_so_far : List (List (List ℕ))) (read : AreReadTo parts at read_so_far) where
-    -- one more is accepted
-    pub AreReadTo-more : (unit : List (List ℕ)) → IsAccepted (joined part) unit → AreReadTo parts (at + 1) (read_so_far ++ unit ∷ [])
-    AreReadTo-more unit accepted =
-        let same : unit ≡ part = same_reading (joined part) unit part accepted.has part_units in
-        let more : take (at + 1) parts ≡ take at parts ++ part ∷ [] = take_more parts at [] here_too ∙ ap (λ l. take at parts ++ l ∷ []) part_is in
-        record {
-          units_are = rw (more, ← read.units_are, same) refl;
-          accepted = rw more (All-push (λ part. IsAccepted (joined part) part) (take at parts) part read.accepted (rw same at accepted));
-        }
-
-    -- or it is the first that is refused
-    pub IsStreamReadAs-refused : IsCut units parts → (refused : Refused) (stream_refused : StreamRefused)
-        → (refused ≡ refusals.Memory) ⊎ IsRefused (joined part) refused → IsRefusalOfUnit at refused stream_refused → IsStreamReadAs text (Err stream_refused)
-    IsStreamReadAs-refused cut refused stream_refused read_as is =
-        ⊎_elim
-        (λ (both : (refused ≡ refusals.Memory) × (stream_refused ≡ stream.Memory)). rw both.1 tt)
-        (λ (both : (refused ≢ refusals.Memory) × (stream_refused ≡ stream.Unit at refused)). rw both.1 (
-          parts,
-          record { units = units; has = has; cut = cut },
-          record {
-            in_range = here_too;
-            is_refused = rw part_is (⊎_elim (λ memory. absurd (both.0 memory)) (λ is_refused. is_refused) read_as);
-            before = read.accepted;
-          },
-        ))
-        is
-
--- behind the last range all are read
-pub IsStreamReadAs-end : (text : List ℕ) (units : List (List ℕ)) (ranges : List (Range ℕ)) (at : ℕ) (read_so_far : List (List (List ℕ)))
-    → HasUnits text units → IsCut units (parts_at units ranges) → AreReadTo (parts_at units ranges) at read_so_far → length ranges ≤ at
-    → HasAccessUnits text read_so_far × AreAccepted read_so_far
-IsStreamReadAs-end text units ranges at read_so_far has cut read end =
-    let behind : length (parts_at units ranges) ≤ at = rw length-map end in
-    let all : read_so_far ≡ parts_at units ranges = read.units_are ∙ take_all at (parts_at units ranges) behind in
-    (record { units = units; has = has; cut = rw all cut }, rw read.units_are read.accepted)
+  pub IsStreamReadAs-gathered : (result : Result (Vec (List (List ℕ))) StreamRefused) → IsGathered answers result → IsStreamReadAs text result
+  IsStreamReadAs-gathered (Ok got) gathered =
+      let all = all_accepted parts got.items own_parts (rw gathered at read) in
+      (record { units = units; has = has; cut = rw all.0 cut }, rw all.0 all.1)
+  IsStreamReadAs-gathered (Err stream.Split) gathered = absurd gathered
+  IsStreamReadAs-gathered (Err stream.Memory) gathered = tt
+  IsStreamReadAs-gathered (Err (stream.Unit index refused)) gathered =
+      let first = first_refused parts gathered.units refused gathered.others gathered.not_memory own_parts (rw gathered.answers_are at read) in
+      (parts, record { units = units; has = has; cut = cut }, rw gathered.index_is first)

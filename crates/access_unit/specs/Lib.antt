@@ -5,3 +5,4 @@ pub mod Refusals
 pub mod Answers
 pub mod Stored
 pub mod Streams
+pub mod Gathered

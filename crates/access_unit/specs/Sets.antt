@@ -6,7 +6,6 @@ use Rattle.annexb.specs.EmulationPrevention.{payload_of}
 use Rattle.param_sets.specs.declared.sps.Sps.{Sps}
 use Rattle.param_sets.specs.declared.pps.Pps.{Pps}
 use Rattle.param_sets.specs.declared.fault.SetFault.{SetFault}
-use Rattle.param_sets.specs.declared.fault.SetFault.TheVariants as faults
 use Rattle.param_sets.specs.Sets.{sps_at, pps_at}
 use Rattle.access_unit.specs.declared.parameter_sets.ParameterSet.{ParameterSet}
 use Rattle.access_unit.specs.declared.parameter_sets.ParameterSet.TheVariants as sets

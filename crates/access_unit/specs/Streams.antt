@@ -1,10 +1,9 @@
 -- What reading a stream answers: its access units, each read by itself (ITU-T H.264, 7.4.1.2.3).
-use Rattle.std.specs.Prelude.{◌≡◌, ◌≢◌, ◌⊎◌, ℕ, ◌<◌, List, [], length, take, slice_index_or, All, Result, Ok, Err, ⊤}
+use Rattle.std.specs.Prelude.{ℕ, ◌<◌, List, [], length, take, slice_index_or, All, Result, Ok, Err, ⊤}
 use Rattle.std.specs.Global.{Vec}
 use Rattle.annexb.specs.ByteStream.{HasUnits, joined}
 use Rattle.annexb.specs.AccessUnits.{IsCut}
 use Rattle.access_unit.specs.declared.refused.Refused.{Refused}
-use Rattle.access_unit.specs.declared.refused.Refused.TheVariants as units
 use Rattle.access_unit.specs.declared.stream.StreamRefused.{StreamRefused}
 use Rattle.access_unit.specs.declared.stream.StreamRefused.TheVariants.{Split, Unit, Memory}
 use Rattle.access_unit.specs.Answers.{IsAccepted, IsRefused}
@@ -32,12 +31,6 @@ IsStreamReadAs text (Err Split) = (units : List (List ℕ)) → ¬ HasUnits text
 IsStreamReadAs text (Err (Unit index refused)) =
     (parts : List (List (List ℕ))) × HasAccessUnits text parts × IsFirstRefused parts index refused
 IsStreamReadAs text (Err Memory) = ⊤
-
--- the refusal of a stream is that of the unit at the index, or memory is wanted for both
-abbrev pub IsRefusalOfUnit : ℕ → Refused → StreamRefused → Type 0
-IsRefusalOfUnit index refused stream_refused =
-    ((refused ≡ units.Memory) × (stream_refused ≡ Memory))
-    ⊎ ((refused ≢ units.Memory) × (stream_refused ≡ Unit index refused))
 
 -- the number that stands for a refusal
 abbrev pub number_of : StreamRefused → ℕ

@@ -1,15 +1,21 @@
 //! Streams of access units (7.4.1.2.3).
-ghost use Rattle.std.specs.Prelude.{◌≡◌, ℕ, List, length, nat_lt, IfOk, IfErr, IsErrOf, IsOkUnless};
+ghost use Rattle.std.specs.Prelude.{◌≡◌, ℕ, List, All, length, nat_lt, slice_range, IfOk, IsErrOf, IsOkUnless, IsTrue};
+ghost use Rattle.std.specs.List.{AllZip, list_any};
 ghost use Rattle.annexb.specs.ByteStream.{HasUnits, joined};
+ghost use Rattle.annexb.specs.AccessUnits.{parts_at};
 ghost use Rattle.access_unit.specs.Refusals.{most_bytes};
 ghost use Rattle.access_unit.specs.Answers.{IsReadAs};
-ghost use Rattle.access_unit.specs.Streams.{HasAccessUnits, AreAccepted, IsRefusalOfUnit, IsStreamReadAs, number_of};
+ghost use Rattle.access_unit.specs.Streams.{HasAccessUnits, AreAccepted, IsStreamReadAs, number_of};
+ghost use Rattle.access_unit.specs.Gathered.{HasUnitsAt, IsGathered, wants_memory};
 ghost use Rattle.access_unit.specs.declared.stream.StreamRefused.TheVariants.{Memory};
 
 use crate::refused::Refused;
 use crate::unit::{MOST_BYTES, START_CODE_LEN, Unit, split_units, unit_of};
 use annexb::{Nal, cut_units};
+use rayon::prelude::*;
 use std::alloc::{AllocError, AllocFailed, Global};
+use std::ops::Range;
+use std::thread::Threads;
 use thiserror::Error;
 
 /// Why a text is not read as a stream of access units.
@@ -37,16 +43,6 @@ impl StreamRefused {
             StreamRefused::Memory => 3,
         }
     }
-
-    /// The refusal of a stream whose unit at the index is refused so.
-    fn of_unit(index: usize, refused: Refused) -> StreamRefused
-        ensures { IsRefusalOfUnit index refused result }
-    {
-        match refused {
-            Refused::Memory => StreamRefused::Memory,
-            _ => StreamRefused::Unit { index, refused },
-        }
-    }
 }
 
 impl From<AllocError> for StreamRefused {
@@ -66,8 +62,12 @@ impl<T: Drop> From<AllocFailed<T>> for StreamRefused {
 }
 
 /// The access units of a text, or the text's refusal. Memory is the answer only for a text of NAL
-/// units.
-pub fn read_stream(alloc: Global, text: &[u8]) -> Result<Vec<Unit>, StreamRefused>
+/// units. The units are read in several threads, and in this one where none can be started.
+pub fn read_stream(
+    rt: &(impl Threads + Sync),
+    alloc: Global,
+    text: &[u8],
+) -> Result<Vec<Unit>, StreamRefused>
     ensures read { IsStreamReadAs text.now result }
     // A stream of access units is refused for want of memory alone.
     ensures only { (parts : List (List (List ℕ))) → HasAccessUnits text.now parts
@@ -81,14 +81,62 @@ pub fn read_stream(alloc: Global, text: &[u8]) -> Result<Vec<Unit>, StreamRefuse
     };
     let nals = nals.as_slice();
     let ranges = cut_units(alloc, nals)?;
-    let mut units = Vec::with_capacity(alloc, ranges.len())?;
-    for (index, range) in ranges.iter().enumerate() {
-        match read_part(alloc, &nals[range.start..range.end]) {
+    let answers = read_parts(rt, alloc, nals, ranges.as_slice())?;
+    gather(alloc, answers)
+}
+
+/// What the access units at the ranges are read as, in several threads.
+fn read_parts(
+    rt: &(impl Threads + Sync),
+    alloc: Global,
+    nals: &[Nal<'_>],
+    ranges: &[Range<usize>],
+) -> Result<Vec<Result<Unit, Refused>>, AllocError>
+    requires { All (HasUnitsAt nals.now) ranges.now }
+    ensures { IfOk result (λ answers. AllZip (λ part answer. IsReadAs (joined part) answer)
+        (parts_at nals.now ranges.now) answers.items) }
+{
+    ranges
+        .par_iter()
+        .with_min_len(1)
+        .map(
+            |range: &Range<usize>| -> Result<Unit, Refused>
+                requires { HasUnitsAt nals.now range.now }
+                ensures { IsReadAs (joined (slice_range nals.entry.now range.now.start range.now.end)) result }
+            { read_part(alloc, &nals[range.start..range.end]) },
+        )
+        .collect(rt, alloc)
+}
+
+/// The access units that were read; or that memory is wanted for one of them, or the first refusal.
+fn gather(alloc: Global, answers: Vec<Result<Unit, Refused>>) -> Result<Vec<Unit>, StreamRefused>
+    ensures answer { IsGathered answers.items result }
+    ensures memory { IsTrue (list_any wants_memory answers.items)
+        → IsErrOf result StreamRefused.Memory }
+{
+    if wants_memory(&answers) {
+        return Err(StreamRefused::Memory);
+    }
+    let mut units = Vec::with_capacity(alloc, answers.len())?;
+    for answer in answers {
+        match answer {
             Ok(unit) => units.push(unit)?,
-            Err(refused) => return Err(StreamRefused::of_unit(index, refused)),
+            Err(refused) => {
+                let index = units.len();
+                return Err(StreamRefused::Unit { index, refused });
+            }
         }
     }
     Ok(units)
+}
+
+/// Whether memory is wanted for one of the access units.
+fn wants_memory(answers: &[Result<Unit, Refused>]) -> bool
+    ensures { result ≡ list_any wants_memory answers.now }
+{
+    answers
+        .iter()
+        .any(|answer| matches!(answer, Err(Refused::Memory)))
 }
 
 /// What the text of an access unit's NAL units is read as.

@@ -3,6 +3,7 @@ use param_sets::{PicOrderCntType, Pps, Sps};
 use std::alloc::{AllocError, AllocGlobal, Global};
 use std::process::Abort;
 use std::test::Fail;
+use std::thread::Threads;
 
 /// Profile 66, level 10, log2_max_frame_num_minus4 0, count type 2, one reference frame, one macroblock.
 const SPS: [u8; 6] = [0x67, 0x42, 0x00, 0x0A, 0xDA, 0x79];
@@ -283,7 +284,7 @@ fn reads_streams(rt: HostRuntime) -> Result<(), Fail> {
         rt.alloc(),
         &[&SPS, &PPS, &IDR, &P, &[0x41, 0x9A, 0x43], &[9, 0x10], &IDR],
     )?;
-    let units = read_stream(rt.alloc(), &text)?;
+    let units = read_stream(&rt, rt.alloc(), &text)?;
     let wanted: [&[&[u8]]; 4] = [
         &[&SPS, &PPS, &IDR],
         &[&P],
@@ -301,8 +302,12 @@ fn reads_streams(rt: HostRuntime) -> Result<(), Fail> {
 }
 
 /// The stream is refused so.
-fn is_stream_refused(rt: &(impl Abort + AllocGlobal), text: &[u8], wanted: StreamRefused) {
-    match read_stream(rt.alloc(), text) {
+fn is_stream_refused(
+    rt: &(impl Abort + AllocGlobal + Threads + Sync),
+    text: &[u8],
+    wanted: StreamRefused,
+) {
+    match read_stream(rt, rt.alloc(), text) {
         Ok(_) => panic!(rt; "the stream was read"),
         Err(refused) => assert_eq!(rt; refused, wanted),
     }
@@ -329,7 +334,7 @@ fn refuses_streams(rt: HostRuntime) -> Result<(), Fail> {
     text.resize(7 + MOST, 0x11)?;
     append(&mut text, 1, &P)?;
     text.resize(text.len() + 9, 0)?;
-    assert_eq!(rt; read_stream(rt.alloc(), &text)?.len(), 3);
+    assert_eq!(rt; read_stream(&rt, rt.alloc(), &text)?.len(), 3);
     let mut text = text_of(rt.alloc(), &[&IDR, &P])?;
     text.resize(8 + MOST, 0x11)?;
     let index = 1;
@@ -382,7 +387,7 @@ fn refused_growth_of_a_unit(rt: HostRuntime) {
 
 #[test]
 fn refused_growth_of_a_stream(rt: HostRuntime) {
-    match read_stream(rt.alloc(), &STREAM) {
+    match read_stream(&rt, rt.alloc(), &STREAM) {
         Err(refused) => assert_eq!(rt; refused, StreamRefused::Memory),
         Ok(units) => assert_eq!(rt; units.len(), 3),
     }

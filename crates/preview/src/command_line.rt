@@ -13,6 +13,7 @@ use clap::{Arg, Command, Error};
 use std::alloc::Global;
 use std::convert::AsStr;
 use std::io::Write;
+use std::thread::Threads;
 use std::{env, io};
 
 /// What the command line asks for.
@@ -22,10 +23,15 @@ pub enum Asked<'a> {
     Plan { file: &'a str },
 }
 
-/// Does what the process's command line asks for.
-pub fn run<W: Write, E: Write>(rt: &HostRuntime, output: &mut W, errors: &mut E) -> Status {
+/// Does what the process's command line asks for, with these threads.
+pub fn run<W: Write, E: Write>(
+    rt: &HostRuntime,
+    threads: &(impl Threads + Sync),
+    output: &mut W,
+    errors: &mut E,
+) -> Status {
     match words(rt) {
-        Ok(words) => run_on(rt, words.as_slice(), output, errors),
+        Ok(words) => run_on(rt, threads, words.as_slice(), output, errors),
         Err(error) if error.kind() == io::ErrorKind::OutOfMemory => {
             say_out_of_memory(errors);
             Status::Failure
@@ -46,13 +52,15 @@ fn words(rt: &HostRuntime) -> io::Result<Vec<String>> {
 /// Does what the words ask for, of which the first is the program's name.
 pub fn run_on<S: AsStr, W: Write, E: Write>(
     rt: &HostRuntime,
+    threads: &(impl Threads + Sync),
     words: &[S],
     output: &mut W,
     errors: &mut E,
 ) -> Status {
     match parse(rt.alloc(), words) {
         Ok(Asked::Plan { file }) => {
-            plan_on(rt.alloc(), file, &mut Input::open(rt, file), output, errors)
+            let mut input = Input::open(rt, file);
+            plan_on(threads, rt.alloc(), file, &mut input, output, errors)
         }
         Err(error) => answer(rt.alloc(), &error, output, errors),
     }

@@ -23,5 +23,5 @@ use std::process::ExitCode;
 
 fn main(rt: HostRuntime) -> ExitCode {
     let (mut output, mut errors) = (rt.stdout(), rt.stderr());
-    command_line::run(&rt, &mut output, &mut errors).exit_code()
+    command_line::run(&rt, &rt, &mut output, &mut errors).exit_code()
 }

@@ -16,6 +16,7 @@ use ref_marking::AuId;
 use request_core::{Outcome, Plan};
 use std::alloc::{AllocError, Global};
 use std::io::{ErrorKind, Read, Write};
+use std::thread::Threads;
 
 /// The most access units of a stream.
 const MOST_UNITS: usize = 65_536;
@@ -23,6 +24,7 @@ const MOST_UNITS: usize = 65_536;
 /// Prints the plan of the stream that the reader gives, or its refusal. Where the reader fails or memory is wanted,
 /// `errors` is told; the reader has this name there.
 pub fn plan_on<R: Read, W: Write, E: Write>(
+    threads: &(impl Threads + Sync),
     alloc: Global,
     name: &str,
     reader: &mut R,
@@ -32,7 +34,7 @@ pub fn plan_on<R: Read, W: Write, E: Write>(
     ensures done { result ≡ Status.Success → Keeps (E.contents errors.old) (E.contents errors.new) }
     ensures usage { result ≢ Status.Usage }
 {
-    let units = match read_units(alloc, reader) {
+    let units = match read_units(threads, alloc, reader) {
         Ok(units) => units,
         Err(fault) => {
             say_fault(alloc, fault, name, writer, errors);
@@ -83,11 +85,15 @@ fn print_refusal<W: Write, E: Write>(
 }
 
 /// The access units of the stream that the reader gives.
-fn read_units<R: Read>(alloc: Global, reader: &mut R) -> Result<Vec<Unit>, ReadFault>
+fn read_units<R: Read>(
+    threads: &(impl Threads + Sync),
+    alloc: Global,
+    reader: &mut R,
+) -> Result<Vec<Unit>, ReadFault>
     ensures { IfOk result (λ units. vec_len units ≤ 65536) }
 {
     let text = whole_input(alloc, reader)?;
-    match access_unit::read_stream(alloc, text.as_slice()) {
+    match access_unit::read_stream(threads, alloc, text.as_slice()) {
         Ok(units) if units.len() <= MOST_UNITS => Ok(units),
         Ok(_) => Err(ReadFault::Refused(Refusal::StreamFull)),
         Err(refused) => Err(ReadFault::from(refused)),

@@ -12,6 +12,7 @@ use std::io;
 use std::io::{ErrorKind, Read, Write};
 use std::process::Abort;
 use std::test::Fail;
+use std::thread::Threads;
 
 /// The sequence parameter set, the picture parameter set and the IDR picture of one unit, A.
 const A: [u8; 23] = [
@@ -42,7 +43,7 @@ fn joined(alloc: Global, parts: &[&[u8]]) -> Result<Vec<u8>, AllocError> {
 
 /// The stream of these parts is planned with this status, and prints just these lines.
 fn plans(
-    rt: &(impl Abort + AllocGlobal),
+    rt: &(impl Abort + AllocGlobal + Threads + Sync),
     parts: &[&[u8]],
     status: Status,
     lines: &[&str],
@@ -50,7 +51,7 @@ fn plans(
     let text = joined(rt.alloc(), parts)?;
     let (mut output, mut errors) = (Vec::new(rt.alloc()), Vec::new(rt.alloc()));
     let mut reader = text.as_slice();
-    let ended = plan_on(rt.alloc(), "-", &mut reader, &mut output, &mut errors);
+    let ended = plan_on(rt, rt.alloc(), "-", &mut reader, &mut output, &mut errors);
     let mut wanted = String::new(rt.alloc());
     for line in lines {
         wanted.push_str(*line)?;
@@ -151,6 +152,7 @@ fn refuses_more_units_than_65_536(rt: HostRuntime) -> Result<(), Fail> {
     }
     let (mut output, mut errors) = (Vec::new(rt.alloc()), Vec::new(rt.alloc()));
     let status = plan_on(
+        &rt,
         rt.alloc(),
         "-",
         &mut text.as_slice(),
@@ -188,6 +190,7 @@ fn tells_of_a_reader_that_fails_midway(rt: HostRuntime) -> Result<(), Fail> {
         let (mut output, mut errors) = (Vec::new(rt.alloc()), Vec::new(rt.alloc()));
         let mut reader = FailingReader(text);
         let status = plan_on(
+            &rt,
             rt.alloc(),
             "a stream",
             &mut reader,
@@ -244,7 +247,7 @@ impl Write for ShortWriter {
 
 /// The plan of A and P1 on such a writer, and how it ended. Nothing is said on standard error.
 fn plan_to(
-    rt: &(impl Abort + AllocGlobal),
+    rt: &(impl Abort + AllocGlobal + Threads + Sync),
     at_a_time: usize,
     room: usize,
     end: End,
@@ -259,6 +262,7 @@ fn plan_to(
     };
     let mut errors = Vec::new(rt.alloc());
     let status = plan_on(
+        rt,
         rt.alloc(),
         "-",
         &mut text.as_slice(),
@@ -333,7 +337,7 @@ fn answers_command_lines(rt: HostRuntime) -> Result<(), Fail> {
     ];
     for (words, status, part) in answers {
         let (mut output, mut errors) = (Vec::new(rt.alloc()), Vec::new(rt.alloc()));
-        let ended = run_on(&rt, words, &mut output, &mut errors);
+        let ended = run_on(&rt, &rt, words, &mut output, &mut errors);
         assert_eq!(rt; ended, status, "status of {words:?}");
         let (said, other) = match status {
             Status::Success => (output, errors),

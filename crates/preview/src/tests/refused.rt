@@ -5,6 +5,7 @@ use crate::command_line::run_on;
 use crate::plan::plan_on;
 use crate::status::Status;
 use std::process::Abort;
+use std::thread::Threads;
 
 /// What a run is said to have written, or that memory was wanted.
 fn assert_told_or_out_of_memory(
@@ -28,10 +29,14 @@ fn assert_told_or_out_of_memory(
 }
 
 /// Plans a stream, over memory that isn't refused for what is written.
-fn plans_or_wants_memory(rt: &(impl Abort + AllocGlobal), text: &[u8], wanted: (Status, &str)) {
+fn plans_or_wants_memory(
+    rt: &(impl Abort + AllocGlobal + Threads + Sync),
+    text: &[u8],
+    wanted: (Status, &str),
+) {
     let (mut output, mut errors) = ([0u8; 512], [0u8; 64]);
     let (mut writer, mut teller) = (output.as_mut_slice(), errors.as_mut_slice());
-    let status = plan_on(rt.alloc(), "-", &mut &*text, &mut writer, &mut teller);
+    let status = plan_on(rt, rt.alloc(), "-", &mut &*text, &mut writer, &mut teller);
     let (written, told) = (
         512usize.saturating_sub(writer.len()),
         64usize.saturating_sub(teller.len()),
@@ -63,6 +68,7 @@ fn refused_command_line(rt: HostRuntime) {
     let (mut output, mut errors) = ([0u8; 512], [0u8; 64]);
     let (mut writer, mut teller) = (output.as_mut_slice(), errors.as_mut_slice());
     let status = run_on(
+        &rt,
         &rt,
         &["preview", "plan", "no/such.264"],
         &mut writer,

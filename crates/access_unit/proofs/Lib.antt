@@ -1,6 +1,7 @@
 pub mod Shown
 pub mod Keeps
 pub mod Firsts
+pub mod Pieces
 pub mod Progress
 pub mod Lengths
 pub mod Texts

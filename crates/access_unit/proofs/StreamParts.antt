@@ -7,7 +7,7 @@ use Rattle.std.specs.declared.ops.Range.{Range}
 use Rattle.std.proofs.lemmas.List.{length-take, length-drop}
 use Rattle.std.proofs.lemmas.List.Elements.{All-nil, All-cons, All-head, All-tail, All-map, All-take, All-drop, All-get_or}
 use Rattle.annexb.specs.NalUnit.{IsUnit}
-use Rattle.annexb.specs.ByteStream.{AreUnits, HasUnits, joined}
+use Rattle.annexb.specs.ByteStream.{HasUnits, joined}
 use Rattle.annexb.specs.AccessUnits.{IsCut, parts_at}
 use Rattle.annexb.proofs.Readings.{same_reading, HasUnits-joined}
 use Rattle.annexb.proofs.Cuts.{cut_from, same_cut}
@@ -18,11 +18,8 @@ use Rattle.access_unit.specs.declared.stream.StreamRefused.TheVariants as stream
 use Rattle.access_unit.specs.Answers.{IsAccepted, IsRefused, IsReadAs}
 use Rattle.access_unit.specs.Gathered.{HasUnitsAt, IsGathered}
 use Rattle.access_unit.specs.Streams.{HasAccessUnits, AreAccepted, IsFirstRefused, IsStreamReadAs}
+use Rattle.access_unit.proofs.Pieces.{all_units}
 use Rattle.access_unit.proofs.Texts.{never_refused}
-
-all_units : (bytes : List ℕ) (units : List (List ℕ)) → AreUnits bytes units → All IsUnit units
-all_units bytes [] h = All-nil IsUnit
-all_units bytes (unit ∷ units) (rest, begins, more) = All-cons IsUnit unit units begins.unit_is (all_units rest units more)
 
 -- some of the NAL units of a text are those of their own text
 pub HasUnits-part : (text : List ℕ) (units : List (List ℕ)) (start end : ℕ) → HasUnits text units → start < end → end ≤ length units

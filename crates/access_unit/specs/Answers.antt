@@ -10,6 +10,11 @@ abbrev pub IsSplit : List ℕ → Option (List (List ℕ)) → Type 0
 IsSplit text (Some units) = HasUnits text units
 IsSplit text None = (units : List (List ℕ)) → ¬ HasUnits text units
 
+-- the text is one of these NAL units, and isn't too long for an access unit
+pub record IsShortText (text : List ℕ) (units : List (List ℕ)) : Type 0 where
+  pub has : HasUnits text units
+  pub short : length text ≤ most_bytes
+
 -- the text is one of an access unit with these NAL units
 pub record IsAccepted (text : List ℕ) (units : List (List ℕ)) : Type 0 where
   pub has : HasUnits text units

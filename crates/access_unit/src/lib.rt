@@ -5,6 +5,7 @@
 #![tactic(auto)]
 
 mod checks;
+mod cuts;
 mod laws;
 mod parameter_sets;
 mod parts;
@@ -20,7 +21,7 @@ pub use refused::Refused;
 pub use shared::Shared;
 pub use shared_nal::SharedNal;
 pub use stream::{StreamRefused, read_stream};
-pub use unit::{Unit, read_unit};
+pub use unit::{Unit, read_shared, read_unit};
 
 #[cfg(test)]
 mod tests;

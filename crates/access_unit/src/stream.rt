@@ -9,9 +9,11 @@ ghost use Rattle.access_unit.specs.Streams.{HasAccessUnits, AreAccepted, IsStrea
 ghost use Rattle.access_unit.specs.Gathered.{HasUnitsAt, IsGathered, wants_memory};
 ghost use Rattle.access_unit.specs.declared.stream.StreamRefused.TheVariants.{Memory};
 
+use crate::cuts::START_CODE_LEN;
 use crate::refused::Refused;
-use crate::unit::{MOST_BYTES, START_CODE_LEN, Unit, split_units, unit_of};
-use annexb::{Nal, cut_units};
+use crate::unit::{MOST_BYTES, Unit, split_units, unit_of};
+use annexb::{Nal, cut_units, join};
+use bytes::Bytes;
 use rayon::prelude::*;
 use std::alloc::{AllocError, AllocFailed, Global};
 use std::ops::Range;
@@ -147,7 +149,7 @@ fn read_part(alloc: Global, nals: &[Nal<'_>]) -> Result<Unit, Refused>
     if is_too_long(nals) {
         Err(Refused::TooLarge)
     } else {
-        unit_of(alloc, nals)
+        unit_of(alloc, Bytes::from_vec(join(alloc, nals)?)?, nals)
     }
 }
 

@@ -1,27 +1,26 @@
 //! Access units (7.4.1.2.3).
-ghost use Rattle.std.specs.Prelude.{◌≡◌, ℕ, ◌≤◌, List, length, None, IfOk, IfErr, IsErrOf, IsOkUnless, All, MatchOption};
+ghost use Rattle.std.specs.Prelude.{◌≡◌, ◌⊎◌, ℕ, ◌≤◌, List, length, None, IfOk, IfErr, IsErrOf, IsOkUnless};
 ghost use Rattle.std.specs.List.{filter};
-ghost use Rattle.annexb.specs.NalUnit.{IsUnit, is_slice};
+ghost use Rattle.annexb.specs.NalUnit.{is_slice};
 ghost use Rattle.annexb.specs.ByteStream.{HasUnits, joined};
 ghost use Rattle.access_unit.specs.Sets.{sets_of};
 ghost use Rattle.access_unit.specs.Refusals.{refusal_of, most_bytes};
-ghost use Rattle.access_unit.specs.Answers.{IsSplit, IsAccepted, IsReadAs};
+ghost use Rattle.access_unit.specs.Answers.{IsSplit, IsShortText, IsAccepted, IsRefused, IsReadAs};
+ghost use Rattle.access_unit.specs.declared.refused.Refused.TheVariants.{Memory};
 ghost use Rattle.access_unit.specs.Stored.{IsShown, units_in};
 
+use crate::cuts::cut_next;
 use crate::parameter_sets::ParameterSet;
 use crate::parts::Parts;
 use crate::refused::Refused;
 use crate::shared_nal::SharedNal;
-use annexb::{Nal, SplitFault, join, split};
+use annexb::{Nal, SplitFault, split};
 use bytes::Bytes;
 use std::alloc::{AllocError, Global};
 use std::marker::Model;
 
 /// How many bytes the text of an access unit has at most.
 pub(crate) const MOST_BYTES: usize = 4_194_304;
-
-/// How many bytes a start code has.
-pub(crate) const START_CODE_LEN: usize = 3;
 
 /// An access unit that shows no refusal: its NAL units, with the slices and the parameter sets among
 /// them. It owns their bytes once. Clauses see the bytes of the NAL units.
@@ -67,7 +66,7 @@ impl Unit {
 }
 
 /// The access unit of a text, or the text's refusal. Memory is the answer only for a text of NAL
-/// units that isn't too long.
+/// units that isn't too long. The text is copied once, and the unit's NAL units share the copy.
 pub fn read_unit(alloc: Global, text: &[u8]) -> Result<Unit, Refused>
     ensures read { IsReadAs text.now result }
     // A text of an access unit is refused for want of memory alone.
@@ -76,11 +75,34 @@ pub fn read_unit(alloc: Global, text: &[u8]) -> Result<Unit, Refused>
     ensures memory { IsErrOf result Refused.Memory
         → (length text.now ≤ most_bytes) × (units : List (List ℕ)) × HasUnits text.now units }
 {
+    let nals = nals_of(alloc, text)?;
+    unit_of(alloc, Bytes::copy_from_slice(alloc, text)?, &nals)
+}
+
+/// What `read_unit` answers for the text. No byte is copied: the unit's NAL units share the text.
+pub fn read_shared(alloc: Global, text: &Bytes) -> Result<Unit, Refused>
+    ensures read { IsReadAs text.now result }
+    // A text of an access unit is refused for want of memory alone.
+    ensures only { (units : List (List ℕ)) → IsAccepted text.now units
+        → IfOk result (λ unit. unit ≡ units) × IsOkUnless result Refused.Memory }
+    ensures memory { IsErrOf result Refused.Memory
+        → (length text.now ≤ most_bytes) × (units : List (List ℕ)) × HasUnits text.now units }
+{
+    let nals = nals_of(alloc, text.as_slice())?;
+    unit_of(alloc, text.clone()?, &nals)
+}
+
+/// The NAL units of a text that isn't too long, or the text's refusal.
+fn nals_of(alloc: Global, text: &[u8]) -> Result<Vec<Nal<'_>>, Refused>
+    ensures ok { IfOk result (λ nals. IsShortText text.now nals.items) }
+    ensures err { IfErr result (λ refused. (refused ≡ Memory) ⊎ IsRefused text.now refused) }
+    ensures memory { IsErrOf result Refused.Memory → (units : List (List ℕ)) × IsShortText text.now units }
+{
     if text.len() > MOST_BYTES {
         return Err(Refused::TooLarge);
     }
     match split_units(alloc, text)? {
-        Some(nals) => unit_of(alloc, &nals),
+        Some(nals) => Ok(nals),
         None => Err(Refused::Split),
     }
 }
@@ -99,17 +121,16 @@ pub(crate) fn split_units(alloc: Global, text: &[u8]) -> Result<Option<Vec<Nal<'
     }
 }
 
-/// The access unit of the NAL units, or their refusal.
-pub(crate) fn unit_of(alloc: Global, nals: &[Nal<'_>]) -> Result<Unit, Refused>
-    requires short { length (joined nals.now) ≤ most_bytes }
+/// The access unit of the NAL units of the text, which share it, or their refusal.
+pub(crate) fn unit_of(alloc: Global, mut text: Bytes, nals: &[Nal<'_>]) -> Result<Unit, Refused>
+    requires { IsShortText text nals.now }
     ensures ok { IfOk result (λ unit. (unit ≡ nals.now) × (refusal_of nals.now ≡ None)) }
     ensures err { IfErr result (IsShown (refusal_of nals.now)) }
 {
-    let mut text = Bytes::from_vec(join(alloc, nals)?)?;
     let mut parts = Parts::with_capacity(alloc, nals.len())?;
     for nal in nals {
-        let coded = text.split_to(START_CODE_LEN + nal.bytes().len())?;
-        parts.add(alloc, SharedNal::new(coded))?;
+        let coded = cut_next(&mut text, nal)?;
+        parts.add(alloc, coded)?;
     }
     if parts.slices.is_empty() {
         return Err(Refused::NoPicture);

@@ -1,0 +1,37 @@
+//! NAL units cut off a text that they share (B.1.1).
+ghost use Rattle.std.specs.Prelude.{◌≡◌, ℕ, List, ◌∷◌, ◌++◌, replicate, IfOk, OnOk};
+ghost use Rattle.annexb.specs.ByteStream.{start_code};
+ghost use Rattle.access_unit.specs.Coded.{HasRest};
+
+use crate::shared_nal::SharedNal;
+use annexb::Nal;
+use bytes::Bytes;
+use std::alloc::AllocError;
+
+/// How many bytes a start code has.
+pub(crate) const START_CODE_LEN: usize = 3;
+
+/// The NAL unit that is the next of the text, which then goes on behind it. No byte is copied.
+pub(crate) fn cut_next(text: &mut Bytes, nal: &Nal<'_>) -> Result<SharedNal, AllocError>
+    requires { (units : List (List ℕ)) × HasRest text.old (nal.now ∷ units) }
+    ensures nal { IfOk result (λ shared. shared ≡ nal.now) }
+    ensures rest { (units : List (List ℕ)) → HasRest text.old (nal.now ∷ units)
+        → OnOk result (HasRest text.new units) }
+{
+    text.advance(zeros_before_code(text.as_slice()));
+    let coded = text.split_to(START_CODE_LEN + nal.bytes().len())?;
+    Ok(SharedNal::new(coded))
+}
+
+/// How many zeros stand before the start code of the text.
+fn zeros_before_code(text: &[u8]) -> usize
+    ensures { (zeros : ℕ) (rest : List ℕ) → text.now ≡ replicate zeros 0 ++ (start_code ++ rest)
+        → result ≡ zeros }
+{
+    for (at, byte) in text.iter().enumerate() {
+        if *byte != 0 {
+            return at.saturating_sub(2);
+        }
+    }
+    0
+}

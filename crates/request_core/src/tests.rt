@@ -1,3 +1,9 @@
+mod each_fault;
+mod picture_faults;
+mod slice_faults;
+mod streams;
+mod writer;
+
 use super::*;
 use access_unit::{Unit, read_unit};
 use ref_marking::AuId;

@@ -1,5 +1,7 @@
 """What the benchmarks share: the built program, runs that are timed, and how they grow."""
+import concurrent.futures
 import functools
+import multiprocessing
 import os
 import pathlib
 import shutil
@@ -22,21 +24,33 @@ def program():
 
 
 def once(command, output, log):
-    """Seconds and peak bytes of one run, its standard output in a file, its standard error in another."""
+    """Seconds and peak bytes of one run, its standard output in a file, its standard error in another.
+
+    Linux counts to a child's peak what its parent had at the fork, so the parent has to be small.
+    """
     with open(output, "wb") as out, open(log, "wb") as err:
         start = time.monotonic()
         child = subprocess.Popen(command, stdin=subprocess.DEVNULL, stdout=out, stderr=err)
         _, status, used = os.wait4(child.pid, 0)
         seconds = time.monotonic() - start
     child.returncode = os.waitstatus_to_exitcode(status)
-    if child.returncode != 0:
-        sys.exit(f"{command[0]} ended with status {child.returncode}")
-    return seconds, used.ru_maxrss * 1024
+    return seconds, used.ru_maxrss * 1024, child.returncode
+
+
+@functools.cache
+def small_process():
+    """A process without the streams that are made here, from which runs are begun."""
+    return concurrent.futures.ProcessPoolExecutor(1, multiprocessing.get_context("spawn"))
 
 
 def run(command, folder):
     """The best seconds of several runs, and the peak bytes; output and log lie in the folder."""
-    runs = [once(command, folder / "output", folder / "log") for _ in range(REPEATS)]
+    runs = []
+    for _ in range(REPEATS):
+        *measured, status = small_process().submit(once, command, folder / "output", folder / "log").result()
+        if status != 0:
+            sys.exit(f"{command[0]} ended with status {status}")
+        runs.append(measured)
     return min(seconds for seconds, _ in runs), max(peak for _, peak in runs)
 
 

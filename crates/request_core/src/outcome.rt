@@ -1,8 +1,11 @@
 //! What becomes of a unit.
 
+ghost use Rattle.std.specs.Prelude.{◌≡◌, IfOk};
+
 use crate::fault::ValidityFault;
 use crate::request::Requests;
 use order_count::Counts;
+use std::alloc::{AllocError, Global};
 
 /// The plan of a valid unit.
 #[derive(Debug, Drop)]
@@ -21,4 +24,30 @@ pub struct Plan {
 pub enum Outcome {
     Plan(Plan),
     Fault(ValidityFault),
+}
+
+impl Plan {
+    /// The same plan.
+    pub fn copy(&self, alloc: Global) -> Result<Plan, AllocError>
+        ensures { IfOk result (λ copy. copy ≡ self.now) }
+    {
+        Ok(Plan {
+            requests: self.requests.copy(alloc)?,
+            counts: self.counts,
+            order: self.order,
+            begins_period: self.begins_period,
+        })
+    }
+}
+
+impl Outcome {
+    /// The same outcome.
+    pub fn copy(&self, alloc: Global) -> Result<Outcome, AllocError>
+        ensures { IfOk result (λ copy. copy ≡ self.now) }
+    {
+        match self {
+            Outcome::Plan(plan) => Ok(Outcome::Plan(plan.copy(alloc)?)),
+            Outcome::Fault(fault) => Ok(Outcome::Fault(*fault)),
+        }
+    }
 }

@@ -1,12 +1,13 @@
 //! What a decoder is asked to do for a slice, and for a unit.
 
-ghost use Rattle.std.specs.Prelude.{◌≡◌, List, []};
+ghost use Rattle.std.specs.Prelude.{◌≡◌, List, [], IfOk};
 ghost use Rattle.request_core.specs.declared.request.Request.{Request};
 
 use arrayvec::ArrayVec;
 use bytes::Bytes;
 use ref_lists::List;
 use slice_header::SliceType;
+use std::alloc::{AllocError, Global};
 use std::marker::Model;
 
 /// A frame of the decoded picture buffer that a picture may refer to.
@@ -38,6 +39,27 @@ pub struct Request {
     pub hold: bool,
 }
 
+impl Request {
+    /// The same request; it shares the bytes.
+    pub fn copy(&self) -> Result<Request, AllocError>
+        ensures { IfOk result (λ copy. copy ≡ self.now) }
+    {
+        let mut dpb = ArrayVec::new();
+        let _ = dpb.try_extend_from_slice(self.dpb.as_slice());
+        Ok(Request {
+            bytes: self.bytes.clone()?,
+            timestamp: self.timestamp,
+            header_bit_size: self.header_bit_size,
+            slice_type: self.slice_type,
+            frame_num: self.frame_num,
+            dpb,
+            ref_pic_list0: self.ref_pic_list0.copy(),
+            ref_pic_list1: self.ref_pic_list1.copy(),
+            hold: self.hold,
+        })
+    }
+}
+
 /// The requests of a unit, one for each slice, in order.
 #[derive(Debug, Drop)]
 pub struct Requests {
@@ -63,5 +85,16 @@ impl Requests {
         ensures { result.now ≡ self.now }
     {
         self.items.as_slice()
+    }
+
+    /// The same requests.
+    pub fn copy(&self, alloc: Global) -> Result<Requests, AllocError>
+        ensures { IfOk result (λ copy. copy ≡ self.now) }
+    {
+        let mut items = Vec::with_capacity(alloc, self.items.len())?;
+        for request in &self.items {
+            items.push(request.copy()?)?;
+        }
+        Ok(Requests { items })
     }
 }

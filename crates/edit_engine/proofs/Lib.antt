@@ -1,0 +1,4 @@
+pub mod FoldsOnward
+pub mod Edited
+pub mod Looked
+pub mod Ran

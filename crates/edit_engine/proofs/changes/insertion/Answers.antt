@@ -1,0 +1,10 @@
+use Rattle.std.proofs.lemmas.Result.{err_from_is_err_and}
+use Rattle.edit_engine.proofs.Edited.{Insert-refused}
+use Rattle.edit_engine.proofs.changes.insertion.Goals as goal
+
+pub returns-in_err-unit-clause-err : goal.returns-in_err-unit-clause-err
+returns-in_err-unit-clause-err c =
+    let p = err_from_is_err_and c.from_residual.result c.from_residual.ensures.1 in
+    rw (p.1, p.2)
+    (Insert-refused (record { given = c.args.given; stream = c.args.units.now }) c.args.place c.args.text.now
+    c.in_err-unit.field-0.0 (λ is. c.in_err-unit.ensures.memory (cc)) c.in_err-unit.ensures.read)

@@ -1,0 +1,24 @@
+use Rattle.std.proofs.Common.{◌≡◌, ◌+◌, ◌∷◌, ◌++◌, [], List, take, ap, sym, ◌∙◌, subst}
+use Rattle.std.proofs.lemmas.List.{take_more, get_or_read}
+use Rattle.edit_engine.specs.declared.commands.Command.{Command}
+use Rattle.edit_engine.specs.Machines.{empty}
+use Rattle.edit_engine.specs.Runs.{Runs}
+use Rattle.edit_engine.proofs.Ran.{Runs-push}
+use Rattle.edit_engine.proofs.commands.run.Goals as goal
+
+pub loop-command-preserved : goal.loop-command-preserved
+loop-command-preserved c =
+    let P : List Command → Type 0 = λ commands.
+    Runs (empty c.args.config.cache) commands (c.loop-command.replies.items ++ c.in_ok-answer.field-0 ∷ []) c.answer.new.session in
+    rw c.in_ok-push.ensures.items
+    (subst P (sym more)
+    (Runs-push (empty c.args.config.cache) (take c.loop-command.command-index c.args.commands.now) c.loop-command.replies.items
+    c.loop-command.session c.command-item.result c.in_ok-answer.field-0 c.answer.new.session
+    c.loop-command.invariant c.in_ok-answer.ensures))
+  where
+    more : take (c.loop-command.command-index + 1) c.args.commands.now
+        ≡ take c.loop-command.command-index c.args.commands.now ++ c.command-item.result ∷ []
+    more =
+        take_more c.args.commands.now c.loop-command.command-index c.command-item.result c.loop-command-test.true
+        ∙ ap (λ command. take c.loop-command.command-index c.args.commands.now ++ command ∷ [])
+        (sym (get_or_read c.args.commands.now c.loop-command.command-index c.command-item.result c.loop-command-test.true c.command-item.is c.command-item.result))

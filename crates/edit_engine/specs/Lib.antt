@@ -1,0 +1,9 @@
+pub mod Streams
+pub mod Edits
+pub mod Refusals
+pub mod Machines
+pub mod Numbers
+pub mod Changes
+pub mod Folding
+pub mod Kept
+pub mod Runs

@@ -1,0 +1,36 @@
+//! What a session is made with.
+
+ghost use Rattle.std.specs.Prelude.{◌≡◌};
+ghost use Rattle.edit_engine.specs.Numbers.{number_of_config};
+
+use thiserror::Error;
+
+/// What a session is made with.
+#[derive(Clone, Copy, Debug, PartialEq, Eq)]
+pub struct Config {
+    /// How many pictures the cache has room for, 1 to 4,096.
+    pub cache: u16,
+}
+
+/// Why no session is made.
+#[derive(Clone, Copy, Debug, PartialEq, Eq, Hash, Error)]
+pub enum ConfigFault {
+    /// The room of the cache is out of its range.
+    #[error("Cache")]
+    Cache,
+    /// A growth was refused.
+    #[error("Memory")]
+    Memory,
+}
+
+impl ConfigFault {
+    /// The fault's number, from 1 in the order above.
+    pub fn number(self) -> u8
+        ensures { result ≡ number_of_config self }
+    {
+        match self {
+            ConfigFault::Cache => 1,
+            ConfigFault::Memory => 2,
+        }
+    }
+}

@@ -1,0 +1,88 @@
+//! The fold over a stream from its first unit.
+
+ghost use Rattle.std.specs.Prelude.{◌≡◌, ◌+◌, ◌<◌, ◌^◌, ◌∷◌, ◌++◌, [], length, IfOk, OnOk};
+ghost use Rattle.request_core.specs.States.{no_units};
+ghost use Rattle.edit_engine.specs.Folding.{FoldsOn, IsFoldOf};
+
+use access_unit::Unit;
+use ref_marking::AuId;
+use request_core::{Outcome, State, Steps, step};
+use std::alloc::{AllocError, Global};
+
+/// A fold under way: the state behind the units so far, what became of them, and how many steps were made.
+#[derive(Debug, Drop)]
+pub(crate) struct Fold {
+    state: State,
+    pub(crate) outcomes: Vec<Outcome>,
+    pub(crate) steps: Steps,
+}
+
+impl Fold {
+    /// The fold over a stream in two parts.
+    pub(crate) fn without(
+        alloc: Global,
+        before: &[(AuId, Unit)],
+        behind: &[(AuId, Unit)],
+    ) -> Result<Fold, AllocError>
+        requires { length before.now + length behind.now < 2 ^ 64 }
+        ensures { IfOk result (IsFoldOf (before.now ++ behind.now)) }
+    {
+        let mut fold = Fold::new(alloc)?;
+        fold.go_over(alloc, before)?;
+        fold.go_over(alloc, behind)?;
+        Ok(fold)
+    }
+
+    /// The fold over a stream in two parts, with a unit between them.
+    pub(crate) fn with(
+        alloc: Global,
+        before: &[(AuId, Unit)],
+        id: AuId,
+        unit: &Unit,
+        behind: &[(AuId, Unit)],
+    ) -> Result<Fold, AllocError>
+        requires { length before.now + length behind.now + 1 < 2 ^ 64 }
+        ensures { IfOk result (IsFoldOf (before.now ++ (id, unit.now) ∷ behind.now)) }
+    {
+        let mut fold = Fold::new(alloc)?;
+        fold.go_over(alloc, before)?;
+        fold.go_on(alloc, id, unit)?;
+        fold.go_over(alloc, behind)?;
+        Ok(fold)
+    }
+
+    /// Before the first unit.
+    fn new(alloc: Global) -> Result<Fold, AllocError>
+        ensures state { IfOk result (λ fold. fold.state ≡ no_units) }
+        ensures outcomes { IfOk result (λ fold. fold.outcomes.items ≡ []) }
+        ensures steps { IfOk result (λ fold. fold.steps ≡ 0) }
+    {
+        Ok(Fold {
+            state: State::new(alloc)?,
+            outcomes: Vec::new(alloc),
+            steps: Steps::new(),
+        })
+    }
+
+    /// Units more, in order.
+    fn go_over(&mut self, alloc: Global, units: &[(AuId, Unit)]) -> Result<(), AllocError>
+        requires { self.old.steps + length units.now < 2 ^ 64 }
+        ensures { OnOk result (FoldsOn self.old units.now self.new) }
+    {
+        for unit in units {
+            self.go_on(alloc, unit.0, &unit.1)?;
+        }
+        Ok(())
+    }
+
+    /// One unit more.
+    fn go_on(&mut self, alloc: Global, id: AuId, unit: &Unit) -> Result<(), AllocError>
+        requires { self.old.steps + 1 < 2 ^ 64 }
+        ensures { OnOk result (FoldsOn self.old ((id, unit.now) ∷ []) self.new) }
+    {
+        let (state, outcome) = step(alloc, &self.state, id, unit, &mut self.steps)?;
+        self.state = state;
+        self.outcomes.push(outcome)?;
+        Ok(())
+    }
+}

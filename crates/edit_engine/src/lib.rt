@@ -1,0 +1,27 @@
+//! A session over a stream of access units under edits.
+//!
+//! `Session` keeps a stream; `edit` inserts, deletes and replaces units, given as bytes, and answers a receipt or a
+//! refusal that changes nothing. What `outcome` and `position` answer is the plain fold over the stream as it is. `run`
+//! follows a list of commands. Below is request_core, whose step is made for each unit; above, the program.
+#![tactic(auto)]
+
+mod changes;
+mod commands;
+mod config;
+mod edits;
+mod folding;
+mod places;
+mod preparing;
+mod receipts;
+mod refusals;
+mod session;
+
+pub use commands::{Command, Reply, Shown, run};
+pub use config::{Config, ConfigFault};
+pub use edits::{Edit, Place};
+pub use receipts::{Last, Receipt};
+pub use refusals::{EditRefused, NoSuchUnit};
+pub use session::Session;
+
+#[cfg(test)]
+mod tests;

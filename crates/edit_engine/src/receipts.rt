@@ -1,0 +1,23 @@
+//! What a session answers.
+
+use ref_marking::AuId;
+
+/// What an accepted edit answers.
+#[derive(Clone, Copy, Debug, PartialEq, Eq)]
+pub struct Receipt {
+    /// How many edits were accepted, with this one.
+    pub number: u64,
+    /// The id of the unit that was inserted, deleted or replaced.
+    pub id: AuId,
+    /// How many steps of the fold the edit made.
+    pub steps: u64,
+}
+
+/// The end of a stream.
+#[derive(Clone, Copy, Debug, PartialEq, Eq)]
+pub struct Last {
+    /// How many units the stream has.
+    pub units: usize,
+    /// The id of the last one, if there is one.
+    pub id: Option<AuId>,
+}

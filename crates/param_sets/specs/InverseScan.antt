@@ -7,12 +7,13 @@ use Rattle.std.specs.List.{range_with_len}
 abbrev pub places : ℕ → List ℕ
 places width = range_with_len 0 (width * width)
 
+-- the row that a place is in, from 0 on
 abbrev pub row : ℕ → ℕ → ℕ
 row width place = place / width
 
--- the diagonal that a place is on, from the upper left corner on
+-- the diagonal that a place is on, from the upper left corner on: its row plus its column
 abbrev pub diagonal : ℕ → ℕ → ℕ
-diagonal width place = place / width + place % width
+diagonal width place = row width place + place % width
 
 -- Whether a place is scanned before another: diagonal by diagonal, the odd ones downwards and the even ones upwards.
 abbrev pub is_before : ℕ → ℕ → ℕ → Bool

@@ -3,6 +3,7 @@ pub mod Reading
 pub mod Ranges
 pub mod Rows
 pub mod Answer
+pub mod FaultNumbers
 pub mod Scaling
 pub mod DefaultScalingLists
 pub mod InverseScan

@@ -2,6 +2,7 @@
 
 ghost use Rattle.std.specs.Prelude.{◌≡◌};
 ghost use Rattle.param_sets.specs.declared.fault.SetFault.TheVariants.{Memory};
+ghost use Rattle.param_sets.specs.FaultNumbers.{number_of};
 
 use std::alloc::{AllocError, AllocFailed};
 use thiserror::Error;
@@ -72,6 +73,24 @@ pub enum SetFault {
     /// A growth was refused.
     #[error("out of memory")]
     Memory,
+}
+
+impl SetFault {
+    /// The fault's number, from 1 in the order above.
+    pub fn number(self) -> u8
+        ensures { result ≡ number_of self }
+    {
+        match self {
+            SetFault::Cut => 1,
+            SetFault::Range { .. } => 2,
+            SetFault::Profile => 3,
+            SetFault::Chroma444 => 4,
+            SetFault::Interlaced => 5,
+            SetFault::SliceGroups => 6,
+            SetFault::RefFrames => 7,
+            SetFault::Memory => 8,
+        }
+    }
 }
 
 impl From<AllocError> for SetFault {

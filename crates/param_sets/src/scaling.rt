@@ -1,6 +1,6 @@
 //! Scaling lists as they were read (7.3.2.1.1.1).
 
-ghost use Rattle.std.specs.Prelude.{◌≡◌, ℤ, List, [], ◌∷◌, ◌++◌, Option, IfOk, IfErr};
+ghost use Rattle.std.specs.Prelude.{◌≡◌, ℤ, List, [], ◌∷◌, ◌++◌, Option, IfOk, IfErr, OnErr};
 
 use crate::fault::SetFault;
 use std::alloc::Global;
@@ -32,6 +32,7 @@ impl ScalingList {
     pub fn push(&mut self, delta: i8) -> Result<(), SetFault>
         ensures pushed { IfOk result (λ _. self.new ≡ self.old ++ delta ∷ []) }
         ensures memory { IfErr result (λ fault. fault ≡ SetFault.Memory) }
+        ensures unchanged { OnErr result (self.new ≡ self.old) }
     {
         self.deltas.push(delta)?;
         Ok(())
@@ -71,6 +72,7 @@ impl ScalingLists {
     pub fn push(&mut self, list: Option<ScalingList>) -> Result<(), SetFault>
         ensures pushed { IfOk result (λ _. self.new ≡ self.old ++ list ∷ []) }
         ensures memory { IfErr result (λ fault. fault ≡ SetFault.Memory) }
+        ensures unchanged { OnErr result (self.new ≡ self.old) }
     {
         self.lists.push(list)?;
         Ok(())

@@ -1,3 +1,4 @@
+mod faults;
 mod pps;
 mod ranges;
 mod scaling_lists;

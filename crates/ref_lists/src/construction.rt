@@ -65,16 +65,16 @@ fn p_lists(marks: &Marks, sps: &Sps, header: &SliceHeader) -> Result<(List, List
     requires lacks_list_1 { has_list_1 header.now.slice_type ≡ false }
     ensures { (counts : Counts) → result ≡ lists_of marks.now sps.now header.now counts }
 {
-    let frames = marks.frames();
-    if frames.is_empty() {
+    let references = marks.frames();
+    if references.is_empty() {
         return Err(ListFault::NoReference);
     }
-    let initial = initial_list(frames, ListOrder::ByPicNum, sps, header.frame_num);
+    let initial = initial_list(references, ListOrder::ByPicNum, sps, header.frame_num);
     let list_0 = final_list(
         &initial,
         header.num_ref_idx_l0_active_minus1,
         &header.ref_pic_list_modification_l0,
-        frames,
+        references,
         sps,
         header.frame_num,
     )?;

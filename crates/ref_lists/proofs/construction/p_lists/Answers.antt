@@ -12,13 +12,13 @@ returns-then-is_empty c counts =
 
 pub final_list-requires-clause-once : goal.final_list-requires-clause-once
 final_list-requires-clause-once c =
-    rw (c.deref.ensures.0, c.initial_list-initial.ensures) (IsDistinct-initial_list c.args.sps.now c.args.header.now.frame_num ByPicNum c.frames-frames.result.now)
+    rw (c.deref.ensures.0, c.initial_list-initial.ensures) (IsDistinct-initial_list c.args.sps.now c.args.header.now.frame_num ByPicNum c.frames-references.result.now)
 
 pub returns-in_err-list_0 : goal.returns-in_err-list_0
 returns-in_err-list_0 c counts =
     let marks = c.args.marks.now in
     let some : (length c.args.marks.now.frames == 0) ≡ false = search rules in
-    let fault = rw (c.deref.ensures.0, c.initial_list-initial.ensures, c.frames-frames.ensures.value) at (sym c.final_list.ensures ∙ c.in_err-list_0.was) in
+    let fault = rw (c.deref.ensures.0, c.initial_list-initial.ensures, c.frames-references.ensures.value) at (sym c.final_list.ensures ∙ c.in_err-list_0.was) in
     let passed = err_from_is_err_and c.from_residual.result c.from_residual.ensures.1 in
     rw (passed.1, passed.2) (sym (lists_of-p marks c.args.sps.now c.args.header.now counts c.requires.has_list_0 c.requires.lacks_list_1 some
     ∙ both-Err (final_0 marks c.args.sps.now c.args.header.now ByPicNum) [] (bad_0 marks c.args.sps.now c.args.header.now) false c.in_err-list_0.field-0.0 fault))
@@ -27,6 +27,6 @@ pub returns : goal.returns
 returns c counts =
     let marks = c.args.marks.now in
     let some : (length c.args.marks.now.frames == 0) ≡ false = search rules in
-    let list_0 = rw (c.deref.ensures.0, c.initial_list-initial.ensures, c.frames-frames.ensures.value) at (sym c.final_list.ensures ∙ c.in_ok-list_0.was) in
+    let list_0 = rw (c.deref.ensures.0, c.initial_list-initial.ensures, c.frames-references.ensures.value) at (sym c.final_list.ensures ∙ c.in_ok-list_0.was) in
     rw c.new.ensures (sym (lists_of-p marks c.args.sps.now c.args.header.now counts c.requires.has_list_0 c.requires.lacks_list_1 some
     ∙ both-Ok (final_0 marks c.args.sps.now c.args.header.now ByPicNum) [] (bad_0 marks c.args.sps.now c.args.header.now) false c.in_ok-list_0.list_0 [] list_0 refl))

@@ -8,7 +8,8 @@ ghost use Rattle.edit_engine.specs.Refusals.{IsRefused};
 use crate::edits::{Edit, Place};
 use crate::places::{place_of, start_of};
 use crate::refusals::EditRefused;
-use access_unit::{Unit, read_unit};
+use access_unit::{Unit, read_shared};
+use bytes::Bytes;
 use ref_marking::AuId;
 use std::alloc::{AllocError, Global};
 
@@ -34,9 +35,9 @@ pub(crate) fn change_of(
     ensures err { IfErr result (IsRefused (record { given = given; stream = units.now }) edit.now) }
 {
     match edit {
-        Edit::Insert(place, text) => insertion(alloc, units, given, *place, text.as_slice()),
+        Edit::Insert(place, text) => insertion(alloc, units, given, *place, text),
         Edit::Delete(id) => deletion(units, given, *id),
-        Edit::Replace(id, text) => replacement(alloc, units, given, *id, text.as_slice()),
+        Edit::Replace(id, text) => replacement(alloc, units, given, *id, text),
     }
 }
 
@@ -46,12 +47,12 @@ fn insertion(
     units: &[(AuId, Unit)],
     given: u32,
     place: Place,
-    text: &[u8],
+    text: &Bytes,
 ) -> Result<Change, EditRefused>
     ensures ok { IfOk result (IsFor (record { given = given; stream = units.now }) (Insert place text.now)) }
     ensures err { IfErr result (IsRefused (record { given = given; stream = units.now }) (Insert place text.now)) }
 {
-    let unit = read_unit(alloc, text)?;
+    let unit = read_shared(alloc, text)?;
     let Some(at) = start_of(units, place) else {
         return Err(EditRefused::NoSuchUnit);
     };
@@ -85,12 +86,12 @@ fn replacement(
     units: &[(AuId, Unit)],
     given: u32,
     id: AuId,
-    text: &[u8],
+    text: &Bytes,
 ) -> Result<Change, EditRefused>
     ensures ok { IfOk result (IsFor (record { given = given; stream = units.now }) (Replace id text.now)) }
     ensures err { IfErr result (IsRefused (record { given = given; stream = units.now }) (Replace id text.now)) }
 {
-    let unit = read_unit(alloc, text)?;
+    let unit = read_shared(alloc, text)?;
     match place_of(units, id) {
         Some(at) => Ok(Change::Replacement { at, id, unit }),
         None => Err(EditRefused::NoSuchUnit),

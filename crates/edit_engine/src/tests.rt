@@ -7,6 +7,7 @@ use std::process::Abort;
 use std::test::Fail;
 
 mod random;
+mod refused;
 
 /// Sets and an IDR picture, of one macroblock, count type 2 and one reference frame.
 static A: [u8; 23] = [
@@ -30,7 +31,7 @@ static SPS: [u8; 9] = [0, 0, 1, 0x67, 0x42, 0x00, 0x0A, 0xDA, 0x79];
 static PREFIX: [u8; 6] = [0, 0, 1, 0x6E, 0x40, 0x80];
 
 /// A session with an empty stream.
-fn session(rt: &(impl Abort + AllocGlobal)) -> Session {
+fn empty_session(rt: &(impl Abort + AllocGlobal)) -> Session {
     match Session::new(rt.alloc(), Config { cache: 64 }) {
         Ok(session) => session,
         Err(fault) => panic!(rt; "{fault}"),
@@ -49,7 +50,7 @@ fn insert_after(id: u32, text: &'static [u8]) -> Edit {
 
 /// A session with three units: an IDR picture and two P pictures.
 fn three_units(rt: &(impl Abort + AllocGlobal)) -> Session {
-    let mut session = session(rt);
+    let mut session = empty_session(rt);
     for (edit, number) in [
         (insert(Place::First, &A), 1),
         (insert_after(1, &P1), 2),
@@ -105,7 +106,7 @@ fn a_session_is_made_with_a_cache_in_range(rt: HostRuntime) {
 
 #[test]
 fn refuses_by_number(rt: HostRuntime) {
-    let mut session = session(&rt);
+    let mut session = empty_session(&rt);
     for (edit, number) in [
         (insert(Place::First, &SPS), 12),
         (insert(Place::First, &[]), 1),
@@ -141,7 +142,7 @@ fn refuses_by_number(rt: HostRuntime) {
 fn refuses_a_text_that_is_too_large(rt: HostRuntime) -> Result<(), Fail> {
     let text = vec![in rt.alloc(); 0u8; 4_194_305]?;
     let edit = Edit::Insert(Place::First, Bytes::from_vec(text)?);
-    let Err(refused) = session(&rt).edit(edit) else {
+    let Err(refused) = empty_session(&rt).edit(edit) else {
         panic!(rt; "a text of 4,194,305 bytes is a unit");
     };
     assert_eq!(rt; refused.number(), 14);

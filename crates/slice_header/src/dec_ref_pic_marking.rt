@@ -36,6 +36,10 @@ pub enum MemoryManagementControlOperation {
 }
 
 impl Default for MemoryManagementControlOperation {
+    ghost use Rattle.slice_header.specs.declared.dec_ref_pic_marking.MemoryManagementControlOperation.TheVariants.{FreeAll};
+
+    ghost is_default = { λ operation. operation ≡ FreeAll };
+
     fn default() -> MemoryManagementControlOperation {
         MemoryManagementControlOperation::FreeAll
     }

@@ -19,6 +19,10 @@ pub enum RefPicListModification {
 }
 
 impl Default for RefPicListModification {
+    ghost use Rattle.slice_header.specs.declared.ref_pic_list_modification.RefPicListModification.TheVariants.{LongTerm};
+
+    ghost is_default = { λ command. command ≡ LongTerm 0 };
+
     fn default() -> RefPicListModification {
         RefPicListModification::LongTerm {
             long_term_pic_num: 0,

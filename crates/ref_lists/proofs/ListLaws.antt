@@ -1,10 +1,10 @@
 -- What holds of the lists of every slice.
-use Rattle.std.proofs.Common.{◌≡◌, ℕ, zero, suc, ◌+◌, ◌<◌, ◌≤◌, ◌∷◌, ◌↔◌, Bool, true, false, nat_eq, if◌then◌else◌, IsTrue, IsFalse, not, ◌++◌, List, [], length, take, drop, get_or, count_by, filter, position, All, Contains, Option, Some, None, IfSome, IfOk, Result, Ok, Err, ℤ, refl, sym, ap, ◌∙◌, arith, add-one, ⊎_elim}
+use Rattle.std.proofs.Common.{◌≡◌, ℕ, zero, suc, ◌+◌, ◌<◌, ◌≤◌, ◌∷◌, ◌↔◌, Bool, true, false, nat_eq, if◌then◌else◌, IsTrue, IsFalse, not, ◌++◌, List, [], length, take, drop, get_or, count_by, filter, position, All, Contains, Option, Some, None, IfOk, Result, Ok, Err, ℤ, refl, ap, ◌∙◌, arith, add-one, ⊎_elim}
 use lib.Pointwise.{pointwise}
 use Rattle.std.proofs.lemmas.Bool.{cases_Bool}
 use Rattle.std.proofs.lemmas.List.{drop_more, length-take}
 use Rattle.std.proofs.lemmas.List.Elements.{All-nil, All-cons, All-head, All-tail, All-append, All-take, All-drop, All-filter, All-weaker, All-contains_itself}
-use Rattle.std.proofs.lemmas.List.Sums.{sum_by-take-drop, sum_by-cons}
+use Rattle.std.proofs.lemmas.List.Sums.{sum_by-cons}
 use Rattle.param_sets.specs.declared.sps.Sps.{Sps}
 use Rattle.slice_header.specs.declared.slice_headers.SliceHeader.{SliceHeader}
 use Rattle.slice_header.specs.declared.ref_pic_list_modification.RefPicListModification.{RefPicListModification}
@@ -16,7 +16,7 @@ use Rattle.ref_lists.specs.declared.fault.ListFault.{ListFault}
 use Rattle.ref_lists.specs.declared.fault.ListFault.TheVariants.{OrderTie, NoReference, BadModification}
 use Rattle.ref_lists.specs.declared.initial_lists.ListOrder.{ListOrder}
 use Rattle.ref_lists.specs.InitialLists.{Entries, exchanged, cut, initial_list}
-use Rattle.ref_lists.specs.Modification.{no_wrap, is_entry_of, put, put_named, place_named, has_number, named, modified_from, modified}
+use Rattle.ref_lists.specs.Modification.{no_wrap, is_entry_of, put_named, place_named, has_number, named, modified_from, modified}
 use Rattle.ref_lists.specs.ReferenceLists.{has_order_tie, lacks_reference, has_bad_modification, active_l0, active_l1, order_l0, order_l1, list_by, Answer, lists_from, Constructs, IsMarked, lists_of}
 use Rattle.ref_lists.proofs.Places.{IsInitialList-initial_list, initial_list-only, IsDistinct-initial_list, IsDistinct-exchanged}
 use Rattle.ref_lists.proofs.Entries.{length-cut, count_by-cut}

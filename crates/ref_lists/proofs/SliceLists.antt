@@ -1,5 +1,5 @@
 -- What the lists of a slice are, by its type.
-use Rattle.std.proofs.Common.{◌≡◌, ℕ, ◌+◌, ◌<◌, ◌∷◌, Bool, true, false, ◌==◌, ◌||◌, List, [], length, drop, get_or, Option, Some, None, if◌then◌else◌, Result, Ok, Err, ℤ, pos, refl, ap, ◌∙◌}
+use Rattle.std.proofs.Common.{◌≡◌, ℕ, ◌+◌, ◌<◌, ◌∷◌, Bool, true, false, ◌==◌, ◌||◌, List, [], length, drop, get_or, if◌then◌else◌, Result, Ok, Err, ℤ, pos, refl, ap, ◌∙◌}
 use Rattle.std.specs.List.{list_any}
 use Rattle.std.specs.Ordering.{int_eq}
 use Rattle.std.proofs.lemmas.List.{drop_more}
@@ -15,7 +15,7 @@ use Rattle.ref_lists.specs.declared.fault.ListFault.{ListFault}
 use Rattle.ref_lists.specs.declared.fault.ListFault.TheVariants.{OrderTie, NoReference, BadModification}
 use Rattle.ref_lists.specs.declared.initial_lists.ListOrder.{ListOrder}
 use Rattle.ref_lists.specs.declared.initial_lists.ListOrder.TheVariants.{ByPicNum, BelowFirst, AboveFirst}
-use Rattle.ref_lists.specs.InitialLists.{Entries, exchanged, cut, initial_list}
+use Rattle.ref_lists.specs.InitialLists.{Entries, exchanged, initial_list}
 use Rattle.ref_lists.specs.Modification.{has_bad_command}
 use Rattle.ref_lists.specs.ReferenceLists.{has_list_0, has_list_1, has_repeat, short_term_counts, list_by, lists_of}
 

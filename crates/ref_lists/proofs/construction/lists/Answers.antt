@@ -1,5 +1,5 @@
 -- Each clause is a law of the function that the arms answer.
-use Rattle.std.proofs.Common.{◌≡◌, ◌∙◌, sym, refl, ap, inl, inr, Ok, []}
+use Rattle.std.proofs.Common.{◌≡◌, sym, refl, inl, inr, Ok, []}
 use Rattle.ref_lists.specs.ReferenceLists.{Answer, lists_of}
 use Rattle.ref_lists.proofs.SliceLists.{lists_of-none}
 use Rattle.ref_lists.proofs.ListLaws.{Constructs-lists_of, lists_of-only, lists_of-OrderTie, lists_of-NoReference, lists_of-BadModification, length-lists_of, marked-lists_of}

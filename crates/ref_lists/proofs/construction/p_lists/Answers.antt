@@ -1,4 +1,4 @@
-use Rattle.std.proofs.Common.{rules, ◌≡◌, ◌==◌, length, true, false, Some, [], refl, sym, ◌∙◌}
+use Rattle.std.proofs.Common.{rules, ◌≡◌, ◌==◌, length, true, false, [], refl, sym, ◌∙◌}
 use Rattle.std.proofs.lemmas.Result.{err_from_is_err_and}
 use Rattle.ref_lists.specs.declared.initial_lists.ListOrder.TheVariants.{ByPicNum}
 use Rattle.ref_lists.proofs.Places.{IsDistinct-initial_list}

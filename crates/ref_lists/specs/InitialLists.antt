@@ -14,10 +14,11 @@ use Rattle.ref_lists.specs.declared.initial_lists.Group.{Group}
 use Rattle.ref_lists.specs.declared.initial_lists.Group.TheVariants.{First, Second, LongTerm}
 use Rattle.ref_lists.specs.declared.initial_lists.Standing.{Standing}
 
--- in a group, by a number that rises or by one that falls
+-- in a group, by a number that rises
 abbrev pub rising : Group → ℤ → ℕ → Standing
 rising group number place = record { group = group; number = number; place = place }
 
+-- in a group, by a number that falls
 abbrev pub falling : Group → ℤ → ℕ → Standing
 falling group number place = rising group (neg_ℤ number) place
 
@@ -43,6 +44,7 @@ abbrev pub standing : Sps → (frame_num : ℕ) → ListOrder → Frame → ℕ 
 standing sps frame_num order frame place =
     standing_by (long_term_pic_num frame) (short_term_standing sps frame_num order frame place) place
 
+-- the groups in their order
 abbrev pub group_index : Group → ℕ
 group_index First = 0
 group_index Second = 1
@@ -58,9 +60,11 @@ standing_of sps frame_num order None place = rising LongTerm (pos 0) place
 standing_of sps frame_num order (Some frame) place = standing sps frame_num order frame place
 
 module _ (sps : Sps) (frame_num : ℕ) (order : ListOrder) (frames : List Frame) where
+  -- where the frame at this place stands
   abbrev pub standing_at : ℕ → Standing
   standing_at place = standing_of sps frame_num order (slice_get frames place) place
 
+  -- which of the frames at two places stands before the other
   abbrev pub place_cmp : ℕ → ℕ → Ordering
   place_cmp = on standing_at compare
 
@@ -86,16 +90,18 @@ cut zero places = []
 cut (suc active) [] = None ∷ cut active []
 cut (suc active) (place ∷ places) = Some place ∷ cut active places
 
--- The initial list as a function: each place in turn goes before the first that it stands before.
+-- a place goes before the first that it precedes
 abbrev pub inserted : (ℕ → ℕ → Bool) → ℕ → List ℕ → List ℕ
 inserted precedes place [] = place ∷ []
 inserted precedes place (other ∷ places) =
     if precedes place other then place ∷ other ∷ places else other ∷ inserted precedes place places
 
+-- the places below a number, each in turn put before the first that it precedes
 abbrev pub sorted_below : (ℕ → ℕ → Bool) → ℕ → List ℕ
 sorted_below precedes zero = []
 sorted_below precedes (suc place) = inserted precedes place (sorted_below precedes place)
 
+-- the initial list as a function
 unfoldable pub initial_list : Sps → (frame_num : ℕ) → ListOrder → List Frame → List ℕ
 initial_list sps frame_num order frames =
     sorted_below (λ place other. is_lt (place_cmp sps frame_num order frames place other)) (length frames)

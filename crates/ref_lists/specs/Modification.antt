@@ -42,6 +42,7 @@ abbrev pub put : (index place : ℕ) → Entries → Entries
 put index place entries =
     take (length entries) (take index entries ++ Some place ∷ filter (λ entry. not (is_entry_of place entry)) (drop index entries))
 
+-- the same, where a frame is named
 abbrev pub put_named : ℕ → Option ℕ → Entries → Entries
 put_named index None entries = entries
 put_named index (Some place) entries = put index place entries
@@ -65,10 +66,11 @@ module _ (sps : Sps) (frame_num : ℕ) (frames : List Frame) where
       let number = no_wrap sps last command in
       modified_from (suc index) number (put_named index (place_named number command) entries) commands
 
-  -- The commands of a list with so many active entries: the first counts from CurrPicNum, and no more of them count
-  -- than there are entries.
+  -- A command of a list with so many active entries names no marked frame: the first counts from CurrPicNum, and no more
+  -- of them count than there are entries.
   abbrev pub has_bad_command : (active : ℕ) → List RefPicListModification → Bool
   has_bad_command active commands = names_no_frame (curr_pic_num frame_num) (take active commands)
 
+  -- the list after its commands, of which no more count than it has entries
   abbrev pub modified : List RefPicListModification → Entries → Entries
   modified commands entries = modified_from 0 (curr_pic_num frame_num) entries (take (length entries) commands)

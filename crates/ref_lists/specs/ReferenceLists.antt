@@ -19,20 +19,22 @@ use Rattle.ref_marking.specs.PicNums.{long_term_pic_num}
 use Rattle.ref_lists.specs.InitialLists.{Entries, IsInitialList, initial_list, exchanged, cut}
 use Rattle.ref_lists.specs.Modification.{has_bad_command, modified}
 
--- slices with a list 0, and those with a list 1 too
+-- slices with a list 0
 abbrev pub has_list_0 : SliceType → Bool
 has_list_0 I = false
 has_list_0 Si = false
 has_list_0 type = true
 
+-- slices with a list 1 too
 abbrev pub has_list_1 : SliceType → Bool
 has_list_1 B = true
 has_list_1 type = false
 
--- how many entries the lists have
+-- how many entries list 0 has
 abbrev pub active_l0 : SliceHeader → ℕ
 active_l0 header = if has_list_0 header.slice_type then header.num_ref_idx_l0_active_minus1 + 1 else 0
 
+-- how many entries list 1 has
 abbrev pub active_l1 : SliceHeader → ℕ
 active_l1 header = if has_list_1 header.slice_type then header.num_ref_idx_l1_active_minus1 + 1 else 0
 
@@ -60,10 +62,11 @@ has_bad_modification marks sps header =
     has_bad_command sps header.frame_num marks.frames (active_l0 header) header.ref_pic_list_modification_l0
     || has_bad_command sps header.frame_num marks.frames (active_l1 header) header.ref_pic_list_modification_l1
 
--- the orders of the initial lists
+-- the order of the initial list 0
 abbrev pub order_l0 : SliceHeader → Counts → ListOrder
 order_l0 header counts = if has_list_1 header.slice_type then BelowFirst (pic_order_cnt counts) else ByPicNum
 
+-- the order of the initial list 1
 abbrev pub order_l1 : Counts → ListOrder
 order_l1 counts = AboveFirst (pic_order_cnt counts)
 

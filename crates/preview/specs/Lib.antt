@@ -1,5 +1,11 @@
+pub mod Answers
 pub mod Chunks
+pub mod Commands
 pub mod Lines
 pub mod ReadFaults
+pub mod RunFaults
+pub mod Scripts
 pub mod Status
 pub mod Streams
+pub mod UnitLines
+pub mod Words

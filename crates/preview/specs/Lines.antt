@@ -1,8 +1,10 @@
 -- The lines of a valid unit (docs/OUTPUT.md).
-use Rattle.std.specs.Prelude.{ℕ, ◌++◌, List, [], ◌∷◌, Option, Some, None, codes, decimal, if◌then◌else◌}
+use Rattle.std.specs.Prelude.{ℕ, ◌+◌, ◌++◌, length, List, [], ◌∷◌, Option, Some, None, codes, decimal, if◌then◌else◌}
 use Rattle.std.specs.Fmt.{signed_decimal}
 use Rattle.std.specs.List.{join_by}
 use Rattle.request_core.specs.declared.request.DpbEntry.{DpbEntry}
+use Rattle.request_core.specs.declared.request.Request.{Request}
+use Rattle.request_core.specs.declared.outcome.Plan.{Plan}
 use Rattle.slice_header.specs.declared.slice_types.SliceType.{SliceType}
 use Rattle.slice_header.specs.declared.slice_types.SliceType.TheVariants.{P, B, I, Sp, Si}
 use Rattle.preview.specs.declared.lines.UnitLine.{UnitLine}
@@ -37,10 +39,10 @@ type_number I = 2
 type_number Sp = 3
 type_number Si = 4
 
--- the line of a request
-abbrev pub request_line : RequestLine → List ℕ
-request_line line = let request = line.request.now in
-    codes "request " ++ (decimal line.id ++ (codes "." ++ (decimal line.slice
+-- the line of a request, by the unit's id and the place of the slice
+abbrev pub request_text : ℕ → ℕ → Request → List ℕ
+request_text id slice request =
+    codes "request " ++ (decimal id ++ (codes "." ++ (decimal slice
     ++ (codes " ts " ++ (decimal request.timestamp ++ (codes " bits " ++ (decimal request.header_bit_size
     ++ (codes " type " ++ (decimal (type_number request.slice_type)
     ++ (codes " frame " ++ (decimal request.frame_num
@@ -48,3 +50,18 @@ request_line line = let request = line.request.now in
     ++ (codes " l0 " ++ (list_text place_text request.ref_pic_list0
     ++ (codes " l1 " ++ (list_text place_text request.ref_pic_list1
     ++ (codes " hold " ++ (decimal (if request.hold then 1 else 0) ++ codes "\n")))))))))))))))))))
+
+-- the line of a request
+abbrev pub request_line : RequestLine → List ℕ
+request_line line = request_text line.id line.slice line.request.now
+
+-- the lines of the requests of a unit's slices, from this place on
+abbrev pub request_lines : ℕ → ℕ → List Request → List ℕ
+request_lines id slice [] = []
+request_lines id slice (request ∷ requests) = request_text id slice request ++ request_lines id (slice + 1) requests
+
+-- the lines of a valid unit
+abbrev pub plan_lines : ℕ → ℕ → Plan → List ℕ
+plan_lines id position plan =
+    unit_line (record { id = id; position = position; counts = plan.counts; requests = length plan.requests })
+    ++ request_lines id 0 plan.requests

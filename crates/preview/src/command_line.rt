@@ -6,22 +6,30 @@ ghost use Rattle.clap.specs.Words.{kind_of};
 use crate::chunks::write_bytes;
 use crate::input::Input;
 use crate::messages::{say_not_text, say_out_of_memory};
+use crate::options::Options;
 use crate::plan::plan_on;
+use crate::run::script_on;
+use crate::source::Files;
 use crate::status::Status;
 use clap::error::ErrorKind;
-use clap::{Arg, Command, Error};
-use std::alloc::Global;
+use clap::{Arg, ArgMatches, Command, Error, value_parser};
+use std::alloc::{AllocError, Global};
 use std::convert::AsStr;
 use std::io::Write;
 use std::thread::Threads;
 use std::{env, io};
 
 /// What the command line asks for.
-#[derive(Clone, Copy, Debug, PartialEq, Eq)]
+#[derive(Clone, Copy, Debug)]
 pub enum Asked<'a> {
     /// The plan of the stream in this file, `-` being the standard input.
     Plan { file: &'a str },
+    /// A run of the script that the options name, `-` being the standard input.
+    Run(Options<'a>),
 }
+
+/// The greatest value of `--cache`.
+const MOST_CACHE: u16 = 4096;
 
 /// Does what the process's command line asks for, with these threads.
 pub fn run<W: Write, E: Write>(
@@ -57,36 +65,90 @@ pub fn run_on<S: AsStr, W: Write, E: Write>(
     output: &mut W,
     errors: &mut E,
 ) -> Status {
-    match parse(rt.alloc(), words) {
+    let alloc = rt.alloc();
+    match parse(alloc, words) {
         Ok(Asked::Plan { file }) => {
             let mut input = Input::open(rt, file);
-            plan_on(threads, rt.alloc(), file, &mut input, output, errors)
+            plan_on(threads, alloc, file, &mut input, output, errors)
         }
-        Err(error) => answer(rt.alloc(), &error, output, errors),
+        Ok(Asked::Run(options)) => {
+            let (mut script, mut files) = (Input::open(rt, options.name), Files { rt });
+            script_on(
+                threads,
+                alloc,
+                options,
+                &mut script,
+                &mut files,
+                output,
+                errors,
+            )
+        }
+        Err(error) => answer(alloc, &error, output, errors),
     }
 }
 
 /// What the words ask for, or clap's answer to them.
 pub fn parse<'a, S: AsStr>(alloc: Global, words: &'a [S]) -> Result<Asked<'a>, Error> {
+    let mut preview = Command::new(alloc, "preview")
+        .about("Plans H.264 streams for stateless decoders, and keeps their plans under edits")
+        .bin_name("preview")?
+        .subcommand_required(true)
+        .subcommand(plan_command(alloc)?)?
+        .subcommand(run_command(alloc)?)?;
+    let matches = preview.try_get_matches_from_mut(words)?;
+    match read_matches(&matches) {
+        Some(asked) => Ok(asked),
+        None => Err(preview.error(ErrorKind::MissingSubcommand, "a subcommand is required")?),
+    }
+}
+
+/// What the matches ask for.
+fn read_matches<'a>(matches: &ArgMatches<'a>) -> Option<Asked<'a>> {
+    if let Some(plan) = matches.subcommand_matches("plan") {
+        let file = plan.get_str("FILE")?;
+        return Some(Asked::Plan { file });
+    }
+    let run = matches.subcommand_matches("run")?;
+    let name = run.get_str("SCRIPT")?;
+    let cache = run.get_one::<u16>("cache")?;
+    if cache == 0 || cache > MOST_CACHE {
+        return None;
+    }
+    Some(Asked::Run(Options { name, cache }))
+}
+
+/// The subcommand `plan`.
+fn plan_command<'a>(alloc: Global) -> Result<Command<'a>, AllocError> {
     let file = Arg::new(alloc, "FILE")
         .required(true)
         .help("An H.264 byte stream; - is the standard input");
-    let plan = Command::new(alloc, "plan")
+    Command::new(alloc, "plan")
         .about("Prints what a stateless decoder is asked for, unit by unit")
-        .arg(file)?;
-    let mut preview = Command::new(alloc, "preview")
-        .about("Plans H.264 streams for stateless decoders")
-        .bin_name("preview")?
-        .subcommand_required(true)
-        .subcommand(plan)?;
-    let matches = preview.try_get_matches_from_mut(words)?;
-    match matches
-        .subcommand_matches("plan")
-        .and_then(|plan| plan.get_str("FILE"))
-    {
-        Some(file) => Ok(Asked::Plan { file }),
-        None => Err(preview.error(ErrorKind::MissingSubcommand, "a subcommand is required")?),
-    }
+        .arg(file)
+}
+
+/// The subcommand `run`.
+fn run_command<'a>(alloc: Global) -> Result<Command<'a>, AllocError> {
+    let script = Arg::new(alloc, "SCRIPT")
+        .required(true)
+        .help("A command a line; - is the standard input");
+    let workers = Arg::new(alloc, "workers")
+        .long("workers")
+        .value_name("N")
+        .value_parser(value_parser!(u8).range(0..=0))
+        .default_value("0")
+        .help("How many threads decode; there are none yet");
+    let cache = Arg::new(alloc, "cache")
+        .long("cache")
+        .value_name("N")
+        .value_parser(value_parser!(u16).range(1..=4096))
+        .default_value("64")
+        .help("For how many pictures that no unit has there is room, 1 to 4096; none are kept yet");
+    Command::new(alloc, "run")
+        .about("Runs a script that edits a stream, and prints what it answers")
+        .arg(script)?
+        .arg(workers)?
+        .arg(cache)
 }
 
 /// Prints clap's answer: help on the output, a mistake on `errors`.

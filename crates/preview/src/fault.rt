@@ -1,4 +1,4 @@
-//! Why a stream isn't planned.
+//! Why a text isn't read as a stream.
 
 ghost use Rattle.std.specs.Prelude.{◌≡◌};
 ghost use Rattle.preview.specs.ReadFaults.{fault_of};
@@ -6,11 +6,9 @@ ghost use Rattle.preview.specs.ReadFaults.{fault_of};
 use crate::refusal::Refusal;
 use access_unit::StreamRefused;
 
-/// Why a stream isn't read.
+/// Why a text isn't read as a stream.
 #[derive(Clone, Copy, Debug, PartialEq, Eq)]
 pub enum ReadFault {
-    /// The input can't be read.
-    Unread,
     /// The stream is refused.
     Refused(Refusal),
     /// A growth was refused.

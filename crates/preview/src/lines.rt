@@ -1,11 +1,12 @@
 //! The lines of a unit (docs/OUTPUT.md).
 
 ghost use Rattle.std.specs.Prelude.{Some};
-ghost use Rattle.preview.specs.Lines.{entry_text, list_text, place_text, request_line, unit_line};
+ghost use Rattle.preview.specs.Lines.{entry_text, list_text, place_text, plan_lines, request_line, unit_line};
+ghost use Rattle.preview.specs.UnitLines.{unit_lines};
 
 use order_count::Counts;
 use ref_marking::AuId;
-use request_core::{DpbEntry, Request, ValidityFault};
+use request_core::{DpbEntry, Outcome, Plan, Request, ValidityFault};
 use std::fmt;
 use std::fmt::{Display, Formatter, Write};
 
@@ -15,13 +16,64 @@ const VALID_AND_ACTIVE: u32 = 0x01 + 0x02;
 /// V4L2_H264_DPB_ENTRY_FLAG_LONG_TERM.
 const LONG_TERM: u32 = 0x04;
 
-/// The line of a valid unit.
+/// The lines of a unit: what becomes of it.
 #[derive(Drop)]
-pub struct UnitLine {
+pub struct UnitLines<'a> {
     pub id: AuId,
-    pub position: usize,
-    pub counts: Counts,
-    pub requests: usize,
+    pub outcome: &'a Outcome,
+    /// The place in output order; each plan has one.
+    pub position: Option<usize>,
+}
+
+impl<'a> Display for UnitLines<'a> {
+    ghost output = { λ lines. unit_lines lines };
+
+    fn fmt<W: Write>(&self, f: &mut Formatter<W>) -> fmt::Result {
+        let id = self.id;
+        match self.outcome {
+            Outcome::Plan(plan) => {
+                let position = self.position.unwrap_or_default();
+                write!(f, "{}", PlanLines { id, position, plan })
+            }
+            Outcome::Fault(fault) => write!(f, "{}", FaultLine { id, fault: *fault }),
+        }
+    }
+}
+
+/// The lines of a valid unit.
+#[derive(Drop)]
+struct PlanLines<'a> {
+    id: AuId,
+    position: usize,
+    plan: &'a Plan,
+}
+
+impl<'a> Display for PlanLines<'a> {
+    ghost output = { λ lines. Some (plan_lines lines.id lines.position lines.plan.now) };
+
+    fn fmt<W: Write>(&self, f: &mut Formatter<W>) -> fmt::Result {
+        let (id, requests) = (self.id, self.plan.requests.as_slice());
+        let line = UnitLine {
+            id,
+            position: self.position,
+            counts: self.plan.counts,
+            requests: requests.len(),
+        };
+        write!(f, "{line}")?;
+        for (slice, request) in requests.iter().enumerate() {
+            write!(f, "{}", RequestLine { id, slice, request })?;
+        }
+        Ok(())
+    }
+}
+
+/// The line of a valid unit itself.
+#[derive(Drop)]
+struct UnitLine {
+    id: AuId,
+    position: usize,
+    counts: Counts,
+    requests: usize,
 }
 
 impl Display for UnitLine {
@@ -37,9 +89,9 @@ impl Display for UnitLine {
 
 /// The line of a unit with a fault.
 #[derive(Drop)]
-pub struct FaultLine {
-    pub id: AuId,
-    pub fault: ValidityFault,
+struct FaultLine {
+    id: AuId,
+    fault: ValidityFault,
 }
 
 impl Display for FaultLine {
@@ -52,11 +104,11 @@ impl Display for FaultLine {
 
 /// The line of a request.
 #[derive(Drop)]
-pub struct RequestLine<'a> {
-    pub id: AuId,
+struct RequestLine<'a> {
+    id: AuId,
     /// The place of the slice in its unit, from 0.
-    pub slice: usize,
-    pub request: &'a Request,
+    slice: usize,
+    request: &'a Request,
 }
 
 impl<'a> Display for RequestLine<'a> {

@@ -5,6 +5,8 @@ ghost use Rattle.std.specs.Io.KnownBytes.{Appends};
 ghost use Rattle.preview.specs.Chunks.{AppendsFront};
 
 use crate::chunks::{PrintFault, write_bytes};
+use crate::input::InputFault;
+use crate::run_fault::RunFault;
 use std::io::Write;
 
 /// Says that memory is wanted.
@@ -14,8 +16,31 @@ pub fn say_out_of_memory<E: Write>(errors: &mut E)
     let _ = write_bytes(errors, b"out of memory\n");
 }
 
+/// Says why the input of this name isn't read.
+pub fn say_input_fault<E: Write>(fault: InputFault, name: &str, errors: &mut E) {
+    match fault {
+        InputFault::Unread => say_unread(name, errors),
+        InputFault::Memory => say_out_of_memory(errors),
+    }
+}
+
+/// Says why a script isn't run to its end. A writer that takes no more is known to who reads it.
+pub fn say_run_fault<E: Write>(fault: RunFault<'_>, errors: &mut E) {
+    match fault {
+        RunFault::Unread(name) => say_unread(name, errors),
+        RunFault::Script(number) => say_script_fault(number, errors),
+        RunFault::Memory => say_out_of_memory(errors),
+        RunFault::Unwritten => {}
+    }
+}
+
+/// Says that the line of this number is no command.
+fn say_script_fault<E: Write>(number: usize, errors: &mut E) {
+    let _ = writeln!(errors, "script fault at line {number}");
+}
+
 /// Says that the input of this name can't be read.
-pub fn say_unread<E: Write>(name: &str, errors: &mut E) {
+fn say_unread<E: Write>(name: &str, errors: &mut E) {
     let _ = write_unread(name, errors);
 }
 

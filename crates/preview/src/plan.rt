@@ -1,25 +1,22 @@
 //! `preview plan`: a stream read, planned and printed.
 
-ghost use Rattle.std.specs.Prelude.{◌≡◌, ◌≤◌, ◌≢◌, IfOk, IfSome, vec_len};
+ghost use Rattle.std.specs.Prelude.{◌≡◌, ◌≤◌, ◌≢◌, IfOk, vec_len};
 ghost use Rattle.std.specs.Io.KnownBytes.{Keeps};
 ghost use Rattle.preview.specs.Streams.{numbered_from};
-ghost use Rattle.preview.specs.declared.refusal.Refusal.{Refusal};
 
 use crate::chunks::{Chunks, PrintFault, write_bytes};
 use crate::fault::ReadFault;
-use crate::lines::{FaultLine, RequestLine, UnitLine};
-use crate::messages::{say_out_of_memory, say_unread};
+use crate::input::whole_input;
+use crate::lines::UnitLines;
+use crate::messages::{say_input_fault, say_out_of_memory};
 use crate::refusal::Refusal;
 use crate::status::Status;
+use crate::units::{MOST_UNITS, read_units};
 use access_unit::Unit;
 use ref_marking::AuId;
-use request_core::{Outcome, Plan};
 use std::alloc::{AllocError, Global};
-use std::io::{ErrorKind, Read, Write};
+use std::io::{Read, Write};
 use std::thread::Threads;
-
-/// The most access units of a stream.
-const MOST_UNITS: usize = 65_536;
 
 /// Prints the plan of the stream that the reader gives, or its refusal. Where the reader fails or memory is wanted,
 /// `errors` is told; the reader has this name there.
@@ -34,38 +31,23 @@ pub fn plan_on<R: Read, W: Write, E: Write>(
     ensures done { result ≡ Status.Success → Keeps (E.contents errors.old) (E.contents errors.new) }
     ensures usage { result ≢ Status.Usage }
 {
-    let units = match read_units(threads, alloc, reader) {
-        Ok(units) => units,
+    let text = match whole_input(alloc, reader) {
+        Ok(text) => text,
         Err(fault) => {
-            say_fault(alloc, fault, name, writer, errors);
+            say_input_fault(fault, name, errors);
             return Status::Failure;
         }
     };
-    match print_units(alloc, units, writer) {
-        Ok(()) => Status::Success,
-        Err(PrintFault::Memory) => {
+    match read_units(threads, alloc, text.as_slice(), MOST_UNITS) {
+        Ok(units) => plan_units(alloc, units, writer, errors),
+        Err(ReadFault::Refused(refusal)) => {
+            print_refusal(alloc, refusal, writer, errors);
+            Status::Failure
+        }
+        Err(ReadFault::Memory) => {
             say_out_of_memory(errors);
             Status::Failure
         }
-        Err(PrintFault::Unwritten) => Status::Failure,
-    }
-}
-
-/// Says why a stream isn't planned: a refusal on the output, anything else on `errors`.
-fn say_fault<W: Write, E: Write>(
-    alloc: Global,
-    fault: ReadFault,
-    name: &str,
-    writer: &mut W,
-    errors: &mut E,
-)
-    ensures { ((refusal : Refusal) → fault ≢ ReadFault.Refused refusal)
-        → Keeps (W.contents writer.old) (W.contents writer.new) }
-{
-    match fault {
-        ReadFault::Unread => say_unread(name, errors),
-        ReadFault::Refused(refusal) => print_refusal(alloc, refusal, writer, errors),
-        ReadFault::Memory => say_out_of_memory(errors),
     }
 }
 
@@ -84,31 +66,24 @@ fn print_refusal<W: Write, E: Write>(
     }
 }
 
-/// The access units of the stream that the reader gives.
-fn read_units<R: Read>(
-    threads: &(impl Threads + Sync),
+/// Plans the units and prints their lines.
+fn plan_units<W: Write, E: Write>(
     alloc: Global,
-    reader: &mut R,
-) -> Result<Vec<Unit>, ReadFault>
-    ensures { IfOk result (λ units. vec_len units ≤ 65536) }
+    units: Vec<Unit>,
+    writer: &mut W,
+    errors: &mut E,
+) -> Status
+    requires { vec_len units ≤ 65536 }
+    ensures done { result ≡ Status.Success → Keeps (E.contents errors.old) (E.contents errors.new) }
+    ensures usage { result ≢ Status.Usage }
 {
-    let text = whole_input(alloc, reader)?;
-    match access_unit::read_stream(threads, alloc, text.as_slice()) {
-        Ok(units) if units.len() <= MOST_UNITS => Ok(units),
-        Ok(_) => Err(ReadFault::Refused(Refusal::StreamFull)),
-        Err(refused) => Err(ReadFault::from(refused)),
-    }
-}
-
-/// All bytes that the reader gives.
-fn whole_input<R: Read>(alloc: Global, reader: &mut R) -> Result<Vec<u8>, ReadFault>
-    ensures { IfOk result (λ text. IfSome (R.remaining reader.old) (λ bytes. text.items ≡ bytes)) }
-{
-    let mut text = Vec::new(alloc);
-    match reader.read_to_end(&mut text) {
-        Ok(_) => Ok(text),
-        Err(error) if error.kind() == ErrorKind::OutOfMemory => Err(ReadFault::Memory),
-        Err(_) => Err(ReadFault::Unread),
+    match print_units(alloc, units, writer) {
+        Ok(()) => Status::Success,
+        Err(PrintFault::Memory) => {
+            say_out_of_memory(errors);
+            Status::Failure
+        }
+        Err(PrintFault::Unwritten) => Status::Failure,
     }
 }
 
@@ -121,19 +96,11 @@ fn print_units<W: Write>(alloc: Global, units: Vec<Unit>, writer: &mut W) -> Res
     let positions = request_core::positions(alloc, outcomes.as_slice())?;
     let mut chunks = Chunks::new(alloc, writer);
     for (((id, _), outcome), position) in stream.iter().zip(outcomes.iter()).zip(positions.iter()) {
-        match outcome {
-            // Each plan has a position.
-            Outcome::Plan(plan) => print_unit(
-                *id,
-                plan,
-                position.unwrap_or_default(),
-                &mut chunks,
-            )?,
-            Outcome::Fault(fault) => chunks.print(FaultLine {
-                id: *id,
-                fault: *fault,
-            })?,
-        }
+        chunks.print(UnitLines {
+            id: *id,
+            outcome,
+            position: *position,
+        })?;
     }
     chunks.pass_on()
 }
@@ -149,24 +116,4 @@ fn numbered(alloc: Global, units: Vec<Unit>) -> Result<Vec<(AuId, Unit)>, AllocE
         stream.push((AuId::new(id), unit))?;
     }
     Ok(stream)
-}
-
-/// Prints the lines of a valid unit.
-fn print_unit<W: Write + Drop>(
-    id: AuId,
-    plan: &Plan,
-    position: usize,
-    chunks: &mut Chunks<W>,
-) -> Result<(), PrintFault> {
-    let requests = plan.requests.as_slice();
-    chunks.print(UnitLine {
-        id,
-        position,
-        counts: plan.counts,
-        requests: requests.len(),
-    })?;
-    for (slice, request) in requests.iter().enumerate() {
-        chunks.print(RequestLine { id, slice, request })?;
-    }
-    Ok(())
 }

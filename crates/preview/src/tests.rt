@@ -1,7 +1,10 @@
 //! Runs over memory: texts in, lines out.
 
 mod examples;
+mod loads;
 mod refused;
+mod script_faults;
+mod scripts;
 
 use crate::command_line::run_on;
 use crate::plan::plan_on;
@@ -302,7 +305,7 @@ fn writes_the_front_that_a_writer_takes(rt: HostRuntime) -> Result<(), Fail> {
 
 #[test]
 fn answers_command_lines(rt: HostRuntime) -> Result<(), Fail> {
-    let answers: [(&[&str], Status, &str); 10] = [
+    let answers: [(&[&str], Status, &str); 19] = [
         (&["preview"], Status::Usage, "Usage: preview <COMMAND>"),
         (&["preview", "plan"], Status::Usage, "<FILE>"),
         (&["preview", "plan", "a", "b"], Status::Usage, "'b'"),
@@ -322,6 +325,51 @@ fn answers_command_lines(rt: HostRuntime) -> Result<(), Fail> {
             &["preview", "help", "plan"],
             Status::Success,
             "Usage: preview plan <FILE>",
+        ),
+        (&["preview", "run"], Status::Usage, "<SCRIPT>"),
+        (&["preview", "run", "--hex", "a"], Status::Usage, "'--hex'"),
+        (
+            &["preview", "run", "--workers", "1", "a"],
+            Status::Usage,
+            "'1'",
+        ),
+        (
+            &["preview", "run", "--workers", "x", "a"],
+            Status::Usage,
+            "'x'",
+        ),
+        (
+            &["preview", "run", "--cache", "0", "a"],
+            Status::Usage,
+            "'0'",
+        ),
+        (
+            &["preview", "run", "--cache", "4097", "a"],
+            Status::Usage,
+            "'4097'",
+        ),
+        (
+            &["preview", "run", "--help"],
+            Status::Success,
+            "Usage: preview run [OPTIONS] <SCRIPT>",
+        ),
+        (
+            &[
+                "preview",
+                "run",
+                "--cache",
+                "1",
+                "--workers",
+                "0",
+                "no/such",
+            ],
+            Status::Failure,
+            "cannot read no/such\n",
+        ),
+        (
+            &["preview", "run", "/", "--cache", "4096"],
+            Status::Failure,
+            "cannot read /\n",
         ),
         // A file that isn't there, and a folder.
         (

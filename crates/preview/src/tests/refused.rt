@@ -1,8 +1,11 @@
 //! Runs of which any growth of memory may be refused.
 
+use super::scripts::TestFiles;
 use super::{A, P1};
 use crate::command_line::run_on;
+use crate::options::Options;
 use crate::plan::plan_on;
+use crate::run::script_on;
 use crate::status::Status;
 use std::process::Abort;
 use std::thread::Threads;
@@ -81,4 +84,44 @@ fn refused_command_line(rt: HostRuntime) {
     assert!(rt;
         errors == b"out of memory\n".as_slice() || errors == b"cannot read no/such.264\n".as_slice()
     );
+}
+
+/// Runs a script, over memory that isn't refused for what is written and what is read.
+#[test]
+fn refused_script(rt: HostRuntime) {
+    let (mut output, mut errors) = ([0u8; 512], [0u8; 64]);
+    let (mut writer, mut teller) = (output.as_mut_slice(), errors.as_mut_slice());
+    let script = b"load p\ninsert after 1 00 00 01 41 9A 43\ndelete 1\nunit 2\n";
+    let options = Options {
+        name: "-",
+        cache: 64,
+    };
+    let files: [(&str, &[u8]); 1] = [("p", P1.as_slice())];
+    let mut source = TestFiles {
+        files: files.as_slice(),
+        asked: 0,
+    };
+    let status = script_on(
+        &rt,
+        rt.alloc(),
+        options,
+        &mut script.as_slice(),
+        &mut source,
+        &mut writer,
+        &mut teller,
+    );
+    let (written, told) = (
+        512usize.saturating_sub(writer.len()),
+        64usize.saturating_sub(teller.len()),
+    );
+    let (output, errors) = (output.split_at(written).0, errors.split_at(told).0);
+    let lines = b"loaded 1\nedit 2 id 2\nedit 3 id 1\nunit 2 fault 1 MissingPps\n".as_slice();
+    if errors == b"out of memory\n".as_slice() {
+        assert_eq!(rt; status, Status::Failure);
+    } else {
+        assert!(rt; errors.is_empty());
+        assert_eq!(rt; status, Status::Success);
+        let text = std::str::from_utf8(output).unwrap_or_default();
+        assert!(rt; output == lines || text.contains("refused 15 Memory\n"));
+    }
 }

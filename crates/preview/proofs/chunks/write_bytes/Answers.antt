@@ -1,4 +1,4 @@
-use Rattle.std.proofs.Common.{◌≡◌, take, drop, arith, take-add, length-drop}
+use Rattle.std.proofs.Common.{arith, take-add, length-drop}
 use Rattle.std.proofs.KnownBytes.{Appends-kept, Appends-trans}
 use Rattle.preview.proofs.chunks.write_bytes.Goals as goal
 use Rattle.preview.proofs.chunks.write_bytes.Goals.{in-Ok, in-Err+else-ne}

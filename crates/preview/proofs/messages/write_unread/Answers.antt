@@ -1,4 +1,3 @@
-use Rattle.std.proofs.Common.{codes}
 use Rattle.std.proofs.KnownBytes.{Appends-trans}
 use Rattle.std.proofs.lemmas.Result.{on_ok_weaker}
 use Rattle.preview.proofs.messages.write_unread.Goals as goal

@@ -1,0 +1,333 @@
+//! Scripts run over memory: lines in, lines out.
+
+use super::{A, End, LINES_OF_A, P1, ShortWriter};
+use crate::input::InputFault;
+use crate::options::Options;
+use crate::run::script_on;
+use crate::source::Source;
+use crate::status::Status;
+use bytes::Bytes;
+use edit_engine::{Config, Edit, Place, Session};
+use request_core::Outcome;
+use std::alloc::{AllocError, Global};
+use std::process::Abort;
+use std::test::Fail;
+use std::thread::Threads;
+
+/// The insertion of A as the first unit.
+pub(crate) const INSERT_A: &str =
+    "insert first 00 00 01 6742000ADA79 000001 68CE3880 000001 65888480\n";
+
+/// A, and the pictures with frame_num 1 and 2 behind it.
+pub(crate) const INSERT_THREE: &str =
+    "insert first 000001 6742000ada79 000001 68ce3880 000001 65888480\n\
+insert after 1 00 00 01 41 9A 23\n\
+insert after 2 00 00 01 41 9A 43\n";
+
+/// What the edits of these three answer.
+pub(crate) const THREE: &str = "edit 1 id 1\nedit 2 id 2\nedit 3 id 3\n";
+
+/// Unit 3 behind the unit 4.
+const LINES_OF_3: &str = "unit 3 position 2 counts 4 4 requests 1\n\
+request 3.0 ts 3000 bits 23 type 0 frame 2 dpb 4000:1:3 l0 0 l1 - hold 0\n";
+
+/// Files by name, and how many were asked for.
+#[derive(Drop)]
+pub(crate) struct TestFiles<'a> {
+    pub(crate) files: &'a [(&'a str, &'a [u8])],
+    pub(crate) asked: usize,
+}
+
+impl<'a> Source for TestFiles<'a> {
+    fn whole_file(&mut self, alloc: Global, name: &str) -> Result<Vec<u8>, InputFault> {
+        self.asked = self.asked.saturating_add(1);
+        for (known, text) in self.files {
+            if *known == name {
+                return Vec::from_slice(alloc, *text).map_err(|_: AllocError| InputFault::Memory);
+            }
+        }
+        Err(InputFault::Unread)
+    }
+}
+
+/// A run of a script on these files: how it ended, and what it wrote on both streams.
+pub(crate) fn run_script(
+    rt: &(impl Abort + AllocGlobal + Threads + Sync),
+    script: &[u8],
+    files: &[(&str, &[u8])],
+) -> (Status, Vec<u8>, Vec<u8>) {
+    let (mut output, mut errors) = (Vec::new(rt.alloc()), Vec::new(rt.alloc()));
+    let options = Options {
+        name: "a script",
+        cache: 64,
+    };
+    let mut source = TestFiles { files, asked: 0 };
+    let status = script_on(
+        rt,
+        rt.alloc(),
+        options,
+        &mut &*script,
+        &mut source,
+        &mut output,
+        &mut errors,
+    );
+    (status, output, errors)
+}
+
+/// The script of these parts runs to its end and prints these lines.
+pub(crate) fn answers(
+    rt: &(impl Abort + AllocGlobal + Threads + Sync),
+    parts: &[&str],
+    lines: &[&str],
+) -> Result<(), AllocError> {
+    let (script, wanted) = (texts(rt.alloc(), parts)?, texts(rt.alloc(), lines)?);
+    let (status, output, errors) = run_script(rt, script.as_bytes(), &[]);
+    assert_eq!(rt; output.as_slice(), wanted.as_bytes(), "output for {script}");
+    assert!(rt; errors.is_empty(), "errors for {script}");
+    assert_eq!(rt; status, Status::Success);
+    Ok(())
+}
+
+/// The texts, one behind the other.
+pub(crate) fn texts(alloc: Global, parts: &[&str]) -> Result<String, AllocError> {
+    let mut text = String::new(alloc);
+    for part in parts {
+        text.push_str(*part)?;
+    }
+    Ok(text)
+}
+
+#[test]
+fn refuses_texts(rt: HostRuntime) -> Result<(), Fail> {
+    answers(
+        &rt,
+        &[
+            "insert first 00 00 01 67 42 00 0A DA 79\n",
+            "insert first\n",
+            INSERT_A,
+            "insert after 1 00 00 01 6E 40 80\n",
+            // More bytes than a unit may have are refused before anything else.
+            "replace 7 000001\n",
+            "insert after 7 00 00 01 41 9A 23",
+        ],
+        &[
+            "refused 12 NoPicture\n",
+            "refused 1 Split\n",
+            "edit 1 id 1\n",
+            "refused 2 UnitType\n",
+            "refused 1 Split\n",
+            "refused 16 NoSuchUnit\n",
+        ],
+    )?;
+    Ok(())
+}
+
+#[test]
+fn refuses_more_than_4_194_304_bytes(rt: HostRuntime) -> Result<(), Fail> {
+    let mut script = String::new(rt.alloc());
+    script.push_str("insert first ")?;
+    for _ in 0..4_194_305 {
+        script.push_str("00")?;
+    }
+    let (status, output, errors) = run_script(&rt, script.as_bytes(), &[]);
+    assert_eq!(rt; status, Status::Success);
+    assert_eq!(rt; output.as_slice(), b"refused 14 TooLarge\n".as_slice());
+    assert!(rt; errors.is_empty());
+    Ok(())
+}
+
+#[test]
+fn deletes_and_repairs(rt: HostRuntime) -> Result<(), Fail> {
+    answers(
+        &rt,
+        &[
+            INSERT_THREE,
+            "delete 2\n",
+            "unit 3\n",
+            "insert after 1 00 00 01 41 9A 23\n",
+            "unit 3\n",
+            "unit 2\n",
+        ],
+        &[
+            THREE,
+            "edit 4 id 2\n",
+            "unit 3 fault 11 FrameNumGap\n",
+            "edit 5 id 4\n",
+            LINES_OF_3,
+            "unit 2 none\n",
+        ],
+    )?;
+    Ok(())
+}
+
+#[test]
+fn replaces_and_inserts_before(rt: HostRuntime) -> Result<(), Fail> {
+    answers(
+        &rt,
+        &[
+            INSERT_THREE,
+            "replace 2 00 00 01 41 9A 43\n",
+            "unit 2\nunit 3\n",
+            "insert first 00 00 01 65 88 84 80\n",
+            "unit 4\nunit 1\n",
+            "delete 9\n",
+            "replace 9\n",
+        ],
+        &[
+            THREE,
+            "edit 4 id 2\n",
+            "unit 2 fault 11 FrameNumGap\nunit 3 fault 11 FrameNumGap\n",
+            "edit 5 id 4\n",
+            "unit 4 fault 1 MissingPps\n",
+            LINES_OF_A,
+            "refused 16 NoSuchUnit\n",
+            "refused 1 Split\n",
+        ],
+    )?;
+    Ok(())
+}
+
+#[test]
+fn tells_faults_of_units(rt: HostRuntime) -> Result<(), Fail> {
+    answers(
+        &rt,
+        &["insert first 000001419A23\n", "unit 1\n"],
+        &["edit 1 id 1\n", "unit 1 fault 1 MissingPps\n"],
+    )?;
+    answers(
+        &rt,
+        &[
+            "insert first 000001 6742000ADA79 000001 68CE3880 000001 419A23\n",
+            "unit 1\n",
+        ],
+        &["edit 1 id 1\n", "unit 1 fault 8 NoIdr\n"],
+    )?;
+    answers(
+        &rt,
+        &[INSERT_A, "insert after 1 000001419A\n", "unit 2\n"],
+        &[
+            "edit 1 id 1\n",
+            "edit 2 id 2\n",
+            "unit 2 fault 3 HeaderCut\n",
+        ],
+    )?;
+    Ok(())
+}
+
+/// Numbers are printed as values, and one that no id reaches is one of no unit.
+#[test]
+fn names_units_by_any_number(rt: HostRuntime) -> Result<(), Fail> {
+    answers(
+        &rt,
+        &[
+            "\n# A comment, and an empty line before it\n",
+            INSERT_A,
+            "  unit   007  \n",
+            "unit 0\nunit 4294967295\nunit 4294967296\nunit 4294967297\nunit 9999999999\n",
+            "delete 4294967297\n",
+            "replace 4294967296 000001419A23\n",
+            "insert after 4294967297 000001419A23\n",
+            "unit 0000000001\n",
+        ],
+        &[
+            "edit 1 id 1\n",
+            "unit 7 none\n",
+            "unit 0 none\nunit 4294967295 none\nunit 4294967296 none\nunit 4294967297 none\n",
+            "unit 9999999999 none\n",
+            "refused 16 NoSuchUnit\n",
+            "refused 16 NoSuchUnit\n",
+            "refused 16 NoSuchUnit\n",
+            LINES_OF_A,
+        ],
+    )?;
+    answers(&rt, &[], &[])?;
+    answers(&rt, &["# a comment alone"], &[])?;
+    Ok(())
+}
+
+/// What a writer gets that takes so many bytes, how the run ends, and how many files it asks for.
+fn run_to(
+    rt: &(impl Abort + AllocGlobal + Threads + Sync),
+    script: &str,
+    room: usize,
+) -> (Vec<u8>, Status, usize) {
+    let mut writer = ShortWriter {
+        got: Vec::new(rt.alloc()),
+        at_a_time: usize::MAX,
+        room,
+        end: End::Fails,
+    };
+    let mut errors = Vec::new(rt.alloc());
+    let options = Options {
+        name: "-",
+        cache: 1,
+    };
+    let files: [(&str, &[u8]); 1] = [("p", P1.as_slice())];
+    let mut source = TestFiles {
+        files: files.as_slice(),
+        asked: 0,
+    };
+    let status = script_on(
+        rt,
+        rt.alloc(),
+        options,
+        &mut script.as_bytes(),
+        &mut source,
+        &mut writer,
+        &mut errors,
+    );
+    assert!(rt; errors.is_empty(), "errors at {room}");
+    let ShortWriter {
+        got,
+        at_a_time: _,
+        room: _,
+        end: _,
+    } = writer;
+    (got, status, source.asked)
+}
+
+/// A writer that fails after some bytes has just these, and no later line runs.
+#[test]
+fn ends_where_the_writer_fails(rt: HostRuntime) -> Result<(), Fail> {
+    let script = texts(
+        rt.alloc(),
+        &[
+            INSERT_THREE,
+            "delete 2\nunit 3\ninsert after 1 00 00 01 41 9A 23\nunit 3\nload p\n",
+        ],
+    )?;
+    let lines = texts(
+        rt.alloc(),
+        &[
+            THREE,
+            "edit 4 id 2\nunit 3 fault 11 FrameNumGap\nedit 5 id 4\n",
+            LINES_OF_3,
+            "loaded 1\n",
+        ],
+    )?;
+    let (got, status, asked) = run_to(&rt, script.as_str(), lines.len());
+    assert_eq!(rt; got.as_slice(), lines.as_bytes());
+    assert_eq!(rt; status, Status::Success);
+    assert_eq!(rt; asked, 1);
+    for room in 0..lines.len() {
+        let (got, status, asked) = run_to(&rt, script.as_str(), room);
+        assert_eq!(rt; got.as_slice(), lines.as_bytes().split_at(room).0);
+        assert_eq!(rt; status, Status::Failure, "status after {room} bytes");
+        let runs_load = room.saturating_add(9) >= lines.len();
+        assert_eq!(rt; asked > 0, runs_load, "files asked for after {room} bytes");
+    }
+    Ok(())
+}
+
+/// The library by itself: an edit, and then what becomes of the unit.
+#[test]
+fn edits_by_the_library(rt: HostRuntime) -> Result<(), Fail> {
+    let mut session = Session::new(rt.alloc(), Config { cache: 64 })?;
+    let text = Bytes::from_vec(Vec::from_slice(rt.alloc(), &A)?)?;
+    let receipt = session.edit(Edit::Insert(Place::First, text))?;
+    match session.outcome(receipt.id)? {
+        Outcome::Plan(plan) => assert_eq!(rt; plan.requests.as_slice().len(), 1),
+        Outcome::Fault(fault) => panic!(rt; "unit {} shows {fault}", receipt.id.number()),
+    }
+    Ok(())
+}

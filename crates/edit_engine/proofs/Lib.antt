@@ -2,3 +2,4 @@ pub mod FoldsOnward
 pub mod Edited
 pub mod Looked
 pub mod Ran
+pub mod GivenIds

@@ -7,3 +7,4 @@ pub mod Changes
 pub mod Folding
 pub mod Kept
 pub mod Runs
+pub mod Ids

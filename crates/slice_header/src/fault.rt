@@ -13,13 +13,13 @@ use thiserror::Error;
 pub enum HeaderFault {
     /// The payload ends within a field.
     #[error("the payload ends within the slice header")]
-    Cut,
+    Cut = 1,
     /// A field is out of its range, or its code has more than 31 zeros.
     #[error("a field of the slice header is out of its range")]
-    Value,
+    Value = 2,
     /// A growth was refused.
     #[error("out of memory")]
-    Memory,
+    Memory = 3,
 }
 
 impl From<AllocError> for HeaderFault {

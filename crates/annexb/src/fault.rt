@@ -2,20 +2,23 @@
 ghost use Rattle.std.specs.Prelude.{◌≡◌};
 ghost use Rattle.annexb.specs.SplitFault.{number_of};
 
-use std::error::Error;
-use std::fmt;
+use thiserror::Error;
 
 /// What keeps a text from being split into units.
-#[derive(Clone, Copy, Debug, PartialEq, Eq)]
+#[derive(Clone, Copy, Debug, PartialEq, Eq, Error)]
 pub enum SplitFault {
     /// The text doesn't begin with zeros and a start code.
+    #[error("no start code")]
     NoStartCode,
     /// A run of zeros that begins here may stand in no unit (7.4.1), and neither ends the text nor
     /// belongs to a start code.
+    #[error("forbidden bytes at {at}")]
     ForbiddenBytes { at: usize },
     /// The start code that ends here has no unit behind it.
+    #[error("no unit at {at}")]
     EmptyUnit { at: usize },
     /// A growth was refused.
+    #[error("out of memory")]
     Memory,
 }
 
@@ -32,16 +35,3 @@ impl SplitFault {
         }
     }
 }
-
-impl fmt::Display for SplitFault {
-    fn fmt<W: fmt::Write>(&self, f: &mut fmt::Formatter<W>) -> fmt::Result {
-        match self {
-            SplitFault::NoStartCode => write!(f, "no start code"),
-            SplitFault::ForbiddenBytes { at } => write!(f, "forbidden bytes at {at}"),
-            SplitFault::EmptyUnit { at } => write!(f, "no unit at {at}"),
-            SplitFault::Memory => write!(f, "out of memory"),
-        }
-    }
-}
-
-impl Error for SplitFault {}

@@ -1,5 +1,4 @@
 use super::*;
-use std::test::Fail;
 
 #[test]
 fn reads_a_baseline_set(rt: HostRuntime) {
@@ -61,17 +60,20 @@ fn reads_the_greatest_values(rt: HostRuntime) {
 }
 
 #[test]
-fn refused_cycle_of_offsets(rt: HostRuntime) -> Result<(), Fail> {
+fn refused_cycle_of_offsets(rt: HostRuntime) {
     // Type 1: always zero, -1, 1, and a cycle of 2 and 4.
     let payload = [0x67, 0x42, 0x00, 0x0A, 0xD5, 0xA6, 0x41, 0x09, 0xE4];
-    let sps = read_sps(rt.alloc(), &payload)?;
-    assert_eq!(rt; sps.pic_order_cnt_type, PicOrderCntType::One);
-    assert!(rt; sps.delta_pic_order_always_zero_flag);
-    assert_eq!(rt; sps.offset_for_non_ref_pic, -1);
-    assert_eq!(rt; sps.offset_for_top_to_bottom_field, 1);
-    assert_eq!(rt; sps.num_ref_frames_in_pic_order_cnt_cycle, 2);
-    assert_eq!(rt; sps.offset_for_ref_frame.as_slice(), [2, 4].as_slice());
-    Ok(())
+    match read_sps(rt.alloc(), &payload) {
+        Err(fault) => assert_eq!(rt; fault, SetFault::Memory),
+        Ok(sps) => {
+            assert_eq!(rt; sps.pic_order_cnt_type, PicOrderCntType::One);
+            assert!(rt; sps.delta_pic_order_always_zero_flag);
+            assert_eq!(rt; sps.offset_for_non_ref_pic, -1);
+            assert_eq!(rt; sps.offset_for_top_to_bottom_field, 1);
+            assert_eq!(rt; sps.num_ref_frames_in_pic_order_cnt_cycle, 2);
+            assert_eq!(rt; sps.offset_for_ref_frame.as_slice(), [2, 4].as_slice());
+        }
+    }
 }
 
 #[test]

@@ -76,7 +76,7 @@ fn written(rt: &(impl Abort + AllocGlobal), nals: &[Nal]) -> Result<Unit, Fail> 
     for nal in nals {
         writer.put(nal)?;
     }
-    Ok(unit(rt, writer.text()))
+    Ok(unit(rt, writer.text())?)
 }
 
 /// What becomes of the units under the ids 1, 2 and so on.

@@ -1,6 +1,7 @@
 //! Why a text is not read as an access unit.
 ghost use Rattle.std.specs.Prelude.{◌≡◌};
 ghost use Rattle.access_unit.specs.declared.refused.Refused.TheVariants.{Memory};
+ghost use Rattle.access_unit.specs.Names.{name_of};
 ghost use Rattle.access_unit.specs.Numbers.{number_of};
 
 use std::alloc::{AllocError, AllocFailed};
@@ -78,6 +79,29 @@ impl Refused {
             Refused::TwoPictures => 13,
             Refused::TooLarge => 14,
             Refused::Memory => 15,
+        }
+    }
+
+    /// The refusal's name, as it is printed.
+    pub fn name(self) -> &'static str
+        ensures { result.now ≡ name_of self }
+    {
+        match self {
+            Refused::Split => "Split",
+            Refused::UnitType => "UnitType",
+            Refused::ForbiddenBit => "ForbiddenBit",
+            Refused::Sps => "Sps",
+            Refused::Pps => "Pps",
+            Refused::Switching => "Switching",
+            Refused::MixedIdr => "MixedIdr",
+            Refused::IdrNotIntra => "IdrNotIntra",
+            Refused::IdrNotReference => "IdrNotReference",
+            Refused::MixedReference => "MixedReference",
+            Refused::UnitOrder => "UnitOrder",
+            Refused::NoPicture => "NoPicture",
+            Refused::TwoPictures => "TwoPictures",
+            Refused::TooLarge => "TooLarge",
+            Refused::Memory => "Memory",
         }
     }
 }

@@ -2,6 +2,7 @@ pub mod Streams
 pub mod Edits
 pub mod Refusals
 pub mod Machines
+pub mod Names
 pub mod Numbers
 pub mod Changes
 pub mod Folding

@@ -2,6 +2,7 @@
 
 ghost use Rattle.std.specs.Prelude.{◌≡◌};
 ghost use Rattle.edit_engine.specs.declared.refusals.EditRefused.TheVariants.{Memory};
+ghost use Rattle.edit_engine.specs.Names.{name_of};
 ghost use Rattle.edit_engine.specs.Numbers.{number_of, refusal_of_text};
 
 use access_unit::Refused;
@@ -15,16 +16,16 @@ pub enum EditRefused {
     #[error("{0}")]
     Unit(Refused),
     /// No unit has the id that the edit names.
-    #[error("NoSuchUnit")]
+    #[error("no unit has the id")]
     NoSuchUnit,
     /// An insertion, and the stream has 65,536 units.
-    #[error("StreamFull")]
+    #[error("the stream has 65,536 units")]
     StreamFull,
     /// An insertion, and 4,294,967,295 ids were given.
-    #[error("IdsSpent")]
+    #[error("all ids were given")]
     IdsSpent,
     /// A growth was refused.
-    #[error("Memory")]
+    #[error("out of memory")]
     Memory,
 }
 
@@ -39,6 +40,19 @@ impl EditRefused {
             EditRefused::StreamFull => 17,
             EditRefused::IdsSpent => 18,
             EditRefused::Memory => 15,
+        }
+    }
+
+    /// The refusal's name, as it is printed.
+    pub fn name(self) -> &'static str
+        ensures { result.now ≡ name_of self }
+    {
+        match self {
+            EditRefused::Unit(refused) => refused.name(),
+            EditRefused::NoSuchUnit => "NoSuchUnit",
+            EditRefused::StreamFull => "StreamFull",
+            EditRefused::IdsSpent => "IdsSpent",
+            EditRefused::Memory => "Memory",
         }
     }
 }
@@ -72,5 +86,5 @@ impl<T: Drop> From<AllocFailed<T>> for EditRefused {
 
 /// No unit of the stream has the id.
 #[derive(Clone, Copy, Debug, PartialEq, Eq, Hash, Error)]
-#[error("NoSuchUnit")]
+#[error("no unit has the id")]
 pub struct NoSuchUnit;

@@ -1,4 +1,5 @@
 use super::*;
+use access_unit::Refused;
 use bytes::Bytes;
 use ref_marking::AuId;
 use request_core::{Outcome, Plan, ValidityFault};
@@ -136,6 +137,22 @@ fn refuses_by_number(rt: HostRuntime) {
     assert_eq!(rt; EditRefused::StreamFull.number(), 17);
     assert_eq!(rt; EditRefused::IdsSpent.number(), 18);
     assert_eq!(rt; EditRefused::Memory.number(), 15);
+}
+
+#[test]
+fn tells_refusals(rt: HostRuntime) -> Result<(), Fail> {
+    for (refused, name, text) in [
+        (EditRefused::NoSuchUnit, "NoSuchUnit", "no unit has the id"),
+        (
+            EditRefused::Unit(Refused::NoPicture),
+            "NoPicture",
+            "there is no slice",
+        ),
+    ] {
+        assert_eq!(rt; refused.name(), name);
+        assert_eq!(rt; format!(in rt.alloc(); "{refused}")?.as_str(), text);
+    }
+    Ok(())
 }
 
 #[test]

@@ -1,5 +1,6 @@
 pub mod ParameterSets
 pub mod States
+pub mod Names
 pub mod Numbers
 pub mod Slices
 pub mod Faults

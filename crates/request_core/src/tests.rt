@@ -144,6 +144,17 @@ fn names_the_first_fault(rt: HostRuntime) -> Result<(), Fail> {
 }
 
 #[test]
+fn tells_faults(rt: HostRuntime) -> Result<(), Fail> {
+    let fault = ValidityFault::FrameNumGap;
+    assert_eq!(rt; fault.name(), "FrameNumGap");
+    assert_eq!(rt;
+        format!(in rt.alloc(); "{fault}")?.as_str(),
+        "frame_num is neither the last one nor the next"
+    );
+    Ok(())
+}
+
+#[test]
 fn refused_scratch(rt: HostRuntime) {
     // The units want memory too.
     if let Ok(stream) = stream(&rt, &[&A, &P1]) {

@@ -188,6 +188,7 @@ fn tells_refusals(rt: HostRuntime) -> Result<(), Fail> {
         format!(in rt.alloc(); "{split}")?.as_str(),
         "the text doesn't split into units"
     );
+    assert_eq!(rt; split.name(), "Split");
     assert_eq!(rt; Refused::Memory.number(), 15);
     let index = 3;
     let refused = Refused::NoPicture;

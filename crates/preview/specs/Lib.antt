@@ -2,8 +2,11 @@ pub mod Answers
 pub mod Chunks
 pub mod Commands
 pub mod Lines
+pub mod Messages
+pub mod Plans
 pub mod ReadFaults
 pub mod RunFaults
+pub mod Running
 pub mod Scripts
 pub mod Status
 pub mod Streams

@@ -1,7 +1,11 @@
 -- What the fault of a part means for the run of a script.
-use Rattle.std.specs.Prelude.{ℕ, List}
+use Rattle.std.specs.Prelude.{◌≡◌, ℕ, List, ◌⊎◌, Any}
 use Rattle.std.specs.Borrow.{Bor}
+use Rattle.std.specs.List.{AllZip, filter}
+use Rattle.preview.specs.Scripts.{lines_of, is_read, IsLine}
 use Rattle.preview.specs.declared.chunks.PrintFault.{PrintFault}
+use Rattle.preview.specs.declared.commands.Command.{Command}
+use Rattle.preview.specs.declared.commands.Command.TheVariants as command
 use Rattle.preview.specs.declared.chunks.PrintFault.TheVariants as print
 use Rattle.preview.specs.declared.input.InputFault.{InputFault}
 use Rattle.preview.specs.declared.input.InputFault.TheVariants as input
@@ -24,3 +28,23 @@ fault_of_print print.Unwritten = Unwritten
 abbrev pub fault_of_script : ScriptFault → RunFault
 fault_of_script (script.Line number) = Script number
 fault_of_script script.Memory = Memory
+
+-- why the file of this name isn't loaded
+abbrev pub IsLoadFault : Bor (List ℕ) → RunFault → Type 0
+IsLoadFault name fault = (fault ≡ Memory) ⊎ (fault ≡ Unread name)
+
+-- why a command isn't answered
+abbrev pub IsCommandFault : Command → RunFault → Type 0
+IsCommandFault (command.Edit edit) fault = fault ≡ Memory
+IsCommandFault (command.Load path) fault = IsLoadFault path fault
+IsCommandFault (command.Unit number) fault = fault ≡ Memory
+
+-- why commands aren't run to their end: one of them isn't answered, or the writer takes no more
+abbrev pub AreStopped : List Command → RunFault → Type 0
+AreStopped commands fault = (fault ≡ Unwritten) ⊎ Any (λ command. IsCommandFault command fault) commands
+
+-- why a script isn't run to its end: memory is wanted, a line is no command, or its commands are stopped
+abbrev pub IsScriptFault : List ℕ → RunFault → Type 0
+IsScriptFault text fault =
+    (fault ≡ Memory) ⊎ ((number : ℕ) × (fault ≡ Script number))
+    ⊎ ((commands : List Command) × AllZip IsLine (filter is_read (lines_of text)) commands × AreStopped commands fault)

@@ -1,7 +1,7 @@
 //! The lines that answer the commands of a script (docs/OUTPUT.md).
 
 ghost use Rattle.std.specs.Prelude.{Some};
-ghost use Rattle.preview.specs.Answers.{accepted_line, loaded_line, no_unit_line};
+ghost use Rattle.preview.specs.Answers.{accepted_line, loaded_line, no_unit_line, refused_line};
 
 use edit_engine::{EditRefused, Receipt};
 use std::fmt;
@@ -25,12 +25,11 @@ impl Display for AcceptedLine {
 pub struct RefusedLine(pub EditRefused);
 
 impl Display for RefusedLine {
+    ghost output = { λ line. Some (refused_line line.0) };
+
     fn fmt<W: Write>(&self, f: &mut Formatter<W>) -> fmt::Result {
-        let number = self.0.number();
-        match self.0 {
-            EditRefused::Unit(refused) => writeln!(f, "refused {number} {refused:?}"),
-            refused => writeln!(f, "refused {number} {refused:?}"),
-        }
+        let (number, name) = (self.0.number(), self.0.name());
+        writeln!(f, "refused {number} {name}")
     }
 }
 

@@ -3,7 +3,7 @@
 ghost use Rattle.std.specs.Prelude.{◌≡◌, ◌++◌, [], OnOk, OnErr, IfSome, IsErrOf, IsOkUnless};
 ghost use Rattle.std.specs.Io.KnownBytes.{Appends, Keeps};
 ghost use Rattle.preview.specs.declared.chunks.PrintFault.TheVariants.{Memory};
-ghost use Rattle.preview.specs.Chunks.{AppendsFront, got_of, text_of, waiting_of};
+ghost use Rattle.preview.specs.Chunks.{Adds, AppendsFront, waiting_of};
 
 use std::alloc::{AllocError, Global};
 use std::fmt::Display;
@@ -29,52 +29,52 @@ impl From<AllocError> for PrintFault {
     }
 }
 
-/// A writer that is called once for some 64 KB, and the text that waits for it.
+/// The text that waits for a writer, which is called once for some 64 KB.
 #[derive(Drop)]
-pub struct Chunks<W: Write + Drop> {
-    writer: W,
+pub struct Chunks {
     waiting: String,
 }
 
-impl<W: Write + Drop> Chunks<W> {
+impl Chunks {
     /// No text waits.
-    pub fn new(alloc: Global, writer: W) -> Chunks<W>
-        ensures got { got_of W.contents result ≡ W.contents writer }
-        ensures waits { waiting_of result ≡ [] }
+    pub fn new(alloc: Global) -> Chunks
+        ensures { waiting_of result ≡ [] }
     {
         Chunks {
-            writer,
             waiting: String::new(alloc),
         }
     }
 
     /// Adds a text behind those before it. Where it's the writer that fails, it has the front of all that waited.
-    pub fn print<D: Display + Drop>(&mut self, text: D) -> Result<(), PrintFault>
-        ensures ok { OnOk result (IfSome (D.output text)
-            (Appends (text_of W.contents self.old) (text_of W.contents self.new))) }
+    pub fn print<D: Display + Drop, W: Write>(
+        &mut self,
+        text: D,
+        writer: &mut W,
+    ) -> Result<(), PrintFault>
+        ensures ok { OnOk result (IfSome (D.output text) (λ bytes.
+            Adds self.old (W.contents writer.old) bytes self.new (W.contents writer.new))) }
         ensures memory { IsErrOf result PrintFault.Memory
-            → Keeps (got_of W.contents self.old) (got_of W.contents self.new) }
+            → Keeps (W.contents writer.old) (W.contents writer.new) }
         ensures unwritten { IsErrOf result PrintFault.Unwritten → IfSome (D.output text) (λ bytes.
-            AppendsFront (got_of W.contents self.old) (got_of W.contents self.new)
-            (waiting_of self.old ++ bytes)) }
+            AppendsFront (W.contents writer.old) (W.contents writer.new) (waiting_of self.old ++ bytes)) }
     {
         self.waiting.write(text)?;
         if self.waiting.len() < CHUNK {
             return Ok(());
         }
-        self.pass_on()
+        self.pass_on(writer)
     }
 
     /// Writes what waits.
-    pub fn pass_on(&mut self) -> Result<(), PrintFault>
+    pub fn pass_on<W: Write>(&mut self, writer: &mut W) -> Result<(), PrintFault>
         ensures ok { OnOk result
-            (Appends (got_of W.contents self.old) (got_of W.contents self.new) (waiting_of self.old)) }
+            (Appends (W.contents writer.old) (W.contents writer.new) (waiting_of self.old)) }
         ensures waits { OnOk result (waiting_of self.new ≡ []) }
         ensures unwritten { OnErr result
-            (AppendsFront (got_of W.contents self.old) (got_of W.contents self.new) (waiting_of self.old)) }
+            (AppendsFront (W.contents writer.old) (W.contents writer.new) (waiting_of self.old)) }
         ensures fault { IsOkUnless result PrintFault.Unwritten }
     {
-        write_bytes(&mut self.writer, self.waiting.as_bytes())?;
+        write_bytes(writer, self.waiting.as_bytes())?;
         self.waiting.clear();
         Ok(())
     }

@@ -41,11 +41,11 @@ pub fn run<W: Write, E: Write>(
     match words(rt) {
         Ok(words) => run_on(rt, threads, words.as_slice(), output, errors),
         Err(error) if error.kind() == io::ErrorKind::OutOfMemory => {
-            say_out_of_memory(errors);
+            let _ = say_out_of_memory(errors);
             Status::Failure
         }
         Err(_) => {
-            say_not_text(errors);
+            let _ = say_not_text(errors);
             Status::Usage
         }
     }
@@ -162,7 +162,7 @@ fn answer<W: Write, E: Write>(
     ensures help { kind_of error.now ≡ ErrorKind.DisplayHelp → result ≢ Status.Usage }
 {
     if error.kind() == ErrorKind::OutOfMemory {
-        say_out_of_memory(errors);
+        let _ = say_out_of_memory(errors);
         return Status::Failure;
     }
     match error.to_string(alloc) {
@@ -175,7 +175,7 @@ fn answer<W: Write, E: Write>(
             Err(_) => Status::Failure,
         },
         Err(_) => {
-            say_out_of_memory(errors);
+            let _ = say_out_of_memory(errors);
             Status::Failure
         }
     }

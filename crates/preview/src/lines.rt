@@ -2,7 +2,7 @@
 
 ghost use Rattle.std.specs.Prelude.{Some};
 ghost use Rattle.preview.specs.Lines.{entry_text, list_text, place_text, plan_lines, request_line, unit_line};
-ghost use Rattle.preview.specs.UnitLines.{unit_lines};
+ghost use Rattle.preview.specs.UnitLines.{fault_line, unit_lines};
 
 use order_count::Counts;
 use ref_marking::AuId;
@@ -26,7 +26,7 @@ pub struct UnitLines<'a> {
 }
 
 impl<'a> Display for UnitLines<'a> {
-    ghost output = { λ lines. unit_lines lines };
+    ghost output = { λ lines. Some (unit_lines lines) };
 
     fn fmt<W: Write>(&self, f: &mut Formatter<W>) -> fmt::Result {
         let id = self.id;
@@ -95,10 +95,11 @@ struct FaultLine {
 }
 
 impl Display for FaultLine {
+    ghost output = { λ line. Some (fault_line line) };
+
     fn fmt<W: Write>(&self, f: &mut Formatter<W>) -> fmt::Result {
-        let (id, fault) = (self.id.number(), self.fault);
-        let number = fault as u8;
-        writeln!(f, "unit {id} fault {number} {fault}")
+        let (id, number, name) = (self.id.number(), self.fault.number(), self.fault.name());
+        writeln!(f, "unit {id} fault {number} {name}")
     }
 }
 

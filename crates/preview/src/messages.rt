@@ -1,8 +1,8 @@
 //! What is said on standard error. It takes no memory, and where it can't be written nothing more is said.
 
-ghost use Rattle.std.specs.Prelude.{◌++◌, OnOk, codes};
+ghost use Rattle.std.specs.Prelude.{OnOk, codes};
 ghost use Rattle.std.specs.Io.KnownBytes.{Appends};
-ghost use Rattle.preview.specs.Chunks.{AppendsFront};
+ghost use Rattle.preview.specs.Messages.{input_fault_text, not_text, out_of_memory, print_fault_text, run_fault_text, script_fault_text, unread_text};
 
 use crate::chunks::{PrintFault, write_bytes};
 use crate::input::InputFault;
@@ -10,44 +10,62 @@ use crate::run_fault::RunFault;
 use std::io::Write;
 
 /// Says that memory is wanted.
-pub fn say_out_of_memory<E: Write>(errors: &mut E)
-    ensures { AppendsFront (E.contents errors.old) (E.contents errors.new) (codes "out of memory\n") }
+pub fn say_out_of_memory<E: Write>(errors: &mut E) -> Result<(), PrintFault>
+    ensures { OnOk result (Appends (E.contents errors.old) (E.contents errors.new) out_of_memory) }
 {
-    let _ = write_bytes(errors, b"out of memory\n");
+    write_bytes(errors, b"out of memory\n")
 }
 
 /// Says why the input of this name isn't read.
-pub fn say_input_fault<E: Write>(fault: InputFault, name: &str, errors: &mut E) {
+pub fn say_input_fault<E: Write>(
+    fault: InputFault,
+    name: &str,
+    errors: &mut E,
+) -> Result<(), PrintFault>
+    ensures { OnOk result
+        (Appends (E.contents errors.old) (E.contents errors.new) (input_fault_text name.now fault)) }
+{
     match fault {
         InputFault::Unread => say_unread(name, errors),
         InputFault::Memory => say_out_of_memory(errors),
     }
 }
 
+/// Says why a text isn't printed. A writer that takes no more is known to who reads it.
+pub fn say_print_fault<E: Write>(fault: PrintFault, errors: &mut E) -> Result<(), PrintFault>
+    ensures { OnOk result (Appends (E.contents errors.old) (E.contents errors.new) (print_fault_text fault)) }
+{
+    match fault {
+        PrintFault::Memory => say_out_of_memory(errors),
+        PrintFault::Unwritten => write_bytes(errors, b""),
+    }
+}
+
 /// Says why a script isn't run to its end. A writer that takes no more is known to who reads it.
-pub fn say_run_fault<E: Write>(fault: RunFault<'_>, errors: &mut E) {
+pub fn say_run_fault<E: Write>(fault: RunFault<'_>, errors: &mut E) -> Result<(), PrintFault>
+    ensures { OnOk result (Appends (E.contents errors.old) (E.contents errors.new) (run_fault_text fault.entry)) }
+{
     match fault {
         RunFault::Unread(name) => say_unread(name, errors),
         RunFault::Script(number) => say_script_fault(number, errors),
         RunFault::Memory => say_out_of_memory(errors),
-        RunFault::Unwritten => {}
+        RunFault::Unwritten => write_bytes(errors, b""),
     }
 }
 
 /// Says that the line of this number is no command.
-fn say_script_fault<E: Write>(number: usize, errors: &mut E) {
-    let _ = writeln!(errors, "script fault at line {number}");
+fn say_script_fault<E: Write>(number: usize, errors: &mut E) -> Result<(), PrintFault>
+    ensures { OnOk result (Appends (E.contents errors.old) (E.contents errors.new) (script_fault_text number)) }
+{
+    match writeln!(errors, "script fault at line {number}") {
+        Ok(()) => Ok(()),
+        Err(_) => Err(PrintFault::Unwritten),
+    }
 }
 
 /// Says that the input of this name can't be read.
-fn say_unread<E: Write>(name: &str, errors: &mut E) {
-    let _ = write_unread(name, errors);
-}
-
-/// Writes that the input of this name can't be read.
-fn write_unread<E: Write>(name: &str, errors: &mut E) -> Result<(), PrintFault>
-    ensures { OnOk result (Appends (E.contents errors.old) (E.contents errors.new)
-        (codes "cannot read " ++ name.now ++ codes "\n")) }
+fn say_unread<E: Write>(name: &str, errors: &mut E) -> Result<(), PrintFault>
+    ensures { OnOk result (Appends (E.contents errors.old) (E.contents errors.new) (unread_text name.now)) }
 {
     write_bytes(errors, b"cannot read ")?;
     write_bytes(errors, name.as_bytes())?;
@@ -55,9 +73,11 @@ fn write_unread<E: Write>(name: &str, errors: &mut E) -> Result<(), PrintFault>
 }
 
 /// Says that a word of the command line isn't UTF-8.
-pub fn say_not_text<E: Write>(errors: &mut E) {
-    let _ = write_bytes(
+pub fn say_not_text<E: Write>(errors: &mut E) -> Result<(), PrintFault>
+    ensures { OnOk result (Appends (E.contents errors.old) (E.contents errors.new) not_text) }
+{
+    write_bytes(
         errors,
         b"error: invalid UTF-8 was detected in one or more arguments\n",
-    );
+    )
 }

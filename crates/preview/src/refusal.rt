@@ -1,5 +1,8 @@
 //! What is printed of a stream that is refused.
 
+ghost use Rattle.std.specs.Prelude.{Some};
+ghost use Rattle.preview.specs.ReadFaults.{refusal_text};
+
 use access_unit::Refused;
 use std::fmt;
 use std::fmt::{Display, Formatter, Write};
@@ -16,12 +19,14 @@ pub enum Refusal {
 }
 
 impl Display for Refusal {
+    ghost output = { λ refusal. Some (refusal_text refusal) };
+
     fn fmt<W: Write>(&self, f: &mut Formatter<W>) -> fmt::Result {
         match self {
             Refusal::Split => writeln!(f, "refused 1 Split"),
             Refusal::Unit { index, refused } => {
-                let number = refused.number();
-                writeln!(f, "unit {index} refused {number} {refused:?}")
+                let (number, name) = (refused.number(), refused.name());
+                writeln!(f, "unit {index} refused {number} {name}")
             }
             Refusal::StreamFull => writeln!(f, "refused 17 StreamFull"),
         }

@@ -1,8 +1,10 @@
 //! `preview run`: a script read, run on a session and answered line by line.
 
-ghost use Rattle.std.specs.Prelude.{◌≡◌, ◌≢◌, ◌++◌, ℕ, IfErr, OnOk, Ok, Err, string_bytes, vec_len, IfOk, ◌≤◌};
+ghost use Rattle.std.specs.Prelude.{◌≡◌, ◌≢◌, ℕ, List, Err, IfErr, IfOk, IfSome, OnOk, string_bytes};
 ghost use Rattle.std.specs.Io.KnownBytes.{Keeps};
-ghost use Rattle.preview.specs.Answers.{accepted_line};
+ghost use Rattle.preview.specs.Answers.{edit_line, number_lines};
+ghost use Rattle.preview.specs.RunFaults.{AreStopped, IsCommandFault, IsScriptFault};
+ghost use Rattle.preview.specs.Running.{Answers, WritesRun, WritesRunFront, WritesScript, WritesScriptFront};
 ghost use Rattle.preview.specs.Scripts.{lines_of, HasFirstWrong};
 
 use crate::answers::{AcceptedLine, NoUnitLine, RefusedLine};
@@ -34,19 +36,25 @@ pub fn script_on<R: Read, S: Source, W: Write, E: Write>(
     errors: &mut E,
 ) -> Status
     ensures done { result ≡ Status.Success → Keeps (E.contents errors.old) (E.contents errors.new) }
+    // What is written at success is a run of the script that was read.
+    ensures answered { result ≡ Status.Success → IfSome (R.remaining reader.old) (λ text.
+        WritesScript (S.file source.old) text options.entry.cache (W.contents writer.old) (W.contents writer.new)) }
+    ensures written { IfSome (R.remaining reader.old) (λ text.
+        WritesScriptFront (S.file source.old) text options.entry.cache
+        (W.contents writer.old) (W.contents writer.new)) }
     ensures usage { result ≢ Status.Usage }
 {
     let text = match whole_input(alloc, reader) {
         Ok(text) => text,
         Err(fault) => {
-            say_input_fault(fault, options.name, errors);
+            let _ = say_input_fault(fault, options.name, errors);
             return Status::Failure;
         }
     };
     match run_text(threads, alloc, options, text.as_slice(), source, writer) {
         Ok(()) => Status::Success,
         Err(fault) => {
-            say_run_fault(fault, errors);
+            let _ = say_run_fault(fault, errors);
             Status::Failure
         }
     }
@@ -61,7 +69,13 @@ fn run_text<'a, S: Source, W: Write>(
     source: &mut S,
     writer: &mut W,
 ) -> Result<(), RunFault<'a>>
-    ensures { (number : ℕ) → result ≡ Err (RunFault.Script number)
+    ensures ok { OnOk result
+        (WritesScript (S.file source.old) text.now options.entry.cache
+        (W.contents writer.old) (W.contents writer.new)) }
+    ensures written { WritesScriptFront (S.file source.old) text.now options.entry.cache
+        (W.contents writer.old) (W.contents writer.new) }
+    ensures named { IfErr result (IsScriptFault text.now) }
+    ensures wrong { (number : ℕ) → result ≡ Err (RunFault.Script number)
         → HasFirstWrong (lines_of text.now) number × Keeps (W.contents writer.old) (W.contents writer.new) }
 {
     let commands = read_script(alloc, text)?;
@@ -82,55 +96,64 @@ fn run_commands<'a, S: Source, W: Write>(
     source: &mut S,
     writer: &mut W,
 ) -> Result<(), RunFault<'a>>
-    ensures { IfErr result (λ fault. (number : ℕ) → fault ≢ RunFault.Script number) }
+    ensures ok { OnOk result
+        (WritesRun (S.file source.old) session.old commands.entry.items session.new
+        (W.contents writer.old) (W.contents writer.new)) }
+    ensures written { WritesRunFront (S.file source.old) session.old commands.entry.items
+        (W.contents writer.old) (W.contents writer.new) }
+    ensures named { IfErr result (AreStopped commands.entry.items) }
+    ensures fault { IfErr result (λ fault. (number : ℕ) → fault ≢ RunFault.Script number) }
 {
     for command in commands {
-        let mut lines = String::new(alloc);
-        run_command(threads, alloc, command, session, source, &mut lines)?;
+        let lines = run_command(threads, alloc, command, session, source)?;
         write_bytes(writer, lines.as_bytes())?;
     }
     Ok(())
 }
 
-/// Runs a command, and adds the lines that answer it.
+/// Runs a command, and gives the lines that answer it.
 fn run_command<'a, S: Source>(
     threads: &(impl Threads + Sync),
     alloc: Global,
     command: Command<'a>,
     session: &mut Session,
     source: &mut S,
-    lines: &mut String,
-) -> Result<(), RunFault<'a>>
-    ensures { IfErr result (λ fault. (number : ℕ) → fault ≢ RunFault.Script number) }
+) -> Result<String, RunFault<'a>>
+    ensures ok { IfOk result (λ lines.
+        Answers (S.file source.old) session.old command.entry (string_bytes lines) session.new) }
+    ensures kept { (name : List ℕ) → S.file source.new name ≡ S.file source.old name }
+    ensures named { IfErr result (IsCommandFault command.entry) }
+    ensures fault { IfErr result (λ fault. (number : ℕ) → fault ≢ RunFault.Script number) }
 {
     match command {
-        Command::Edit(edit) => print_answer(session.edit(edit), lines)?,
-        Command::Load { path } => load(threads, alloc, path, session, source, lines)?,
-        Command::Unit { number } => print_unit(session, number, lines)?,
+        Command::Edit(edit) => Ok(edit_answer(alloc, session.edit(edit))?),
+        Command::Load { path } => load(threads, alloc, path, session, source),
+        Command::Unit { number } => Ok(unit_answer(alloc, session, number)?),
     }
-    Ok(())
 }
 
-/// Adds the line that answers an edit.
-fn print_answer(answer: Result<Receipt, EditRefused>, lines: &mut String) -> Result<(), AllocError>
-    ensures { OnOk result (IfOk answer (λ receipt.
-        string_bytes lines.new ≡ string_bytes lines.old ++ accepted_line receipt)) }
+/// The line that answers an edit.
+fn edit_answer(alloc: Global, answer: Result<Receipt, EditRefused>) -> Result<String, AllocError>
+    ensures { IfOk result (λ line. string_bytes line ≡ edit_line answer) }
 {
     match answer {
-        Ok(receipt) => lines.write(AcceptedLine(receipt)),
-        Err(refused) => lines.write(RefusedLine(refused)),
+        Ok(receipt) => AcceptedLine(receipt).to_string(alloc),
+        Err(refused) => RefusedLine(refused).to_string(alloc),
     }
 }
 
-/// Adds the lines of the unit of this number: what becomes of it, or that there is none.
-fn print_unit(session: &Session, number: u64, lines: &mut String) -> Result<(), AllocError> {
+/// The lines of the unit of this number: what becomes of it, or that there is none.
+fn unit_answer(alloc: Global, session: &Session, number: u64) -> Result<String, AllocError>
+    ensures { IfOk result (λ lines. string_bytes lines ≡ number_lines session.now.register.stream number) }
+{
     let id = id_of_number(number);
     let (Ok(outcome), Ok(position)) = (session.outcome(id), session.position(id)) else {
-        return lines.write(NoUnitLine(number));
+        return NoUnitLine(number).to_string(alloc);
     };
-    lines.write(UnitLines {
+    let lines = UnitLines {
         id,
         outcome,
         position,
-    })
+    };
+    lines.to_string(alloc)
 }

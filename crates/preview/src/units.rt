@@ -1,6 +1,6 @@
 //! The units of a stream.
 
-ghost use Rattle.std.specs.Prelude.{◌≤◌, IfOk, vec_len};
+ghost use Rattle.preview.specs.ReadFaults.{IsReadAs};
 
 use crate::fault::ReadFault;
 use crate::refusal::Refusal;
@@ -11,14 +11,14 @@ use std::thread::Threads;
 /// The most access units of a stream.
 pub const MOST_UNITS: usize = 65_536;
 
-/// The access units of a text, where there is room for so many.
+/// The access units of a text, where there is room for so many. Memory is the answer only where a growth was refused.
 pub fn read_units(
     threads: &(impl Threads + Sync),
     alloc: Global,
     text: &[u8],
     room: usize,
 ) -> Result<Vec<Unit>, ReadFault>
-    ensures { IfOk result (λ units. vec_len units ≤ room) }
+    ensures { IsReadAs text.now room result }
 {
     match access_unit::read_stream(threads, alloc, text) {
         Ok(units) if units.len() <= room => Ok(units),

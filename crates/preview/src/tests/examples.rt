@@ -143,3 +143,21 @@ fn long_term_frames_stay(rt: HostRuntime) -> Result<(), Fail> {
     )?;
     Ok(())
 }
+
+/// A sequence parameter set of profile 100 with scaling lists, of which a request prints nothing.
+#[test]
+fn scaling_lists_are_read_over(rt: HostRuntime) -> Result<(), Fail> {
+    plans(
+        &rt,
+        &[
+            &[
+                0, 0, 1, 0x67, 0x64, 0x00, 0x0A, 0xAD, 0x84, 0x49, 0x02, 0xA1, 0x69, 0xE4,
+            ],
+            &[0, 0, 1, 0x68, 0xCE, 0x38, 0x80],
+            &[0, 0, 1, 0x65, 0x88, 0x84, 0x80],
+        ],
+        Status::Success,
+        &[LINES_OF_A],
+    )?;
+    Ok(())
+}

@@ -106,7 +106,9 @@ fn refuses_texts(rt: HostRuntime) -> Result<(), Fail> {
             "insert first\n",
             INSERT_A,
             "insert after 1 00 00 01 6E 40 80\n",
-            // More bytes than a unit may have are refused before anything else.
+            // profile_idc is 88.
+            "insert first 00 00 01 67 58 00 0A DA 79\n",
+            // A text is looked at before the id.
             "replace 7 000001\n",
             "insert after 7 00 00 01 41 9A 23",
         ],
@@ -115,6 +117,7 @@ fn refuses_texts(rt: HostRuntime) -> Result<(), Fail> {
             "refused 1 Split\n",
             "edit 1 id 1\n",
             "refused 2 UnitType\n",
+            "refused 4 Sps\n",
             "refused 1 Split\n",
             "refused 16 NoSuchUnit\n",
         ],

@@ -1,6 +1,6 @@
 use Rattle.std.proofs.KnownBytes.{Appends-trans}
 use Rattle.std.proofs.lemmas.Result.{on_ok_weaker}
-use Rattle.preview.proofs.messages.write_unread.Goals as goal
+use Rattle.preview.proofs.messages.say_unread.Goals as goal
 
 pub returns : goal.returns
 returns g c =

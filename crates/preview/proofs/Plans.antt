@@ -1,0 +1,24 @@
+-- What `plan` has written of a text.
+use Rattle.std.proofs.Common.{◌≡◌, ℕ, List, Option, refl, inr}
+use Rattle.preview.specs.Chunks.{AppendsFront}
+use Rattle.preview.specs.Plans.{WritesFront}
+use Rattle.std.specs.Prelude.{Result, Err}
+use Rattle.std.specs.Global.{Vec}
+use Rattle.preview.specs.ReadFaults.{IsReadAs, IsStreamRefused, refusal_text}
+use Rattle.preview.specs.declared.fault.ReadFault.{ReadFault}
+use Rattle.preview.specs.declared.fault.ReadFault.TheVariants.{Refused}
+use Rattle.preview.specs.declared.refusal.Refusal.{Refusal}
+use Rattle.edit_engine.specs.Edits.{most_units}
+
+-- the line of its refusal
+pub front-refused : (text bytes : List ℕ) (refusal : Refusal) (a b : Option (List ℕ)) → IsStreamRefused text most_units refusal
+    → AppendsFront a b (refusal_text refusal) → text ≡ bytes → WritesFront bytes a b
+front-refused text bytes refusal a b refused front same =
+    let written : WritesFront text a b =
+    inr (refusal_text refusal, inr (record { refusal = refusal; refused = refused; lines_are = refl }), front) in
+    rw same at written
+
+-- a refusal that was read is one of the text
+pub refused-read : (text : List ℕ) (room : ℕ) (result : Result (Vec (List (List ℕ))) ReadFault) (fault : ReadFault) (refusal : Refusal)
+    → IsReadAs text room result → result ≡ Err fault → fault ≡ Refused refusal → IsStreamRefused text room refusal
+refused-read text room result fault refusal read erred refused = rw (erred, refused) at read

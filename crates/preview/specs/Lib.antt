@@ -1,6 +1,7 @@
 pub mod Answers
 pub mod Chunks
 pub mod Commands
+pub mod Inputs
 pub mod Lines
 pub mod Messages
 pub mod Plans

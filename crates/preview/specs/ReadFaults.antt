@@ -1,5 +1,5 @@
 -- What a text is read as, of a stream for which there is room.
-use Rattle.std.specs.Prelude.{ℕ, ◌<◌, ◌≤◌, ◌++◌, List, length, codes, decimal, Result, Ok, Err, ⊤}
+use Rattle.std.specs.Prelude.{ℕ, ◌<◌, ◌≤◌, ◌++◌, List, length, codes, decimal, Result, Ok, Err}
 use Rattle.std.specs.Global.{Vec}
 use Rattle.annexb.specs.ByteStream.{HasUnits}
 use Rattle.access_unit.specs.Names.{name_of}
@@ -37,8 +37,8 @@ IsStreamRefused text room (Unit index refused) =
     (parts : List (List (List ℕ))) × HasAccessUnits text parts × IsFirstRefused parts index refused
 IsStreamRefused text room StreamFull = (parts : List (List (List ℕ))) × IsStream text parts × (room < length parts)
 
--- an answer for the text: its access units, its refusal, or that memory is wanted
+-- an answer for the text: its access units, its refusal, or, for a text of NAL units, that memory is wanted
 abbrev pub IsReadAs : List ℕ → ℕ → Result (Vec (List (List ℕ))) ReadFault → Type 0
 IsReadAs text room (Ok units) = IsStream text units.items × (length units.items ≤ room)
 IsReadAs text room (Err (Refused refusal)) = IsStreamRefused text room refusal
-IsReadAs text room (Err Memory) = ⊤
+IsReadAs text room (Err Memory) = (units : List (List ℕ)) × HasUnits text units

@@ -4,7 +4,7 @@ ghost use Rattle.std.specs.Prelude.{◌≡◌, ◌≢◌};
 ghost use Rattle.clap.specs.Words.{kind_of};
 
 use crate::chunks::write_bytes;
-use crate::input::Input;
+use crate::input::open_input;
 use crate::messages::{say_not_text, say_out_of_memory};
 use crate::options::Options;
 use crate::plan::plan_on;
@@ -68,11 +68,11 @@ pub fn run_on<S: AsStr, W: Write, E: Write>(
     let alloc = rt.alloc();
     match parse(alloc, words) {
         Ok(Asked::Plan { file }) => {
-            let mut input = Input::open(rt, file);
+            let mut input = open_input(rt, file);
             plan_on(threads, alloc, file, &mut input, output, errors)
         }
         Ok(Asked::Run(options)) => {
-            let (mut script, mut files) = (Input::open(rt, options.name), Files { rt });
+            let (mut script, mut files) = (open_input(rt, options.name), Files { directory: rt });
             script_on(
                 threads,
                 alloc,

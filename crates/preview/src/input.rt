@@ -1,42 +1,41 @@
 //! What a stream or a script is read from.
 
-ghost use Rattle.std.specs.Prelude.{◌≡◌, IfOk, IfSome};
+ghost use Rattle.std.specs.Prelude.{◌≡◌, IfOk, IfSome, codes};
+ghost use Rattle.std.specs.Str.{bytes_eq};
+ghost use Rattle.preview.specs.Inputs.{input_fault, is_standard, remaining_of};
 
+use crate::source::Directory;
 use std::alloc::Global;
 use std::fs::File;
 use std::io;
 use std::io::{ErrorKind, Read};
 use std::rt::Stdin;
 
-/// What FILE names.
+/// What FILE names, of a standard input and files of these types.
 #[derive(Drop)]
-pub enum Input {
-    StandardInput(Stdin),
-    File(File),
+pub enum Input<S, F> {
+    StandardInput(S),
+    File(F),
     /// A file that can't be opened: each read fails so.
     Unopened(ErrorKind),
 }
 
-impl Input {
-    /// The standard input for `-`, else the file of that name.
-    pub fn open(rt: &HostRuntime, name: &str) -> Input {
-        if name == "-" {
-            Input::StandardInput(rt.stdin())
-        } else {
-            Input::open_file(rt, name)
-        }
+/// The standard input for `-`, else the file of that name.
+pub fn open_input(rt: &HostRuntime, name: &str) -> Input<Stdin, File>
+    ensures { is_standard result ≡ bytes_eq name.now (codes "-") }
+{
+    if name == "-" {
+        return Input::StandardInput(rt.stdin());
     }
-
-    /// The file of this name.
-    pub fn open_file(rt: &HostRuntime, name: &str) -> Input {
-        match File::open(rt, name) {
-            Ok(file) => Input::File(file),
-            Err(error) => Input::Unopened(error.kind()),
-        }
+    match rt.open(name) {
+        Ok(file) => Input::File(file),
+        Err(kind) => Input::Unopened(kind),
     }
 }
 
-impl Read for Input {
+impl<S: Read, F: Read> Read for Input<S, F> {
+    ghost remaining = { remaining_of S.remaining F.remaining };
+
     fn read(&mut self, buf: &mut [u8]) -> io::Result<usize> {
         match self {
             Input::StandardInput(stdin) => stdin.read(buf),
@@ -55,6 +54,17 @@ pub enum InputFault {
     Memory,
 }
 
+impl From<ErrorKind> for InputFault {
+    ghost from_gives = { λ kind fault. fault ≡ input_fault kind };
+
+    fn from(kind: ErrorKind) -> InputFault {
+        match kind {
+            ErrorKind::OutOfMemory => InputFault::Memory,
+            _ => InputFault::Unread,
+        }
+    }
+}
+
 /// All bytes that the reader gives.
 pub fn whole_input<R: Read>(alloc: Global, reader: &mut R) -> Result<Vec<u8>, InputFault>
     ensures { IfOk result (λ text. IfSome (R.remaining reader.old) (λ bytes. text.items ≡ bytes)) }
@@ -62,7 +72,6 @@ pub fn whole_input<R: Read>(alloc: Global, reader: &mut R) -> Result<Vec<u8>, In
     let mut text = Vec::new(alloc);
     match reader.read_to_end(&mut text) {
         Ok(_) => Ok(text),
-        Err(error) if error.kind() == ErrorKind::OutOfMemory => Err(InputFault::Memory),
-        Err(_) => Err(InputFault::Unread),
+        Err(error) => Err(InputFault::from(error.kind())),
     }
 }

@@ -2,6 +2,7 @@
 
 ghost use Rattle.std.specs.Prelude.{OnOk, codes};
 ghost use Rattle.std.specs.Io.KnownBytes.{Appends};
+ghost use Rattle.preview.specs.Chunks.{AppendsFront};
 ghost use Rattle.preview.specs.Messages.{input_fault_text, not_text, out_of_memory, print_fault_text, run_fault_text, script_fault_text, unread_text};
 
 use crate::chunks::{PrintFault, write_bytes};
@@ -11,7 +12,8 @@ use std::io::Write;
 
 /// Says that memory is wanted.
 pub fn say_out_of_memory<E: Write>(errors: &mut E) -> Result<(), PrintFault>
-    ensures { OnOk result (Appends (E.contents errors.old) (E.contents errors.new) out_of_memory) }
+    ensures ok { OnOk result (Appends (E.contents errors.old) (E.contents errors.new) out_of_memory) }
+    ensures written { AppendsFront (E.contents errors.old) (E.contents errors.new) out_of_memory }
 {
     write_bytes(errors, b"out of memory\n")
 }
@@ -22,8 +24,10 @@ pub fn say_input_fault<E: Write>(
     name: &str,
     errors: &mut E,
 ) -> Result<(), PrintFault>
-    ensures { OnOk result
+    ensures ok { OnOk result
         (Appends (E.contents errors.old) (E.contents errors.new) (input_fault_text name.now fault)) }
+    ensures written { AppendsFront (E.contents errors.old) (E.contents errors.new)
+        (input_fault_text name.now fault) }
 {
     match fault {
         InputFault::Unread => say_unread(name, errors),
@@ -33,7 +37,10 @@ pub fn say_input_fault<E: Write>(
 
 /// Says why a text isn't printed. A writer that takes no more is known to who reads it.
 pub fn say_print_fault<E: Write>(fault: PrintFault, errors: &mut E) -> Result<(), PrintFault>
-    ensures { OnOk result (Appends (E.contents errors.old) (E.contents errors.new) (print_fault_text fault)) }
+    ensures ok { OnOk result
+        (Appends (E.contents errors.old) (E.contents errors.new) (print_fault_text fault)) }
+    ensures written { AppendsFront (E.contents errors.old) (E.contents errors.new)
+        (print_fault_text fault) }
 {
     match fault {
         PrintFault::Memory => say_out_of_memory(errors),
@@ -65,7 +72,9 @@ fn say_script_fault<E: Write>(number: usize, errors: &mut E) -> Result<(), Print
 
 /// Says that the input of this name can't be read.
 fn say_unread<E: Write>(name: &str, errors: &mut E) -> Result<(), PrintFault>
-    ensures { OnOk result (Appends (E.contents errors.old) (E.contents errors.new) (unread_text name.now)) }
+    ensures ok { OnOk result
+        (Appends (E.contents errors.old) (E.contents errors.new) (unread_text name.now)) }
+    ensures written { AppendsFront (E.contents errors.old) (E.contents errors.new) (unread_text name.now) }
 {
     write_bytes(errors, b"cannot read ")?;
     write_bytes(errors, name.as_bytes())?;
@@ -74,7 +83,8 @@ fn say_unread<E: Write>(name: &str, errors: &mut E) -> Result<(), PrintFault>
 
 /// Says that a word of the command line isn't UTF-8.
 pub fn say_not_text<E: Write>(errors: &mut E) -> Result<(), PrintFault>
-    ensures { OnOk result (Appends (E.contents errors.old) (E.contents errors.new) not_text) }
+    ensures ok { OnOk result (Appends (E.contents errors.old) (E.contents errors.new) not_text) }
+    ensures written { AppendsFront (E.contents errors.old) (E.contents errors.new) not_text }
 {
     write_bytes(
         errors,

@@ -1,0 +1,26 @@
+//! The controls of a stateless H.264 decoder, as the media documentation of the Linux kernel has them.
+//!
+//! A control is a struct under its Linux name, with the members that Linux gives it; a `Request` has the six controls
+//! of a slice and the slice's bytes. They are filled in the crate above, from the sets, the header and the state before
+//! the picture's marking. `digest_form` writes controls as the bytes of which a picture's digest is made.
+#![tactic(auto)]
+
+mod controls;
+mod request;
+mod v4l2_ctrl_h264_decode_params;
+mod v4l2_ctrl_h264_pps;
+mod v4l2_ctrl_h264_pred_weights;
+mod v4l2_ctrl_h264_scaling_matrix;
+mod v4l2_ctrl_h264_slice_params;
+mod v4l2_ctrl_h264_sps;
+
+pub use controls::Controls;
+pub use request::Request;
+pub use v4l2_ctrl_h264_decode_params::{
+    DecodeFlags, DpbEntryFlags, V4l2CtrlH264DecodeParams, V4l2H264DpbEntry, V4l2H264FieldReference,
+};
+pub use v4l2_ctrl_h264_pps::{PpsFlags, V4l2CtrlH264Pps};
+pub use v4l2_ctrl_h264_pred_weights::{V4l2CtrlH264PredWeights, V4l2H264WeightFactors};
+pub use v4l2_ctrl_h264_scaling_matrix::V4l2CtrlH264ScalingMatrix;
+pub use v4l2_ctrl_h264_slice_params::{SliceFlags, V4l2CtrlH264SliceParams};
+pub use v4l2_ctrl_h264_sps::{SpsFlags, V4l2CtrlH264Sps};

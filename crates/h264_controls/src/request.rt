@@ -1,0 +1,16 @@
+//! What a stateless decoder is asked to do for a slice.
+
+use crate::controls::Controls;
+use bytes::Bytes;
+
+/// The request of one slice, by the Request API of the Linux kernel.
+#[derive(Debug, Drop)]
+pub struct Request {
+    pub controls: Controls,
+    /// The slice's NAL unit behind a start code of three bytes.
+    pub bytes: Bytes,
+    /// The timestamp of the unit, in nanoseconds.
+    pub timestamp: u64,
+    /// V4L2_BUF_FLAG_M2M_HOLD_CAPTURE_BUF: more slices of the picture follow.
+    pub hold: bool,
+}

@@ -6,7 +6,13 @@
 #![tactic(auto)]
 
 mod controls;
+mod decode_params_control;
+mod pps_control;
+mod pred_weights_control;
 mod request;
+mod scaling_matrix_control;
+mod slice_params_control;
+mod sps_control;
 mod v4l2_ctrl_h264_decode_params;
 mod v4l2_ctrl_h264_pps;
 mod v4l2_ctrl_h264_pred_weights;

@@ -29,7 +29,7 @@ pub struct V4l2CtrlH264DecodeParams {
 }
 
 /// struct v4l2_h264_dpb_entry: a frame of the decoded picture buffer.
-#[derive(Clone, Copy, Debug, PartialEq, Eq)]
+#[derive(Clone, Copy, Debug, Default, PartialEq, Eq)]
 pub struct V4l2H264DpbEntry {
     /// The timestamp of the frame's unit, in nanoseconds. It is no part of the digest form.
     pub reference_ts: u64,
@@ -46,15 +46,16 @@ pub struct V4l2H264DpbEntry {
 }
 
 /// enum v4l2_h264_field_reference: which fields are referred to. Only frames occur here.
-#[derive(Clone, Copy, Debug, PartialEq, Eq)]
+#[derive(Clone, Copy, Debug, Default, PartialEq, Eq)]
 pub enum V4l2H264FieldReference {
     TopField = 1,
     BottomField = 2,
+    #[default]
     Frame = 3,
 }
 
 /// V4L2_H264_DPB_ENTRY_FLAG_*, without FIELD, which no frame has.
-#[derive(Clone, Copy, Debug, PartialEq, Eq)]
+#[derive(Clone, Copy, Debug, Default, PartialEq, Eq)]
 pub struct DpbEntryFlags {
     /// Always set here.
     pub valid: bool,

@@ -1,0 +1,114 @@
+//! The control of a picture: what its header says of it, and the frames that were marked before it.
+
+ghost use Rattle.std.specs.Prelude.{◌≡◌, ◌≤◌, length, map};
+ghost use Rattle.ref_marking.specs.PicNums.{frame_num_wrap};
+ghost use Rattle.h264_controls.specs.DecodeParamsControl.{decode_params_control, dpb, dpb_entry, frame_num_in, number_in};
+
+use crate::v4l2_ctrl_h264_decode_params::{
+    DecodeFlags, DpbEntryFlags, V4l2CtrlH264DecodeParams, V4l2H264DpbEntry, V4l2H264FieldReference,
+};
+use arrayvec::ArrayVec;
+use order_count::Counts;
+use param_sets::Sps;
+use ref_marking::{Frame, Marks, Term};
+use slice_header::SliceHeader;
+
+impl V4l2CtrlH264DecodeParams {
+    /// The control of a slice with this header, of a picture with these counts, before its marking.
+    pub fn of(
+        marks: &Marks,
+        sps: &Sps,
+        header: &SliceHeader,
+        counts: Counts,
+    ) -> V4l2CtrlH264DecodeParams
+        ensures { result ≡ decode_params_control marks.now.frames sps.now header.now counts }
+    {
+        V4l2CtrlH264DecodeParams {
+            dpb: dpb(marks, sps, header),
+            nal_ref_idc: u16::from(header.nal_ref_idc),
+            frame_num: header.frame_num,
+            top_field_order_cnt: counts.top,
+            bottom_field_order_cnt: counts.bottom,
+            idr_pic_id: header.idr_pic_id,
+            pic_order_cnt_lsb: header.pic_order_cnt_lsb,
+            delta_pic_order_cnt_bottom: header.delta_pic_order_cnt_bottom,
+            delta_pic_order_cnt0: header.delta_pic_order_cnt0,
+            delta_pic_order_cnt1: header.delta_pic_order_cnt1,
+            dec_ref_pic_marking_bit_size: header.dec_ref_pic_marking_bit_size,
+            pic_order_cnt_bit_size: header.pic_order_cnt_bit_size,
+            slice_group_change_cycle: 0,
+            flags: DecodeFlags {
+                idr_pic: header.is_idr(),
+            },
+        }
+    }
+}
+
+/// The marked frames, in decode order; none at an IDR picture.
+fn dpb(marks: &Marks, sps: &Sps, header: &SliceHeader) -> ArrayVec<V4l2H264DpbEntry, 16>
+    ensures { result.items ≡ dpb marks.now.frames sps.now header.now }
+{
+    if header.is_idr() {
+        ArrayVec::new()
+    } else {
+        dpb_entries(sps, header.frame_num, marks.frames())
+    }
+}
+
+/// Marked frames, as a picture of this frame_num sees them.
+fn dpb_entries(sps: &Sps, frame_num: u16, frames: &[Frame]) -> ArrayVec<V4l2H264DpbEntry, 16>
+    requires { length frames.now ≤ 16 }
+    ensures { result.items ≡ map (dpb_entry sps.now frame_num) frames.now }
+{
+    let mut entries = ArrayVec::new();
+    for frame in frames {
+        entries.push(dpb_entry(sps, frame_num, frame));
+    }
+    entries
+}
+
+/// A marked frame, as a picture of this frame_num sees it.
+fn dpb_entry(sps: &Sps, frame_num: u16, frame: &Frame) -> V4l2H264DpbEntry
+    ensures { result ≡ dpb_entry sps.now frame_num frame.now }
+{
+    V4l2H264DpbEntry {
+        reference_ts: frame.id.timestamp(),
+        pic_num: pic_num(sps, frame_num, frame).cast_unsigned(),
+        frame_num: frame_num_of(frame),
+        fields: V4l2H264FieldReference::Frame,
+        top_field_order_cnt: frame.counts.top,
+        bottom_field_order_cnt: frame.counts.bottom,
+        flags: DpbEntryFlags {
+            valid: true,
+            active: true,
+            long_term: matches!(frame.term, Term::LongTerm { .. }),
+        },
+    }
+}
+
+/// PicNum of a short-term frame, LongTermPicNum of a long-term one.
+fn pic_num(sps: &Sps, frame_num: u16, frame: &Frame) -> i32
+    ensures { result ≡ number_in (frame_num_wrap sps.now frame_num frame.now.frame_num) frame.now.term }
+{
+    match frame.term {
+        Term::LongTerm {
+            long_term_frame_idx,
+        } => i32::from(long_term_frame_idx),
+        Term::ShortTerm if frame.frame_num > frame_num => {
+            i32::from(frame.frame_num) - sps.max_frame_num() as i32
+        }
+        Term::ShortTerm => i32::from(frame.frame_num),
+    }
+}
+
+/// FrameNum of a short-term frame, LongTermFrameIdx of a long-term one.
+fn frame_num_of(frame: &Frame) -> u16
+    ensures { result ≡ frame_num_in frame.now.frame_num frame.now.term }
+{
+    match frame.term {
+        Term::LongTerm {
+            long_term_frame_idx,
+        } => u16::from(long_term_frame_idx),
+        Term::ShortTerm => frame.frame_num,
+    }
+}

@@ -6,6 +6,7 @@
 #![tactic(auto)]
 
 mod controls;
+mod digest;
 mod request;
 mod v4l2_ctrl_h264_decode_params;
 mod v4l2_ctrl_h264_pps;
@@ -13,8 +14,10 @@ mod v4l2_ctrl_h264_pred_weights;
 mod v4l2_ctrl_h264_scaling_matrix;
 mod v4l2_ctrl_h264_slice_params;
 mod v4l2_ctrl_h264_sps;
+mod words;
 
 pub use controls::Controls;
+pub use digest::digest_form;
 pub use request::Request;
 pub use v4l2_ctrl_h264_decode_params::{
     DecodeFlags, DpbEntryFlags, V4l2CtrlH264DecodeParams, V4l2H264DpbEntry, V4l2H264FieldReference,

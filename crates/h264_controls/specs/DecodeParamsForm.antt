@@ -37,30 +37,20 @@ dpb_entry_form entry =
 unfoldable pub dpb_form : List V4l2H264DpbEntry → List ℕ
 dpb_form entries = padded 304 (flat_map dpb_entry_form entries)
 
--- its members that belong to picture order counts, in order
-unfoldable pub counts_form : V4l2CtrlH264DecodeParams → List ℕ
-counts_form params =
-    s32 params.top_field_order_cnt
-    ++ s32 params.bottom_field_order_cnt
-    ++ u16 params.idr_pic_id
-    ++ u16 params.pic_order_cnt_lsb
-    ++ s32 params.delta_pic_order_cnt_bottom
-    ++ s32 params.delta_pic_order_cnt0
-    ++ s32 params.delta_pic_order_cnt1
-
--- its sizes and slice_group_change_cycle, in order
-unfoldable pub sizes_form : V4l2CtrlH264DecodeParams → List ℕ
-sizes_form params =
-    u32 params.dec_ref_pic_marking_bit_size
-    ++ u32 params.pic_order_cnt_bit_size
-    ++ u32 params.slice_group_change_cycle
-
 -- its members in order
 unfoldable pub decode_params_form : V4l2CtrlH264DecodeParams → List ℕ
 decode_params_form params =
     dpb_form params.dpb.items
     ++ u16 params.nal_ref_idc
     ++ u16 params.frame_num
-    ++ counts_form params
-    ++ sizes_form params
+    ++ s32 params.top_field_order_cnt
+    ++ s32 params.bottom_field_order_cnt
+    ++ u16 params.idr_pic_id
+    ++ u16 params.pic_order_cnt_lsb
+    ++ s32 params.delta_pic_order_cnt_bottom
+    ++ s32 params.delta_pic_order_cnt0
+    ++ s32 params.delta_pic_order_cnt1
+    ++ u32 params.dec_ref_pic_marking_bit_size
+    ++ u32 params.pic_order_cnt_bit_size
+    ++ u32 params.slice_group_change_cycle
     ++ u32 (decode_flags params.flags)

@@ -28,10 +28,12 @@ list_form entries = padded 64 (flat_map reference_form entries)
 abbrev pub slice_flags : SliceFlags → ℕ
 slice_flags flags = flag 1 flags.direct_spatial_mv_pred + flag 2 flags.sp_for_switch
 
--- its members of one byte, in order
-unfoldable pub slice_members : V4l2CtrlH264SliceParams → List ℕ
-slice_members params =
-    u8 (slice_type_number params.slice_type)
+-- its members in order
+unfoldable pub slice_params_form : V4l2CtrlH264SliceParams → List ℕ
+slice_params_form params =
+    u32 params.header_bit_size
+    ++ u32 params.first_mb_in_slice
+    ++ u8 (slice_type_number params.slice_type)
     ++ u8 params.colour_plane_id
     ++ u8 params.redundant_pic_cnt
     ++ u8 params.cabac_init_idc
@@ -42,13 +44,6 @@ slice_members params =
     ++ s8 params.slice_beta_offset_div2
     ++ u8 params.num_ref_idx_l0_active_minus1
     ++ u8 params.num_ref_idx_l1_active_minus1
-
--- its members in order
-unfoldable pub slice_params_form : V4l2CtrlH264SliceParams → List ℕ
-slice_params_form params =
-    u32 params.header_bit_size
-    ++ u32 params.first_mb_in_slice
-    ++ slice_members params
     ++ list_form params.ref_pic_list0
     ++ list_form params.ref_pic_list1
     ++ u32 (slice_flags params.flags)

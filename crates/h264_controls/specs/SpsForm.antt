@@ -42,9 +42,9 @@ sps_flags flags =
     + flag 32 flags.mb_adaptive_frame_field
     + flag 64 flags.direct_8x8_inference
 
--- its members of one byte, in order
-unfoldable pub sps_front : V4l2CtrlH264Sps → List ℕ
-sps_front sps =
+-- its members in order
+unfoldable pub sps_form : V4l2CtrlH264Sps → List ℕ
+sps_form sps =
     u8 sps.profile_idc
     ++ u8 (constraint_set_number sps.constraint_set_flags)
     ++ u8 sps.level_idc
@@ -57,11 +57,6 @@ sps_front sps =
     ++ u8 sps.log2_max_pic_order_cnt_lsb_minus4
     ++ u8 sps.max_num_ref_frames
     ++ u8 sps.num_ref_frames_in_pic_order_cnt_cycle
-
--- its members in order
-unfoldable pub sps_form : V4l2CtrlH264Sps → List ℕ
-sps_form sps =
-    sps_front sps
     ++ flat_map s32 sps.offset_for_ref_frame
     ++ s32 sps.offset_for_non_ref_pic
     ++ s32 sps.offset_for_top_to_bottom_field

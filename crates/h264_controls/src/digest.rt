@@ -1,6 +1,6 @@
 //! The bytes of controls of which a picture's digest is made.
 
-ghost use Rattle.std.specs.Prelude.{◌≡◌, ◌+◌, ◌≤◌, ◌++◌, vec_len, OnOk, OnErr};
+ghost use Rattle.std.specs.Prelude.{◌≡◌, ◌+◌, ◌≤◌, ◌++◌, vec_len, IsOk, OnOk, OnErr};
 ghost use Rattle.std.specs.Vec.{vec_capacity};
 ghost use Rattle.h264_controls.specs.DigestForm.{digest_form, digest_size, weights_form, weights_size};
 
@@ -18,6 +18,7 @@ use std::alloc::AllocError;
 pub fn digest_form(controls: &Controls, form: &mut Vec<u8>) -> Result<(), AllocError>
     ensures written { OnOk result (form.new.items ≡ form.old.items ++ digest_form controls.now) }
     ensures size { OnOk result (vec_len form.new ≡ vec_len form.old + digest_size controls.now) }
+    ensures room { vec_len form.old + digest_size controls.now ≤ vec_capacity form.old → IsOk result }
     ensures unchanged { OnErr result (form.new.items ≡ form.old.items) }
 {
     form.reserve(digest_size(controls))?;

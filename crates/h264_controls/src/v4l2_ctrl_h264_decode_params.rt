@@ -3,7 +3,7 @@
 ghost use Rattle.std.specs.Prelude.{◌≡◌, ◌+◌, ◌*◌, ◌≤◌, ◌++◌, length, vec_len};
 ghost use Rattle.std.specs.Vec.{vec_capacity};
 ghost use Rattle.std.specs.List.{flat_map};
-ghost use Rattle.h264_controls.specs.DecodeParamsForm.{decode_flags, decode_params_form, dpb_entry_flags, dpb_entry_form, dpb_form, field_reference_number, sizes_form, counts_form};
+ghost use Rattle.h264_controls.specs.DecodeParamsForm.{decode_flags, decode_params_form, dpb_entry_flags, dpb_entry_form, dpb_form, field_reference_number};
 
 use crate::words::{flag, put, put_s32, put_u16, put_u32, put_zeros};
 use arrayvec::ArrayVec;
@@ -149,19 +149,6 @@ impl V4l2CtrlH264DecodeParams {
         put_dpb(form, &self.dpb);
         put_u16(form, self.nal_ref_idc);
         put_u16(form, self.frame_num);
-        self.put_counts(form);
-        self.put_sizes(form);
-        put_u32(form, self.flags.number());
-    }
-
-    // From top_field_order_cnt to delta_pic_order_cnt1.
-    #[tactic(auto, unfolding(crate::specs::DecodeParamsForm::counts_form))]
-    fn put_counts(&self, form: &mut Vec<u8>)
-        requires { vec_len form.old + 24 ≤ vec_capacity form.old }
-        ensures items { form.new.items ≡ form.old.items ++ counts_form self.now }
-        ensures len { vec_len form.new ≡ vec_len form.old + 24 }
-        ensures capacity { vec_capacity form.old ≤ vec_capacity form.new }
-    {
         put_s32(form, self.top_field_order_cnt);
         put_s32(form, self.bottom_field_order_cnt);
         put_u16(form, self.idr_pic_id);
@@ -169,19 +156,10 @@ impl V4l2CtrlH264DecodeParams {
         put_s32(form, self.delta_pic_order_cnt_bottom);
         put_s32(form, self.delta_pic_order_cnt0);
         put_s32(form, self.delta_pic_order_cnt1);
-    }
-
-    // From dec_ref_pic_marking_bit_size to slice_group_change_cycle.
-    #[tactic(auto, unfolding(crate::specs::DecodeParamsForm::sizes_form))]
-    fn put_sizes(&self, form: &mut Vec<u8>)
-        requires { vec_len form.old + 12 ≤ vec_capacity form.old }
-        ensures items { form.new.items ≡ form.old.items ++ sizes_form self.now }
-        ensures len { vec_len form.new ≡ vec_len form.old + 12 }
-        ensures capacity { vec_capacity form.old ≤ vec_capacity form.new }
-    {
         put_u32(form, self.dec_ref_pic_marking_bit_size);
         put_u32(form, self.pic_order_cnt_bit_size);
         put_u32(form, self.slice_group_change_cycle);
+        put_u32(form, self.flags.number());
     }
 }
 

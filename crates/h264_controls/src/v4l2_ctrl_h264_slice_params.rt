@@ -3,7 +3,7 @@
 ghost use Rattle.std.specs.Prelude.{◌≡◌, ◌+◌, ◌*◌, ◌≤◌, ◌++◌, length, vec_len};
 ghost use Rattle.std.specs.Vec.{vec_capacity};
 ghost use Rattle.std.specs.List.{flat_map};
-ghost use Rattle.h264_controls.specs.SliceParamsForm.{list_form, reference_form, slice_flags, slice_members, slice_params_form, slice_type_number};
+ghost use Rattle.h264_controls.specs.SliceParamsForm.{list_form, reference_form, slice_flags, slice_params_form, slice_type_number};
 
 use crate::words::{flag, put, put_u32, put_zeros};
 use ref_lists::List;
@@ -88,20 +88,6 @@ impl V4l2CtrlH264SliceParams {
     {
         put_u32(form, self.header_bit_size);
         put_u32(form, self.first_mb_in_slice);
-        self.put_members(form);
-        put_list(form, &self.ref_pic_list0);
-        put_list(form, &self.ref_pic_list1);
-        put_u32(form, self.flags.number());
-    }
-
-    // The members of one byte.
-    #[tactic(auto, unfolding(crate::specs::SliceParamsForm::slice_members))]
-    fn put_members(&self, form: &mut Vec<u8>)
-        requires { vec_len form.old + 11 ≤ vec_capacity form.old }
-        ensures items { form.new.items ≡ form.old.items ++ slice_members self.now }
-        ensures len { vec_len form.new ≡ vec_len form.old + 11 }
-        ensures capacity { vec_capacity form.old ≤ vec_capacity form.new }
-    {
         let members = [
             slice_type_number(self.slice_type),
             self.colour_plane_id,
@@ -116,6 +102,9 @@ impl V4l2CtrlH264SliceParams {
             self.num_ref_idx_l1_active_minus1,
         ];
         put(form, &members);
+        put_list(form, &self.ref_pic_list0);
+        put_list(form, &self.ref_pic_list1);
+        put_u32(form, self.flags.number());
     }
 }
 

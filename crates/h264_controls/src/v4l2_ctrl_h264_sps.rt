@@ -2,7 +2,7 @@
 
 ghost use Rattle.std.specs.Prelude.{◌≡◌, ◌+◌, ◌≤◌, ◌++◌, vec_len};
 ghost use Rattle.std.specs.Vec.{vec_capacity};
-ghost use Rattle.h264_controls.specs.SpsForm.{chroma_format_number, constraint_set_number, pic_order_cnt_type_number, sps_flags, sps_front, sps_form};
+ghost use Rattle.h264_controls.specs.SpsForm.{chroma_format_number, constraint_set_number, pic_order_cnt_type_number, sps_flags, sps_form};
 
 use crate::words::{flag, put, put_s32, put_s32s, put_u16, put_u32};
 use param_sets::{ChromaFormat, PicOrderCntType};
@@ -72,23 +72,6 @@ impl V4l2CtrlH264Sps {
         ensures len { vec_len form.new ≡ vec_len form.old + 1048 }
         ensures capacity { vec_capacity form.old ≤ vec_capacity form.new }
     {
-        self.put_front(form);
-        put_s32s(form, &self.offset_for_ref_frame);
-        put_s32(form, self.offset_for_non_ref_pic);
-        put_s32(form, self.offset_for_top_to_bottom_field);
-        put_u16(form, self.pic_width_in_mbs_minus1);
-        put_u16(form, self.pic_height_in_map_units_minus1);
-        put_u32(form, self.flags.number());
-    }
-
-    // The members of one byte.
-    #[tactic(auto, unfolding(crate::specs::SpsForm::sps_front))]
-    fn put_front(&self, form: &mut Vec<u8>)
-        requires { vec_len form.old + 12 ≤ vec_capacity form.old }
-        ensures items { form.new.items ≡ form.old.items ++ sps_front self.now }
-        ensures len { vec_len form.new ≡ vec_len form.old + 12 }
-        ensures capacity { vec_capacity form.old ≤ vec_capacity form.new }
-    {
         let members = [
             self.profile_idc,
             constraint_set_number(&self.constraint_set_flags),
@@ -104,6 +87,12 @@ impl V4l2CtrlH264Sps {
             self.num_ref_frames_in_pic_order_cnt_cycle,
         ];
         put(form, &members);
+        put_s32s(form, &self.offset_for_ref_frame);
+        put_s32(form, self.offset_for_non_ref_pic);
+        put_s32(form, self.offset_for_top_to_bottom_field);
+        put_u16(form, self.pic_width_in_mbs_minus1);
+        put_u16(form, self.pic_height_in_map_units_minus1);
+        put_u32(form, self.flags.number());
     }
 }
 

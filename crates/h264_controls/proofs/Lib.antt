@@ -1,2 +1,3 @@
-pub mod Filled
-pub mod Weights
+mod Padding
+mod Filled
+mod Weights

@@ -7,6 +7,7 @@
 
 mod controls;
 mod decode_params_control;
+mod digest;
 mod pps_control;
 mod pred_weights_control;
 mod request;
@@ -19,8 +20,10 @@ mod v4l2_ctrl_h264_pred_weights;
 mod v4l2_ctrl_h264_scaling_matrix;
 mod v4l2_ctrl_h264_slice_params;
 mod v4l2_ctrl_h264_sps;
+mod words;
 
 pub use controls::Controls;
+pub use digest::digest_form;
 pub use request::Request;
 pub use v4l2_ctrl_h264_decode_params::{
     DecodeFlags, DpbEntryFlags, V4l2CtrlH264DecodeParams, V4l2H264DpbEntry, V4l2H264FieldReference,

@@ -1,7 +1,10 @@
 //! What a stateless decoder is asked to do for a slice.
 
+ghost use Rattle.std.specs.Prelude.{◌≡◌, IfOk};
+
 use crate::controls::Controls;
 use bytes::Bytes;
+use std::alloc::AllocError;
 
 /// The request of one slice, by the Request API of the Linux kernel.
 #[derive(Debug, Drop)]
@@ -13,4 +16,18 @@ pub struct Request {
     pub timestamp: u64,
     /// V4L2_BUF_FLAG_M2M_HOLD_CAPTURE_BUF: more slices of the picture follow.
     pub hold: bool,
+}
+
+impl Request {
+    /// The same request; it shares the bytes and what is large of the controls.
+    pub fn copy(&self) -> Result<Request, AllocError>
+        ensures { IfOk result (λ copy. copy ≡ self.now) }
+    {
+        Ok(Request {
+            controls: self.controls.copy()?,
+            bytes: self.bytes.clone()?,
+            timestamp: self.timestamp,
+            hold: self.hold,
+        })
+    }
 }

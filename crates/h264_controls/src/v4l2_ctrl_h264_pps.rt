@@ -1,5 +1,10 @@
 //! V4L2_CID_STATELESS_H264_PPS.
 
+ghost use Rattle.std.specs.Prelude.{◌≡◌, ◌+◌, ◌≤◌, ◌++◌, vec_len};
+ghost use Rattle.std.specs.Vec.{vec_capacity};
+ghost use Rattle.h264_controls.specs.PpsForm.{pps_flags, pps_form, weighted_bipred_number};
+
+use crate::words::{flag, put, put_u16};
 use param_sets::WeightedBipred;
 
 /// struct v4l2_ctrl_h264_pps: the picture parameter set of the slice.
@@ -31,4 +36,52 @@ pub struct PpsFlags {
     pub transform_8x8_mode: bool,
     /// Whether the sequence or the picture parameter set has scaling lists.
     pub scaling_matrix_present: bool,
+}
+
+impl PpsFlags {
+    /// The flags as Linux numbers them.
+    pub fn number(self) -> u16
+        ensures { result ≡ pps_flags self }
+    {
+        flag(1, self.entropy_coding_mode)
+            + flag(2, self.bottom_field_pic_order_in_frame_present)
+            + flag(4, self.weighted_pred)
+            + flag(8, self.deblocking_filter_control_present)
+            + flag(16, self.constrained_intra_pred)
+            + flag(32, self.redundant_pic_cnt_present)
+            + flag(64, self.transform_8x8_mode)
+            + flag(128, self.scaling_matrix_present)
+    }
+}
+
+impl V4l2CtrlH264Pps {
+    #[tactic(auto, unfolding(crate::specs::PpsForm::pps_form))]
+    /// Its digest form goes behind the form.
+    pub(crate) fn put(&self, form: &mut Vec<u8>)
+        requires { vec_len form.old + 12 ≤ vec_capacity form.old }
+        ensures items { form.new.items ≡ form.old.items ++ pps_form self.now }
+        ensures len { vec_len form.new ≡ vec_len form.old + 12 }
+        ensures capacity { vec_capacity form.old ≤ vec_capacity form.new }
+    {
+        let members = [
+            self.pic_parameter_set_id,
+            self.seq_parameter_set_id,
+            self.num_slice_groups_minus1,
+            self.num_ref_idx_l0_default_active_minus1,
+            self.num_ref_idx_l1_default_active_minus1,
+            weighted_bipred_number(self.weighted_bipred_idc),
+            self.pic_init_qp_minus26.cast_unsigned(),
+            self.pic_init_qs_minus26.cast_unsigned(),
+            self.chroma_qp_index_offset.cast_unsigned(),
+            self.second_chroma_qp_index_offset.cast_unsigned(),
+        ];
+        put(form, &members);
+        put_u16(form, self.flags.number());
+    }
+}
+
+fn weighted_bipred_number(weighted_bipred_idc: WeightedBipred) -> u8
+    ensures { result ≡ weighted_bipred_number weighted_bipred_idc }
+{
+    weighted_bipred_idc as u8
 }

@@ -1,5 +1,12 @@
 //! V4L2_CID_STATELESS_H264_PRED_WEIGHTS.
 
+ghost use Rattle.std.specs.Prelude.{◌≡◌, ◌+◌, ◌*◌, ◌≤◌, ◌++◌, length, vec_len};
+ghost use Rattle.std.specs.Vec.{vec_capacity};
+ghost use Rattle.std.specs.List.{flat_map};
+ghost use Rattle.h264_controls.specs.PredWeightsForm.{pairs_form, weight_factors_form, pred_weights_form};
+
+use crate::words::{put_s16s, put_u16};
+
 /// struct v4l2_ctrl_h264_pred_weights: the weight table of the slice.
 #[derive(Debug, Drop)]
 pub struct V4l2CtrlH264PredWeights {
@@ -20,4 +27,57 @@ pub struct V4l2H264WeightFactors {
     /// Cb and Cr of each entry.
     pub chroma_weight: [[i16; 2]; 32],
     pub chroma_offset: [[i16; 2]; 32],
+}
+
+impl V4l2CtrlH264PredWeights {
+    /// Its digest form goes behind the form.
+    #[tactic(auto, unfolding(crate::specs::PredWeightsForm::pred_weights_form))]
+    pub(crate) fn put(&self, form: &mut Vec<u8>)
+        requires { vec_len form.old + 772 ≤ vec_capacity form.old }
+        ensures items { form.new.items ≡ form.old.items ++ pred_weights_form self.now }
+        ensures len { vec_len form.new ≡ vec_len form.old + 772 }
+        ensures capacity { vec_capacity form.old ≤ vec_capacity form.new }
+    {
+        put_u16(form, self.luma_log2_weight_denom);
+        put_u16(form, self.chroma_log2_weight_denom);
+        put_lists(form, &self.weight_factors);
+    }
+}
+
+impl V4l2H264WeightFactors {
+    /// Its digest form goes behind the form.
+    #[tactic(auto, unfolding(crate::specs::PredWeightsForm::weight_factors_form))]
+    fn put(&self, form: &mut Vec<u8>)
+        requires { vec_len form.old + 384 ≤ vec_capacity form.old }
+        ensures items { form.new.items ≡ form.old.items ++ weight_factors_form self.now }
+        ensures len { vec_len form.new ≡ vec_len form.old + 384 }
+        ensures capacity { vec_capacity form.old ≤ vec_capacity form.new }
+    {
+        put_s16s(form, &self.luma_weight);
+        put_s16s(form, &self.luma_offset);
+        put_pairs(form, &self.chroma_weight);
+        put_pairs(form, &self.chroma_offset);
+    }
+}
+
+fn put_lists(form: &mut Vec<u8>, lists: &[V4l2H264WeightFactors])
+    requires { vec_len form.old + 384 * length lists.now ≤ vec_capacity form.old }
+    ensures items { form.new.items ≡ form.old.items ++ flat_map weight_factors_form lists.now }
+    ensures len { vec_len form.new ≡ vec_len form.old + 384 * length lists.now }
+    ensures capacity { vec_capacity form.old ≤ vec_capacity form.new }
+{
+    for list in lists {
+        list.put(form);
+    }
+}
+
+fn put_pairs(form: &mut Vec<u8>, pairs: &[[i16; 2]])
+    requires { vec_len form.old + 4 * length pairs.now ≤ vec_capacity form.old }
+    ensures items { form.new.items ≡ form.old.items ++ pairs_form pairs.now }
+    ensures len { vec_len form.new ≡ vec_len form.old + 4 * length pairs.now }
+    ensures capacity { vec_capacity form.old ≤ vec_capacity form.new }
+{
+    for pair in pairs {
+        put_s16s(form, pair);
+    }
 }

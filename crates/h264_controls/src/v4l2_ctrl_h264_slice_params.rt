@@ -1,5 +1,11 @@
 //! V4L2_CID_STATELESS_H264_SLICE_PARAMS.
 
+ghost use Rattle.std.specs.Prelude.{◌≡◌, ◌+◌, ◌*◌, ◌≤◌, ◌++◌, length, vec_len};
+ghost use Rattle.std.specs.Vec.{vec_capacity};
+ghost use Rattle.std.specs.List.{flat_map};
+ghost use Rattle.h264_controls.specs.SliceParamsForm.{list_form, reference_form, slice_flags, slice_params_form, slice_type_number};
+
+use crate::words::{flag, put, put_u32, put_zeros};
 use ref_lists::List;
 use slice_header::SliceType;
 
@@ -36,4 +42,107 @@ pub struct SliceFlags {
     pub direct_spatial_mv_pred: bool,
     /// Never set here: a switching slice is refused.
     pub sp_for_switch: bool,
+}
+
+impl SliceFlags {
+    /// The flags as Linux numbers them.
+    pub fn number(self) -> u32
+        ensures { result ≡ slice_flags self }
+    {
+        u32::from(flag(1, self.direct_spatial_mv_pred) + flag(2, self.sp_for_switch))
+    }
+}
+
+impl V4l2CtrlH264SliceParams {
+    /// The same control.
+    pub fn copy(&self) -> V4l2CtrlH264SliceParams
+        ensures { result ≡ self.now }
+    {
+        V4l2CtrlH264SliceParams {
+            header_bit_size: self.header_bit_size,
+            first_mb_in_slice: self.first_mb_in_slice,
+            slice_type: self.slice_type,
+            colour_plane_id: self.colour_plane_id,
+            redundant_pic_cnt: self.redundant_pic_cnt,
+            cabac_init_idc: self.cabac_init_idc,
+            slice_qp_delta: self.slice_qp_delta,
+            slice_qs_delta: self.slice_qs_delta,
+            disable_deblocking_filter_idc: self.disable_deblocking_filter_idc,
+            slice_alpha_c0_offset_div2: self.slice_alpha_c0_offset_div2,
+            slice_beta_offset_div2: self.slice_beta_offset_div2,
+            num_ref_idx_l0_active_minus1: self.num_ref_idx_l0_active_minus1,
+            num_ref_idx_l1_active_minus1: self.num_ref_idx_l1_active_minus1,
+            ref_pic_list0: self.ref_pic_list0.copy(),
+            ref_pic_list1: self.ref_pic_list1.copy(),
+            flags: self.flags,
+        }
+    }
+
+    /// Its digest form goes behind the form.
+    #[tactic(auto, unfolding(crate::specs::SliceParamsForm::slice_params_form))]
+    pub(crate) fn put(&self, form: &mut Vec<u8>)
+        requires { vec_len form.old + 151 ≤ vec_capacity form.old }
+        ensures items { form.new.items ≡ form.old.items ++ slice_params_form self.now }
+        ensures len { vec_len form.new ≡ vec_len form.old + 151 }
+        ensures capacity { vec_capacity form.old ≤ vec_capacity form.new }
+    {
+        put_u32(form, self.header_bit_size);
+        put_u32(form, self.first_mb_in_slice);
+        let members = [
+            slice_type_number(self.slice_type),
+            self.colour_plane_id,
+            self.redundant_pic_cnt,
+            self.cabac_init_idc,
+            self.slice_qp_delta.cast_unsigned(),
+            self.slice_qs_delta.cast_unsigned(),
+            self.disable_deblocking_filter_idc,
+            self.slice_alpha_c0_offset_div2.cast_unsigned(),
+            self.slice_beta_offset_div2.cast_unsigned(),
+            self.num_ref_idx_l0_active_minus1,
+            self.num_ref_idx_l1_active_minus1,
+        ];
+        put(form, &members);
+        put_list(form, &self.ref_pic_list0);
+        put_list(form, &self.ref_pic_list1);
+        put_u32(form, self.flags.number());
+    }
+}
+
+fn slice_type_number(slice_type: SliceType) -> u8
+    ensures { result ≡ slice_type_number slice_type }
+{
+    slice_type as u8
+}
+
+// A list, and zeros up to 32 entries.
+fn put_list(form: &mut Vec<u8>, list: &List)
+    requires { vec_len form.old + 64 ≤ vec_capacity form.old }
+    ensures items { form.new.items ≡ form.old.items ++ list_form list.now }
+    ensures len { vec_len form.new ≡ vec_len form.old + 64 }
+    ensures capacity { vec_capacity form.old ≤ vec_capacity form.new }
+{
+    let entries = list.entries();
+    put_entries(form, entries);
+    put_zeros(form, 64 - 2 * entries.len());
+}
+
+fn put_entries(form: &mut Vec<u8>, entries: &[Option<u8>])
+    requires { vec_len form.old + 2 * length entries.now ≤ vec_capacity form.old }
+    ensures items { form.new.items ≡ form.old.items ++ flat_map reference_form entries.now }
+    ensures len { vec_len form.new ≡ vec_len form.old + 2 * length entries.now }
+    ensures capacity { vec_capacity form.old ≤ vec_capacity form.new }
+{
+    for entry in entries {
+        put(form, &reference(*entry));
+    }
+}
+
+// A frame by its index, or a missing entry.
+fn reference(entry: Option<u8>) -> [u8; 2]
+    ensures { result ≡ reference_form entry }
+{
+    match entry {
+        Some(index) => [3, index],
+        None => [0, 0],
+    }
 }

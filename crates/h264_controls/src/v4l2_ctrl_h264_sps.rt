@@ -1,5 +1,10 @@
 //! V4L2_CID_STATELESS_H264_SPS.
 
+ghost use Rattle.std.specs.Prelude.{◌≡◌, ◌+◌, ◌≤◌, ◌++◌, vec_len};
+ghost use Rattle.std.specs.Vec.{vec_capacity};
+ghost use Rattle.h264_controls.specs.SpsForm.{chroma_format_number, constraint_set_number, pic_order_cnt_type_number, sps_flags, sps_form};
+
+use crate::words::{flag, put, put_s32, put_s32s, put_u16, put_u32};
 use param_sets::{ChromaFormat, PicOrderCntType};
 
 /// struct v4l2_ctrl_h264_sps: the active sequence parameter set.
@@ -40,4 +45,77 @@ pub struct SpsFlags {
     /// Never set here, as no frame has fields.
     pub mb_adaptive_frame_field: bool,
     pub direct_8x8_inference: bool,
+}
+
+impl SpsFlags {
+    /// The flags as Linux numbers them.
+    pub fn number(self) -> u32
+        ensures { result ≡ sps_flags self }
+    {
+        let number = flag(1, self.separate_colour_plane)
+            + flag(2, self.qpprime_y_zero_transform_bypass)
+            + flag(4, self.delta_pic_order_always_zero)
+            + flag(8, self.gaps_in_frame_num_value_allowed)
+            + flag(16, self.frame_mbs_only)
+            + flag(32, self.mb_adaptive_frame_field)
+            + flag(64, self.direct_8x8_inference);
+        u32::from(number)
+    }
+}
+
+impl V4l2CtrlH264Sps {
+    /// Its digest form goes behind the form.
+    #[tactic(auto, unfolding(crate::specs::SpsForm::sps_form))]
+    pub(crate) fn put(&self, form: &mut Vec<u8>)
+        requires { vec_len form.old + 1048 ≤ vec_capacity form.old }
+        ensures items { form.new.items ≡ form.old.items ++ sps_form self.now }
+        ensures len { vec_len form.new ≡ vec_len form.old + 1048 }
+        ensures capacity { vec_capacity form.old ≤ vec_capacity form.new }
+    {
+        let members = [
+            self.profile_idc,
+            constraint_set_number(&self.constraint_set_flags),
+            self.level_idc,
+            self.seq_parameter_set_id,
+            chroma_format_number(self.chroma_format_idc),
+            self.bit_depth_luma_minus8,
+            self.bit_depth_chroma_minus8,
+            self.log2_max_frame_num_minus4,
+            pic_order_cnt_type_number(self.pic_order_cnt_type),
+            self.log2_max_pic_order_cnt_lsb_minus4,
+            self.max_num_ref_frames,
+            self.num_ref_frames_in_pic_order_cnt_cycle,
+        ];
+        put(form, &members);
+        put_s32s(form, &self.offset_for_ref_frame);
+        put_s32(form, self.offset_for_non_ref_pic);
+        put_s32(form, self.offset_for_top_to_bottom_field);
+        put_u16(form, self.pic_width_in_mbs_minus1);
+        put_u16(form, self.pic_height_in_map_units_minus1);
+        put_u32(form, self.flags.number());
+    }
+}
+
+fn constraint_set_number(flags: &[bool; 6]) -> u8
+    ensures { result ≡ constraint_set_number flags.now }
+{
+    let number = flag(1, flags[0])
+        + flag(2, flags[1])
+        + flag(4, flags[2])
+        + flag(8, flags[3])
+        + flag(16, flags[4])
+        + flag(32, flags[5]);
+    number as u8
+}
+
+fn chroma_format_number(chroma_format_idc: ChromaFormat) -> u8
+    ensures { result ≡ chroma_format_number chroma_format_idc }
+{
+    chroma_format_idc as u8
+}
+
+fn pic_order_cnt_type_number(pic_order_cnt_type: PicOrderCntType) -> u8
+    ensures { result ≡ pic_order_cnt_type_number pic_order_cnt_type }
+{
+    pic_order_cnt_type as u8
 }

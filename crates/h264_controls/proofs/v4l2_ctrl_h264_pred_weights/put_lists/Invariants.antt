@@ -1,0 +1,13 @@
+-- The first lists are behind the form.
+use Rattle.std.proofs.Common.{◌≡◌, ◌+◌, ◌*◌, ◌≤◌, ◌++◌, take, vec_len}
+use Rattle.std.specs.Vec.{vec_capacity}
+use Rattle.std.specs.List.{flat_map}
+use Rattle.h264_controls.specs.PredWeightsForm.{weight_factors_form}
+use Rattle.h264_controls.proofs.v4l2_ctrl_h264_pred_weights.put_lists.Given as goal
+
+abbrev pub invariant-loop-list : goal.invariant-loop-list
+invariant-loop-list l = record {
+  items : l.form.items ≡ l.fn.form.items ++ flat_map weight_factors_form (take l.list-index l.lists);
+  len : vec_len l.form ≡ vec_len l.fn.form + 384 * l.list-index;
+  capacity : vec_capacity l.fn.form ≤ vec_capacity l.form;
+}

@@ -1,0 +1,67 @@
+//! The bytes of controls of which a picture's digest is made.
+
+ghost use Rattle.std.specs.Prelude.{◌≡◌, ◌+◌, ◌≤◌, ◌++◌, vec_len, IsOk, OnOk, OnErr};
+ghost use Rattle.std.specs.Vec.{vec_capacity};
+ghost use Rattle.h264_controls.specs.DigestForm.{digest_form, digest_size, weights_form, weights_size};
+
+use crate::controls::Controls;
+use crate::v4l2_ctrl_h264_pred_weights::V4l2CtrlH264PredWeights;
+use crate::words::put;
+use access_unit::Shared;
+use std::alloc::AllocError;
+
+/// The digest form of the controls goes behind the form, which grows once, by 2,040 bytes, or by 2,812 where there are
+/// weights.
+///
+/// It is this project's own: the members of the controls in order, without gaps and without reference_ts, little-endian,
+/// signed ones in two's complement, flags by the numbers that Linux gives them.
+pub fn digest_form(controls: &Controls, form: &mut Vec<u8>) -> Result<(), AllocError>
+    ensures written { OnOk result (form.new.items ≡ form.old.items ++ digest_form controls.now) }
+    ensures size { OnOk result (vec_len form.new ≡ vec_len form.old + digest_size controls.now) }
+    ensures room { vec_len form.old + digest_size controls.now ≤ vec_capacity form.old → IsOk result }
+    ensures unchanged { OnErr result (form.new.items ≡ form.old.items) }
+{
+    form.reserve(digest_size(controls))?;
+    put_controls(controls, form);
+    Ok(())
+}
+
+fn digest_size(controls: &Controls) -> usize
+    ensures { result ≡ digest_size controls.now }
+{
+    match controls.pred_weights {
+        Some(_) => 2812,
+        None => 2040,
+    }
+}
+
+// The controls in order, into a form that has room for them.
+#[tactic(auto, unfolding(crate::specs::DigestForm::digest_form))]
+fn put_controls(controls: &Controls, form: &mut Vec<u8>)
+    requires { vec_len form.old + digest_size controls.now ≤ vec_capacity form.old }
+    ensures items { form.new.items ≡ form.old.items ++ digest_form controls.now }
+    ensures len { vec_len form.new ≡ vec_len form.old + digest_size controls.now }
+{
+    controls.sps.put(form);
+    controls.pps.put(form);
+    controls.scaling_matrix.put(form);
+    put_weights(&controls.pred_weights, form);
+    controls.slice_params.put(form);
+    controls.decode_params.put(form);
+}
+
+// Whether there are weights, and the weights.
+fn put_weights(pred_weights: &Option<Shared<V4l2CtrlH264PredWeights>>, form: &mut Vec<u8>)
+    requires { vec_len form.old + weights_size pred_weights.now ≤ vec_capacity form.old }
+    ensures items { form.new.items ≡ form.old.items ++ weights_form pred_weights.now }
+    ensures len { vec_len form.new ≡ vec_len form.old + weights_size pred_weights.now }
+    ensures capacity { vec_capacity form.old ≤ vec_capacity form.new }
+{
+    match pred_weights {
+        None => put(form, &[0]),
+        Some(weights) => {
+            put(form, &[1]);
+            weights.put(form);
+        }
+    }
+}

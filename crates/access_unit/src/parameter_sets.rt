@@ -5,9 +5,8 @@ ghost use Rattle.access_unit.specs.Refusals.{first_shown, read_rows, set_rows};
 ghost use Rattle.access_unit.specs.Stored.{IsShown};
 
 use crate::refused::Refused;
-use crate::shared::Shared;
 use annexb::{Nal, payload};
-use param_sets::{Pps, SetFault, Sps, read_pps, read_sps};
+use param_sets::{Pps, SetFault, Shared, Sps, read_pps, read_sps};
 use std::alloc::Global;
 
 /// A parameter set of an access unit.

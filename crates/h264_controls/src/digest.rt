@@ -7,7 +7,7 @@ ghost use Rattle.h264_controls.specs.DigestForm.{digest_form, digest_size, weigh
 use crate::controls::Controls;
 use crate::v4l2_ctrl_h264_pred_weights::V4l2CtrlH264PredWeights;
 use crate::words::put;
-use access_unit::Shared;
+use param_sets::Shared;
 use std::alloc::AllocError;
 
 /// The digest form of the controls goes behind the form, which grows once, by 2,040 bytes, or by 2,812 where there are

@@ -2,6 +2,7 @@
 //!
 //! `read_sps` and `read_pps` answer exactly the set of a payload, or what its first field shows that can't be read;
 //! `resolve_matrix` gives the scaling lists of a picture with two sets.
+//! A set that several owners need is `Shared`.
 //! The syntax stands as tables of rows, with one law of reading for every table; the slice headers are read by it too.
 #![tactic(auto)]
 
@@ -17,6 +18,7 @@ mod scaling_entries;
 mod scaling_list;
 mod scaling_matrix;
 mod seq_parameter_set;
+mod shared;
 mod sps;
 pub mod syntax;
 
@@ -28,6 +30,7 @@ pub use pps::{Pps, WeightedBipred};
 pub use scaling::{ScalingList, ScalingLists};
 pub use scaling_matrix::{ScalingMatrix, resolve_matrix};
 pub use seq_parameter_set::read_sps;
+pub use shared::Shared;
 pub use sps::{ChromaFormat, PicOrderCntType, Sps};
 
 #[cfg(test)]

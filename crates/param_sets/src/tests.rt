@@ -2,6 +2,7 @@ mod faults;
 mod pps;
 mod ranges;
 mod scaling_lists;
+mod shared;
 mod sps;
 mod writer;
 

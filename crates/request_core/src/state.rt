@@ -4,9 +4,8 @@ ghost use Rattle.std.specs.Prelude.{◌≡◌, IfOk};
 ghost use Rattle.request_core.specs.States.{no_units};
 
 use crate::tables::Tables;
-use access_unit::Shared;
 use order_count::Anchor;
-use param_sets::Sps;
+use param_sets::{Shared, Sps};
 use ref_marking::Marks;
 use std::alloc::{AllocError, Global};
 use std::marker::Model;

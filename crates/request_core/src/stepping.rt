@@ -22,9 +22,9 @@ use crate::state::State;
 use crate::steps::Steps;
 use crate::stop::Stop;
 use crate::tables::Tables;
-use access_unit::{ParameterSet, Shared, Unit};
+use access_unit::{ParameterSet, Unit};
 use order_count::{Counts, after_reset, anchor_after, resets};
-use param_sets::Sps;
+use param_sets::{Shared, Sps};
 use ref_marking::{AuId, Marks};
 use std::alloc::{AllocError, Global};
 

@@ -3,8 +3,8 @@
 ghost use Rattle.std.specs.Prelude.{◌≡◌, ◌<◌, None, Some, IfOk, OnOk, length, option_map, replicate, set};
 ghost use Rattle.request_core.specs.ParameterSets.{no_sets, put, put_all, sps_under, pps_under};
 
-use access_unit::{ParameterSet, Shared};
-use param_sets::{Pps, Sps};
+use access_unit::ParameterSet;
+use param_sets::{Pps, Shared, Sps};
 use std::alloc::{AllocError, Global};
 use std::marker::Model;
 

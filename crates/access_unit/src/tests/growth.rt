@@ -1,6 +1,6 @@
 //! Calls of which any growth of memory may be refused.
 
-use crate::{Refused, Shared, StreamRefused, read_shared, read_stream, read_unit};
+use crate::{Refused, StreamRefused, read_shared, read_stream, read_unit};
 use bytes::Bytes;
 
 /// Three units, one of them with sets.
@@ -40,18 +40,5 @@ fn refused_growth_of_a_stream(rt: HostRuntime) {
     match read_stream(&rt, rt.alloc(), &STREAM) {
         Err(refused) => assert_eq!(rt; refused, StreamRefused::Memory),
         Ok(units) => assert_eq!(rt; units.len(), 3),
-    }
-}
-
-#[test]
-fn refused_growth_of_a_shared_value(rt: HostRuntime) {
-    match Shared::new(rt.alloc(), 7) {
-        Err(failed) => assert_eq!(rt; failed.value, 7),
-        Ok(seven) => {
-            assert_eq!(rt; *seven, 7);
-            if let Ok(copy) = seven.clone() {
-                assert_eq!(rt; *copy, 7);
-            }
-        }
     }
 }

@@ -14,6 +14,10 @@ use Rattle.h264_controls.specs.declared.v4l2_ctrl_h264_decode_params.V4l2CtrlH26
 use Rattle.h264_controls.specs.declared.v4l2_ctrl_h264_decode_params.V4l2H264DpbEntry.{V4l2H264DpbEntry}
 use Rattle.h264_controls.specs.declared.v4l2_ctrl_h264_decode_params.V4l2H264FieldReference.TheVariants.{Frame as frame_reference}
 
+-- the timestamp of a unit, in nanoseconds
+abbrev pub timestamp : ℕ → ℕ
+timestamp id = 1000 * id
+
 -- PicNum of a short-term frame, LongTermPicNum of a long-term one
 abbrev pub number_in : ℤ → Term → ℤ
 number_in wrap ShortTerm = wrap
@@ -31,7 +35,7 @@ is_long_term (LongTerm idx) = true
 -- a marked frame, as a picture of this frame_num sees it; PicNum as its low 32 bits
 abbrev pub dpb_entry : Sps → ℕ → Frame → V4l2H264DpbEntry
 dpb_entry sps frame_num frame = record {
-  reference_ts = 1000 * frame.id;
+  reference_ts = timestamp frame.id;
   pic_num = cast_unsigned w32 (number_in (frame_num_wrap sps frame_num frame.frame_num) frame.term);
   frame_num = frame_num_in frame.frame_num frame.term;
   fields = frame_reference;

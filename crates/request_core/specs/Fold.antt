@@ -78,7 +78,7 @@ state_after state slice counts marks = record {
 -- the plan of a picture
 abbrev pub plan_of : FoldState → ℕ → SliceRead → Counts → List ListedSlice → Plan
 plan_of state id first counts slices = record {
-  requests = requests_of state.marks.frames id slices;
+  requests = requests_of state.marks.frames counts id slices;
   counts = counts;
   order = pic_order_cnt (counts_after_reset first.header counts);
   begins_period = is_idr first.header || has_operation_five first.header;

@@ -1,15 +1,16 @@
 -- The requests of a picture (Linux media documentation, stateless codec controls for H.264 in slice-based mode).
-use Rattle.std.specs.Prelude.{ℕ, ◌*◌, Bool, true, false, List, [], ◌∷◌, ◌++◌, map, Option, ℤ, pos, if◌then◌else◌}
+use Rattle.std.specs.Prelude.{ℕ, Bool, true, false, List, [], ◌∷◌, ◌++◌, Option, option_map}
 use Rattle.annexb.specs.ByteStream.{start_code}
-use Rattle.param_sets.specs.declared.sps.Sps.{Sps}
-use Rattle.slice_header.specs.declared.slice_headers.SliceHeader.{SliceHeader}
-use Rattle.order_count.specs.Pictures.{is_idr}
+use Rattle.order_count.specs.declared.counts.Counts.{Counts}
 use Rattle.ref_marking.specs.declared.frames.Frame.{Frame}
-use Rattle.ref_marking.specs.declared.frames.Term.{Term}
-use Rattle.ref_marking.specs.declared.frames.Term.TheVariants.{ShortTerm, LongTerm}
-use Rattle.ref_marking.specs.PicNums.{frame_num_wrap}
-use Rattle.request_core.specs.declared.request.DpbEntry.{DpbEntry}
-use Rattle.request_core.specs.declared.request.Request.{Request}
+use Rattle.h264_controls.specs.declared.controls.Controls.{Controls}
+use Rattle.h264_controls.specs.declared.request.Request.{Request}
+use Rattle.h264_controls.specs.SpsControl.{sps_control}
+use Rattle.h264_controls.specs.PpsControl.{pps_control}
+use Rattle.h264_controls.specs.ScalingMatrixControl.{scaling_matrix_control}
+use Rattle.h264_controls.specs.PredWeightsControl.{pred_weights_control}
+use Rattle.h264_controls.specs.SliceParamsControl.{slice_params_control}
+use Rattle.h264_controls.specs.DecodeParamsControl.{decode_params_control, timestamp}
 use Rattle.request_core.specs.Slices.{SliceRead}
 
 -- a slice with its reference lists
@@ -18,48 +19,29 @@ pub record ListedSlice : Type 0 where
   pub list_0 : List (Option ℕ)
   pub list_1 : List (Option ℕ)
 
--- the timestamp of a unit, in nanoseconds
-abbrev pub timestamp : ℕ → ℕ
-timestamp id = 1000 * id
-
--- PicNum of a short-term frame, LongTermPicNum of a long-term one
-abbrev pub number_in : ℤ → Term → ℤ
-number_in wrap ShortTerm = wrap
-number_in wrap (LongTerm idx) = pos idx
-
-abbrev pub is_long_term : Term → Bool
-is_long_term ShortTerm = false
-is_long_term (LongTerm idx) = true
-
--- a marked frame, as a picture of this frame_num sees it
-abbrev pub dpb_entry : Sps → ℕ → Frame → DpbEntry
-dpb_entry sps frame_num frame = record {
-  reference_ts = timestamp frame.id;
-  pic_num = number_in (frame_num_wrap sps frame_num frame.frame_num) frame.term;
-  is_long_term = is_long_term frame.term;
+-- the controls of a slice, filled before the marking of its picture, which has these counts
+abbrev pub controls_of : List Frame → Counts → ListedSlice → Controls
+controls_of frames counts listed = record {
+  sps = sps_control listed.slice.sps;
+  pps = pps_control listed.slice.sps listed.slice.pps;
+  scaling_matrix = scaling_matrix_control listed.slice.sps listed.slice.pps;
+  pred_weights = option_map (pred_weights_control listed.slice.sps) listed.slice.header.pred_weight_table;
+  slice_params = slice_params_control listed.slice.header listed.list_0 listed.list_1;
+  decode_params = decode_params_control frames listed.slice.sps listed.slice.header counts;
 }
 
--- the marked frames before the picture, in decode order; none at an IDR picture
-abbrev pub dpb_of : List Frame → SliceRead → List DpbEntry
-dpb_of frames slice =
-    if is_idr slice.header then [] else map (dpb_entry slice.sps slice.header.frame_num) frames
-
 -- the request of a slice; hold says that more slices follow
-abbrev pub request_of : List Frame → ℕ → ListedSlice → Bool → Request
-request_of frames id listed hold = record {
+abbrev pub request_of : List Frame → Counts → ℕ → ListedSlice → Bool → Request
+request_of frames counts id listed hold = record {
+  controls = controls_of frames counts listed;
   bytes = start_code ++ listed.slice.nal;
   timestamp = timestamp id;
-  header_bit_size = listed.slice.header.header_bit_size;
-  slice_type = listed.slice.header.slice_type;
-  frame_num = listed.slice.header.frame_num;
-  dpb = record { items = dpb_of frames listed.slice };
-  ref_pic_list0 = listed.list_0;
-  ref_pic_list1 = listed.list_1;
   hold = hold;
 }
 
 -- one request for each slice, with the capture buffer held on all but the last
-abbrev pub requests_of : List Frame → ℕ → List ListedSlice → List Request
-requests_of frames id [] = []
-requests_of frames id (last ∷ []) = request_of frames id last false ∷ []
-requests_of frames id (listed ∷ more) = request_of frames id listed true ∷ requests_of frames id more
+abbrev pub requests_of : List Frame → Counts → ℕ → List ListedSlice → List Request
+requests_of frames counts id [] = []
+requests_of frames counts id (last ∷ []) = request_of frames counts id last false ∷ []
+requests_of frames counts id (listed ∷ more) =
+    request_of frames counts id listed true ∷ requests_of frames counts id more

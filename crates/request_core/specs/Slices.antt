@@ -11,10 +11,16 @@ use Rattle.request_core.specs.declared.fault.ValidityFault.{ValidityFault}
 use Rattle.request_core.specs.declared.fault.ValidityFault.TheVariants as faults
 use Rattle.request_core.specs.ParameterSets.{ParameterSets, sps_under, pps_under}
 
--- a slice: its NAL unit, the sequence parameter set that it names, and its header
+-- the parameter sets that a slice names
+pub record NamedSets : Type 0 where
+  pub sps : Sps
+  pub pps : Pps
+
+-- a slice: its NAL unit, the parameter sets that it names, and its header
 pub record SliceRead : Type 0 where
   pub nal : List ℕ
   pub sps : Sps
+  pub pps : Pps
   pub header : SliceHeader
 
 -- the fault of a header
@@ -23,14 +29,14 @@ header_fault headers.Cut = faults.HeaderCut
 header_fault fault = faults.HeaderValue
 
 -- the slice by its header
-abbrev pub with_header : List ℕ → Sps → Result SliceHeader HeaderFault → Result SliceRead ValidityFault
-with_header nal sps (Ok header) = Ok (record { nal = nal; sps = sps; header = header })
-with_header nal sps (Err fault) = Err (header_fault fault)
+abbrev pub with_header : List ℕ → Sps → Pps → Result SliceHeader HeaderFault → Result SliceRead ValidityFault
+with_header nal sps pps (Ok header) = Ok (record { nal = nal; sps = sps; pps = pps; header = header })
+with_header nal sps pps (Err fault) = Err (header_fault fault)
 
 -- the slice by the sets that it names
 abbrev pub with_sps : List ℕ → Pps → Option Sps → Result SliceRead ValidityFault
 with_sps nal pps None = Err faults.MissingSps
-with_sps nal pps (Some sps) = with_header nal sps (header_at nal sps pps)
+with_sps nal pps (Some sps) = with_header nal sps pps (header_at nal sps pps)
 
 abbrev pub with_pps : ParameterSets → List ℕ → Option Pps → Result SliceRead ValidityFault
 with_pps tables nal None = Err faults.MissingPps

@@ -76,7 +76,7 @@ fn rises(slices: &[Slice]) -> bool
 fn same_picture(a: &Slice, b: &Slice) -> bool
     ensures { result ≡ same_picture a.now b.now }
 {
-    a.sps.seq_parameter_set_id == b.sps.seq_parameter_set_id
+    a.sps().seq_parameter_set_id == b.sps().seq_parameter_set_id
         && a.header.frame_num == b.header.frame_num
         && a.header.idr_pic_id == b.header.idr_pic_id
         && a.header.pic_order_cnt_lsb == b.header.pic_order_cnt_lsb

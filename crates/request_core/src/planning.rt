@@ -1,27 +1,30 @@
 //! The plan of a picture: its requests and what they stand on.
 
-ghost use Rattle.std.specs.Prelude.{◌≡◌, ◌∷◌, ◌++◌, map, Ok, Err, Bool, List, IfOk, IsTrue, not, false, length, ◌≤◌};
+ghost use Rattle.std.specs.Prelude.{◌≡◌, ◌∷◌, ◌++◌, map, Ok, Err, Bool, List, IfOk, IsTrue, not, false, length, ◌≤◌, option_map};
+ghost use Rattle.h264_controls.specs.PredWeightsControl.{pred_weights_control};
 ghost use Rattle.order_count.specs.Counting.{counts_of};
 ghost use Rattle.order_count.specs.PicOrderCnt.{are_in_range};
 ghost use Rattle.order_count.specs.Resetting.{counts_after_reset};
 ghost use Rattle.ref_marking.specs.MarksAfter.{marks_after};
-ghost use Rattle.ref_marking.specs.PicNums.{frame_num_wrap};
 ghost use Rattle.request_core.specs.Numbers.{gathered};
-ghost use Rattle.request_core.specs.Requests.{number_in, dpb_entry, dpb_of, request_of, requests_of};
+ghost use Rattle.request_core.specs.Requests.{controls_of, request_of, requests_of};
 ghost use Rattle.request_core.specs.Fold.{counted, listed, marked};
 ghost use Rattle.request_core.specs.Answers.{Answers, AnswersAs};
 
 use crate::fault::ValidityFault;
 use crate::gathered::Gathered;
-use crate::request::{DpbEntry, Request, Requests};
+use crate::request::Requests;
 use crate::slices::Slice;
 use crate::state::State;
 use crate::stop::Stop;
-use arrayvec::ArrayVec;
+use h264_controls::{
+    Controls, Request, V4l2CtrlH264DecodeParams, V4l2CtrlH264PredWeights, V4l2CtrlH264SliceParams,
+};
 use order_count::{Counts, count};
-use param_sets::Sps;
+use param_sets::{Shared, Sps};
 use ref_lists::{List, ListFault, lists};
-use ref_marking::{AuId, Frame, MarkFault, Marks, Term, mark};
+use ref_marking::{AuId, MarkFault, Marks, mark};
+use slice_header::SliceHeader;
 use std::alloc::{AllocError, Global};
 use std::marker::Model;
 
@@ -47,7 +50,7 @@ pub(crate) fn count_picture(state: &State, slice: &Slice) -> Result<Counts, Stop
     ensures counted { IfOk result (λ counts. counts_of state.now.anchor slice.now.sps slice.now.header ≡ Ok counts) }
     ensures reset { IfOk result (λ counts. IsTrue (are_in_range (counts_after_reset slice.now.header counts))) }
 {
-    match count(&state.anchor, &slice.sps, &slice.header) {
+    match count(&state.anchor, slice.sps(), &slice.header) {
         Ok(counts) => Ok(counts),
         Err(_) => Err(Stop::Fault(ValidityFault::OrderRange)),
     }
@@ -63,7 +66,7 @@ pub(crate) fn mark_picture(
     requires { IsTrue (are_in_range (counts_after_reset slice.now.header counts)) }
     ensures { Answers result (marked (marks_after state.now.marks id slice.now.sps slice.now.header counts)) }
 {
-    match mark(&state.marks, id, &slice.sps, &slice.header, counts) {
+    match mark(&state.marks, id, slice.sps(), &slice.header, counts) {
         Ok(marks) => Ok(marks),
         Err(MarkFault::TooManyReferences) => Err(Stop::Fault(ValidityFault::TooManyReferences)),
         Err(MarkFault::BadMarking | MarkFault::NoShortTerm) => Err(Stop::Fault(
@@ -76,7 +79,7 @@ pub(crate) fn mark_picture(
 fn list_slice<'a>(marks: &Marks, counts: Counts, slice: &'a Slice) -> Result<Listed<'a>, Stop>
     ensures { Answers result (listed marks.now counts slice.now) }
 {
-    match lists(marks, &slice.sps, &slice.header, counts) {
+    match lists(marks, slice.sps(), &slice.header, counts) {
         Ok((list_0, list_1)) => Ok(Listed {
             slice,
             list_0,
@@ -116,91 +119,81 @@ fn list_slices<'a>(
     gathered.finish()
 }
 
-/// A marked frame, as a picture of this frame_num sees it.
-fn dpb_entry(sps: &Sps, frame_num: u16, frame: &Frame) -> DpbEntry
-    ensures { result ≡ dpb_entry sps.now frame_num frame.now }
+/// The controls of a slice of a picture with these counts.
+fn controls_of(
+    alloc: Global,
+    marks: &Marks,
+    counts: Counts,
+    listed: &Listed<'_>,
+) -> Result<Controls, AllocError>
+    ensures { IfOk result (λ controls. controls ≡ controls_of marks.now.frames counts listed.now) }
 {
-    DpbEntry {
-        reference_ts: frame.id.timestamp(),
-        pic_num: pic_num(sps, frame_num, frame),
-        is_long_term: matches!(frame.term, Term::LongTerm { .. }),
-    }
+    let slice = listed.slice;
+    Ok(Controls {
+        sps: slice.sets.sps_control()?,
+        pps: slice.sets.pps_control(),
+        scaling_matrix: slice.sets.scaling_matrix()?,
+        pred_weights: pred_weights_of(alloc, slice.sps(), &slice.header)?,
+        slice_params: V4l2CtrlH264SliceParams::of(
+            &slice.header,
+            &listed.list_0,
+            &listed.list_1,
+        ),
+        decode_params: V4l2CtrlH264DecodeParams::of(marks, slice.sps(), &slice.header, counts),
+    })
 }
 
-/// PicNum of a short-term frame, LongTermPicNum of a long-term one.
-fn pic_num(sps: &Sps, frame_num: u16, frame: &Frame) -> i32
-    ensures { result ≡ number_in (frame_num_wrap sps.now frame_num frame.now.frame_num) frame.now.term }
+/// The control of the slice's weight table, if it has one.
+fn pred_weights_of(
+    alloc: Global,
+    sps: &Sps,
+    header: &SliceHeader,
+) -> Result<Option<Shared<V4l2CtrlH264PredWeights>>, AllocError>
+    ensures { IfOk result (λ weights. weights
+        ≡ option_map (pred_weights_control sps.now) header.now.pred_weight_table) }
 {
-    match frame.term {
-        Term::LongTerm {
-            long_term_frame_idx,
-        } => i32::from(long_term_frame_idx),
-        Term::ShortTerm if frame.frame_num > frame_num => {
-            i32::from(frame.frame_num) - sps.max_frame_num() as i32
-        }
-        Term::ShortTerm => i32::from(frame.frame_num),
+    match &header.pred_weight_table {
+        Some(table) => Ok(Some(Shared::new(alloc, V4l2CtrlH264PredWeights::of(sps, table))?)),
+        None => Ok(None),
     }
-}
-
-/// The marked frames before the picture, in decode order; none at an IDR picture.
-fn dpb_of(marks: &Marks, slice: &Slice) -> ArrayVec<DpbEntry, 16>
-    ensures { result.items ≡ dpb_of marks.now.frames slice.now }
-{
-    if slice.header.is_idr() {
-        ArrayVec::new()
-    } else {
-        dpb_entries(&slice.sps, slice.header.frame_num, marks.frames())
-    }
-}
-
-/// Marked frames, as a picture of this frame_num sees them.
-fn dpb_entries(sps: &Sps, frame_num: u16, frames: &[Frame]) -> ArrayVec<DpbEntry, 16>
-    requires { length frames.now ≤ 16 }
-    ensures { result.items ≡ map (dpb_entry sps.now frame_num) frames.now }
-{
-    let mut dpb = ArrayVec::new();
-    for frame in frames {
-        dpb.push(dpb_entry(sps, frame_num, frame));
-    }
-    dpb
 }
 
 /// The request of a slice.
 fn request_of(
+    alloc: Global,
     marks: &Marks,
+    counts: Counts,
     id: AuId,
     listed: &Listed<'_>,
     hold: bool,
 ) -> Result<Request, AllocError>
-    ensures { IfOk result (λ request. request ≡ request_of marks.now.frames id listed.now hold) }
+    ensures { IfOk result (λ request. request
+        ≡ request_of marks.now.frames counts id listed.now hold) }
 {
     let slice = listed.slice;
     Ok(Request {
+        controls: controls_of(alloc, marks, counts, listed)?,
         bytes: slice.nal.coded()?,
         timestamp: id.timestamp(),
-        header_bit_size: slice.header.header_bit_size,
-        slice_type: slice.header.slice_type,
-        frame_num: slice.header.frame_num,
-        dpb: dpb_of(marks, slice),
-        ref_pic_list0: listed.list_0.copy(),
-        ref_pic_list1: listed.list_1.copy(),
         hold,
     })
 }
 
-/// The requests of the slices.
+/// The requests of the slices of a picture with these counts.
 pub(crate) fn requests_of(
     alloc: Global,
     marks: &Marks,
+    counts: Counts,
     id: AuId,
     slices: &[Listed<'_>],
 ) -> Result<Requests, AllocError>
-    ensures { IfOk result (λ requests. requests ≡ requests_of marks.now.frames id slices.now) }
+    ensures { IfOk result (λ requests. requests
+        ≡ requests_of marks.now.frames counts id slices.now) }
 {
     let mut requests = Vec::with_capacity(alloc, slices.len())?;
     for listed in slices {
         let hold = requests.len() + 1 < slices.len();
-        requests.push(request_of(marks, id, listed, hold)?)?;
+        requests.push(request_of(alloc, marks, counts, id, listed, hold)?)?;
     }
     Ok(Requests::new(requests))
 }

@@ -7,6 +7,7 @@ ghost use Rattle.request_core.specs.Answers.{Answers, AnswersAs, StopsAt};
 
 use crate::fault::ValidityFault;
 use crate::gathered::Gathered;
+use crate::set_controls::{SetControls, copied};
 use crate::stop::Stop;
 use crate::tables::Tables;
 use access_unit::SharedNal;
@@ -15,11 +16,11 @@ use slice_header::{HeaderFault, SliceHeader, peek, read};
 use std::alloc::Global;
 use std::marker::Model;
 
-/// A slice: its NAL unit, the sequence parameter set that it names, and its header.
+/// A slice: its NAL unit, the parameter sets that it names, and its header.
 #[derive(Debug, Drop)]
 pub(crate) struct Slice {
     pub(crate) nal: SharedNal,
-    pub(crate) sps: Shared<Sps>,
+    pub(crate) sets: SetControls,
     pub(crate) header: SliceHeader,
 }
 
@@ -28,27 +29,48 @@ impl Model for Slice {
 
     ghost Value = { SliceRead };
 
-    ghost view = { λ slice. record { nal = slice.nal; sps = slice.sps; header = slice.header } };
+    ghost view = { λ slice. record { nal = slice.nal; sps = slice.sets.sps; pps = slice.sets.pps; header = slice.header } };
 }
 
-/// The slices of these NAL units, or the least fault that any shows.
+impl Slice {
+    /// The sequence parameter set that it names.
+    pub(crate) fn sps(&self) -> &Shared<Sps>
+        ensures { result.now ≡ self.now.sps }
+    {
+        &self.sets.sps
+    }
+}
+
+/// The slices of these NAL units, or the least fault that any shows. What their sets decide is shared with the last
+/// ones, where they are the same.
 pub(crate) fn read_slices(
     alloc: Global,
     tables: &Tables,
+    last: &Option<SetControls>,
     nals: &[SharedNal],
 ) -> Result<Vec<Slice>, Stop>
     ensures { AnswersAs (λ slices. slices.items) result (gathered (map (slice_at tables.now) nals.now)) }
 {
     let mut slices = Gathered::with_capacity(alloc, nals.len())?;
+    let mut last = copied(last)?;
     for nal in nals {
-        slices.add(read_slice(alloc, tables, nal))?;
+        let slice = read_slice(alloc, tables, &last, nal);
+        if let Ok(slice) = &slice {
+            last = Some(slice.sets.copy()?);
+        }
+        slices.add(slice)?;
     }
     slices.finish()
 }
 
 /// The slice of a NAL unit, or the fault that it shows.
 #[tactic(auto, unfolding(crate::specs::Slices::slice_at))]
-fn read_slice(alloc: Global, tables: &Tables, nal: &SharedNal) -> Result<Slice, Stop>
+fn read_slice(
+    alloc: Global,
+    tables: &Tables,
+    last: &Option<SetControls>,
+    nal: &SharedNal,
+) -> Result<Slice, Stop>
     ensures { Answers result (slice_at tables.now nal.now) }
 {
     let unit = nal.nal();
@@ -65,7 +87,7 @@ fn read_slice(alloc: Global, tables: &Tables, nal: &SharedNal) -> Result<Slice, 
     match read(alloc, &unit, sps, pps) {
         Ok(header) => Ok(Slice {
             nal: nal.clone()?,
-            sps: sps.clone()?,
+            sets: SetControls::of(alloc, last, sps, pps)?,
             header,
         }),
         Err(fault) => Err(stop(fault)),

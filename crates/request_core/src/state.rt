@@ -3,6 +3,7 @@
 ghost use Rattle.std.specs.Prelude.{◌≡◌, IfOk};
 ghost use Rattle.request_core.specs.States.{no_units};
 
+use crate::set_controls::SetControls;
 use crate::tables::Tables;
 use order_count::Anchor;
 use param_sets::{Shared, Sps};
@@ -20,6 +21,8 @@ pub struct State {
     /// PrevRefFrameNum (7.4.3).
     pub(crate) prev_ref_frame_num: u16,
     pub(crate) marks: Marks,
+    /// The sets of the last picture, whose controls the next one may share. No outcome depends on it.
+    pub(crate) last: Option<SetControls>,
 }
 
 impl Model for State {
@@ -41,6 +44,7 @@ impl State {
             anchor: Anchor::new(),
             prev_ref_frame_num: 0,
             marks: Marks::new(),
+            last: None,
         })
     }
 }

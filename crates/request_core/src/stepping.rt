@@ -17,6 +17,7 @@ use crate::checks::{picture_fault, slice_fault};
 use crate::fault::ValidityFault;
 use crate::outcome::{Outcome, Plan};
 use crate::planning::{Listed, count_picture, list_picture, mark_picture, requests_of};
+use crate::set_controls::copied;
 use crate::slices::{Slice, read_slices};
 use crate::state::State;
 use crate::steps::Steps;
@@ -76,6 +77,7 @@ fn with_sets(alloc: Global, state: &State, unit: &Unit) -> Result<State, AllocEr
         anchor: state.anchor,
         prev_ref_frame_num: state.prev_ref_frame_num,
         marks: state.marks.copy(),
+        last: copied(&state.last)?,
     })
 }
 
@@ -111,7 +113,7 @@ fn shared_active(state: &State) -> Result<Option<Shared<Sps>>, AllocError>
 fn plan(alloc: Global, state: &State, id: AuId, unit: &Unit) -> Result<(State, Plan), Stop>
     ensures { AnswersAs (λ planned. planned) result (planned state.now id unit.now) }
 {
-    let slices = read_slices(alloc, &state.tables, unit.slices())?;
+    let slices = read_slices(alloc, &state.tables, &state.last, unit.slices())?;
     plan_picture(alloc, state, id, slices.as_slice())
 }
 
@@ -164,7 +166,7 @@ fn make_plan(
     ensures { IfOk result (λ plan. plan ≡ plan_of state.now id first.now counts slices.now) }
 {
     Ok(Plan {
-        requests: requests_of(alloc, &state.marks, id, slices)?,
+        requests: requests_of(alloc, &state.marks, counts, id, slices)?,
         counts,
         order: after_reset(&first.header, counts).pic_order_cnt(),
         begins_period: first.header.is_idr() || resets(&first.header),
@@ -175,7 +177,7 @@ fn make_plan(
 fn follow(state: &State, first: &Slice) -> Result<(), Stop>
     ensures { AnswersAs (λ passed. record {}) result (passes (first_shown (picture_rows state.now first.now.sps first.now.header))) }
 {
-    pass(picture_fault(state, &first.sps, &first.header))
+    pass(picture_fault(state, first.sps(), &first.header))
 }
 
 /// Ends the planning at a fault.
@@ -201,9 +203,10 @@ fn state_after(
     Ok(State {
         tables: state.tables.clone()?,
         active: next_active(state, slice)?,
-        anchor: anchor_after(&state.anchor, &slice.sps, &slice.header, counts),
+        anchor: anchor_after(&state.anchor, slice.sps(), &slice.header, counts),
         prev_ref_frame_num: next_ref_frame_num(state, slice),
         marks,
+        last: Some(slice.sets.copy()?),
     })
 }
 
@@ -212,7 +215,7 @@ fn next_active(state: &State, slice: &Slice) -> Result<Option<Shared<Sps>>, Allo
     ensures { IfOk result (λ active. active ≡ (if is_idr slice.now.header then Some slice.now.sps else state.now.active)) }
 {
     if slice.header.is_idr() {
-        Ok(Some(slice.sps.clone()?))
+        Ok(Some(slice.sps().clone()?))
     } else {
         shared_active(state)
     }

@@ -5,4 +5,4 @@ use Rattle.request_core.proofs.planning.requests_of.Given as goal
 
 abbrev pub invariant-loop-listed : goal.invariant-loop-listed
 invariant-loop-listed l =
-    (l.requests.items ≡ take l.listed-index (requests_of l.marks.frames l.id l.slices)) × (vec_len l.requests ≡ l.listed-index)
+    (l.requests.items ≡ take l.listed-index (requests_of l.marks.frames l.counts l.id l.slices)) × (vec_len l.requests ≡ l.listed-index)

@@ -1,6 +1,6 @@
 //! Sequence parameter sets that agree.
 
-ghost use Rattle.std.specs.Prelude.{◌≡◌};
+ghost use Rattle.std.specs.Prelude.{◌≡◌, ◌↔◌, IsTrue};
 ghost use Rattle.param_sets.specs.SameSets.{same_profile, same_matrix, same_counting, same_cycle, same_frames, same_sps};
 
 use crate::scaling::ScalingList;
@@ -8,9 +8,10 @@ use crate::sps::Sps;
 
 impl Sps {
     /// Whether the sets agree in each field that is read, scaling lists as they were sent (7.4.1.2.1).
-    #[tactic(auto, unfolding(crate::specs::SameSets::same_sps))]
+    #[tactic(auto, unfolding(crate::specs::SameSets::same_sps), using(crate::proofs::SameSets::sps_same))]
     pub fn is_same(&self, other: &Sps) -> bool
-        ensures { result ≡ same_sps self.now other.now }
+        ensures same { IsTrue result ↔ (self.now ≡ other.now) }
+        ensures by_field { result ≡ same_sps self.now other.now }
     {
         same_profile(self, other)
             && same_matrix(self, other)

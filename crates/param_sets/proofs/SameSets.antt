@@ -51,8 +51,8 @@ list_same None (Some y) = search rules
 list_same (Some x) None = search rules
 list_same (Some x) (Some y) = Decides-like (pointwise int_eq x y) (ap Some) (λ e. cc) (slice_eq-Decides Decides-int_eq x y _ refl)
 
-pub lists_same : (a b : List (Option (List ℤ))) → Decides (pointwise (option_eq (pointwise int_eq)) a b) (a ≡ b)
-lists_same a b = slice_eq-Decides list_same a b _ refl
+pub lists_same : (a b : List (Option (List ℤ))) (r : Bool) → r ≡ pointwise (option_eq (pointwise int_eq)) a b → Decides r (a ≡ b)
+lists_same = slice_eq-Decides list_same
 
 abbrev ProfileSame : Sps → Sps → Type 0
 ProfileSame a b =
@@ -74,7 +74,7 @@ MatrixSame a b =
     × (a.scaling_lists ≡ b.scaling_lists)
 
 matrix_same : (a b : Sps) → Decides (same_matrix a b) (MatrixSame a b)
-matrix_same a b = flag_same _ _ also lists_same _ _
+matrix_same a b = flag_same _ _ also lists_same _ _ _ refl
 
 abbrev CountingSame : Sps → Sps → Type 0
 CountingSame a b =

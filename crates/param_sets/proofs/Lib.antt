@@ -15,3 +15,4 @@ pub mod PpsSections
 pub mod SetLaws
 pub mod PpsLaws
 pub mod SpsLaws
+pub mod SameSets

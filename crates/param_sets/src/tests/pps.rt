@@ -136,3 +136,23 @@ fn names_the_first_fault_of_a_pps(rt: HostRuntime) {
         }
     }
 }
+
+#[test]
+fn picture_sets_are_same_by_each_field(rt: HostRuntime) {
+    // 1 1 0 0 1 1 1 0 00 1 1 1 0 0 0, and the stop bit.
+    let first = pps_of(&rt, &[0x68, 0xCE, 0x38, 0x80]);
+    let again = pps_of(&rt, &[0x68, 0xCE, 0x38, 0x80]);
+    assert!(rt; first.is_same(&again));
+    // weighted_pred_flag is 1.
+    let weighted = pps_of(&rt, &[0x68, 0xCF, 0x38, 0x80]);
+    assert!(rt; !first.is_same(&weighted));
+    // transform_8x8_mode_flag is 1.
+    let transforms = pps_of(&rt, &[0x68, 0xCE, 0x38, 0xB0]);
+    assert!(rt; !first.is_same(&transforms));
+    // Of six lists only the last by delta -8, or only the one before.
+    let last = pps_of(&rt, &[0x68, 0xCE, 0x38, 0x41, 0x08, 0x9A]);
+    let before = pps_of(&rt, &[0x68, 0xCE, 0x38, 0x42, 0x11, 0x1A]);
+    let last_again = pps_of(&rt, &[0x68, 0xCE, 0x38, 0x41, 0x08, 0x9A]);
+    assert!(rt; last.is_same(&last_again));
+    assert!(rt; !last.is_same(&before));
+}

@@ -3,7 +3,7 @@
 use super::distinct::pred_weights;
 use super::plain::idr_controls;
 use crate::{Controls, Request, digest_form};
-use access_unit::Shared;
+use param_sets::Shared;
 use bytes::Bytes;
 use std::alloc::{AllocError, Global};
 

@@ -6,7 +6,7 @@ use crate::{
     V4l2CtrlH264Pps, V4l2CtrlH264ScalingMatrix, V4l2CtrlH264SliceParams, V4l2CtrlH264Sps,
     V4l2H264DpbEntry, V4l2H264FieldReference,
 };
-use access_unit::Shared;
+use param_sets::Shared;
 use arrayvec::ArrayVec;
 use param_sets::{AtMost, ChromaFormat, PicOrderCntType, WeightedBipred};
 use ref_lists::List;

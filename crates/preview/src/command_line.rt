@@ -1,7 +1,8 @@
 //! The command line.
 
-ghost use Rattle.std.specs.Prelude.{◌≡◌, ◌≢◌};
-ghost use Rattle.clap.specs.Words.{kind_of};
+ghost use Rattle.std.specs.Prelude.{◌≡◌, ◌≢◌, IfOk, false};
+ghost use Rattle.clap.specs.Words.{app_of, kind_of, rule_of};
+ghost use Rattle.preview.specs.CommandLine.{needed_rule, option_rule, plan_app, run_app};
 
 use crate::chunks::write_bytes;
 use crate::input::open_input;
@@ -11,6 +12,7 @@ use crate::plan::plan_on;
 use crate::run::script_on;
 use crate::source::Files;
 use crate::status::Status;
+use clap::builder::ValueParser;
 use clap::error::ErrorKind;
 use clap::{Arg, ArgMatches, Command, Error, value_parser};
 use std::alloc::{AllocError, Global};
@@ -118,37 +120,59 @@ fn read_matches<'a>(matches: &ArgMatches<'a>) -> Option<Asked<'a>> {
 }
 
 /// The subcommand `plan`.
-fn plan_command<'a>(alloc: Global) -> Result<Command<'a>, AllocError> {
-    let file = Arg::new(alloc, "FILE")
-        .required(true)
-        .help("An H.264 byte stream; - is the standard input");
+fn plan_command<'a>(alloc: Global) -> Result<Command<'a>, AllocError>
+    ensures { IfOk result (λ command. app_of command ≡ plan_app) }
+{
+    let file = needed(alloc, "FILE", "An H.264 byte stream; - is the standard input");
     Command::new(alloc, "plan")
         .about("Prints what a stateless decoder is asked for, unit by unit")
         .arg(file)
 }
 
 /// The subcommand `run`.
-fn run_command<'a>(alloc: Global) -> Result<Command<'a>, AllocError> {
-    let script = Arg::new(alloc, "SCRIPT")
-        .required(true)
-        .help("A command a line; - is the standard input");
-    let workers = Arg::new(alloc, "workers")
-        .long("workers")
-        .value_name("N")
-        .value_parser(value_parser!(u8).range(0..=0))
-        .default_value("0")
-        .help("How many threads decode; there are none yet");
-    let cache = Arg::new(alloc, "cache")
-        .long("cache")
-        .value_name("N")
-        .value_parser(value_parser!(u16).range(1..=4096))
-        .default_value("64")
-        .help("For how many pictures that no unit has there is room, 1 to 4096; none are kept yet");
+fn run_command<'a>(alloc: Global) -> Result<Command<'a>, AllocError>
+    ensures { IfOk result (λ command. app_of command ≡ run_app) }
+{
+    let script = needed(alloc, "SCRIPT", "A command a line; - is the standard input");
+    let none = value_parser!(u8).range(0..=0);
+    let help = "How many threads decode; there are none yet";
+    let workers = number_option(alloc, "workers", none, "0", help);
+    let room = value_parser!(u16).range(1..=4096);
+    let help =
+        "For how many pictures that no unit has there is room, 1 to 4096; none are kept yet";
+    let cache = number_option(alloc, "cache", room, "64", help);
     Command::new(alloc, "run")
         .about("Runs a script that edits a stream, and prints what it answers")
         .arg(script)?
         .arg(workers)?
         .arg(cache)
+}
+
+/// An argument that has to be there.
+fn needed<'a>(alloc: Global, name: &'a str, help: &'a str) -> Arg<'a>
+    ensures rule { rule_of result ≡ needed_rule name.entry.now }
+    ensures local { result.global ≡ false }
+{
+    Arg::new(alloc, name).required(true).help(help)
+}
+
+/// A number by `--name`, which is `usual` where it isn't given.
+fn number_option<'a>(
+    alloc: Global,
+    name: &'a str,
+    parser: ValueParser<'a>,
+    usual: &'a str,
+    help: &'a str,
+) -> Arg<'a>
+    ensures rule { rule_of result ≡ option_rule name.entry.now parser.entry usual.entry.now }
+    ensures local { result.global ≡ false }
+{
+    Arg::new(alloc, name)
+        .long(name)
+        .value_name("N")
+        .value_parser(parser)
+        .default_value(usual)
+        .help(help)
 }
 
 /// Prints clap's answer: help on the output, a mistake on `errors`.

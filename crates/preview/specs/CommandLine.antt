@@ -1,14 +1,17 @@
 -- The command line (docs/OUTPUT.md).
-use Rattle.std.specs.Prelude.{ℕ, true, List, [], ◌∷◌, codes, pos, if◌then◌else◌}
-use Rattle.std.specs.Prelude.{Option, Some, None, option_map, option_and_then}
+use Rattle.std.specs.Prelude.{◌≡◌, ◌≢◌, ◌⊎◌, ℕ, true, List, [], ◌∷◌, codes, pos, if◌then◌else◌}
+use Rattle.std.specs.Prelude.{Option, Some, None, is_some, option_map, option_and_then}
 use Rattle.std.specs.Str.{bytes_eq}
 use Rattle.std.specs.Str.Parse.{digits_value, without_leading_plus}
 use Rattle.clap.specs.ValueTests.{is_unsigned_in}
-use Rattle.clap.specs.Words.{App, Row, Rule, Text, first_of, new_app, new_rule, one_of}
+use Rattle.clap.specs.Words.{App, IsAmong, Kinds, Row, Rule, Text, fault_of, first_of, new_app, new_rule, one_of}
 use Rattle.clap.specs.Words.{subcommand_of, with_rule, with_subcommand}
 use Rattle.clap.specs.Simple.{on_top}
+use Rattle.clap.specs.Kinds.{or_else}
 use Rattle.clap.specs.declared.builder.ValueParser.{ValueParser}
 use Rattle.clap.specs.declared.builder.ValueParser.TheVariants.{Signed}
+use Rattle.clap.specs.declared.error.ErrorKind.{ErrorKind}
+use Rattle.clap.specs.declared.error.ErrorKind.TheVariants.{DisplayHelp, DisplayVersion, MissingSubcommand, OutOfMemory}
 use Rattle.preview.specs.declared.command_line.Asked.{Asked}
 use Rattle.preview.specs.declared.command_line.Asked.TheVariants.{Plan, Run}
 
@@ -73,10 +76,31 @@ run_in rows = option_and_then (λ name. option_map (run name)
     (option_and_then cache_of (one_of (codes "cache") rows))) (first_of (codes "SCRIPT") rows)
 
 -- what a subcommand and the words behind it ask for
-abbrev pub wanted_by : Text → List Row → Option Wanted
-wanted_by name rows = if bytes_eq name (codes "plan") then plan_in rows
-    else (if bytes_eq name (codes "run") then run_in rows else None)
+abbrev pub wanted_by : Text × List Row → Option Wanted
+wanted_by met = if bytes_eq met.0 (codes "plan") then plan_in met.1
+    else (if bytes_eq met.0 (codes "run") then run_in met.1 else None)
+
+-- what is asked for where a subcommand may have been met
+abbrev pub wanted_from : Option (Text × List Row) → Option Wanted
+wanted_from met = option_and_then wanted_by met
 
 -- what the words ask for, of which the first is the program's name
 abbrev pub wanted_in : List Text → Option Wanted
-wanted_in words = option_and_then (λ met. wanted_by met.0 met.1) (subcommand_of preview_app words)
+wanted_in words = wanted_from (subcommand_of preview_app words)
+
+-- the kinds of error at the words: those of clap, or that no subcommand is there with what it needs
+abbrev pub faults_of : List Text → Kinds
+faults_of words = or_else (fault_of preview_app words)
+    (if is_some (wanted_in words) then [] else MissingSubcommand ∷ [])
+
+-- help or the version is asked for, which is no mistake
+abbrev pub IsRequest : ErrorKind → Type 0
+IsRequest kind = (kind ≡ DisplayHelp) ⊎ (kind ≡ DisplayVersion)
+
+-- the words are wrong
+abbrev pub IsMistake : ErrorKind → Type 0
+IsMistake kind = (kind ≢ OutOfMemory) × (kind ≢ DisplayHelp) × (kind ≢ DisplayVersion)
+
+-- the kinds have one that is so
+abbrev pub HasOne : (ErrorKind → Type 0) → Kinds → Type 0
+HasOne P kinds = (kind : ErrorKind) × IsAmong kind kinds × P kind

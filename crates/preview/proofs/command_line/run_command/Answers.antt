@@ -1,9 +1,9 @@
-use Rattle.std.proofs.Common.{rules, ap, ap₂, codes, pos, Some, ◌≡◌, ◌∙◌}
+use Rattle.std.proofs.Common.{rules, ap, ap₂, codes, pos, ◌≡◌, ◌∙◌}
 use Rattle.std.proofs.lemmas.Result.{IfOk-weaker}
-use Rattle.clap.specs.Words.{Rule, app_of, new_app, rule_of, with_rule}
+use Rattle.clap.specs.Words.{app_of, new_app, rule_of, with_rule}
 use Rattle.clap.specs.declared.builder.ValueParser.{ValueParser}
 use Rattle.clap.specs.declared.builder.ValueParser.TheVariants.{Signed}
-use Rattle.preview.specs.CommandLine.{cache_rule, needed_rule, option_rule, plan_app, run_app, workers_rule}
+use Rattle.preview.specs.CommandLine.{cache_rule, option_rule, workers_rule}
 use Rattle.preview.proofs.command_line.run_command.Goals as goal
 
 pub returns : goal.returns

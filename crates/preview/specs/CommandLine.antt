@@ -104,3 +104,11 @@ IsMistake kind = (kind ≢ OutOfMemory) × (kind ≢ DisplayHelp) × (kind ≢ D
 -- the kinds have one that is so
 abbrev pub HasOne : (ErrorKind → Type 0) → Kinds → Type 0
 HasOne P kinds = (kind : ErrorKind) × IsAmong kind kinds × P kind
+
+-- the words are a wrong command line
+abbrev pub AreMistaken : List Text → Type 0
+AreMistaken words = HasOne IsMistake (faults_of words)
+
+-- the words have no fault, or ask for help
+abbrev pub AreUnderstood : List Text → Type 0
+AreUnderstood words = (faults_of words ≡ []) ⊎ HasOne IsRequest (faults_of words)

@@ -1,9 +1,11 @@
 //! The command line.
 
-ghost use Rattle.std.specs.Prelude.{◌≡◌, ◌⊎◌, [], IfOk, Some, false, map, option_map};
+ghost use Rattle.std.specs.Prelude.{◌≡◌, ◌≢◌, IfOk, IsOkAnd, MatchResult, Some, false, map, option_map, string_bytes};
+ghost use Rattle.std.specs.IoError.{error_kind};
+ghost use Rattle.std.specs.declared.io.ErrorKind.TheVariants.{OutOfMemory};
 ghost use Rattle.std.specs.Io.KnownBytes.{Keeps};
 ghost use Rattle.clap.specs.Words.{FailsBy, app_of, found_of, kind_of, rows_of, rule_of, subcommand_rows_of};
-ghost use Rattle.preview.specs.CommandLine.{HasOne, IsMistake, IsRequest, faults_of, needed_rule, option_rule, plan_app, plan_in, preview_app};
+ghost use Rattle.preview.specs.CommandLine.{AreMistaken, AreUnderstood, IsMistake, IsRequest, faults_of, needed_rule, option_rule, plan_app, plan_in, preview_app};
 ghost use Rattle.preview.specs.CommandLine.{run_app, run_in, wanted_from, wanted_in, wanted_of};
 
 use crate::chunks::write_bytes;
@@ -35,17 +37,23 @@ pub enum Asked<'a> {
 /// The greatest value of `--cache`.
 const MOST_CACHE: u16 = 4096;
 
-/// Does what the process's command line asks for, with these threads.
+/// Does what the process's words ask for, with these threads. Words that can't be read are a wrong command line.
 pub fn run<W: Write, E: Write>(
     rt: &HostRuntime,
     threads: &(impl Threads + Sync),
+    words: io::Result<Vec<String>>,
     output: &mut W,
     errors: &mut E,
 ) -> Status
     ensures done { result ≡ Status.Success → Keeps (E.contents errors.old) (E.contents errors.new) }
     ensures usage { result ≡ Status.Usage → Keeps (W.contents output.old) (W.contents output.new) }
+    ensures wrong { result ≡ Status.Usage → MatchResult words
+        (λ words. AreMistaken (map string_bytes words.items))
+        (λ error. error_kind error ≢ OutOfMemory) }
+    ensures right { result ≡ Status.Success
+        → IsOkAnd words (λ words. AreUnderstood (map string_bytes words.items)) }
 {
-    match words(rt) {
+    match words {
         Ok(words) => run_on(rt, threads, words.as_slice(), output, errors),
         Err(error) if error.kind() == io::ErrorKind::OutOfMemory => {
             let _ = say_out_of_memory(errors);
@@ -59,7 +67,7 @@ pub fn run<W: Write, E: Write>(
 }
 
 /// The process's words, the program's name first. Words that aren't UTF-8 are InvalidData.
-fn words(rt: &HostRuntime) -> io::Result<Vec<String>> {
+pub fn words(rt: &HostRuntime) -> io::Result<Vec<String>> {
     let words = env::args(rt)?.collect(rt.alloc())?;
     Ok(words)
 }
@@ -74,9 +82,8 @@ pub fn run_on<S: AsStr, W: Write, E: Write>(
 ) -> Status
     ensures done { result ≡ Status.Success → Keeps (E.contents errors.old) (E.contents errors.new) }
     ensures usage { result ≡ Status.Usage → Keeps (W.contents output.old) (W.contents output.new) }
-    ensures wrong { result ≡ Status.Usage → HasOne IsMistake (faults_of (map S.text words.now)) }
-    ensures right { result ≡ Status.Success → (faults_of (map S.text words.now) ≡ [])
-        ⊎ HasOne IsRequest (faults_of (map S.text words.now)) }
+    ensures wrong { result ≡ Status.Usage → AreMistaken (map S.text words.now) }
+    ensures right { result ≡ Status.Success → AreUnderstood (map S.text words.now) }
 {
     let alloc = rt.alloc();
     match parse(alloc, words) {

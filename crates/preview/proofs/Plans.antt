@@ -1,10 +1,13 @@
 -- What `plan` has written of a text.
-use Rattle.std.proofs.Common.{◌≡◌, ℕ, List, Option, refl, inr}
+use Rattle.std.proofs.Common.{◌≡◌, ℕ, ◌≤◌, List, length, Option, refl, inr}
 use Rattle.preview.specs.Chunks.{AppendsFront}
-use Rattle.preview.specs.Plans.{WritesFront}
+use Rattle.preview.specs.Plans.{WritesFront, WritesPlan}
+use Rattle.std.specs.Io.KnownBytes.{Appends}
 use Rattle.std.specs.Prelude.{Result, Err}
 use Rattle.std.specs.Global.{Vec}
-use Rattle.preview.specs.ReadFaults.{IsReadAs, IsStreamRefused, refusal_text}
+use Rattle.preview.specs.ReadFaults.{IsReadAs, IsStream, IsStreamRefused, refusal_text}
+use Rattle.preview.specs.Streams.{numbered_from}
+use Rattle.preview.specs.UnitLines.{stream_text}
 use Rattle.preview.specs.declared.fault.ReadFault.{ReadFault}
 use Rattle.preview.specs.declared.fault.ReadFault.TheVariants.{Refused}
 use Rattle.preview.specs.declared.refusal.Refusal.{Refusal}
@@ -16,6 +19,14 @@ pub front-refused : (text bytes : List ℕ) (refusal : Refusal) (a b : Option (L
 front-refused text bytes refusal a b refused front same =
     let written : WritesFront text a b =
     inr (refusal_text refusal, inr (record { refusal = refusal; refused = refused; lines_are = refl }), front) in
+    rw same at written
+
+-- the lines of its units
+pub planned : (text bytes : List ℕ) (parts : List (List (List ℕ))) (a b : Option (List ℕ)) → IsStream text parts
+    → length parts ≤ most_units → Appends a b (stream_text (numbered_from 1 parts)) → text ≡ bytes → WritesPlan bytes a b
+planned text bytes parts a b stream bounded appends same =
+    let written : WritesPlan text a b =
+    (stream_text (numbered_from 1 parts), record { parts = parts; stream = stream; bounded = bounded; lines_are = refl }, appends) in
     rw same at written
 
 -- a refusal that was read is one of the text

@@ -1,5 +1,6 @@
 pub mod Answers
 pub mod Chunks
+pub mod CommandLine
 pub mod Commands
 pub mod Inputs
 pub mod Lines

@@ -11,9 +11,13 @@ use Rattle.preview.specs.declared.run_fault.RunFault.TheVariants.{Unread, Script
 abbrev pub out_of_memory : List ℕ
 out_of_memory = codes "out of memory\n"
 
+-- a line that ends with this word
+abbrev pub line_text : List ℕ → List ℕ → List ℕ
+line_text front word = front ++ (word ++ codes "\n")
+
 -- that the input of this name can't be read
 abbrev pub unread_text : List ℕ → List ℕ
-unread_text name = codes "cannot read " ++ name ++ codes "\n"
+unread_text name = line_text (codes "cannot read ") name
 
 -- why the input of this name isn't read
 abbrev pub input_fault_text : List ℕ → InputFault → List ℕ
@@ -27,7 +31,7 @@ print_fault_text print.Unwritten = []
 
 -- that the line of this number is no command
 abbrev pub script_fault_text : ℕ → List ℕ
-script_fault_text number = codes "script fault at line " ++ (decimal number ++ codes "\n")
+script_fault_text number = line_text (codes "script fault at line ") (decimal number)
 
 -- why a script isn't run to its end; nothing where it is the writer that takes no more
 abbrev pub run_fault_text : RunFault → List ℕ

@@ -33,5 +33,6 @@ use std::process::ExitCode;
 
 fn main(rt: HostRuntime) -> ExitCode {
     let (mut output, mut errors) = (rt.stdout(), rt.stderr());
-    command_line::run(&rt, &rt, &mut output, &mut errors).exit_code()
+    let words = command_line::words(&rt);
+    command_line::run(&rt, &rt, words, &mut output, &mut errors).exit_code()
 }

@@ -3,11 +3,12 @@
 ghost use Rattle.std.specs.Prelude.{OnOk, codes};
 ghost use Rattle.std.specs.Io.KnownBytes.{Appends};
 ghost use Rattle.preview.specs.Chunks.{AppendsFront};
-ghost use Rattle.preview.specs.Messages.{input_fault_text, not_text, out_of_memory, print_fault_text, run_fault_text, script_fault_text, unread_text};
+ghost use Rattle.preview.specs.Messages.{input_fault_text, line_text, not_text, out_of_memory, print_fault_text, run_fault_text, script_fault_text, unread_text};
 
 use crate::chunks::{PrintFault, write_bytes};
 use crate::input::InputFault;
 use crate::run_fault::RunFault;
+use itoa::Buffer;
 use std::io::Write;
 
 /// Says that memory is wanted.
@@ -50,7 +51,10 @@ pub fn say_print_fault<E: Write>(fault: PrintFault, errors: &mut E) -> Result<()
 
 /// Says why a script isn't run to its end. A writer that takes no more is known to who reads it.
 pub fn say_run_fault<E: Write>(fault: RunFault<'_>, errors: &mut E) -> Result<(), PrintFault>
-    ensures { OnOk result (Appends (E.contents errors.old) (E.contents errors.new) (run_fault_text fault.entry)) }
+    ensures ok { OnOk result
+        (Appends (E.contents errors.old) (E.contents errors.new) (run_fault_text fault.entry)) }
+    ensures written { AppendsFront (E.contents errors.old) (E.contents errors.new)
+        (run_fault_text fault.entry) }
 {
     match fault {
         RunFault::Unread(name) => say_unread(name, errors),
@@ -62,22 +66,38 @@ pub fn say_run_fault<E: Write>(fault: RunFault<'_>, errors: &mut E) -> Result<()
 
 /// Says that the line of this number is no command.
 fn say_script_fault<E: Write>(number: usize, errors: &mut E) -> Result<(), PrintFault>
-    ensures { OnOk result (Appends (E.contents errors.old) (E.contents errors.new) (script_fault_text number)) }
+    ensures ok { OnOk result
+        (Appends (E.contents errors.old) (E.contents errors.new) (script_fault_text number)) }
+    ensures written { AppendsFront (E.contents errors.old) (E.contents errors.new)
+        (script_fault_text number) }
 {
-    match writeln!(errors, "script fault at line {number}") {
-        Ok(()) => Ok(()),
-        Err(_) => Err(PrintFault::Unwritten),
-    }
+    let mut digits = Buffer::new();
+    say_line(
+        b"script fault at line ",
+        digits.format(number).as_bytes(),
+        errors,
+    )
 }
 
 /// Says that the input of this name can't be read.
 fn say_unread<E: Write>(name: &str, errors: &mut E) -> Result<(), PrintFault>
     ensures ok { OnOk result
         (Appends (E.contents errors.old) (E.contents errors.new) (unread_text name.now)) }
-    ensures written { AppendsFront (E.contents errors.old) (E.contents errors.new) (unread_text name.now) }
+    ensures written { AppendsFront (E.contents errors.old) (E.contents errors.new)
+        (unread_text name.now) }
 {
-    write_bytes(errors, b"cannot read ")?;
-    write_bytes(errors, name.as_bytes())?;
+    say_line(b"cannot read ", name.as_bytes(), errors)
+}
+
+/// Says a line that ends with this word.
+fn say_line<E: Write>(front: &[u8], word: &[u8], errors: &mut E) -> Result<(), PrintFault>
+    ensures ok { OnOk result
+        (Appends (E.contents errors.old) (E.contents errors.new) (line_text front.now word.now)) }
+    ensures written { AppendsFront (E.contents errors.old) (E.contents errors.new)
+        (line_text front.now word.now) }
+{
+    write_bytes(errors, front)?;
+    write_bytes(errors, word)?;
     write_bytes(errors, b"\n")
 }
 

@@ -5,7 +5,9 @@ ghost use Rattle.std.specs.Io.KnownBytes.{Appends, Keeps};
 ghost use Rattle.request_core.specs.Fold.{outcomes_of};
 ghost use Rattle.request_core.specs.OutputOrder.{positions_of};
 ghost use Rattle.preview.specs.Chunks.{Adds, AppendsFront, waiting_of};
+ghost use Rattle.preview.specs.Messages.{input_fault_text, out_of_memory};
 ghost use Rattle.preview.specs.Plans.{WritesFront, WritesPlan};
+ghost use Rattle.preview.specs.declared.input.InputFault.{InputFault};
 ghost use Rattle.preview.specs.ReadFaults.{refusal_text};
 ghost use Rattle.preview.specs.Streams.{numbered_from};
 ghost use Rattle.preview.specs.UnitLines.{stream_text, units_text};
@@ -41,6 +43,8 @@ pub fn plan_on<R: Read, W: Write, E: Write>(
         WritesPlan text (W.contents writer.old) (W.contents writer.new)) }
     ensures written { IfSome (R.remaining reader.old) (λ text.
         WritesFront text (W.contents writer.old) (W.contents writer.new)) }
+    ensures told { (fault : InputFault) × AppendsFront (E.contents errors.old)
+        (E.contents errors.new) (input_fault_text name.now fault) }
     ensures usage { result ≢ Status.Usage }
 {
     let text = match whole_input(alloc, reader) {
@@ -90,6 +94,7 @@ fn plan_units<W: Write, E: Write>(
     ensures planned { result ≡ Status.Success
         → Appends (W.contents writer.old) (W.contents writer.new) (stream_text (numbered_from 1 units.items)) }
     ensures written { AppendsFront (W.contents writer.old) (W.contents writer.new) (stream_text (numbered_from 1 units.items)) }
+    ensures told { AppendsFront (E.contents errors.old) (E.contents errors.new) out_of_memory }
     ensures usage { result ≢ Status.Usage }
 {
     match print_units(alloc, units, writer) {

@@ -3,7 +3,10 @@
 ghost use Rattle.std.specs.Prelude.{◌≡◌, ◌≢◌, ℕ, List, Err, IfErr, IfOk, IfSome, OnOk, string_bytes};
 ghost use Rattle.std.specs.Io.KnownBytes.{Keeps};
 ghost use Rattle.preview.specs.Answers.{edit_line, number_lines};
-ghost use Rattle.preview.specs.RunFaults.{AreStopped, IsCommandFault, IsScriptFault};
+ghost use Rattle.preview.specs.Chunks.{AppendsFront};
+ghost use Rattle.preview.specs.Messages.{run_fault_text};
+ghost use Rattle.preview.specs.RunFaults.{AreStopped, IsCommandFault, IsRunFault, IsScriptFault};
+ghost use Rattle.preview.specs.declared.run_fault.RunFault.{RunFault};
 ghost use Rattle.preview.specs.Running.{Answers, WritesRun, WritesRunFront, WritesScript, WritesScriptFront};
 ghost use Rattle.preview.specs.Scripts.{lines_of, HasFirstWrong};
 
@@ -42,6 +45,9 @@ pub fn script_on<R: Read, S: Source, W: Write, E: Write>(
     ensures written { IfSome (R.remaining reader.old) (λ text.
         WritesScriptFront (S.file source.old) text options.entry.cache
         (W.contents writer.old) (W.contents writer.new)) }
+    ensures told { IfSome (R.remaining reader.old) (λ text. (fault : RunFault)
+        × IsRunFault options.entry.name.now text fault
+        × AppendsFront (E.contents errors.old) (E.contents errors.new) (run_fault_text fault)) }
     ensures usage { result ≢ Status.Usage }
 {
     let text = match whole_input(alloc, reader) {

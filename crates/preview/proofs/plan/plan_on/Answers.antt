@@ -1,6 +1,7 @@
 use Rattle.std.proofs.Common.{◌∙◌}
 use Rattle.std.proofs.lemmas.Option.{IfSome_then}
-use Rattle.preview.proofs.Plans.{front-refused, refused-read}
+use Rattle.preview.proofs.Plans.{front-refused, planned, refused-read}
+use Rattle.preview.specs.declared.input.InputFault.TheVariants.{Memory}
 use Rattle.preview.proofs.plan.plan_on.Goals as goal
 
 pub returns-in-Err-Refused-clause-written : goal.returns-in-Err-Refused-clause-written
@@ -10,3 +11,12 @@ returns-in-Err-Refused-clause-written g c =
     IfSome_then (g.R.Read.remaining c.args.reader.now) c.in-Ok.ensures
     (λ bytes same. front-refused c.as_slice.result.now bytes c.in-Err-Refused.refusal _ _ refused
     c.print_refusal.ensures.written (c.as_slice.ensures.value ∙ same))
+
+pub returns-in-Ok-read_units-clause-planned : goal.returns-in-Ok-read_units-clause-planned
+returns-in-Ok-read_units-clause-planned g c success =
+    IfSome_then (g.R.Read.remaining c.args.reader.now) c.in-Ok.ensures
+    (λ bytes same. planned c.as_slice.result.now bytes c.in-Ok-read_units.units.items _ _ c.in-Ok-read_units.ensures.0
+    c.in-Ok-read_units.ensures.1 (c.plan_units.ensures.planned success) (c.as_slice.ensures.value ∙ same))
+
+pub returns-in-Ok-read_units-clause-told : goal.returns-in-Ok-read_units-clause-told
+returns-in-Ok-read_units-clause-told g c = (Memory, c.plan_units.ensures.told)

@@ -184,14 +184,13 @@ fn deletes_and_repairs(rt: HostRuntime) {
     let [request] = plan.requests.as_slice() else {
         panic!(rt; "one slice has one request");
     };
-    assert_eq!(rt; (request.timestamp, request.frame_num), (3000, 2));
-    let [entry] = request.dpb.as_slice() else {
+    let picture = &request.controls.decode_params;
+    assert_eq!(rt; (request.timestamp, picture.frame_num), (3000, 2));
+    let [entry] = picture.dpb.as_slice() else {
         panic!(rt; "one frame is marked");
     };
-    assert_eq!(rt;
-        (entry.reference_ts, entry.pic_num, entry.is_long_term),
-        (4000, 1, false)
-    );
+    assert_eq!(rt; (entry.reference_ts, entry.pic_num), (4000, 1));
+    assert!(rt; !entry.flags.long_term);
     assert_eq!(rt;
         session.last(),
         Last {

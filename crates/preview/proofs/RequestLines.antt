@@ -1,7 +1,7 @@
 -- The lines of requests, one after the other.
 use Rattle.std.proofs.Common.{◌≡◌, ◌∙◌, ◌<◌, ℕ, ◌+◌, List, [], ◌∷◌, ◌++◌, length, take, get_or, ap, sym, arith, append_assoc, append-nil}
 use Rattle.std.proofs.lemmas.List.{length-take-le, take_more}
-use Rattle.request_core.specs.declared.request.Request.{Request}
+use Rattle.h264_controls.specs.declared.request.Request.{Request}
 use Rattle.preview.specs.Lines.{request_text, request_lines}
 
 -- one request more

@@ -2,8 +2,10 @@
 use Rattle.std.specs.Prelude.{ℕ, ◌+◌, ◌++◌, length, List, [], ◌∷◌, Option, Some, None, codes, decimal, if◌then◌else◌}
 use Rattle.std.specs.Fmt.{signed_decimal}
 use Rattle.std.specs.List.{join_by}
-use Rattle.request_core.specs.declared.request.DpbEntry.{DpbEntry}
-use Rattle.request_core.specs.declared.request.Request.{Request}
+use Rattle.std.specs.Int.{w32, cast_signed}
+use Rattle.h264_controls.specs.declared.request.Request.{Request}
+use Rattle.h264_controls.specs.declared.v4l2_ctrl_h264_decode_params.V4l2H264DpbEntry.{V4l2H264DpbEntry}
+use Rattle.h264_controls.specs.DecodeParamsForm.{dpb_entry_flags}
 use Rattle.request_core.specs.declared.outcome.Plan.{Plan}
 use Rattle.slice_header.specs.declared.slice_types.SliceType.{SliceType}
 use Rattle.slice_header.specs.declared.slice_types.SliceType.TheVariants.{P, B, I, Sp, Si}
@@ -16,10 +18,10 @@ unit_line line = codes "unit " ++ (decimal line.id ++ (codes " position " ++ (de
     ++ (codes " counts " ++ (signed_decimal line.counts.top ++ (codes " " ++ (signed_decimal line.counts.bottom
     ++ (codes " requests " ++ (decimal line.requests ++ codes "\n")))))))))
 
--- timestamp, number and flags of an entry: valid and active, and whether it's long-term
-abbrev pub entry_text : DpbEntry → List ℕ
-entry_text entry = decimal entry.reference_ts ++ (codes ":" ++ (signed_decimal entry.pic_num
-    ++ (codes ":" ++ decimal (if entry.is_long_term then 7 else 3))))
+-- timestamp, number and flags of an entry
+abbrev pub entry_text : V4l2H264DpbEntry → List ℕ
+entry_text entry = decimal entry.reference_ts ++ (codes ":" ++ (signed_decimal (cast_signed w32 entry.pic_num)
+    ++ (codes ":" ++ decimal (dpb_entry_flags entry.flags))))
 
 -- a place, or x for a missing entry
 abbrev pub place_text : Option ℕ → List ℕ
@@ -43,12 +45,12 @@ type_number Si = 4
 abbrev pub request_text : ℕ → ℕ → Request → List ℕ
 request_text id slice request =
     codes "request " ++ (decimal id ++ (codes "." ++ (decimal slice
-    ++ (codes " ts " ++ (decimal request.timestamp ++ (codes " bits " ++ (decimal request.header_bit_size
-    ++ (codes " type " ++ (decimal (type_number request.slice_type)
-    ++ (codes " frame " ++ (decimal request.frame_num
-    ++ (codes " dpb " ++ (list_text entry_text request.dpb.items
-    ++ (codes " l0 " ++ (list_text place_text request.ref_pic_list0
-    ++ (codes " l1 " ++ (list_text place_text request.ref_pic_list1
+    ++ (codes " ts " ++ (decimal request.timestamp ++ (codes " bits " ++ (decimal request.controls.slice_params.header_bit_size
+    ++ (codes " type " ++ (decimal (type_number request.controls.slice_params.slice_type)
+    ++ (codes " frame " ++ (decimal request.controls.decode_params.frame_num
+    ++ (codes " dpb " ++ (list_text entry_text request.controls.decode_params.dpb.items
+    ++ (codes " l0 " ++ (list_text place_text request.controls.slice_params.ref_pic_list0
+    ++ (codes " l1 " ++ (list_text place_text request.controls.slice_params.ref_pic_list1
     ++ (codes " hold " ++ (decimal (if request.hold then 1 else 0) ++ codes "\n")))))))))))))))))))
 
 -- the line of a request

@@ -4,17 +4,12 @@ ghost use Rattle.std.specs.Prelude.{Some};
 ghost use Rattle.preview.specs.Lines.{entry_text, list_text, place_text, plan_lines, request_line, unit_line};
 ghost use Rattle.preview.specs.UnitLines.{fault_line, unit_lines};
 
+use h264_controls::{Request, V4l2H264DpbEntry};
 use order_count::Counts;
 use ref_marking::AuId;
-use request_core::{DpbEntry, Outcome, Plan, Request, ValidityFault};
+use request_core::{Outcome, Plan, ValidityFault};
 use std::fmt;
 use std::fmt::{Display, Formatter, Write};
-
-/// V4L2_H264_DPB_ENTRY_FLAG_VALID and V4L2_H264_DPB_ENTRY_FLAG_ACTIVE, which each entry has.
-const VALID_AND_ACTIVE: u32 = 0x01 + 0x02;
-
-/// V4L2_H264_DPB_ENTRY_FLAG_LONG_TERM.
-const LONG_TERM: u32 = 0x04;
 
 /// The lines of a unit: what becomes of it.
 #[derive(Drop)]
@@ -117,11 +112,13 @@ impl<'a> Display for RequestLine<'a> {
 
     fn fmt<W: Write>(&self, f: &mut Formatter<W>) -> fmt::Result {
         let (id, slice, request) = (self.id.number(), self.slice, self.request);
-        let (timestamp, bits) = (request.timestamp, request.header_bit_size);
-        let (slice_type, frame_num) = (request.slice_type as u8, request.frame_num);
-        let dpb = Dpb(request.dpb.as_slice());
-        let l0 = List(request.ref_pic_list0.entries());
-        let l1 = List(request.ref_pic_list1.entries());
+        let params = &request.controls.slice_params;
+        let picture = &request.controls.decode_params;
+        let (timestamp, bits) = (request.timestamp, params.header_bit_size);
+        let (slice_type, frame_num) = (params.slice_type as u8, picture.frame_num);
+        let dpb = Dpb(picture.dpb.as_slice());
+        let l0 = List(params.ref_pic_list0.entries());
+        let l1 = List(params.ref_pic_list1.entries());
         let hold = request.hold as u8;
         write!(f, "request {id}.{slice} ts {timestamp} bits {bits} ")?;
         write!(f, "type {slice_type} frame {frame_num} dpb {dpb} ")?;
@@ -131,7 +128,7 @@ impl<'a> Display for RequestLine<'a> {
 
 /// The entries of a decoded picture buffer.
 #[derive(Drop)]
-struct Dpb<'a>(&'a [DpbEntry]);
+struct Dpb<'a>(&'a [V4l2H264DpbEntry]);
 
 impl<'a> Display for Dpb<'a> {
     ghost output = { λ dpb. Some (list_text entry_text dpb.0.now) };
@@ -150,18 +147,19 @@ impl<'a> Display for Dpb<'a> {
 
 /// An entry of a decoded picture buffer.
 #[derive(Drop)]
-struct Entry(DpbEntry);
+struct Entry(V4l2H264DpbEntry);
 
 impl Display for Entry {
     ghost output = { λ entry. Some (entry_text entry.0) };
 
     fn fmt<W: Write>(&self, f: &mut Formatter<W>) -> fmt::Result {
-        let DpbEntry {
+        let V4l2H264DpbEntry {
             reference_ts,
             pic_num,
-            is_long_term,
+            flags,
+            ..
         } = self.0;
-        let flags = VALID_AND_ACTIVE + if is_long_term { LONG_TERM } else { 0 };
+        let (pic_num, flags) = (pic_num.cast_signed(), flags.number());
         write!(f, "{reference_ts}:{pic_num}:{flags}")
     }
 }

@@ -2,7 +2,7 @@
 
 use super::each_fault::{I, P, PPS, outcomes};
 use super::writer::{Nal, Order, Slice};
-use crate::{DpbEntry, Outcome, Plan};
+use crate::{Outcome, Plan};
 use Order::{One, Zero};
 use std::process::Abort;
 use std::test::Fail;
@@ -61,16 +61,14 @@ fn refers_to(rt: &impl Abort, outcome: &Outcome, dpb: &[(u64, i32, bool)], list:
     let [request] = plan(rt, outcome).requests.as_slice() else {
         panic!(rt; "one slice has one request");
     };
-    assert_eq!(rt; request.dpb.len(), dpb.len());
-    for (entry, (reference_ts, pic_num, is_long_term)) in request.dpb.iter().zip(dpb) {
-        let wanted = DpbEntry {
-            reference_ts: *reference_ts,
-            pic_num: *pic_num,
-            is_long_term: *is_long_term,
-        };
-        assert_eq!(rt; *entry, wanted);
+    let entries = request.controls.decode_params.dpb.as_slice();
+    assert_eq!(rt; entries.len(), dpb.len());
+    for (entry, (reference_ts, pic_num, is_long_term)) in entries.iter().zip(dpb) {
+        assert_eq!(rt; entry.reference_ts, *reference_ts);
+        assert_eq!(rt; entry.pic_num.cast_signed(), *pic_num);
+        assert_eq!(rt; entry.flags.long_term, *is_long_term);
     }
-    assert_eq!(rt; request.ref_pic_list0.entries(), list);
+    assert_eq!(rt; request.controls.slice_params.ref_pic_list0.entries(), list);
 }
 
 #[test]

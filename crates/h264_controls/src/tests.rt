@@ -9,10 +9,15 @@ mod plain;
 use self::distinct::distinct_controls;
 use self::plain::{idr_controls, p_controls};
 use crate::{Controls, Request, digest_form};
+use access_unit::Shared;
 use bytes::Bytes;
 use std::alloc::{AllocError, Global};
 use std::process::Abort;
 use std::test::Fail;
+
+fn shared<T: Drop>(alloc: Global, value: T) -> Result<Shared<T>, AllocError> {
+    Ok(Shared::new(alloc, value)?)
+}
 
 /// So many times these bytes.
 type Piece<'a> = (usize, &'a [u8]);

@@ -19,7 +19,7 @@ fn shared<T: Drop>(alloc: Global, value: T) -> Result<Shared<T>, AllocError> {
     Ok(Shared::new(alloc, value)?)
 }
 
-/// So many times these bytes.
+/// How many times, and the bytes.
 type Piece<'a> = (usize, &'a [u8]);
 
 fn joined(alloc: Global, pieces: &[Piece<'_>]) -> Result<Vec<u8>, AllocError> {

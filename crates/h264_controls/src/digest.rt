@@ -5,16 +5,13 @@ ghost use Rattle.std.specs.Vec.{vec_capacity};
 ghost use Rattle.h264_controls.specs.DigestForm.{digest_form, digest_size, weights_form, weights_size};
 
 use crate::controls::Controls;
-use crate::v4l2_ctrl_h264_pred_weights::V4l2CtrlH264PredWeights;
 use crate::words::put;
-use param_sets::Shared;
 use std::alloc::AllocError;
 
-/// The digest form of the controls goes behind the form, which grows once, by 2,040 bytes, or by 2,812 where there are
-/// weights.
+/// Appends the digest form of the controls: 2,040 bytes, or 2,812 where there are weights. Room is reserved once.
 ///
-/// It is this project's own: the members of the controls in order, without gaps and without reference_ts, little-endian,
-/// signed ones in two's complement, flags by the numbers that Linux gives them.
+/// The form is this project's own: the members in order, without gaps and without reference_ts, little-endian, signed
+/// ones in two's complement, flags by Linux's numbers. Memory is wanted only where the room isn't there.
 pub fn digest_form(controls: &Controls, form: &mut Vec<u8>) -> Result<(), AllocError>
     ensures written { OnOk result (form.new.items ≡ form.old.items ++ digest_form controls.now) }
     ensures size { OnOk result (vec_len form.new ≡ vec_len form.old + digest_size controls.now) }
@@ -45,19 +42,19 @@ fn put_controls(controls: &Controls, form: &mut Vec<u8>)
     controls.sps.put(form);
     controls.pps.put(form);
     controls.scaling_matrix.put(form);
-    put_weights(&controls.pred_weights, form);
+    put_weights(controls, form);
     controls.slice_params.put(form);
     controls.decode_params.put(form);
 }
 
 // Whether there are weights, and the weights.
-fn put_weights(pred_weights: &Option<Shared<V4l2CtrlH264PredWeights>>, form: &mut Vec<u8>)
-    requires { vec_len form.old + weights_size pred_weights.now ≤ vec_capacity form.old }
-    ensures items { form.new.items ≡ form.old.items ++ weights_form pred_weights.now }
-    ensures len { vec_len form.new ≡ vec_len form.old + weights_size pred_weights.now }
+fn put_weights(controls: &Controls, form: &mut Vec<u8>)
+    requires { vec_len form.old + weights_size controls.now.pred_weights ≤ vec_capacity form.old }
+    ensures items { form.new.items ≡ form.old.items ++ weights_form controls.now.pred_weights }
+    ensures len { vec_len form.new ≡ vec_len form.old + weights_size controls.now.pred_weights }
     ensures capacity { vec_capacity form.old ≤ vec_capacity form.new }
 {
-    match pred_weights {
+    match &controls.pred_weights {
         None => put(form, &[0]),
         Some(weights) => {
             put(form, &[1]);

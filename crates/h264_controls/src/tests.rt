@@ -9,12 +9,17 @@ mod plain;
 use self::distinct::distinct_controls;
 use self::plain::{idr_controls, p_controls};
 use crate::{Controls, Request, digest_form};
+use param_sets::Shared;
 use bytes::Bytes;
 use std::alloc::{AllocError, Global};
 use std::process::Abort;
 use std::test::Fail;
 
-/// So many times these bytes.
+fn shared<T: Drop>(alloc: Global, value: T) -> Result<Shared<T>, AllocError> {
+    Ok(Shared::new(alloc, value)?)
+}
+
+/// How many times, and the bytes.
 type Piece<'a> = (usize, &'a [u8]);
 
 fn joined(alloc: Global, pieces: &[Piece<'_>]) -> Result<Vec<u8>, AllocError> {

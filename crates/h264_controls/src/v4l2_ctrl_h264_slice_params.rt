@@ -18,7 +18,7 @@ pub struct V4l2CtrlH264SliceParams {
     pub slice_type: SliceType,
     /// 0 here: a sequence with separate colour planes is refused.
     pub colour_plane_id: u8,
-    /// 0 here: a redundant picture is refused.
+    /// 0 here: a unit with a redundant picture has a fault.
     pub redundant_pic_cnt: u8,
     pub cabac_init_idc: u8,
     pub slice_qp_delta: i8,

@@ -1,12 +1,12 @@
 //! Controls with a value of its own in each member.
 
 use super::lists::p_list;
+use super::shared;
 use crate::{
     Controls, DecodeFlags, DpbEntryFlags, PpsFlags, SliceFlags, SpsFlags, V4l2CtrlH264DecodeParams,
     V4l2CtrlH264Pps, V4l2CtrlH264PredWeights, V4l2CtrlH264ScalingMatrix, V4l2CtrlH264SliceParams,
     V4l2CtrlH264Sps, V4l2H264DpbEntry, V4l2H264FieldReference, V4l2H264WeightFactors,
 };
-use param_sets::Shared;
 use arrayvec::ArrayVec;
 use param_sets::{AtMost, ChromaFormat, PicOrderCntType, WeightedBipred};
 use slice_header::SliceType;
@@ -186,10 +186,10 @@ fn decode_params() -> V4l2CtrlH264DecodeParams {
 
 pub(super) fn distinct_controls(alloc: Global) -> Result<Controls, Fail> {
     Ok(Controls {
-        sps: Shared::new(alloc, sps())?,
+        sps: shared(alloc, sps())?,
         pps: pps(),
-        scaling_matrix: Shared::new(alloc, scaling_matrix())?,
-        pred_weights: Some(Shared::new(alloc, pred_weights())?),
+        scaling_matrix: shared(alloc, scaling_matrix())?,
+        pred_weights: Some(shared(alloc, pred_weights())?),
         slice_params: slice_params(alloc)?,
         decode_params: decode_params(),
     })

@@ -2,15 +2,15 @@
 
 use super::distinct::pred_weights;
 use super::plain::idr_controls;
+use super::shared;
 use crate::{Controls, Request, digest_form};
-use param_sets::Shared;
 use bytes::Bytes;
 use std::alloc::{AllocError, Global};
 
 /// The controls of a picture, with weights.
 fn controls_with_weights(alloc: Global) -> Result<Controls, AllocError> {
     let mut controls = idr_controls(alloc)?;
-    controls.pred_weights = Some(Shared::new(alloc, pred_weights())?);
+    controls.pred_weights = Some(shared(alloc, pred_weights())?);
     Ok(controls)
 }
 

@@ -1,12 +1,12 @@
 //! Controls of small streams, put together by hand.
 
 use super::lists::p_list;
+use super::shared;
 use crate::{
     Controls, DecodeFlags, DpbEntryFlags, PpsFlags, SliceFlags, SpsFlags, V4l2CtrlH264DecodeParams,
     V4l2CtrlH264Pps, V4l2CtrlH264ScalingMatrix, V4l2CtrlH264SliceParams, V4l2CtrlH264Sps,
     V4l2H264DpbEntry, V4l2H264FieldReference,
 };
-use param_sets::Shared;
 use arrayvec::ArrayVec;
 use param_sets::{AtMost, ChromaFormat, PicOrderCntType, WeightedBipred};
 use ref_lists::List;
@@ -154,9 +154,9 @@ fn controls(
         scaling_list_8x8: [[16; 64]; 6],
     };
     Ok(Controls {
-        sps: Shared::new(alloc, sps())?,
+        sps: shared(alloc, sps())?,
         pps: pps(),
-        scaling_matrix: Shared::new(alloc, flat)?,
+        scaling_matrix: shared(alloc, flat)?,
         pred_weights: None,
         slice_params,
         decode_params,

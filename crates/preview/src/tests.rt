@@ -1,5 +1,6 @@
 //! Runs over memory: texts in, lines out.
 
+mod controls;
 mod examples;
 mod loads;
 mod refused;

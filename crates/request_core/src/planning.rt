@@ -134,11 +134,7 @@ fn controls_of(
         pps: slice.sets.pps_control(),
         scaling_matrix: slice.sets.scaling_matrix()?,
         pred_weights: pred_weights_of(alloc, slice.sps(), &slice.header)?,
-        slice_params: V4l2CtrlH264SliceParams::of(
-            &slice.header,
-            &listed.list_0,
-            &listed.list_1,
-        ),
+        slice_params: V4l2CtrlH264SliceParams::of(&slice.header, &listed.list_0, &listed.list_1),
         decode_params: V4l2CtrlH264DecodeParams::of(marks, slice.sps(), &slice.header, counts),
     })
 }

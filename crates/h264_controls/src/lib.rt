@@ -1,8 +1,9 @@
 //! The controls of a stateless H.264 decoder, as the media documentation of the Linux kernel has them.
 //!
-//! A control is a struct under its Linux name, with the members that Linux gives it; a `Request` has the six controls
-//! of a slice and the slice's bytes. They are filled in the crate above, from the sets, the header and the state before
-//! the picture's marking. `digest_form` writes controls as the bytes of which a picture's digest is made.
+//! A control is a struct under its Linux name, with the members that Linux gives it and a function `of` that fills it
+//! from the parsed sets, the slice header, the lists and the state before the picture's marking. A `Request` has the six
+//! controls of a slice and the slice's bytes. `digest_form` writes controls as the bytes of which a picture's digest is
+//! made.
 #![tactic(auto)]
 
 mod controls;

@@ -6,9 +6,8 @@ use Rattle.std.specs.Int.{w32, cast_signed}
 use Rattle.h264_controls.specs.declared.request.Request.{Request}
 use Rattle.h264_controls.specs.declared.v4l2_ctrl_h264_decode_params.V4l2H264DpbEntry.{V4l2H264DpbEntry}
 use Rattle.h264_controls.specs.DecodeParamsForm.{dpb_entry_flags}
+use Rattle.h264_controls.specs.SliceParamsForm.{slice_type_number}
 use Rattle.request_core.specs.declared.outcome.Plan.{Plan}
-use Rattle.slice_header.specs.declared.slice_types.SliceType.{SliceType}
-use Rattle.slice_header.specs.declared.slice_types.SliceType.TheVariants.{P, B, I, Sp, Si}
 use Rattle.preview.specs.declared.lines.UnitLine.{UnitLine}
 use Rattle.preview.specs.declared.lines.RequestLine.{RequestLine}
 
@@ -33,20 +32,12 @@ abbrev pub list_text : {A : Type 0} → (A → List ℕ) → List A → List ℕ
 list_text text [] = codes "-"
 list_text text (x ∷ xs) = join_by text (codes ",") (x ∷ xs)
 
--- slice_type modulo 5
-abbrev pub type_number : SliceType → ℕ
-type_number P = 0
-type_number B = 1
-type_number I = 2
-type_number Sp = 3
-type_number Si = 4
-
 -- the line of a request, by the unit's id and the place of the slice
 abbrev pub request_text : ℕ → ℕ → Request → List ℕ
 request_text id slice request =
     codes "request " ++ (decimal id ++ (codes "." ++ (decimal slice
     ++ (codes " ts " ++ (decimal request.timestamp ++ (codes " bits " ++ (decimal request.controls.slice_params.header_bit_size
-    ++ (codes " type " ++ (decimal (type_number request.controls.slice_params.slice_type)
+    ++ (codes " type " ++ (decimal (slice_type_number request.controls.slice_params.slice_type)
     ++ (codes " frame " ++ (decimal request.controls.decode_params.frame_num
     ++ (codes " dpb " ++ (list_text entry_text request.controls.decode_params.dpb.items
     ++ (codes " l0 " ++ (list_text place_text request.controls.slice_params.ref_pic_list0

@@ -1,6 +1,6 @@
 -- What slices give, with one slice more at the end.
-use Rattle.std.proofs.Common.{◌≡◌, ℕ, ◌<◌, ◌≤◌, true, false, cond, List, [], ◌∷◌, ◌++◌, map, Ok, Err, ⊎_elim, arith, refl, ap, sym, ◌∙◌}
-use Rattle.std.specs.Prelude.{Result, if◌then◌else◌, nat_le}
+use Rattle.std.proofs.Common.{◌≡◌, ◌<◌, ◌≤◌, List, [], ◌∷◌, ◌++◌, map, Ok, Err, ⊎_elim, arith, refl, ap, sym, ◌∙◌}
+use Rattle.std.specs.Prelude.{Result, if◌then◌else◌}
 use Rattle.std.proofs.lemmas.List.{map-append}
 use Rattle.std.proofs.lemmas.Bool.{le-leb, lt-leb, cases_lt}
 use Rattle.request_core.specs.declared.fault.ValidityFault.{ValidityFault}

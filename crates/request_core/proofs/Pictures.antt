@@ -1,13 +1,12 @@
 -- What a picture leads to where nothing stands in its way.
-use Rattle.std.proofs.Common.{◌≡◌, ℕ, List, map, Ok, Err, ap, ◌∙◌, refl}
-use Rattle.std.specs.Prelude.{Result, ⊤}
+use Rattle.std.proofs.Common.{◌≡◌, ℕ, List, map, Ok, ap, ◌∙◌}
+use Rattle.std.specs.Prelude.{Result}
 use Rattle.param_sets.specs.Reading.{◌>>=◌}
 use Rattle.order_count.specs.declared.counts.Counts.{Counts}
 use Rattle.order_count.specs.Counting.{counts_of}
 use Rattle.ref_marking.specs.MarkedFrames.{Marked}
 use Rattle.ref_marking.specs.MarksAfter.{marks_after}
 use Rattle.request_core.specs.declared.fault.ValidityFault.{ValidityFault}
-use Rattle.request_core.specs.declared.outcome.Plan.{Plan}
 use Rattle.request_core.specs.declared.stop.Stop.{Stop}
 use Rattle.request_core.specs.declared.stop.Stop.TheVariants.{Fault, Memory}
 use Rattle.request_core.specs.Answers.{Ends}

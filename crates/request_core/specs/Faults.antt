@@ -14,7 +14,7 @@ use Rattle.order_count.specs.Pictures.{is_idr, is_reference}
 use Rattle.order_count.specs.FrameNumbers.{max_frame_num}
 use Rattle.ref_marking.specs.declared.frames.Frame.{Frame}
 use Rattle.ref_marking.specs.declared.frames.Term.{Term}
-use Rattle.ref_marking.specs.declared.frames.Term.TheVariants.{ShortTerm, LongTerm}
+use Rattle.ref_marking.specs.declared.frames.Term.TheVariants.{ShortTerm}
 use Rattle.request_core.specs.declared.fault.ValidityFault.{ValidityFault}
 use Rattle.request_core.specs.declared.fault.ValidityFault.TheVariants.{Redundant, SliceOrder, SliceMismatch, NoIdr, SpsChange, IdrFrameNum, FrameNumGap, FrameNumRepeat}
 use Rattle.param_sets.specs.SameSets.{same_sps}

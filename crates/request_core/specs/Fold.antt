@@ -1,5 +1,5 @@
 -- The fold over a stream (ITU-T H.264, 8.2): one step of it, and all.
-use Rattle.std.specs.Prelude.{◌≡◌, ℕ, Bool, ◌||◌, List, [], ◌∷◌, map, filter, Option, None, Some, Result, Ok, Err, if◌then◌else◌, ⊤}
+use Rattle.std.specs.Prelude.{ℕ, ◌||◌, List, [], ◌∷◌, map, filter, Option, None, Some, Result, Ok, Err, if◌then◌else◌, ⊤}
 use Rattle.annexb.specs.NalUnit.{is_slice}
 use Rattle.param_sets.specs.Reading.{◌>>=◌}
 use Rattle.access_unit.specs.Sets.{sets_of}

@@ -1,5 +1,5 @@
 -- The numbers of the faults: the order in which they are looked for.
-use Rattle.std.specs.Prelude.{ℕ, List, [], ◌∷◌, Option, None, Some, Result, Ok, Err, nat_le, if◌then◌else◌}
+use Rattle.std.specs.Prelude.{ℕ, List, [], ◌∷◌, Result, Ok, Err, nat_le, if◌then◌else◌}
 use Rattle.request_core.specs.declared.fault.ValidityFault.{ValidityFault}
 use Rattle.request_core.specs.declared.fault.ValidityFault.TheVariants.{MissingPps, MissingSps, HeaderCut, HeaderValue, Redundant, SliceOrder, SliceMismatch, NoIdr, SpsChange, IdrFrameNum, FrameNumGap, FrameNumRepeat, OrderRange, OrderTie, NoReference, BadModification, BadMarking, TooManyReferences}
 

@@ -1,4 +1,4 @@
-use Rattle.std.proofs.Common.{◌≡◌, ◌∷◌, ◌++◌, map, List, [], take, refl, ap, sym, ◌∙◌, ◌+◌}
+use Rattle.std.proofs.Common.{◌≡◌, ◌∷◌, ◌++◌, map, [], take, ap, sym, ◌∙◌, ◌+◌}
 use Rattle.std.proofs.lemmas.List.{take_more, get_or_read}
 use Rattle.request_core.specs.Numbers.{gathered}
 use Rattle.request_core.specs.Gathering.{behind}

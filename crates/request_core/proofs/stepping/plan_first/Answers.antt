@@ -1,4 +1,4 @@
-use Rattle.std.proofs.Common.{◌≡◌, Ok, ap, sym, ◌∙◌}
+use Rattle.std.proofs.Common.{Ok, ap, sym, ◌∙◌}
 use Rattle.std.proofs.lemmas.Result.{err_from_is_err_and}
 use Rattle.request_core.proofs.Pictures.{picture-is, ends-followed, ends-counted, ends-listed, ends-marked}
 use Rattle.request_core.proofs.stepping.plan_first.Goals as goal

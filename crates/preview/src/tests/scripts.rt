@@ -218,6 +218,30 @@ fn tells_faults_of_units(rt: HostRuntime) -> Result<(), Fail> {
 }
 
 /// Numbers are printed as values, and one that no id reaches is one of no unit.
+/// A P picture that is shown behind the B picture after it moves up where that is deleted.
+#[test]
+fn positions_follow_a_deletion(rt: HostRuntime) -> Result<(), Fail> {
+    let request = "request 2.0 ts 2000 bits 27 type 0 frame 1 dpb 1000:0:3 l0 0 l1 - hold 0\n";
+    answers(
+        &rt,
+        &[
+            "insert first 000001674D000AF6F2 00000168CE3880 000001658884 0C\n",
+            "insert after 1 00 00 01 41 9A 28 30\n",
+            "insert after 2 00 00 01 01 9E 45 18\n",
+            "unit 2\ndelete 3\nunit 2\n",
+        ],
+        &[
+            "edit 1 id 1\nedit 2 id 2\nedit 3 id 3\n",
+            "unit 2 position 2 counts 4 4 requests 1\n",
+            request,
+            "edit 4 id 3\n",
+            "unit 2 position 1 counts 4 4 requests 1\n",
+            request,
+        ],
+    )?;
+    Ok(())
+}
+
 #[test]
 fn names_units_by_any_number(rt: HostRuntime) -> Result<(), Fail> {
     answers(

@@ -12,7 +12,7 @@ use std::thread::Threads;
 /// A place in the form, and the bytes that stand there.
 type Row<'a> = (usize, &'a [u8]);
 
-/// The sequence parameter set's first members, its flags; the picture parameter set's first scaling list; no weights;
+/// The sequence parameter set's first members and its flags; the scaling matrix, which is flat; no weights;
 /// header_bit_size, slice_type, nal_ref_idc, dec_ref_pic_marking_bit_size and the flag of an IDR picture.
 const ROWS_OF_A: [Row<'static>; 9] = [
     (0, &[0x42, 0, 0x0A, 0, 1, 0, 0, 0, 2, 0, 1, 0]),

@@ -217,7 +217,6 @@ fn tells_faults_of_units(rt: HostRuntime) -> Result<(), Fail> {
     Ok(())
 }
 
-/// Numbers are printed as values, and one that no id reaches is one of no unit.
 /// A P picture that is shown behind the B picture after it moves up where that is deleted.
 #[test]
 fn positions_follow_a_deletion(rt: HostRuntime) -> Result<(), Fail> {
@@ -242,6 +241,7 @@ fn positions_follow_a_deletion(rt: HostRuntime) -> Result<(), Fail> {
     Ok(())
 }
 
+/// Numbers are printed as values, and one that no id reaches is one of no unit.
 #[test]
 fn names_units_by_any_number(rt: HostRuntime) -> Result<(), Fail> {
     answers(

@@ -1,12 +1,12 @@
 """What the tools share: their command line, and the planner that they run."""
 import argparse
-import pathlib
 import shlex
 import shutil
 import subprocess
 import sys
 
-TOP = pathlib.Path(__file__).resolve().parent.parent
+from workspace import TOP
+
 NOT_INSTALLED = 77
 
 

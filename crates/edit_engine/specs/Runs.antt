@@ -15,7 +15,7 @@ Shows stream id (Ok shown) =
     (outcome_in stream id ≡ Some shown.outcome) × (position_in stream id ≡ Some shown.position)
 Shows stream id (Err none) = place_of stream id ≡ None
 
--- the reply to a command, from the state before it to the state behind it
+-- the reply to a command, from the state before it to the state after it
 abbrev pub Answers : Machine → Command → Reply → Machine → Type 0
 Answers old (commands.Edit edit) (replies.Edit answer) new = AnswersEdit old edit answer new
 Answers old (commands.Unit id) (replies.Unit answer) new = Shows old.register.stream id answer × (new ≡ old)

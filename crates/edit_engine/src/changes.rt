@@ -2,7 +2,7 @@
 
 ghost use Rattle.std.specs.Prelude.{◌≡◌, IfOk, IfErr, OnOk, OnErr};
 ghost use Rattle.edit_engine.specs.declared.edits.Edit.TheVariants.{Insert, Delete, Replace};
-ghost use Rattle.edit_engine.specs.Changes.{IsFor, IsInside, id_of, stream_behind, given_behind};
+ghost use Rattle.edit_engine.specs.Changes.{IsFor, IsInside, id_of, stream_after, given_after};
 ghost use Rattle.edit_engine.specs.Refusals.{IsRefused};
 
 use crate::edits::{Edit, Place};
@@ -112,7 +112,7 @@ impl Change {
 
     /// How many ids were given with it, if there were so many before.
     pub(crate) fn given(&self, given: u32) -> u32
-        ensures { result ≡ given_behind self.now given }
+        ensures { result ≡ given_after self.now given }
     {
         match self {
             Change::Insertion { id, .. } => id.number(),
@@ -123,7 +123,7 @@ impl Change {
     /// Makes the change.
     pub(crate) fn make(self, units: &mut Vec<(AuId, Unit)>) -> Result<(), AllocError>
         requires { IsInside self units.old.items }
-        ensures ok { OnOk result (units.new.items ≡ stream_behind self units.old.items) }
+        ensures ok { OnOk result (units.new.items ≡ stream_after self units.old.items) }
         ensures err { OnErr result (units.new.items ≡ units.old.items) }
     {
         match self {

@@ -122,7 +122,7 @@ impl Session {
     /// The accepted edits, in order.
     pub fn journal(&self) -> &[Edit]
         ensures value { result.now ≡ self.now.journal }
-        // Each accepted behind those before it, they lead to the stream.
+        // Each accepted after those before it, they lead to the stream.
         ensures replayed { Replays no_units self.now.journal self.now.register }
     {
         self.journal.as_slice()

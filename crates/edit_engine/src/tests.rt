@@ -44,7 +44,7 @@ fn insert(place: Place, text: &'static [u8]) -> Edit {
     Edit::Insert(place, Bytes::from_static(text))
 }
 
-/// The insertion of a text behind a unit.
+/// The insertion of a text after a unit.
 fn insert_after(id: u32, text: &'static [u8]) -> Edit {
     insert(Place::After(AuId::new(id)), text)
 }

@@ -9,7 +9,8 @@ use Rattle.edit_engine.specs.Changes.{IsFor, stream_after}
 use Rattle.edit_engine.specs.Edits.{Register, no_units, most_units, Replays}
 
 -- outcomes and positions are those of the stream, which is what the accepted edits lead to
-pub record IsKept (journal : List Edit) (register : Register) (outcomes : List Outcome) (positions : List (Option ℕ)) : Type 0 where
+pub record IsKept
+    (journal : List Edit) (register : Register) (outcomes : List Outcome) (positions : List (Option ℕ)) : Type 0 where
   pub folded : outcomes ≡ outcomes_of register.stream
   pub placed : positions ≡ positions_of (outcomes_of register.stream)
   pub bounded : length register.stream ≤ most_units

@@ -49,8 +49,10 @@ fn insertion(
     place: Place,
     text: &Bytes,
 ) -> Result<Change, EditRefused>
-    ensures ok { IfOk result (IsFor (record { given = given; stream = units.now }) (Insert place text.now)) }
-    ensures err { IfErr result (IsRefused (record { given = given; stream = units.now }) (Insert place text.now)) }
+    ensures ok { IfOk result
+        (IsFor (record { given = given; stream = units.now }) (Insert place text.now)) }
+    ensures err { IfErr result
+        (IsRefused (record { given = given; stream = units.now }) (Insert place text.now)) }
 {
     let unit = read_shared(alloc, text)?;
     let Some(at) = start_of(units, place) else {
@@ -71,8 +73,10 @@ fn insertion(
 
 /// The deletion of the unit of an id.
 fn deletion(units: &[(AuId, Unit)], given: u32, id: AuId) -> Result<Change, EditRefused>
-    ensures ok { IfOk result (IsFor (record { given = given; stream = units.now }) (Delete id)) }
-    ensures err { IfErr result (IsRefused (record { given = given; stream = units.now }) (Delete id)) }
+    ensures ok { IfOk result
+        (IsFor (record { given = given; stream = units.now }) (Delete id)) }
+    ensures err { IfErr result
+        (IsRefused (record { given = given; stream = units.now }) (Delete id)) }
 {
     match place_of(units, id) {
         Some(at) => Ok(Change::Deletion { at, id }),
@@ -88,8 +92,10 @@ fn replacement(
     id: AuId,
     text: &Bytes,
 ) -> Result<Change, EditRefused>
-    ensures ok { IfOk result (IsFor (record { given = given; stream = units.now }) (Replace id text.now)) }
-    ensures err { IfErr result (IsRefused (record { given = given; stream = units.now }) (Replace id text.now)) }
+    ensures ok { IfOk result
+        (IsFor (record { given = given; stream = units.now }) (Replace id text.now)) }
+    ensures err { IfErr result
+        (IsRefused (record { given = given; stream = units.now }) (Replace id text.now)) }
 {
     let unit = read_shared(alloc, text)?;
     match place_of(units, id) {

@@ -74,7 +74,8 @@ pub(crate) fn enter(
     requires { IsInside change units.old.items }
     ensures ok { OnOk result ((units.new.items ≡ stream_after change units.old.items)
         × (journal.new.items ≡ journal.old.items ++ edit ∷ [])) }
-    ensures err { OnErr result ((units.new.items ≡ units.old.items) × (journal.new.items ≡ journal.old.items)) }
+    ensures err { OnErr result ((units.new.items ≡ units.old.items)
+        × (journal.new.items ≡ journal.old.items)) }
 {
     journal.reserve(1)?;
     change.make(units)?;

@@ -1,7 +1,7 @@
 -- Runs one command on.
 use Rattle.std.proofs.Common.{List, [], ◌∷◌, ◌++◌, refl, sym}
 use Rattle.edit_engine.specs.declared.commands.Command.{Command}
-use Rattle.edit_engine.specs.declared.commands.Reply.{Reply}
+use Rattle.edit_engine.specs.declared.replies.Reply.{Reply}
 use Rattle.edit_engine.specs.Machines.{Machine}
 use Rattle.edit_engine.specs.Runs.{Answers, Runs}
 

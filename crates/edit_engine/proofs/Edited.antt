@@ -14,12 +14,12 @@ use Rattle.edit_engine.specs.Numbers.{refusal_of_text}
 use Rattle.edit_engine.specs.Streams.{Stream}
 use Rattle.edit_engine.specs.Edits.{Register, no_units, Makes, Replays, most_units}
 use Rattle.edit_engine.specs.Refusals.{IsRefused, IsSplittable, TakesMemory}
-use Rattle.edit_engine.specs.Changes.{IsFor, IsInside, stream_behind, id_of, behind}
+use Rattle.edit_engine.specs.Changes.{IsFor, IsInside, stream_after, id_of, after}
 use Rattle.edit_engine.specs.Kept.{IsKept, IsPrepared}
 use Rattle.edit_engine.specs.declared.preparing.Prepared.{Prepared}
 use Rattle.request_core.specs.declared.outcome.Outcome.{Outcome}
 
--- an accepted edit behind others
+-- an accepted edit after others
 pub Replays-push : (from : Register) (edits : List Edit) (between : Register) (edit : Edit) (id : ℕ) (to : Register)
     → Replays from edits between → Makes between edit id to → Replays from (edits ++ edit ∷ []) to
 Replays-push from [] between edit id to is makes =
@@ -29,13 +29,13 @@ Replays-push from (first ∷ edits) between edit id to replays makes =
     (replays.0, replays.1, replays.2, Replays-push replays.1 edits between edit id to replays.3 makes)
 
 -- a change keeps a stream within the most units
-pub length-behind : (change : Change) (stream : Stream) → IsInside change stream → length stream ≤ most_units
-    → length (stream_behind change stream) ≤ most_units
-length-behind (Insertion at id unit) stream inside short =
+pub length-after : (change : Change) (stream : Stream) → IsInside change stream → length stream ≤ most_units
+    → length (stream_after change stream) ≤ most_units
+length-after (Insertion at id unit) stream inside short =
     let within : at ≤ length stream = inside.0 in
     omega (arith, length-insert stream at (id, unit) within, inside.1)
-length-behind (Deletion at id) stream inside short = omega (arith, length-remove stream at inside)
-length-behind (Replacement at id unit) stream inside short = omega (arith, length-set stream at (id, unit))
+length-after (Deletion at id) stream inside short = omega (arith, length-remove stream at inside)
+length-after (Replacement at id unit) stream inside short = omega (arith, length-set stream at (id, unit))
 
 -- an edit that comes to a change may want memory
 pub TakesMemory-for : (old : Register) (edit : Edit) (change : Change) → IsFor old edit change → TakesMemory old.stream edit
@@ -62,13 +62,13 @@ pub refusal_of_text-other : (refused : Refused) → (refused ≡ texts.Memory �
 refusal_of_text-other texts.Memory other = absurd (other refl)
 refusal_of_text-other refused other = refl
 
--- what is prepared may be stored behind what is
-pub IsKept-behind : (journal : List Edit) (old : Register) (outcomes : List Outcome) (positions : List (Option ℕ)) (edit : Edit) (prepared : Prepared)
+-- what is prepared may be stored next
+pub IsKept-after : (journal : List Edit) (old : Register) (outcomes : List Outcome) (positions : List (Option ℕ)) (edit : Edit) (prepared : Prepared)
     → IsKept journal old outcomes positions → IsPrepared old edit prepared
-    → IsKept (journal ++ edit ∷ []) (behind prepared.change old) prepared.outcomes.items prepared.positions.items
-IsKept-behind journal old outcomes positions edit prepared kept is = record {
+    → IsKept (journal ++ edit ∷ []) (after prepared.change old) prepared.outcomes.items prepared.positions.items
+IsKept-after journal old outcomes positions edit prepared kept is = record {
   folded = is.folded;
   placed = is.placed;
-  bounded = length-behind prepared.change old.stream is.comes_to.inside kept.bounded;
-  replayed = Replays-push no_units journal old edit (id_of prepared.change) (behind prepared.change old) kept.replayed is.comes_to.makes;
+  bounded = length-after prepared.change old.stream is.comes_to.inside kept.bounded;
+  replayed = Replays-push no_units journal old edit (id_of prepared.change) (after prepared.change old) kept.replayed is.comes_to.makes;
 }

@@ -1,21 +1,21 @@
--- The fold over units one behind the other.
+-- The fold over units one after the other.
 use Rattle.std.proofs.Common.{◌≡◌, suc, ◌++◌, List, [], ◌∷◌, length, length-append, append_assoc, refl, ap, sym, ◌∙◌, arith}
 use Rattle.request_core.specs.declared.outcome.Outcome.{Outcome}
 use Rattle.request_core.specs.States.{FoldState, no_units}
 use Rattle.request_core.specs.Fold.{fold_step, outcomes_from}
 use Rattle.edit_engine.specs.declared.folding.Fold.{Fold}
 use Rattle.edit_engine.specs.Streams.{Stream}
-use Rattle.edit_engine.specs.Folding.{state_behind, FoldsOn, IsFoldOf}
+use Rattle.edit_engine.specs.Folding.{state_after, FoldsOn, IsFoldOf}
 
--- the state behind units and others behind them
-pub state_behind-append : (state : FoldState) (units others : Stream)
-    → state_behind state (units ++ others) ≡ state_behind (state_behind state units) others
-state_behind-append state [] others = refl
-state_behind-append state (unit ∷ units) others = state_behind-append (fold_step state unit.0 unit.1).0 units others
+-- the state after units and others after them
+pub state_after-append : (state : FoldState) (units others : Stream)
+    → state_after state (units ++ others) ≡ state_after (state_after state units) others
+state_after-append state [] others = refl
+state_after-append state (unit ∷ units) others = state_after-append (fold_step state unit.0 unit.1).0 units others
 
--- what becomes of units and of others behind them
+-- what becomes of units and of others after them
 pub outcomes_from-append : (state : FoldState) (units others : Stream)
-    → outcomes_from state (units ++ others) ≡ outcomes_from state units ++ outcomes_from (state_behind state units) others
+    → outcomes_from state (units ++ others) ≡ outcomes_from state units ++ outcomes_from (state_after state units) others
 outcomes_from-append state [] others = refl
 outcomes_from-append state (unit ∷ units) others =
     ap (λ (rest : List Outcome). (fold_step state unit.0 unit.1).1 ∷ rest) (outcomes_from-append (fold_step state unit.0 unit.1).0 units others)
@@ -25,17 +25,17 @@ pub length-outcomes_from : (state : FoldState) (units : Stream) → length (outc
 length-outcomes_from state [] = refl
 length-outcomes_from state (unit ∷ units) = ap (λ n. suc n) (length-outcomes_from (fold_step state unit.0 unit.1).0 units)
 
--- a fold goes on behind a fold
+-- a fold goes on after a fold
 pub FoldsOn-append : (old between new : Fold) (units others : Stream)
     → FoldsOn old units between → FoldsOn between others new → FoldsOn old (units ++ others) new
 FoldsOn-append old between new units others first second = record {
   state_is =
-      second.state_is ∙ (ap (λ state. state_behind state others) first.state_is ∙ sym (state_behind-append old.state units others));
+      second.state_is ∙ (ap (λ state. state_after state others) first.state_is ∙ sym (state_after-append old.state units others));
   outcomes_are =
       second.outcomes_are
       ∙ (ap (λ (done : List Outcome). done ++ outcomes_from between.state others) first.outcomes_are
       ∙ (ap (λ state. old.outcomes.items ++ outcomes_from old.state units ++ outcomes_from state others) first.state_is
-      ∙ (append_assoc old.outcomes.items (outcomes_from old.state units) (outcomes_from (state_behind old.state units) others)
+      ∙ (append_assoc old.outcomes.items (outcomes_from old.state units) (outcomes_from (state_after old.state units) others)
       ∙ ap (λ (more : List Outcome). old.outcomes.items ++ more) (sym (outcomes_from-append old.state units others)))));
   counted = omega (arith, first.counted, second.counted, length-append units others);
 }

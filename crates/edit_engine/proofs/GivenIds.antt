@@ -134,7 +134,7 @@ HasIds-made old (Insert place text) id new ids makes =
 HasIds-made old (Delete deleted) id new ids makes = HasIds-delete old new deleted ids makes.1
 HasIds-made old (Replace replaced text) id new ids makes = HasIds-replace old new replaced text ids makes.1
 
--- accepted edits, one behind the other
+-- accepted edits, one after the other
 HasIds-replayed : (from : Register) (edits : List Edit) (to : Register) → HasIds from → Replays from edits to → HasIds to
 HasIds-replayed from [] to ids is = subst HasIds is ids
 HasIds-replayed from (edit ∷ edits) to ids replays =

@@ -1,11 +1,11 @@
 -- Runs one command on.
 use Rattle.std.proofs.Common.{List, [], ◌∷◌, ◌++◌, refl, sym}
 use Rattle.edit_engine.specs.declared.commands.Command.{Command}
-use Rattle.edit_engine.specs.declared.commands.Reply.{Reply}
+use Rattle.edit_engine.specs.declared.replies.Reply.{Reply}
 use Rattle.edit_engine.specs.Machines.{Machine}
 use Rattle.edit_engine.specs.Runs.{Answers, Runs}
 
--- a command behind others
+-- one command more, after others
 pub Runs-push : (from : Machine) (commands : List Command) (replies : List Reply) (between : Machine) (command : Command) (reply : Reply) (to : Machine)
     → Runs from commands replies between → Answers between command reply to → Runs from (commands ++ command ∷ []) (replies ++ reply ∷ []) to
 Runs-push from [] [] between command reply to is answers =

@@ -18,23 +18,23 @@ IsInside (Insertion at id unit) stream = (at ≤ length stream) × (length strea
 IsInside (Deletion at id) stream = at < length stream
 IsInside (Replacement at id unit) stream = at < length stream
 
--- the stream behind it
-abbrev pub stream_behind : Change → Stream → Stream
-stream_behind (Insertion at id unit) stream = insert stream at (id, unit)
-stream_behind (Deletion at id) stream = remove stream at
-stream_behind (Replacement at id unit) stream = set stream at (id, unit)
+-- the stream after it
+abbrev pub stream_after : Change → Stream → Stream
+stream_after (Insertion at id unit) stream = insert stream at (id, unit)
+stream_after (Deletion at id) stream = remove stream at
+stream_after (Replacement at id unit) stream = set stream at (id, unit)
 
--- how many ids were given behind it
-abbrev pub given_behind : Change → ℕ → ℕ
-given_behind (Insertion at id unit) given = id
-given_behind (Deletion at id) given = given
-given_behind (Replacement at id unit) given = given
+-- how many ids were given after it
+abbrev pub given_after : Change → ℕ → ℕ
+given_after (Insertion at id unit) given = id
+given_after (Deletion at id) given = given
+given_after (Replacement at id unit) given = given
 
--- stream and ids behind it
-abbrev pub behind : Change → Register → Register
-behind change old = record { given = given_behind change old.given; stream = stream_behind change old.stream }
+-- stream and ids after it
+abbrev pub after : Change → Register → Register
+after change old = record { given = given_after change old.given; stream = stream_after change old.stream }
 
 -- the change is what the edit comes to
 pub record IsFor (old : Register) (edit : Edit) (change : Change) : Type 0 where
   pub inside : IsInside change old.stream
-  pub makes : Makes old edit (id_of change) (behind change old)
+  pub makes : Makes old edit (id_of change) (after change old)

@@ -56,7 +56,7 @@ Makes old (Insert place text) id new = Inserts old place text id new
 Makes old (Delete deleted) id new = (id ≡ deleted) × Deletes old deleted new
 Makes old (Replace replaced text) id new = (id ≡ replaced) × Replaces old replaced text new
 
--- the edits, each accepted behind those before it, lead from one to the other
+-- the edits, each accepted after those before it, lead from one to the other
 abbrev pub Replays : Register → List Edit → Register → Type 0
 Replays from [] to = from ≡ to
 Replays from (edit ∷ edits) to = (id : ℕ) × (next : Register) × Makes from edit id next × Replays next edits to

@@ -1,18 +1,18 @@
--- The fold on behind a state that units have led to.
+-- The fold after a state that units have led to.
 use Rattle.std.specs.Prelude.{◌≡◌, ◌+◌, [], ◌∷◌, ◌++◌, length}
 use Rattle.request_core.specs.States.{FoldState}
 use Rattle.request_core.specs.Fold.{fold_step, outcomes_from, outcomes_of}
 use Rattle.edit_engine.specs.declared.folding.Fold.{Fold}
 use Rattle.edit_engine.specs.Streams.{Stream}
 
--- the state behind units
-abbrev pub state_behind : FoldState → Stream → FoldState
-state_behind state [] = state
-state_behind state (unit ∷ units) = state_behind (fold_step state unit.0 unit.1).0 units
+-- the state after units
+abbrev pub state_after : FoldState → Stream → FoldState
+state_after state [] = state
+state_after state (unit ∷ units) = state_after (fold_step state unit.0 unit.1).0 units
 
 -- one fold goes on over the units and becomes the other, a step for each unit
 pub record FoldsOn (old : Fold) (units : Stream) (new : Fold) : Type 0 where
-  pub state_is : new.state ≡ state_behind old.state units
+  pub state_is : new.state ≡ state_after old.state units
   pub outcomes_are : new.outcomes.items ≡ old.outcomes.items ++ outcomes_from old.state units
   pub counted : new.steps ≡ old.steps + length units
 

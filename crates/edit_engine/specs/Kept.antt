@@ -5,19 +5,20 @@ use Rattle.request_core.specs.Fold.{outcomes_of}
 use Rattle.request_core.specs.OutputOrder.{positions_of}
 use Rattle.edit_engine.specs.declared.edits.Edit.{Edit}
 use Rattle.edit_engine.specs.declared.preparing.Prepared.{Prepared}
-use Rattle.edit_engine.specs.Changes.{IsFor, stream_behind}
+use Rattle.edit_engine.specs.Changes.{IsFor, stream_after}
 use Rattle.edit_engine.specs.Edits.{Register, no_units, most_units, Replays}
 
 -- outcomes and positions are those of the stream, which is what the accepted edits lead to
-pub record IsKept (journal : List Edit) (register : Register) (outcomes : List Outcome) (positions : List (Option ℕ)) : Type 0 where
+pub record IsKept
+    (journal : List Edit) (register : Register) (outcomes : List Outcome) (positions : List (Option ℕ)) : Type 0 where
   pub folded : outcomes ≡ outcomes_of register.stream
   pub placed : positions ≡ positions_of (outcomes_of register.stream)
   pub bounded : length register.stream ≤ most_units
   pub replayed : Replays no_units journal register
 
--- what is prepared is what the edit comes to, with the outcomes and positions behind it, folded a step for each unit
+-- what is prepared is what the edit comes to, with the outcomes and positions after it, folded a step for each unit
 pub record IsPrepared (old : Register) (edit : Edit) (prepared : Prepared) : Type 0 where
   pub comes_to : IsFor old edit prepared.change
-  pub folded : prepared.outcomes.items ≡ outcomes_of (stream_behind prepared.change old.stream)
-  pub placed : prepared.positions.items ≡ positions_of (outcomes_of (stream_behind prepared.change old.stream))
-  pub counted : prepared.steps ≡ length (stream_behind prepared.change old.stream)
+  pub folded : prepared.outcomes.items ≡ outcomes_of (stream_after prepared.change old.stream)
+  pub placed : prepared.positions.items ≡ positions_of (outcomes_of (stream_after prepared.change old.stream))
+  pub counted : prepared.steps ≡ length (stream_after prepared.change old.stream)

@@ -33,4 +33,5 @@ AnswersEdit old edit (Err refused) new = IsRefused old.register edit refused × 
 
 -- the end of a stream
 abbrev pub last_of : Stream → Last
-last_of stream = record { units = length stream; id = option_map (λ unit. unit.0) (slice_get stream (length stream - 1)) }
+last_of stream =
+    record { units = length stream; id = option_map (λ unit. unit.0) (slice_get stream (length stream - 1)) }

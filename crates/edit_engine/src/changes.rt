@@ -2,7 +2,7 @@
 
 ghost use Rattle.std.specs.Prelude.{◌≡◌, IfOk, IfErr, OnOk, OnErr};
 ghost use Rattle.edit_engine.specs.declared.edits.Edit.TheVariants.{Insert, Delete, Replace};
-ghost use Rattle.edit_engine.specs.Changes.{IsFor, IsInside, id_of, stream_behind, given_behind};
+ghost use Rattle.edit_engine.specs.Changes.{IsFor, IsInside, id_of, stream_after, given_after};
 ghost use Rattle.edit_engine.specs.Refusals.{IsRefused};
 
 use crate::edits::{Edit, Place};
@@ -49,8 +49,10 @@ fn insertion(
     place: Place,
     text: &Bytes,
 ) -> Result<Change, EditRefused>
-    ensures ok { IfOk result (IsFor (record { given = given; stream = units.now }) (Insert place text.now)) }
-    ensures err { IfErr result (IsRefused (record { given = given; stream = units.now }) (Insert place text.now)) }
+    ensures ok { IfOk result
+        (IsFor (record { given = given; stream = units.now }) (Insert place text.now)) }
+    ensures err { IfErr result
+        (IsRefused (record { given = given; stream = units.now }) (Insert place text.now)) }
 {
     let unit = read_shared(alloc, text)?;
     let Some(at) = start_of(units, place) else {
@@ -71,8 +73,10 @@ fn insertion(
 
 /// The deletion of the unit of an id.
 fn deletion(units: &[(AuId, Unit)], given: u32, id: AuId) -> Result<Change, EditRefused>
-    ensures ok { IfOk result (IsFor (record { given = given; stream = units.now }) (Delete id)) }
-    ensures err { IfErr result (IsRefused (record { given = given; stream = units.now }) (Delete id)) }
+    ensures ok { IfOk result
+        (IsFor (record { given = given; stream = units.now }) (Delete id)) }
+    ensures err { IfErr result
+        (IsRefused (record { given = given; stream = units.now }) (Delete id)) }
 {
     match place_of(units, id) {
         Some(at) => Ok(Change::Deletion { at, id }),
@@ -88,8 +92,10 @@ fn replacement(
     id: AuId,
     text: &Bytes,
 ) -> Result<Change, EditRefused>
-    ensures ok { IfOk result (IsFor (record { given = given; stream = units.now }) (Replace id text.now)) }
-    ensures err { IfErr result (IsRefused (record { given = given; stream = units.now }) (Replace id text.now)) }
+    ensures ok { IfOk result
+        (IsFor (record { given = given; stream = units.now }) (Replace id text.now)) }
+    ensures err { IfErr result
+        (IsRefused (record { given = given; stream = units.now }) (Replace id text.now)) }
 {
     let unit = read_shared(alloc, text)?;
     match place_of(units, id) {
@@ -112,7 +118,7 @@ impl Change {
 
     /// How many ids were given with it, if there were so many before.
     pub(crate) fn given(&self, given: u32) -> u32
-        ensures { result ≡ given_behind self.now given }
+        ensures { result ≡ given_after self.now given }
     {
         match self {
             Change::Insertion { id, .. } => id.number(),
@@ -123,7 +129,7 @@ impl Change {
     /// Makes the change.
     pub(crate) fn make(self, units: &mut Vec<(AuId, Unit)>) -> Result<(), AllocError>
         requires { IsInside self units.old.items }
-        ensures ok { OnOk result (units.new.items ≡ stream_behind self units.old.items) }
+        ensures ok { OnOk result (units.new.items ≡ stream_after self units.old.items) }
         ensures err { OnErr result (units.new.items ≡ units.old.items) }
     {
         match self {

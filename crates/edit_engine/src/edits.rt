@@ -11,7 +11,7 @@ use std::alloc::AllocError;
 pub enum Place {
     /// Before all units.
     First,
-    /// Directly behind the unit of this id.
+    /// Directly after the unit of this id.
     After(AuId),
 }
 

@@ -9,7 +9,7 @@ use ref_marking::AuId;
 use request_core::{Outcome, State, Steps, step};
 use std::alloc::{AllocError, Global};
 
-/// A fold under way: the state behind the units so far, what became of them, and how many steps were made.
+/// A fold under way: the state after the units so far, what became of them, and how many steps were made.
 #[derive(Debug, Drop)]
 pub(crate) struct Fold {
     state: State,
@@ -22,14 +22,14 @@ impl Fold {
     pub(crate) fn without(
         alloc: Global,
         before: &[(AuId, Unit)],
-        behind: &[(AuId, Unit)],
+        after: &[(AuId, Unit)],
     ) -> Result<Fold, AllocError>
-        requires { length before.now + length behind.now < 2 ^ 64 }
-        ensures { IfOk result (IsFoldOf (before.now ++ behind.now)) }
+        requires { length before.now + length after.now < 2 ^ 64 }
+        ensures { IfOk result (IsFoldOf (before.now ++ after.now)) }
     {
         let mut fold = Fold::new(alloc)?;
         fold.go_over(alloc, before)?;
-        fold.go_over(alloc, behind)?;
+        fold.go_over(alloc, after)?;
         Ok(fold)
     }
 
@@ -39,15 +39,15 @@ impl Fold {
         before: &[(AuId, Unit)],
         id: AuId,
         unit: &Unit,
-        behind: &[(AuId, Unit)],
+        after: &[(AuId, Unit)],
     ) -> Result<Fold, AllocError>
-        requires { length before.now + length behind.now + 1 < 2 ^ 64 }
-        ensures { IfOk result (IsFoldOf (before.now ++ (id, unit.now) ∷ behind.now)) }
+        requires { length before.now + length after.now + 1 < 2 ^ 64 }
+        ensures { IfOk result (IsFoldOf (before.now ++ (id, unit.now) ∷ after.now)) }
     {
         let mut fold = Fold::new(alloc)?;
         fold.go_over(alloc, before)?;
         fold.go_on(alloc, id, unit)?;
-        fold.go_over(alloc, behind)?;
+        fold.go_over(alloc, after)?;
         Ok(fold)
     }
 

@@ -7,5 +7,6 @@ ghost use Rattle.edit_engine.specs.Ids.{HasIds};
 
 /// The units of a stream have ids that differ, each of which was given.
 pub fn ids_differ()
-    ensures { (journal : List EditValue) (register : Register) → Replays no_units journal register → HasIds register }
+    ensures { (journal : List EditValue) (register : Register)
+        → Replays no_units journal register → HasIds register }
 {}

@@ -1,8 +1,9 @@
 //! A session over a stream of access units under edits.
 //!
 //! `Session` keeps a stream; `edit` inserts, deletes and replaces units, given as bytes, and answers a receipt or a
-//! refusal that changes nothing. What `outcome` and `position` answer is the plain fold over the stream as it is. `run`
-//! follows a list of commands. Below is request_core, whose step is made for each unit; above, the program.
+//! refusal that changes nothing. What `outcome` and `position` answer is the plain fold over the stream as it is. A
+//! `Runner` follows commands on a session, one at a time, and `run` a list of them. Below is request_core, whose step
+//! is made for each unit; above, the program.
 #![tactic(auto)]
 
 mod changes;
@@ -15,14 +16,18 @@ mod places;
 mod preparing;
 mod receipts;
 mod refusals;
+mod replies;
+mod runner;
 mod session;
 
-pub use commands::{Command, Reply, Shown, run};
+pub use commands::Command;
 pub use config::{Config, ConfigFault};
 pub use edits::{Edit, Place};
 pub use laws::ids_differ;
 pub use receipts::{Last, Receipt};
 pub use refusals::{EditRefused, NoSuchUnit};
+pub use replies::{Reply, UnitReport};
+pub use runner::{Runner, run};
 pub use session::Session;
 
 #[cfg(test)]

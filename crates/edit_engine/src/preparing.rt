@@ -3,7 +3,7 @@
 ghost use Rattle.std.specs.Prelude.{◌≡◌, ◌≤◌, ◌∷◌, [], ◌++◌, length, IfOk, IfErr, OnOk, OnErr};
 ghost use Rattle.edit_engine.specs.Edits.{most_units};
 ghost use Rattle.edit_engine.specs.Refusals.{IsRefused};
-ghost use Rattle.edit_engine.specs.Changes.{IsInside, stream_behind};
+ghost use Rattle.edit_engine.specs.Changes.{IsInside, stream_after};
 ghost use Rattle.edit_engine.specs.Folding.{IsFoldOf};
 ghost use Rattle.edit_engine.specs.Kept.{IsPrepared};
 
@@ -16,7 +16,7 @@ use ref_marking::AuId;
 use request_core::{Outcome, positions};
 use std::alloc::{AllocError, Global};
 
-/// A change of a stream, with what becomes of each unit behind it.
+/// A change of a stream, with what becomes of each unit after it.
 #[derive(Debug, Drop)]
 pub(crate) struct Prepared {
     pub(crate) change: Change,
@@ -51,7 +51,7 @@ pub(crate) fn prepare(
 fn refold(alloc: Global, units: &[(AuId, Unit)], change: &Change) -> Result<Fold, AllocError>
     requires inside { IsInside change.now units.now }
     requires short { length units.now ≤ most_units }
-    ensures { IfOk result (IsFoldOf (stream_behind change.now units.now)) }
+    ensures { IfOk result (IsFoldOf (stream_after change.now units.now)) }
 {
     match change {
         Change::Insertion { at, id, unit } => {
@@ -72,9 +72,10 @@ pub(crate) fn enter(
     edit: Edit,
 ) -> Result<(), AllocError>
     requires { IsInside change units.old.items }
-    ensures ok { OnOk result ((units.new.items ≡ stream_behind change units.old.items)
+    ensures ok { OnOk result ((units.new.items ≡ stream_after change units.old.items)
         × (journal.new.items ≡ journal.old.items ++ edit ∷ [])) }
-    ensures err { OnErr result ((units.new.items ≡ units.old.items) × (journal.new.items ≡ journal.old.items)) }
+    ensures err { OnErr result ((units.new.items ≡ units.old.items)
+        × (journal.new.items ≡ journal.old.items)) }
 {
     journal.reserve(1)?;
     change.make(units)?;

@@ -36,9 +36,14 @@ impl Model for Session {
 
     ghost Value = { Machine };
 
-    ghost view = { λ s. record { room = s.room; journal = s.journal.items; register = record { given = s.given; stream = s.units.items } } };
+    ghost view = { λ s. record {
+      room = s.room;
+      journal = s.journal.items;
+      register = record { given = s.given; stream = s.units.items };
+    } };
 
-    ghost invariant = { λ s. IsKept s.journal.items (record { given = s.given; stream = s.units.items }) s.outcomes.items s.positions.items };
+    ghost invariant = { λ s. IsKept s.journal.items (record { given = s.given; stream = s.units.items })
+        s.outcomes.items s.positions.items };
 }
 
 /// The greatest room of a cache.
@@ -66,7 +71,12 @@ impl Session {
         })
     }
 
-    /// Edits the stream; a refused edit changes nothing and spends no id. Memory is the last of the refusals.
+    /// Edits the stream. A refused edit changes nothing and spends no id.
+    ///
+    /// The refusal is the first in the order of `EditRefused`, but for Memory, which may stand in for a later one: a
+    /// text that isn't too long and splits into NAL units is read into memory before its units and the edit's place
+    /// are looked at, so where that memory is refused, nothing is said of them. A text that is too long or doesn't
+    /// split, and a deletion of a unit that isn't there, are never answered Memory.
     pub fn edit(&mut self, edit: Edit) -> Result<Receipt, EditRefused>
         ensures { AnswersEdit self.old edit result self.new }
     {
@@ -122,7 +132,7 @@ impl Session {
     /// The accepted edits, in order.
     pub fn journal(&self) -> &[Edit]
         ensures value { result.now ≡ self.now.journal }
-        // Each accepted behind those before it, they lead to the stream.
+        // Each accepted after those before it, they lead to the stream.
         ensures replayed { Replays no_units self.now.journal self.now.register }
     {
         self.journal.as_slice()

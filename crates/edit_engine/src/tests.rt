@@ -7,8 +7,10 @@ use std::alloc::AllocGlobal;
 use std::process::Abort;
 use std::test::Fail;
 
+mod limits;
 mod random;
 mod refused;
+mod running;
 
 /// Sets and an IDR picture, of one macroblock, count type 2 and one reference frame.
 static A: [u8; 23] = [
@@ -44,7 +46,7 @@ fn insert(place: Place, text: &'static [u8]) -> Edit {
     Edit::Insert(place, Bytes::from_static(text))
 }
 
-/// The insertion of a text behind a unit.
+/// The insertion of a text after a unit.
 fn insert_after(id: u32, text: &'static [u8]) -> Edit {
     insert(Place::After(AuId::new(id)), text)
 }
@@ -99,10 +101,6 @@ fn a_session_is_made_with_a_cache_in_range(rt: HostRuntime) {
     for cache in [1, 64, 4096] {
         assert!(rt; Session::new(rt.alloc(), Config { cache }).is_ok());
     }
-    assert_eq!(rt;
-        (ConfigFault::Cache.number(), ConfigFault::Memory.number()),
-        (1, 2)
-    );
 }
 
 #[test]
@@ -134,35 +132,44 @@ fn refuses_by_number(rt: HostRuntime) {
             id: Some(AuId::new(1))
         }
     );
-    assert_eq!(rt; EditRefused::StreamFull.number(), 17);
-    assert_eq!(rt; EditRefused::IdsSpent.number(), 18);
-    assert_eq!(rt; EditRefused::Memory.number(), 15);
 }
 
 #[test]
 fn tells_refusals(rt: HostRuntime) -> Result<(), Fail> {
-    for (refused, name, text) in [
-        (EditRefused::NoSuchUnit, "NoSuchUnit", "no unit has the id"),
+    for (refused, number, name, text) in [
         (
             EditRefused::Unit(Refused::NoPicture),
+            12,
             "NoPicture",
             "there is no slice",
         ),
+        (EditRefused::Memory, 15, "Memory", "out of memory"),
+        (
+            EditRefused::NoSuchUnit,
+            16,
+            "NoSuchUnit",
+            "no unit has the id",
+        ),
+        (
+            EditRefused::StreamFull,
+            17,
+            "StreamFull",
+            "the stream has 65,536 units",
+        ),
+        (EditRefused::IdsSpent, 18, "IdsSpent", "all ids were given"),
     ] {
-        assert_eq!(rt; refused.name(), name);
+        assert_eq!(rt; (refused.number(), refused.name()), (number, name));
         assert_eq!(rt; format!(in rt.alloc(); "{refused}")?.as_str(), text);
     }
-    Ok(())
-}
-
-#[test]
-fn refuses_a_text_that_is_too_large(rt: HostRuntime) -> Result<(), Fail> {
-    let text = vec![in rt.alloc(); 0u8; 4_194_305]?;
-    let edit = Edit::Insert(Place::First, Bytes::from_vec(text)?);
-    let Err(refused) = empty_session(&rt).edit(edit) else {
-        panic!(rt; "a text of 4,194,305 bytes is a unit");
-    };
-    assert_eq!(rt; refused.number(), 14);
+    let none = format!(in rt.alloc(); "{NoSuchUnit}")?;
+    assert_eq!(rt; none.as_str(), "no unit has the id");
+    for (fault, number, text) in [
+        (ConfigFault::Cache, 1, "Cache"),
+        (ConfigFault::Memory, 2, "Memory"),
+    ] {
+        assert_eq!(rt; fault.number(), number);
+        assert_eq!(rt; format!(in rt.alloc(); "{fault}")?.as_str(), text);
+    }
     Ok(())
 }
 
@@ -214,41 +221,4 @@ fn replaces_and_inserts_first(rt: HostRuntime) {
     );
     assert_eq!(rt; fault(&rt, &session, 4), ValidityFault::MissingPps);
     assert_eq!(rt; session.position(AuId::new(1)), Ok(Some(0)));
-}
-
-#[test]
-fn runs_commands(rt: HostRuntime) -> Result<(), Fail> {
-    let alloc = rt.alloc();
-    let edit = insert(Place::First, &A);
-    let commands = [
-        Command::Edit(edit.copy()?),
-        Command::Unit(AuId::new(1)),
-        Command::Unit(AuId::new(2)),
-        Command::Edit(Edit::Delete(AuId::new(2))),
-    ];
-    let replies = run(alloc, Config { cache: 1 }, &commands)?;
-    let [inserted, shown, absent, refused] = replies.as_slice() else {
-        panic!(rt; "each command has a reply");
-    };
-    assert!(rt;
-        matches!(
-            inserted,
-            Reply::Edit(Ok(Receipt {
-                number: 1,
-                steps: 1,
-                ..
-            }))
-        )
-    );
-    let Reply::Unit(Ok(shown)) = shown else {
-        panic!(rt; "a unit that is there isn't shown");
-    };
-    assert_eq!(rt; shown.position, Some(0));
-    let Outcome::Plan(plan) = &shown.outcome else {
-        panic!(rt; "a valid unit has no plan");
-    };
-    assert_eq!(rt; plan.requests.as_slice().len(), 1);
-    assert!(rt; matches!(absent, Reply::Unit(Err(NoSuchUnit))));
-    assert!(rt; matches!(refused, Reply::Edit(Err(EditRefused::NoSuchUnit))));
-    Ok(())
 }

@@ -1,5 +1,5 @@
 use super::{A, P1, P2, empty_session, insert, insert_after};
-use crate::{Command, Config, Edit, EditRefused, Place, Reply, Session, run};
+use crate::{Command, Config, Edit, EditRefused, Place, Reply, Runner, Session, run};
 use bytes::Bytes;
 use ref_marking::AuId;
 use std::alloc::AllocError;
@@ -46,6 +46,31 @@ fn refused_growth_of_edits(rt: HostRuntime) {
         assert_eq!(rt; session.last().id, Some(AuId::new(3)));
         assert_eq!(rt; session.position(AuId::new(3)), Ok(Some(1)));
         assert_eq!(rt; session.journal().len(), 5);
+    }
+}
+
+/// Takes the step; where memory is wanted nothing is changed, and it is taken once more.
+fn step(rt: &impl Abort, runner: &mut Runner, command: Command) -> Result<Reply, AllocError> {
+    let copy = command.copy()?;
+    let before = runner.session().last();
+    match runner.step(command) {
+        Err(_) | Ok(Reply::Edit(Err(EditRefused::Memory))) => {
+            assert_eq!(rt; runner.session().last(), before);
+            runner.step(copy)
+        }
+        reply => reply,
+    }
+}
+
+#[test]
+fn refused_growth_of_steps(rt: HostRuntime) {
+    let mut runner = Runner::new(rt.alloc(), empty_session(&rt));
+    if let Ok(reply) = step(&rt, &mut runner, Command::Edit(insert(Place::First, &A))) {
+        assert!(rt; matches!(reply, Reply::Edit(Ok(_))));
+        let Ok(reply) = step(&rt, &mut runner, Command::Unit(AuId::new(1))) else {
+            panic!(rt; "a step wants memory twice");
+        };
+        assert!(rt; matches!(reply, Reply::Unit(Ok(_))));
     }
 }
 

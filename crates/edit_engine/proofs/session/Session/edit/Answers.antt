@@ -1,6 +1,6 @@
 use Rattle.std.proofs.Common.{refl}
 use Rattle.std.proofs.lemmas.Result.{err_from_is_err_and}
-use Rattle.edit_engine.proofs.Edited.{TakesMemory-for, IsKept-behind}
+use Rattle.edit_engine.proofs.Edited.{TakesMemory-for, IsKept-after}
 use Rattle.edit_engine.proofs.session.Session.edit.Goals as goal
 
 pub returns-in_err-enter : goal.returns-in_err-enter
@@ -19,5 +19,5 @@ invariant_of-self-2 c =
     let prepared = rw c.deref.ensures.value at c.in_ok-prepared.ensures.ok in
     let entered = c.in_ok-enter.ensures.ok in
     rw (entered.1, entered.0, c.given-given.ensures)
-    (IsKept-behind c.self.inside.journal.items (record { given = c.self.inside.given; stream = c.self.inside.units.items })
+    (IsKept-after c.self.inside.journal.items (record { given = c.self.inside.given; stream = c.self.inside.units.items })
     c.self.inside.outcomes.items c.self.inside.positions.items c.args.edit c.in_ok-prepared.prepared c.self.invariant prepared)

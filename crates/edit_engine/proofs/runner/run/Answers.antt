@@ -4,17 +4,17 @@ use Rattle.edit_engine.specs.declared.commands.Command.{Command}
 use Rattle.edit_engine.specs.Machines.{empty}
 use Rattle.edit_engine.specs.Runs.{Runs}
 use Rattle.edit_engine.proofs.Ran.{Runs-push}
-use Rattle.edit_engine.proofs.commands.run.Goals as goal
+use Rattle.edit_engine.proofs.runner.run.Goals as goal
 
 pub loop-command-preserved : goal.loop-command-preserved
 loop-command-preserved c =
     let P : List Command → Type 0 = λ commands.
-    Runs (empty c.args.config.cache) commands (c.loop-command.replies.items ++ c.in_ok-answer.field-0 ∷ []) c.answer.new.session in
+    Runs (empty c.args.config.cache) commands (c.loop-command.replies.items ++ c.in_ok-step.field-0 ∷ []) c.step.new.self in
     rw c.in_ok-push.ensures.items
     (subst P (sym more)
     (Runs-push (empty c.args.config.cache) (take c.loop-command.command-index c.args.commands.now) c.loop-command.replies.items
-    c.loop-command.session c.command-item.result c.in_ok-answer.field-0 c.answer.new.session
-    c.loop-command.invariant c.in_ok-answer.ensures))
+    c.loop-command.runner c.command-item.result c.in_ok-step.field-0 c.step.new.self
+    c.loop-command.invariant (rw c.in_ok-copy.ensures at c.in_ok-step.ensures.ok)))
   where
     more : take (c.loop-command.command-index + 1) c.args.commands.now
         ≡ take c.loop-command.command-index c.args.commands.now ++ c.command-item.result ∷ []

@@ -1,7 +1,7 @@
 use Rattle.std.proofs.Common.{take}
 use Rattle.edit_engine.specs.Machines.{empty}
 use Rattle.edit_engine.specs.Runs.{Runs}
-use Rattle.edit_engine.proofs.commands.run.Given as goal
+use Rattle.edit_engine.proofs.runner.run.Given as goal
 
 abbrev pub invariant-loop-command : goal.invariant-loop-command
-invariant-loop-command l = Runs (empty l.fn.config.cache) (take l.command-index l.commands) l.replies.items l.session
+invariant-loop-command l = Runs (empty l.fn.config.cache) (take l.command-index l.commands) l.replies.items l.runner

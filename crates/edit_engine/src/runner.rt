@@ -1,0 +1,90 @@
+//! Commands followed on a session.
+
+ghost use Rattle.std.specs.Prelude.{◌≡◌, ◌≤◌, IfOk, OnErr};
+ghost use Rattle.edit_engine.specs.Runs.{Answers, IsRun, Reports};
+
+use crate::commands::Command;
+use crate::config::Config;
+use crate::refusals::NoSuchUnit;
+use crate::replies::{Reply, UnitReport};
+use crate::session::Session;
+use ref_marking::AuId;
+use std::alloc::{AllocError, Global};
+use std::marker::Model;
+
+/// A session that follows commands, one at a time. Clauses see it as the session.
+#[derive(Debug, Drop)]
+pub struct Runner {
+    alloc: Global,
+    session: Session,
+}
+
+impl Model for Runner {
+    ghost use Rattle.edit_engine.specs.Machines.{Machine};
+
+    ghost Value = { Machine };
+
+    ghost view = { λ runner. runner.session };
+}
+
+impl Runner {
+    /// A runner that goes on with the session.
+    pub fn new(alloc: Global, session: Session) -> Runner
+        ensures { result ≡ session }
+    {
+        Runner { alloc, session }
+    }
+
+    /// Follows a command and answers it. An edit that wants memory is answered so; where anything else wants memory,
+    /// there is no answer.
+    pub fn step(&mut self, command: Command) -> Result<Reply, AllocError>
+        ensures ok { IfOk result (λ reply. Answers self.old command reply self.new) }
+        ensures err { OnErr result (self.new ≡ self.old) }
+    {
+        match command {
+            Command::Edit(edit) => Ok(Reply::Edit(self.session.edit(edit))),
+            Command::Unit(id) => Ok(Reply::Unit(report(self.alloc, &self.session, id)?)),
+        }
+    }
+
+    /// The session as it is, to be looked at without a copy.
+    pub fn session(&self) -> &Session
+        ensures { result.now ≡ self.now }
+    {
+        &self.session
+    }
+}
+
+/// What is reported of the unit that has the id.
+fn report(
+    alloc: Global,
+    session: &Session,
+    id: AuId,
+) -> Result<Result<UnitReport, NoSuchUnit>, AllocError>
+    ensures { IfOk result (λ answer. Reports session.now.register.stream id answer) }
+{
+    match (session.outcome(id), session.position(id)) {
+        (Ok(outcome), Ok(position)) => Ok(Ok(UnitReport {
+            outcome: outcome.copy(alloc)?,
+            position,
+        })),
+        _ => Ok(Err(NoSuchUnit)),
+    }
+}
+
+/// Follows the commands in turn, from an empty stream, and answers each. An edit that wants memory is answered so; any
+/// other want of memory ends the run.
+pub fn run(alloc: Global, config: Config, commands: &[Command]) -> Result<Vec<Reply>, AllocError>
+    requires { (1 ≤ config.cache) × (config.cache ≤ 4096) }
+    ensures { IfOk result (λ replies. IsRun config.cache commands.now replies.items) }
+{
+    let Ok(session) = Session::new(alloc, config) else {
+        return Err(AllocError);
+    };
+    let mut runner = Runner::new(alloc, session);
+    let mut replies = Vec::with_capacity(alloc, commands.len())?;
+    for command in commands {
+        replies.push(runner.step(command.copy()?)?)?;
+    }
+    Ok(replies)
+}

@@ -7,3 +7,4 @@ pub mod Answers
 pub mod Stored
 pub mod Streams
 pub mod Gathered
+pub mod Rooms

@@ -1,16 +1,1 @@
-pub mod Answers
-pub mod Chunks
 pub mod CommandLine
-pub mod Commands
-pub mod Inputs
-pub mod Lines
-pub mod Messages
-pub mod Plans
-pub mod ReadFaults
-pub mod RunFaults
-pub mod Running
-pub mod Scripts
-pub mod Status
-pub mod Streams
-pub mod UnitLines
-pub mod Words

@@ -8,17 +8,12 @@ ghost use Rattle.clap.specs.Words.{FailsBy, app_of, found_of, kind_of, rows_of, 
 ghost use Rattle.preview.specs.CommandLine.{AreMistaken, AreUnderstood, IsMistake, IsRequest, faults_of, needed_rule, option_rule, plan_app, plan_in, preview_app};
 ghost use Rattle.preview.specs.CommandLine.{run_app, run_in, wanted_from, wanted_in, wanted_of};
 
-use crate::chunks::write_bytes;
-use crate::input::open_input;
-use crate::messages::{say_not_text, say_out_of_memory};
-use crate::options::Options;
-use crate::plan::plan_on;
-use crate::run::script_on;
-use crate::source::Files;
-use crate::status::Status;
 use clap::builder::ValueParser;
 use clap::error::ErrorKind;
 use clap::{Arg, ArgMatches, Command, Error, value_parser};
+use console_io::{Files, Status, open_input, say_not_text, say_out_of_memory, write_bytes};
+use plan_stream::plan_on;
+use script_run::{MOST_CACHE, Options, script_on};
 use std::alloc::{AllocError, Global};
 use std::convert::AsStr;
 use std::io::Write;
@@ -33,9 +28,6 @@ pub enum Asked<'a> {
     /// A run of the script that the options name, `-` being the standard input.
     Run(Options<'a>),
 }
-
-/// The greatest value of `--cache`.
-const MOST_CACHE: u16 = 4096;
 
 /// Does what the process's words ask for, with these threads. Words that can't be read are a wrong command line.
 pub fn run<W: Write, E: Write>(
@@ -185,7 +177,7 @@ fn run_command<'a>(alloc: Global) -> Result<Command<'a>, AllocError>
     let none = value_parser!(u8).range(0..=0);
     let help = "How many threads decode; there are none yet";
     let workers = number_option(alloc, "workers", none, "0", help);
-    let room = value_parser!(u16).range(1..=4096);
+    let room = value_parser!(u16).range(1..=MOST_CACHE as i64);
     let help = "For how many pictures that no unit has there is room, 1 to 4096; none are kept yet";
     let cache = number_option(alloc, "cache", room, "64", help);
     Command::new(alloc, "run")

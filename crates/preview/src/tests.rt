@@ -8,9 +8,9 @@ mod script_faults;
 mod scripts;
 
 use crate::command_line::run_on;
-use crate::plan::plan_on;
 use crate::sample::{CLOCK, CLOCK_LINES};
-use crate::status::Status;
+use console_io::Status;
+use plan_stream::plan_on;
 use std::alloc::{AllocError, Global};
 use std::io;
 use std::io::{ErrorKind, Read, Write};

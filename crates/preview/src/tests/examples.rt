@@ -1,7 +1,7 @@
 //! Streams made by hand, whose plans were worked out from the standard.
 
 use super::{A, LINES_OF_A, P1, plans};
-use crate::status::Status;
+use console_io::Status;
 use std::test::Fail;
 
 /// Operation 5 in a picture with frame_num 2; the next one follows frame_num 0.

@@ -3,7 +3,7 @@
 use super::scripts::{INSERT_A, run_script, texts};
 use super::{A, LINES_OF_A, LINES_OF_P1, P1, P2, joined};
 use crate::sample::{CLOCK, CLOCK_LINES};
-use crate::status::Status;
+use console_io::Status;
 use std::process::Abort;
 use std::test::Fail;
 use std::thread::Threads;

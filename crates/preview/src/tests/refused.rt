@@ -3,10 +3,9 @@
 use super::scripts::TestFiles;
 use super::{A, P1};
 use crate::command_line::run_on;
-use crate::options::Options;
-use crate::plan::plan_on;
-use crate::run::script_on;
-use crate::status::Status;
+use console_io::Status;
+use plan_stream::plan_on;
+use script_run::{Options, script_on};
 use std::process::Abort;
 use std::thread::Threads;
 

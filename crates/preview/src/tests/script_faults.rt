@@ -2,9 +2,8 @@
 
 use super::FailingReader;
 use super::scripts::{INSERT_A, TestFiles, answers, run_script, texts};
-use crate::options::Options;
-use crate::run::script_on;
-use crate::status::Status;
+use console_io::Status;
+use script_run::{Options, script_on};
 use std::alloc::AllocError;
 use std::process::Abort;
 use std::test::Fail;

@@ -1,14 +1,11 @@
 //! Scripts run over memory: lines in, lines out.
 
 use super::{A, End, LINES_OF_A, P1, ShortWriter};
-use crate::input::InputFault;
-use crate::options::Options;
-use crate::run::script_on;
-use crate::source::Source;
-use crate::status::Status;
 use bytes::Bytes;
+use console_io::{InputFault, Source, Status};
 use edit_engine::{Config, Edit, Place, Session};
 use request_core::Outcome;
+use script_run::{Options, script_on};
 use std::alloc::{AllocError, Global};
 use std::process::Abort;
 use std::test::Fail;

@@ -1,0 +1,4 @@
+pub mod Chunks
+pub mod Inputs
+pub mod Messages
+pub mod Status

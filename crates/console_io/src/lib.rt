@@ -1,0 +1,19 @@
+//! What a program reads and writes: whole inputs, files by their names, bytes for a writer, messages and statuses.
+//!
+//! All of it is generic over the readers and writers, whose bytes the contracts name where those declare them; the
+//! system's files and streams declare none. Nothing here knows of video: plan_stream, script_run and preview do.
+#![tactic(auto)]
+
+mod chunks;
+mod input;
+mod messages;
+mod source;
+mod status;
+
+pub use chunks::{Chunks, PrintFault, write_bytes};
+pub use input::{Input, InputFault, open_input, whole_input};
+pub use messages::{
+    say_input_fault, say_line, say_not_text, say_out_of_memory, say_print_fault, say_unread,
+};
+pub use source::{Directory, Files, Source};
+pub use status::Status;

@@ -1,0 +1,92 @@
+-- The command that words are (docs/OUTPUT.md).
+use Rattle.std.specs.Prelude.{◌≡◌, ℕ, List, [], ◌∷◌, codes, Option, Some, None, option_map, if◌then◌else◌, Result, MatchResult}
+use Rattle.std.specs.Str.{bytes_eq}
+use Rattle.edit_engine.specs.declared.edits.Edit.{Edit}
+use Rattle.edit_engine.specs.declared.edits.Edit.TheVariants.{Insert, Delete, Replace}
+use Rattle.edit_engine.specs.declared.edits.Place.{Place}
+use Rattle.edit_engine.specs.declared.edits.Place.TheVariants.{First, After}
+use Rattle.edit_script.specs.declared.commands.Command.{Command}
+use Rattle.edit_script.specs.declared.commands.Command.TheVariants as command
+use Rattle.edit_script.specs.declared.commands.LineFault.{LineFault}
+use Rattle.edit_script.specs.declared.commands.LineFault.TheVariants.{Wrong}
+use Rattle.edit_script.specs.Words.{number_of, id_of, hex_of}
+
+-- the id that a word is
+abbrev pub id_of_word : List ℕ → Option ℕ
+id_of_word word = option_map id_of (number_of word)
+
+-- the deletion that the words behind `delete` ask for
+abbrev pub deletion_of : List (List ℕ) → Option Edit
+deletion_of (id ∷ []) = option_map Delete (id_of_word id)
+deletion_of words = None
+
+-- the insertion of a text at a place, where both are there
+abbrev pub insert_at : Option Place → Option (List ℕ) → Option Edit
+insert_at (Some place) (Some text) = Some (Insert place text)
+insert_at (Some place) None = None
+insert_at None text = None
+
+-- the insertion that the words behind `insert after` ask for
+abbrev pub insertion_after : List (List ℕ) → Option Edit
+insertion_after [] = None
+insertion_after (id ∷ text) = insert_at (option_map After (id_of_word id)) (hex_of text)
+
+-- the insertion that the words behind `insert` ask for
+abbrev pub insertion_of : List (List ℕ) → Option Edit
+insertion_of [] = None
+insertion_of (place ∷ words) =
+    if bytes_eq place (codes "first") then insert_at (Some First) (hex_of words)
+    else if bytes_eq place (codes "after") then insertion_after words
+    else None
+
+-- the replacement of a unit by a text, where both are there
+abbrev pub replace_by : Option ℕ → Option (List ℕ) → Option Edit
+replace_by (Some id) (Some text) = Some (Replace id text)
+replace_by (Some id) None = None
+replace_by None text = None
+
+-- the replacement that the words behind `replace` ask for
+abbrev pub replacement_of : List (List ℕ) → Option Edit
+replacement_of [] = None
+replacement_of (id ∷ text) = replace_by (id_of_word id) (hex_of text)
+
+-- the edit that words ask for
+abbrev pub edit_of : List (List ℕ) → Option Edit
+edit_of [] = None
+edit_of (name ∷ words) =
+    if bytes_eq name (codes "insert") then insertion_of words
+    else if bytes_eq name (codes "delete") then deletion_of words
+    else if bytes_eq name (codes "replace") then replacement_of words
+    else None
+
+-- the name of the file that words load
+abbrev pub path_of : List (List ℕ) → Option (List ℕ)
+path_of (name ∷ path ∷ []) = if bytes_eq name (codes "load") then Some path else None
+path_of words = None
+
+-- the number of the unit whose lines words ask for
+abbrev pub unit_of : List (List ℕ) → Option ℕ
+unit_of (name ∷ number ∷ []) = if bytes_eq name (codes "unit") then number_of number else None
+unit_of words = None
+
+-- the words are this command
+abbrev pub IsCommand : List (List ℕ) → Command → Type 0
+IsCommand words (command.Edit edit) = edit_of words ≡ Some edit
+IsCommand words (command.Load path) = path_of words ≡ Some path.now
+IsCommand words (command.Unit number) = unit_of words ≡ Some number
+
+-- the words are no command
+abbrev pub IsNoCommand : List (List ℕ) → Type 0
+IsNoCommand words = (edit_of words ≡ None) × (path_of words ≡ None) × (unit_of words ≡ None)
+
+-- an answer for words that may be digits: what they stand for; wrong where they stand for nothing
+abbrev pub IsHexAnswer : Option (List ℕ) → Result (List ℕ) LineFault → Type 0
+IsHexAnswer text answer = MatchResult answer (λ it. text ≡ Some it) (λ fault. fault ≡ Wrong → text ≡ None)
+
+-- an answer for words that may ask for an edit
+abbrev pub IsEditAnswer : Option Edit → Result Edit LineFault → Type 0
+IsEditAnswer edit answer = MatchResult answer (λ it. edit ≡ Some it) (λ fault. fault ≡ Wrong → edit ≡ None)
+
+-- an answer for words that may be a command
+abbrev pub IsCommandAnswer : List (List ℕ) → Result Command LineFault → Type 0
+IsCommandAnswer words answer = MatchResult answer (IsCommand words) (λ fault. fault ≡ Wrong → IsNoCommand words)

@@ -1,0 +1,164 @@
+//! The command that a line of a script is (docs/OUTPUT.md).
+
+ghost use Rattle.std.specs.Prelude.{◌≡◌, map, IfOk, None, Some, MatchResult, option_map};
+ghost use Rattle.std.specs.Char.{is_ascii_digit};
+ghost use Rattle.std.specs.List.{list_all};
+ghost use Rattle.edit_script.specs.Words.{has_number, id_of, number_of, hex_of, texts_of, fault_of};
+ghost use Rattle.edit_script.specs.Commands.{edit_of, insertion_of, IsHexAnswer, IsEditAnswer, IsCommandAnswer};
+ghost use Rattle.edit_script.specs.declared.commands.LineFault.TheVariants.{Memory};
+
+use bytes::Bytes;
+use edit_engine::{Edit, Place};
+use hex::FromHexError;
+use ref_marking::AuId;
+use std::alloc::{AllocError, AllocFailed, Global};
+
+/// What a line of a script asks for.
+#[derive(Debug, Drop)]
+pub enum Command<'a> {
+    /// An edit of the stream.
+    Edit(Edit),
+    /// The insertion of the units in the file of this name, each behind the last one.
+    Load { path: &'a str },
+    /// The lines of the unit of this number.
+    Unit { number: u64 },
+}
+
+/// Why a line isn't read as a command.
+#[derive(Clone, Copy, Debug, PartialEq, Eq)]
+pub enum LineFault {
+    /// It is no command.
+    Wrong,
+    /// A growth was refused.
+    Memory,
+}
+
+impl From<AllocError> for LineFault {
+    ghost from_gives = { λ _ fault. fault ≡ Memory };
+
+    fn from(_error: AllocError) -> LineFault {
+        LineFault::Memory
+    }
+}
+
+impl<T: Drop> From<AllocFailed<T>> for LineFault {
+    ghost from_gives = { λ _ fault. fault ≡ Memory };
+
+    fn from(_error: AllocFailed<T>) -> LineFault {
+        LineFault::Memory
+    }
+}
+
+impl From<FromHexError> for LineFault {
+    ghost from_gives = { λ error fault. fault ≡ fault_of error };
+
+    fn from(error: FromHexError) -> LineFault {
+        match error {
+            FromHexError::OutOfMemory => LineFault::Memory,
+            _ => LineFault::Wrong,
+        }
+    }
+}
+
+/// The most digits of a number.
+const MOST_DIGITS: usize = 10;
+
+/// The command that the words of a line are.
+pub fn read_command<'a>(alloc: Global, words: &[&'a str]) -> Result<Command<'a>, LineFault>
+    ensures { IsCommandAnswer (texts_of words.now) result }
+{
+    match words {
+        [name, path] if *name == "load" => Ok(Command::Load { path: *path }),
+        [name, number] if *name == "unit" => match read_number(number) {
+            Some(number) => Ok(Command::Unit { number }),
+            None => Err(LineFault::Wrong),
+        },
+        _ => Ok(Command::Edit(read_edit(alloc, words)?)),
+    }
+}
+
+/// The edit that the words of a line ask for.
+fn read_edit(alloc: Global, words: &[&str]) -> Result<Edit, LineFault>
+    ensures { IsEditAnswer (edit_of (texts_of words.now)) result }
+{
+    match words {
+        [name, words @ ..] if *name == "insert" => read_insertion(alloc, words),
+        [name, id] if *name == "delete" => Ok(Edit::Delete(read_id(id)?)),
+        [name, id, text @ ..] if *name == "replace" => {
+            let id = read_id(id)?;
+            Ok(Edit::Replace(id, read_hex(alloc, text)?))
+        }
+        _ => Err(LineFault::Wrong),
+    }
+}
+
+/// The insertion that the words behind `insert` ask for.
+fn read_insertion(alloc: Global, words: &[&str]) -> Result<Edit, LineFault>
+    ensures { IsEditAnswer (insertion_of (texts_of words.now)) result }
+{
+    match words {
+        [place, text @ ..] if *place == "first" => {
+            Ok(Edit::Insert(Place::First, read_hex(alloc, text)?))
+        }
+        [place, id, text @ ..] if *place == "after" => {
+            let place = Place::After(read_id(id)?);
+            Ok(Edit::Insert(place, read_hex(alloc, text)?))
+        }
+        _ => Err(LineFault::Wrong),
+    }
+}
+
+/// The bytes that words of pairs of hexadecimal digits stand for.
+fn read_hex(alloc: Global, words: &[&str]) -> Result<Bytes, LineFault>
+    ensures { IsHexAnswer (hex_of (texts_of words.now)) result }
+{
+    let mut text = Vec::new(alloc);
+    for word in words {
+        let pairs = hex::decode(alloc, *word)?;
+        text.extend_from_slice(pairs.as_slice())?;
+    }
+    Ok(Bytes::from_vec(text)?)
+}
+
+/// The id that a word is.
+fn read_id(word: &str) -> Result<AuId, LineFault>
+    ensures { MatchResult result (λ id. option_map id_of (number_of word.now) ≡ Some id)
+        (λ fault. (fault ≡ LineFault.Wrong) × (number_of word.now ≡ None)) }
+{
+    match read_number(word) {
+        Some(number) => Ok(id_of_number(number)),
+        None => Err(LineFault::Wrong),
+    }
+}
+
+/// The id of this number. A number that is too great for an id gives 0, which no unit has.
+pub fn id_of_number(number: u64) -> AuId
+    ensures { result ≡ id_of number }
+{
+    AuId::new(u32::try_from(number).unwrap_or(0))
+}
+
+/// The number that a word of one to ten digits is.
+fn read_number(word: &str) -> Option<u64>
+    ensures { result ≡ number_of word.now }
+{
+    if is_number(word) {
+        word.parse().ok()
+    } else {
+        None
+    }
+}
+
+/// Whether a word has one to ten digits and nothing else.
+fn is_number(word: &str) -> bool
+    ensures { result ≡ has_number word.now }
+{
+    !word.is_empty() && word.len() <= MOST_DIGITS && are_digits(word)
+}
+
+/// Whether each byte of a word is a digit.
+fn are_digits(word: &str) -> bool
+    ensures { result ≡ list_all is_ascii_digit word.now }
+{
+    word.bytes().all(|byte| byte.is_ascii_digit())
+}

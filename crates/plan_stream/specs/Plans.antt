@@ -1,0 +1,31 @@
+-- What `plan` prints of a text (docs/OUTPUT.md).
+use Rattle.std.specs.Prelude.{◌≡◌, ℕ, ◌≤◌, List, length, Option, ◌⊎◌}
+use Rattle.std.specs.Io.KnownBytes.{Appends, Keeps}
+use Rattle.console_io.specs.Chunks.{AppendsFront}
+use Rattle.access_unit.specs.Rooms.{IsStream, IsStreamRefused, most_units}
+use Rattle.unit_lines.specs.Refusals.{refusal_text}
+use Rattle.plan_stream.specs.Streams.{numbered_from}
+use Rattle.unit_lines.specs.UnitLines.{stream_text}
+use Rattle.access_unit.specs.declared.room.Refusal.{Refusal}
+
+-- the text is a stream, and these are the lines of its units, whose ids are 1, 2, 3 and so on
+pub record IsPlanned (text : List ℕ) (lines : List ℕ) : Type 0 where
+  pub parts : List (List (List ℕ))
+  pub stream : IsStream text parts
+  pub bounded : length parts ≤ most_units
+  pub lines_are : lines ≡ stream_text (numbered_from 1 parts)
+
+-- the text is refused, and this is the line that says why
+pub record IsRefused (text : List ℕ) (lines : List ℕ) : Type 0 where
+  pub refusal : Refusal
+  pub refused : IsStreamRefused text most_units refusal
+  pub lines_are : lines ≡ refusal_text refusal
+
+-- all lines of the text's units were written
+abbrev pub WritesPlan : List ℕ → Option (List ℕ) → Option (List ℕ) → Type 0
+WritesPlan text old new = (lines : List ℕ) × IsPlanned text lines × Appends old new lines
+
+-- nothing was written, or a front of the lines of the text's units, or of the line of its refusal
+abbrev pub WritesFront : List ℕ → Option (List ℕ) → Option (List ℕ) → Type 0
+WritesFront text old new =
+    Keeps old new ⊎ ((lines : List ℕ) × (IsPlanned text lines ⊎ IsRefused text lines) × AppendsFront old new lines)

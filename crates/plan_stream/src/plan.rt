@@ -1,0 +1,175 @@
+//! `preview plan`: a stream read, planned and printed.
+
+ghost use Rattle.std.specs.Prelude.{◌≡◌, ◌≤◌, ◌≢◌, ◌++◌, length, IfOk, IfSome, OnOk, vec_len};
+ghost use Rattle.std.specs.Io.KnownBytes.{Appends, Keeps};
+ghost use Rattle.access_unit.specs.Rooms.{most_units};
+ghost use Rattle.request_core.specs.Fold.{outcomes_of};
+ghost use Rattle.request_core.specs.OutputOrder.{positions_of};
+ghost use Rattle.console_io.specs.Chunks.{Adds, AppendsFront, waiting_of};
+ghost use Rattle.console_io.specs.Messages.{input_fault_text, out_of_memory};
+ghost use Rattle.plan_stream.specs.Plans.{WritesFront, WritesPlan};
+ghost use Rattle.console_io.specs.declared.input.InputFault.{InputFault};
+ghost use Rattle.unit_lines.specs.Refusals.{refusal_text};
+ghost use Rattle.plan_stream.specs.Streams.{numbered_from};
+ghost use Rattle.unit_lines.specs.UnitLines.{stream_text, units_text};
+
+use access_unit::{MOST_UNITS, ReadFault, Refusal, Unit, read_units};
+use console_io::{
+    Chunks, PrintFault, Status, say_input_fault, say_out_of_memory, say_print_fault, whole_input,
+    write_bytes,
+};
+use ref_marking::AuId;
+use request_core::Outcome;
+use std::alloc::{AllocError, Global};
+use std::io::{Read, Write};
+use std::thread::Threads;
+use unit_lines::{RefusalLine, UnitLines};
+
+/// Prints the plan of the stream that the reader gives, or its refusal. Where the reader fails or memory is wanted,
+/// `errors` is told; the reader has this name there.
+pub fn plan_on<R: Read, W: Write, E: Write>(
+    threads: &(impl Threads + Sync),
+    alloc: Global,
+    name: &str,
+    reader: &mut R,
+    writer: &mut W,
+    errors: &mut E,
+) -> Status
+    ensures done { result ≡ Status.Success → Keeps (E.contents errors.old) (E.contents errors.new) }
+    // What is written at success is the plain fold of the stream that was read.
+    ensures planned { result ≡ Status.Success → IfSome (R.remaining reader.old) (λ text.
+        WritesPlan text (W.contents writer.old) (W.contents writer.new)) }
+    ensures written { IfSome (R.remaining reader.old) (λ text.
+        WritesFront text (W.contents writer.old) (W.contents writer.new)) }
+    ensures told { (fault : InputFault) × AppendsFront (E.contents errors.old)
+        (E.contents errors.new) (input_fault_text name.now fault) }
+    ensures usage { result ≢ Status.Usage }
+{
+    let text = match whole_input(alloc, reader) {
+        Ok(text) => text,
+        Err(fault) => {
+            let _ = say_input_fault(fault, name, errors);
+            return Status::Failure;
+        }
+    };
+    match read_units(threads, alloc, text.as_slice(), MOST_UNITS) {
+        Ok(units) => plan_units(alloc, units, writer, errors),
+        Err(ReadFault::Refused(refusal)) => {
+            if let Err(fault) = print_refusal(alloc, refusal, writer) {
+                let _ = say_print_fault(fault, errors);
+            }
+            Status::Failure
+        }
+        Err(ReadFault::Memory) => {
+            let _ = say_out_of_memory(errors);
+            Status::Failure
+        }
+    }
+}
+
+/// Prints why the stream is refused.
+fn print_refusal<W: Write>(
+    alloc: Global,
+    refusal: Refusal,
+    writer: &mut W,
+) -> Result<(), PrintFault>
+    ensures ok { OnOk result (Appends (W.contents writer.old) (W.contents writer.new) (refusal_text refusal)) }
+    ensures written { AppendsFront (W.contents writer.old) (W.contents writer.new) (refusal_text refusal) }
+{
+    let line = RefusalLine(refusal).to_string(alloc)?;
+    write_bytes(writer, line.as_bytes())
+}
+
+/// Plans the units and prints their lines.
+fn plan_units<W: Write, E: Write>(
+    alloc: Global,
+    units: Vec<Unit>,
+    writer: &mut W,
+    errors: &mut E,
+) -> Status
+    requires { vec_len units ≤ most_units }
+    ensures done { result ≡ Status.Success → Keeps (E.contents errors.old) (E.contents errors.new) }
+    ensures planned { result ≡ Status.Success
+        → Appends (W.contents writer.old) (W.contents writer.new) (stream_text (numbered_from 1 units.items)) }
+    ensures written { AppendsFront (W.contents writer.old) (W.contents writer.new) (stream_text (numbered_from 1 units.items)) }
+    ensures told { AppendsFront (E.contents errors.old) (E.contents errors.new) out_of_memory }
+    ensures usage { result ≢ Status.Usage }
+{
+    match print_units(alloc, units, writer) {
+        Ok(()) => Status::Success,
+        Err(fault) => {
+            let _ = say_print_fault(fault, errors);
+            Status::Failure
+        }
+    }
+}
+
+/// Prints the lines of all units.
+fn print_units<W: Write>(alloc: Global, units: Vec<Unit>, writer: &mut W) -> Result<(), PrintFault>
+    requires { vec_len units ≤ most_units }
+    ensures ok { OnOk result
+        (Appends (W.contents writer.old) (W.contents writer.new) (stream_text (numbered_from 1 units.items))) }
+    ensures written { AppendsFront (W.contents writer.old) (W.contents writer.new) (stream_text (numbered_from 1 units.items)) }
+{
+    let stream = numbered(alloc, units)?;
+    let outcomes = request_core::scratch(alloc, &stream)?;
+    let positions = request_core::positions(alloc, &outcomes)?;
+    print_all(alloc, &stream, &outcomes, &positions, writer)
+}
+
+/// Prints the lines of the units in pieces.
+fn print_all<W: Write>(
+    alloc: Global,
+    stream: &[(AuId, Unit)],
+    outcomes: &[Outcome],
+    positions: &[Option<usize>],
+    writer: &mut W,
+) -> Result<(), PrintFault>
+    requires folded { outcomes.now ≡ outcomes_of stream.now }
+    requires placed { positions.now ≡ positions_of outcomes.now }
+    ensures ok { OnOk result (Appends (W.contents writer.old) (W.contents writer.new) (stream_text stream.now)) }
+    ensures written { AppendsFront (W.contents writer.old) (W.contents writer.new) (stream_text stream.now) }
+{
+    let mut chunks = Chunks::new(alloc);
+    print_lines(stream, outcomes, positions, &mut chunks, writer)?;
+    chunks.pass_on(writer)
+}
+
+/// Prints the lines of the units, of which these are the outcomes and the positions.
+fn print_lines<W: Write>(
+    stream: &[(AuId, Unit)],
+    outcomes: &[Outcome],
+    positions: &[Option<usize>],
+    chunks: &mut Chunks,
+    writer: &mut W,
+) -> Result<(), PrintFault>
+    requires outcomes { length outcomes.now ≡ length stream.now }
+    requires positions { length positions.now ≡ length stream.now }
+    ensures ok { OnOk result (Adds chunks.old (W.contents writer.old)
+        (units_text stream.now outcomes.now positions.now) chunks.new (W.contents writer.new)) }
+    ensures written { AppendsFront (W.contents writer.old) (W.contents writer.new)
+        (waiting_of chunks.old ++ units_text stream.now outcomes.now positions.now) }
+{
+    for (place, unit) in stream.iter().enumerate() {
+        let lines = UnitLines {
+            id: unit.0,
+            outcome: &outcomes[place],
+            position: positions[place],
+        };
+        chunks.print(lines, writer)?;
+    }
+    Ok(())
+}
+
+/// The units with their ids, which are 1, 2, 3 and so on.
+fn numbered(alloc: Global, units: Vec<Unit>) -> Result<Vec<(AuId, Unit)>, AllocError>
+    requires { vec_len units ≤ most_units }
+    ensures { IfOk result (λ stream. stream.items ≡ numbered_from 1 units.items) }
+{
+    let mut stream = Vec::with_capacity(alloc, units.len())?;
+    for unit in units {
+        let id = stream.len() as u32 + 1;
+        stream.push((AuId::new(id), unit))?;
+    }
+    Ok(stream)
+}

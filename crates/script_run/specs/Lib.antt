@@ -1,0 +1,5 @@
+pub mod Answers
+pub mod RunFaults
+pub mod Running
+pub mod Messages
+pub mod Options

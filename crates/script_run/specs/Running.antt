@@ -1,0 +1,96 @@
+-- The run of a script's commands on a session, and what it writes (docs/OUTPUT.md).
+use Rattle.std.specs.Prelude.{◌≡◌, ℕ, ◌-◌, ◌≤◌, ◌++◌, List, [], ◌∷◌, length, take, Result, Ok, Err, Option, Some, None, IfSome, ◌⊎◌}
+use Rattle.std.specs.Io.KnownBytes.{Appends, Keeps}
+use Rattle.std.specs.List.{AllZip, filter}
+use Rattle.annexb.specs.ByteStream.{joined}
+use Rattle.edit_engine.specs.declared.edits.Edit.TheVariants.{Insert}
+use Rattle.edit_engine.specs.declared.edits.Place.{Place}
+use Rattle.edit_engine.specs.declared.edits.Place.TheVariants.{First, After}
+use Rattle.edit_engine.specs.declared.receipts.Receipt.{Receipt}
+use Rattle.edit_engine.specs.declared.refusals.EditRefused.{EditRefused}
+use Rattle.edit_engine.specs.Machines.{Machine, empty, AnswersEdit, last_of}
+use Rattle.edit_engine.specs.Streams.{Stream}
+use Rattle.script_run.specs.Answers.{edit_line, refused_line, loaded_line, number_lines}
+use Rattle.console_io.specs.Chunks.{AppendsFront}
+use Rattle.access_unit.specs.Rooms.{IsStream, IsStreamRefused, most_units}
+use Rattle.unit_lines.specs.Refusals.{refusal_text}
+use Rattle.edit_script.specs.Scripts.{lines_of, is_read, IsLine}
+use Rattle.edit_script.specs.declared.commands.Command.{Command}
+use Rattle.edit_script.specs.declared.commands.Command.TheVariants as command
+use Rattle.access_unit.specs.declared.room.Refusal.{Refusal}
+
+-- behind the unit of this id, or first where there is none
+abbrev pub behind : Option ℕ → Place
+behind (Some id) = After id
+behind None = First
+
+-- behind the last unit
+abbrev pub end_of : Stream → Place
+end_of stream = behind (last_of stream).id
+
+-- the units that are left are inserted behind the last one, each by an edit, of so many in all: to the end, or to the
+-- first edit that is refused
+abbrev pub InsertsAll : ℕ → Machine → List (List (List ℕ)) → List ℕ → Machine → Type 0
+InsertsAll count old [] lines new = (lines ≡ loaded_line count) × (new ≡ old)
+InsertsAll count old (part ∷ parts) lines new =
+    ((receipt : Receipt) × (next : Machine)
+    × AnswersEdit old (Insert (end_of old.register.stream) (joined part)) (Ok receipt) next
+    × InsertsAll count next parts lines new)
+    ⊎ ((refused : EditRefused) × AnswersEdit old (Insert (end_of old.register.stream) (joined part)) (Err refused) new
+    × (lines ≡ refused_line refused))
+
+-- for how many more units a stream has room
+abbrev pub room_of : Stream → ℕ
+room_of stream = most_units - length stream
+
+-- a text is loaded: its units are inserted, or it is refused and nothing changes
+abbrev pub Loads : Machine → List ℕ → List ℕ → Machine → Type 0
+Loads old text lines new =
+    ((parts : List (List (List ℕ))) × IsStream text parts × (length parts ≤ room_of old.register.stream)
+    × InsertsAll (length parts) old parts lines new)
+    ⊎ ((refusal : Refusal) × IsStreamRefused text (room_of old.register.stream) refusal
+    × (lines ≡ refusal_text refusal) × (new ≡ old))
+
+-- the bytes of a file by its name, where they are known
+abbrev pub Files : Type 0
+Files = List ℕ → Option (List ℕ)
+
+-- a command is answered by the lines, and leads from one state of the session to the other
+abbrev pub Answers : Files → Machine → Command → List ℕ → Machine → Type 0
+Answers files old (command.Edit edit) lines new =
+    (answer : Result Receipt EditRefused) × AnswersEdit old edit answer new × (lines ≡ edit_line answer)
+Answers files old (command.Load path) lines new =
+    (text : List ℕ) × IfSome (files path.now) (λ bytes. text ≡ bytes) × Loads old text lines new
+Answers files old (command.Unit number) lines new = (lines ≡ number_lines old.register.stream number) × (new ≡ old)
+
+-- the commands are answered one after the other, by these lines in all
+abbrev pub Runs : Files → Machine → List Command → List ℕ → Machine → Type 0
+Runs files from [] lines to = (lines ≡ []) × (to ≡ from)
+Runs files from (command ∷ commands) lines to =
+    (front : List ℕ) × (rest : List ℕ) × (next : Machine) × Answers files from command front next
+    × Runs files next commands rest to × (lines ≡ front ++ rest)
+
+-- the lines that answer the commands were written
+abbrev pub WritesRun : Files → Machine → List Command → Machine → Option (List ℕ) → Option (List ℕ) → Type 0
+WritesRun files from commands to old new = (lines : List ℕ) × Runs files from commands lines to × Appends old new lines
+
+-- a front of the lines that answer the first few of the commands was written
+abbrev pub WritesRunFront : Files → Machine → List Command → Option (List ℕ) → Option (List ℕ) → Type 0
+WritesRunFront files from commands old new =
+    (count : ℕ) × (lines : List ℕ) × (to : Machine) × Runs files from (take count commands) lines to
+    × AppendsFront old new lines
+
+-- the text is a script, and what answers its commands was written: they were run from the empty stream, for a cache
+-- of this room
+pub record WritesScript (files : Files) (text : List ℕ) (room : ℕ) (old new : Option (List ℕ)) : Type 0 where
+  pub commands : List Command
+  pub last : Machine
+  pub read : AllZip IsLine (filter is_read (lines_of text)) commands
+  pub answered : WritesRun files (empty room) commands last old new
+
+-- nothing was written, or the text is a script and a front of what answers its first few commands was written
+abbrev pub WritesScriptFront : Files → List ℕ → ℕ → Option (List ℕ) → Option (List ℕ) → Type 0
+WritesScriptFront files text room old new =
+    Keeps old new
+    ⊎ ((commands : List Command) × AllZip IsLine (filter is_read (lines_of text)) commands
+    × WritesRunFront files (empty room) commands old new)

@@ -1,0 +1,16 @@
+//! `preview run`: a script read, run on a session and answered line by line.
+//!
+//! `script_on` reads a script, runs its commands one after the other over a session of edit_engine, and writes what
+//! answers each. What it reads and writes, and the files that it loads, are generic. Below are edit_script, unit_lines
+//! and console_io; above is preview.
+#![tactic(auto)]
+
+mod answers;
+mod loading;
+mod messages;
+mod options;
+mod run;
+mod run_fault;
+
+pub use options::{MOST_CACHE, Options};
+pub use run::script_on;

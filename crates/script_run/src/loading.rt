@@ -1,0 +1,89 @@
+//! `load`: the units of a file inserted one after the other.
+
+ghost use Rattle.std.specs.Prelude.{◌≡◌, ◌≢◌, ℕ, List, length, IfErr, IfOk, IfSome, string_bytes};
+ghost use Rattle.annexb.specs.ByteStream.{joined};
+ghost use Rattle.edit_engine.specs.declared.edits.Edit.TheVariants.{Insert};
+ghost use Rattle.edit_engine.specs.Machines.{AnswersEdit};
+ghost use Rattle.script_run.specs.RunFaults.{IsLoadFault};
+ghost use Rattle.script_run.specs.Running.{end_of, InsertsAll, Loads};
+
+use crate::answers::{LoadedLine, RefusedLine};
+use crate::run_fault::RunFault;
+use access_unit::{MOST_UNITS, ReadFault, SharedNal, Unit, read_units};
+use bytes::Bytes;
+use console_io::Source;
+use edit_engine::{Edit, EditRefused, Place, Receipt, Session};
+use std::alloc::{AllocError, Global};
+use std::thread::Threads;
+use unit_lines::RefusalLine;
+
+/// Inserts the units of the file of this name behind the last one, each by an edit, and gives the line that says how
+/// many; or why the file's stream is refused, or why an edit is, which ends the loading.
+pub fn load<'a, S: Source>(
+    threads: &(impl Threads + Sync),
+    alloc: Global,
+    path: &'a str,
+    session: &mut Session,
+    source: &mut S,
+) -> Result<String, RunFault<'a>>
+    ensures ok { IfOk result (λ lines. (text : List ℕ) × IfSome (S.file source.old path.now) (λ bytes. text ≡ bytes)
+        × Loads session.old text (string_bytes lines) session.new) }
+    ensures kept { (name : List ℕ) → S.file source.new name ≡ S.file source.old name }
+    ensures named { IfErr result (IsLoadFault path.entry) }
+    ensures fault { IfErr result (λ fault. (number : ℕ) → fault ≢ RunFault.Script number) }
+{
+    let text = match source.whole_file(alloc, path) {
+        Ok(text) => text,
+        Err(fault) => return Err(RunFault::of_input(fault, path)),
+    };
+    let room = MOST_UNITS.saturating_sub(session.last().units);
+    match read_units(threads, alloc, text.as_slice(), room) {
+        Ok(units) => Ok(insert_all(alloc, units, session)?),
+        Err(ReadFault::Refused(refusal)) => Ok(RefusalLine(refusal).to_string(alloc)?),
+        Err(ReadFault::Memory) => Err(RunFault::Memory),
+    }
+}
+
+/// Inserts the units behind the last one, and gives the line that says how many, or why one is refused.
+fn insert_all(alloc: Global, units: Vec<Unit>, session: &mut Session) -> Result<String, AllocError>
+    ensures { IfOk result (λ lines.
+        InsertsAll (length units.items) session.old units.items (string_bytes lines) session.new) }
+{
+    let count = units.len();
+    for unit in units {
+        if let Err(refused) = insert_last(alloc, &unit, session) {
+            return RefusedLine(refused).to_string(alloc);
+        }
+    }
+    LoadedLine(count).to_string(alloc)
+}
+
+/// Inserts a unit behind the last one.
+fn insert_last(alloc: Global, unit: &Unit, session: &mut Session) -> Result<Receipt, EditRefused>
+    ensures { AnswersEdit session.old (Insert (end_of session.old.register.stream) (joined unit.now))
+        result session.new }
+{
+    let place = end_of(session);
+    session.edit(Edit::Insert(place, text_of(alloc, unit.nals())?))
+}
+
+/// The place behind the last unit.
+fn end_of(session: &Session) -> Place
+    ensures { result ≡ end_of session.now.register.stream }
+{
+    match session.last().id {
+        Some(id) => Place::After(id),
+        None => Place::First,
+    }
+}
+
+/// The text of a unit of these NAL units.
+fn text_of(alloc: Global, nals: &[SharedNal]) -> Result<Bytes, AllocError>
+    ensures { IfOk result (λ text. text ≡ joined nals.now) }
+{
+    let mut text = Vec::new(alloc);
+    for nal in nals {
+        text.extend_from_slice(nal.coded()?.as_slice())?;
+    }
+    Ok(Bytes::from_vec(text)?)
+}

@@ -1,0 +1,64 @@
+//! Why a script isn't run to its end.
+
+ghost use Rattle.std.specs.Prelude.{◌≡◌};
+ghost use Rattle.script_run.specs.RunFaults.{fault_of_input, fault_of_print, fault_of_script};
+ghost use Rattle.script_run.specs.declared.run_fault.RunFault.TheVariants.{Memory};
+
+use console_io::{InputFault, PrintFault};
+use edit_script::ScriptFault;
+use std::alloc::AllocError;
+
+/// Why a script isn't run to its end.
+#[derive(Clone, Copy, Debug)]
+pub enum RunFault<'a> {
+    /// The input of this name can't be read.
+    Unread(&'a str),
+    /// The line of this number, from 1, is the first that is no command. Nothing was run.
+    Script(usize),
+    /// A growth was refused.
+    Memory,
+    /// The writer takes no more.
+    Unwritten,
+}
+
+impl<'a> RunFault<'a> {
+    /// What it means for the run that the input of this name isn't read.
+    pub fn of_input(fault: InputFault, name: &'a str) -> RunFault<'a>
+        ensures { result ≡ fault_of_input name.entry fault }
+    {
+        match fault {
+            InputFault::Unread => RunFault::Unread(name),
+            InputFault::Memory => RunFault::Memory,
+        }
+    }
+}
+
+impl<'a> From<AllocError> for RunFault<'a> {
+    ghost from_gives = { λ _ fault. fault ≡ Memory };
+
+    fn from(_error: AllocError) -> RunFault<'a> {
+        RunFault::Memory
+    }
+}
+
+impl<'a> From<PrintFault> for RunFault<'a> {
+    ghost from_gives = { λ print fault. fault ≡ fault_of_print print };
+
+    fn from(fault: PrintFault) -> RunFault<'a> {
+        match fault {
+            PrintFault::Memory => RunFault::Memory,
+            PrintFault::Unwritten => RunFault::Unwritten,
+        }
+    }
+}
+
+impl<'a> From<ScriptFault> for RunFault<'a> {
+    ghost from_gives = { λ script fault. fault ≡ fault_of_script script };
+
+    fn from(fault: ScriptFault) -> RunFault<'a> {
+        match fault {
+            ScriptFault::Line(number) => RunFault::Script(number),
+            ScriptFault::Memory => RunFault::Memory,
+        }
+    }
+}

@@ -1,0 +1,60 @@
+-- The lines of a valid unit (docs/OUTPUT.md).
+use Rattle.std.specs.Prelude.{ℕ, ◌+◌, ◌++◌, length, List, [], ◌∷◌, Option, Some, None, codes, decimal, if◌then◌else◌}
+use Rattle.std.specs.Fmt.{signed_decimal}
+use Rattle.std.specs.List.{join_by}
+use Rattle.std.specs.Int.{w32, cast_signed}
+use Rattle.h264_controls.specs.declared.request.Request.{Request}
+use Rattle.h264_controls.specs.declared.v4l2_ctrl_h264_decode_params.V4l2H264DpbEntry.{V4l2H264DpbEntry}
+use Rattle.h264_controls.specs.DecodeParamsForm.{dpb_entry_flags}
+use Rattle.h264_controls.specs.SliceParamsForm.{slice_type_number}
+use Rattle.request_core.specs.declared.outcome.Plan.{Plan}
+use Rattle.unit_lines.specs.declared.lines.UnitLine.{UnitLine}
+use Rattle.unit_lines.specs.declared.lines.RequestLine.{RequestLine}
+
+-- the line of the unit itself
+abbrev pub unit_line : UnitLine → List ℕ
+unit_line line = codes "unit " ++ (decimal line.id ++ (codes " position " ++ (decimal line.position
+    ++ (codes " counts " ++ (signed_decimal line.counts.top ++ (codes " " ++ (signed_decimal line.counts.bottom
+    ++ (codes " requests " ++ (decimal line.requests ++ codes "\n")))))))))
+
+-- timestamp, number and flags of an entry
+abbrev pub entry_text : V4l2H264DpbEntry → List ℕ
+entry_text entry = decimal entry.reference_ts ++ (codes ":" ++ (signed_decimal (cast_signed w32 entry.pic_num)
+    ++ (codes ":" ++ decimal (dpb_entry_flags entry.flags))))
+
+-- a place, or x for a missing entry
+abbrev pub place_text : Option ℕ → List ℕ
+place_text (Some place) = decimal place
+place_text None = codes "x"
+
+-- the texts joined by commas, - where there's none
+abbrev pub list_text : {A : Type 0} → (A → List ℕ) → List A → List ℕ
+list_text text [] = codes "-"
+list_text text (x ∷ xs) = join_by text (codes ",") (x ∷ xs)
+
+-- the line of a request, by the unit's id and the place of the slice
+abbrev pub request_text : ℕ → ℕ → Request → List ℕ
+request_text id slice request =
+    codes "request " ++ (decimal id ++ (codes "." ++ (decimal slice
+    ++ (codes " ts " ++ (decimal request.timestamp ++ (codes " bits " ++ (decimal request.controls.slice_params.header_bit_size
+    ++ (codes " type " ++ (decimal (slice_type_number request.controls.slice_params.slice_type)
+    ++ (codes " frame " ++ (decimal request.controls.decode_params.frame_num
+    ++ (codes " dpb " ++ (list_text entry_text request.controls.decode_params.dpb.items
+    ++ (codes " l0 " ++ (list_text place_text request.controls.slice_params.ref_pic_list0
+    ++ (codes " l1 " ++ (list_text place_text request.controls.slice_params.ref_pic_list1
+    ++ (codes " hold " ++ (decimal (if request.hold then 1 else 0) ++ codes "\n")))))))))))))))))))
+
+-- the line of a request
+abbrev pub request_line : RequestLine → List ℕ
+request_line line = request_text line.id line.slice line.request.now
+
+-- the lines of the requests of a unit's slices, from this place on
+abbrev pub request_lines : ℕ → ℕ → List Request → List ℕ
+request_lines id slice [] = []
+request_lines id slice (request ∷ requests) = request_text id slice request ++ request_lines id (slice + 1) requests
+
+-- the lines of a valid unit
+abbrev pub plan_lines : ℕ → ℕ → Plan → List ℕ
+plan_lines id position plan =
+    unit_line (record { id = id; position = position; counts = plan.counts; requests = length plan.requests })
+    ++ request_lines id 0 plan.requests

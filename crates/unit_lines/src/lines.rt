@@ -1,0 +1,199 @@
+//! The lines of a unit (docs/OUTPUT.md).
+
+ghost use Rattle.std.specs.Prelude.{Some};
+ghost use Rattle.unit_lines.specs.Lines.{entry_text, list_text, place_text, plan_lines, request_line, unit_line};
+ghost use Rattle.unit_lines.specs.UnitLines.{fault_line, unit_lines};
+
+use h264_controls::{Request, V4l2H264DpbEntry};
+use order_count::Counts;
+use ref_marking::AuId;
+use request_core::{Outcome, Plan, ValidityFault};
+use std::fmt;
+use std::fmt::{Display, Formatter, Write};
+
+/// The lines of a unit: what becomes of it.
+#[derive(Drop)]
+pub struct UnitLines<'a> {
+    pub id: AuId,
+    pub outcome: &'a Outcome,
+    /// The place in output order; each plan has one.
+    pub position: Option<usize>,
+}
+
+impl<'a> Display for UnitLines<'a> {
+    ghost output = { λ lines. Some (unit_lines lines) };
+
+    fn fmt<W: Write>(&self, f: &mut Formatter<W>) -> fmt::Result {
+        let id = self.id;
+        match self.outcome {
+            Outcome::Plan(plan) => {
+                let position = self.position.unwrap_or_default();
+                write!(f, "{}", PlanLines { id, position, plan })
+            }
+            Outcome::Fault(fault) => write!(f, "{}", FaultLine { id, fault: *fault }),
+        }
+    }
+}
+
+/// The lines of a valid unit.
+#[derive(Drop)]
+struct PlanLines<'a> {
+    id: AuId,
+    position: usize,
+    plan: &'a Plan,
+}
+
+impl<'a> Display for PlanLines<'a> {
+    ghost output = { λ lines. Some (plan_lines lines.id lines.position lines.plan.now) };
+
+    fn fmt<W: Write>(&self, f: &mut Formatter<W>) -> fmt::Result {
+        let (id, requests) = (self.id, self.plan.requests.as_slice());
+        let line = UnitLine {
+            id,
+            position: self.position,
+            counts: self.plan.counts,
+            requests: requests.len(),
+        };
+        write!(f, "{line}")?;
+        for (slice, request) in requests.iter().enumerate() {
+            write!(f, "{}", RequestLine { id, slice, request })?;
+        }
+        Ok(())
+    }
+}
+
+/// The line of a valid unit itself.
+#[derive(Drop)]
+struct UnitLine {
+    id: AuId,
+    position: usize,
+    counts: Counts,
+    requests: usize,
+}
+
+impl Display for UnitLine {
+    ghost output = { λ line. Some (unit_line line) };
+
+    fn fmt<W: Write>(&self, f: &mut Formatter<W>) -> fmt::Result {
+        let (id, position, requests) = (self.id.number(), self.position, self.requests);
+        let Counts { top, bottom } = self.counts;
+        write!(f, "unit {id} position {position} ")?;
+        writeln!(f, "counts {top} {bottom} requests {requests}")
+    }
+}
+
+/// The line of a unit with a fault.
+#[derive(Drop)]
+struct FaultLine {
+    id: AuId,
+    fault: ValidityFault,
+}
+
+impl Display for FaultLine {
+    ghost output = { λ line. Some (fault_line line) };
+
+    fn fmt<W: Write>(&self, f: &mut Formatter<W>) -> fmt::Result {
+        let (id, number, name) = (self.id.number(), self.fault.number(), self.fault.name());
+        writeln!(f, "unit {id} fault {number} {name}")
+    }
+}
+
+/// The line of a request.
+#[derive(Drop)]
+struct RequestLine<'a> {
+    id: AuId,
+    /// The place of the slice in its unit, from 0.
+    slice: usize,
+    request: &'a Request,
+}
+
+impl<'a> Display for RequestLine<'a> {
+    ghost output = { λ line. Some (request_line line) };
+
+    fn fmt<W: Write>(&self, f: &mut Formatter<W>) -> fmt::Result {
+        let (id, slice, request) = (self.id.number(), self.slice, self.request);
+        let params = &request.controls.slice_params;
+        let picture = &request.controls.decode_params;
+        let (timestamp, bits) = (request.timestamp, params.header_bit_size);
+        let (slice_type, frame_num) = (params.slice_type as u8, picture.frame_num);
+        let dpb = Dpb(picture.dpb.as_slice());
+        let l0 = List(params.ref_pic_list0.entries());
+        let l1 = List(params.ref_pic_list1.entries());
+        let hold = request.hold as u8;
+        write!(f, "request {id}.{slice} ts {timestamp} bits {bits} ")?;
+        write!(f, "type {slice_type} frame {frame_num} dpb {dpb} ")?;
+        writeln!(f, "l0 {l0} l1 {l1} hold {hold}")
+    }
+}
+
+/// The entries of a decoded picture buffer.
+#[derive(Drop)]
+struct Dpb<'a>(&'a [V4l2H264DpbEntry]);
+
+impl<'a> Display for Dpb<'a> {
+    ghost output = { λ dpb. Some (list_text entry_text dpb.0.now) };
+
+    fn fmt<W: Write>(&self, f: &mut Formatter<W>) -> fmt::Result {
+        let Some((first, others)) = self.0.split_first() else {
+            return write!(f, "-");
+        };
+        write!(f, "{}", Entry(*first))?;
+        for entry in others {
+            write!(f, ",{}", Entry(*entry))?;
+        }
+        Ok(())
+    }
+}
+
+/// An entry of a decoded picture buffer.
+#[derive(Drop)]
+struct Entry(V4l2H264DpbEntry);
+
+impl Display for Entry {
+    ghost output = { λ entry. Some (entry_text entry.0) };
+
+    fn fmt<W: Write>(&self, f: &mut Formatter<W>) -> fmt::Result {
+        let V4l2H264DpbEntry {
+            reference_ts,
+            pic_num,
+            flags,
+            ..
+        } = self.0;
+        let (pic_num, flags) = (pic_num.cast_signed(), flags.number());
+        write!(f, "{reference_ts}:{pic_num}:{flags}")
+    }
+}
+
+/// The entries of a reference picture list.
+#[derive(Drop)]
+struct List<'a>(&'a [Option<u8>]);
+
+impl<'a> Display for List<'a> {
+    ghost output = { λ list. Some (list_text place_text list.0.now) };
+
+    fn fmt<W: Write>(&self, f: &mut Formatter<W>) -> fmt::Result {
+        let Some((first, others)) = self.0.split_first() else {
+            return write!(f, "-");
+        };
+        write!(f, "{}", Place(*first))?;
+        for place in others {
+            write!(f, ",{}", Place(*place))?;
+        }
+        Ok(())
+    }
+}
+
+/// An entry of a reference picture list: a place in the decoded picture buffer, or missing.
+#[derive(Drop)]
+struct Place(Option<u8>);
+
+impl Display for Place {
+    ghost output = { λ place. Some (place_text place.0) };
+
+    fn fmt<W: Write>(&self, f: &mut Formatter<W>) -> fmt::Result {
+        match self.0 {
+            Some(index) => write!(f, "{index}"),
+            None => write!(f, "x"),
+        }
+    }
+}

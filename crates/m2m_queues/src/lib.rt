@@ -17,3 +17,6 @@ pub use fault::QueueFault;
 pub use queues::Queues;
 pub use requests::{MOST_REQUESTS, Output, Request, RequestId, RequestState};
 pub use work::{RunOne, SliceWork, Target};
+
+#[cfg(test)]
+mod tests;

@@ -1,6 +1,6 @@
 -- The buffers of a queue (Linux media documentation, "Buffers" and VIDIOC_QUERYBUF): a list of them in the order in
 -- which they came into their states, the newest last.
-use Rattle.std.specs.Prelude.{ℕ, Bool, true, false, ◌==◌, List, [], ◌∷◌, ◌++◌, map, Option, None, Some, find, position, remove}
+use Rattle.std.specs.Prelude.{ℕ, Bool, true, false, ◌==◌, List, [], ◌∷◌, ◌++◌, map, Option, None, Some, find, position, remove, ◌≡◌, count_by, length, nat_lt, if◌then◌else◌}
 use Rattle.std.specs.List.{range_with_len}
 use Rattle.m2m_queues.specs.declared.buffers.BufferState.{BufferState}
 use Rattle.m2m_queues.specs.declared.buffers.BufferState.TheVariants.{Free, Queued, Held, Done}
@@ -50,3 +50,7 @@ turned_at buffers buffer (Some place) = remove buffers place ++ buffer ∷ []
 -- the buffers with this one in place of the one of its index, now the newest
 abbrev pub turned : List Buffer → Buffer → List Buffer
 turned buffers buffer = turned_at buffers buffer (position (λ b. b.index == buffer.index) buffers)
+
+-- each index below the number of the buffers is that of one of them, and no other is
+pub record IsNumbered (buffers : List Buffer) : Type 0 where
+  pub each : (index : ℕ) → count_by (λ b. b.index == index) buffers ≡ (if nat_lt index (length buffers) then 1 else 0)

@@ -1,11 +1,11 @@
 //! The buffers of a queue, in the order in which they came into their states.
 
-ghost use Rattle.std.specs.Prelude.{◌≡◌, ◌==◌, ◌<◌, ◌≤◌, IfSome, length, position};
+ghost use Rattle.std.specs.Prelude.{◌≡◌, ◌==◌, ◌<◌, ◌≤◌, IfSome, is_some, length, nat_lt, position};
 ghost use Rattle.std.specs.Option.{option_copied};
 ghost use Rattle.m2m_queues.specs.Buffers.{buffer_at, done, free, free_buffers, held, oldest, queued, same_state, turned};
-ghost use Rattle.arrayvec.specs.ArrayVec.{array_vec_len};
 
 use arrayvec::ArrayVec;
+use std::marker::Model;
 
 /// How many buffers a queue may have.
 pub const MOST_BUFFERS: usize = 32;
@@ -21,6 +21,15 @@ pub enum BufferState {
     Held,
     /// Ready to be dequeued.
     Done,
+}
+
+impl BufferState {
+    /// The two are one state.
+    fn is(self, other: BufferState) -> bool
+        ensures { result ≡ same_state self other }
+    {
+        self == other
+    }
 }
 
 /// A buffer of the OUTPUT or the CAPTURE queue.
@@ -46,90 +55,111 @@ impl Default for Buffer {
     ghost is_default = { λ buffer. buffer ≡ free 0 };
 
     fn default() -> Buffer {
-        free(0)
+        Buffer::free(0)
     }
 }
 
-impl BufferState {
-    /// The two are one state.
-    fn is(self, other: BufferState) -> bool
-        ensures { result ≡ same_state self other }
+impl Buffer {
+    /// The buffer of that index, with the caller.
+    pub(crate) fn free(index: usize) -> Buffer
+        ensures { result ≡ free index }
     {
-        self == other
+        Buffer {
+            index,
+            state: BufferState::Free,
+            timestamp: 0,
+        }
+    }
+
+    /// The buffer of that index in its queue, with this timestamp.
+    pub(crate) fn queued(index: usize, timestamp: u64) -> Buffer
+        ensures { result ≡ queued index timestamp }
+    {
+        Buffer {
+            index,
+            state: BufferState::Queued,
+            timestamp,
+        }
+    }
+
+    /// The CAPTURE buffer of that index, held for the frame with this timestamp.
+    pub(crate) fn held(index: usize, timestamp: u64) -> Buffer
+        ensures { result ≡ held index timestamp }
+    {
+        Buffer {
+            index,
+            state: BufferState::Held,
+            timestamp,
+        }
+    }
+
+    /// The buffer of that index, ready with this timestamp.
+    pub(crate) fn done(index: usize, timestamp: u64) -> Buffer
+        ensures { result ≡ done index timestamp }
+    {
+        Buffer {
+            index,
+            state: BufferState::Done,
+            timestamp,
+        }
     }
 }
 
-/// The buffers of one queue.
-pub(crate) type Buffers = ArrayVec<Buffer, MOST_BUFFERS>;
+/// The buffers of one queue. Clauses see them as a list, each index below its length once.
+#[derive(Drop)]
+pub(crate) struct Buffers {
+    items: ArrayVec<Buffer, MOST_BUFFERS>,
+}
 
-/// The buffer of that index, with the caller.
-pub(crate) fn free(index: usize) -> Buffer
-    ensures { result ≡ free index }
-{
-    Buffer {
-        index,
-        state: BufferState::Free,
-        timestamp: 0,
+impl Model for Buffers {
+    ghost use Rattle.std.specs.Prelude.{List};
+    ghost use Rattle.m2m_queues.specs.declared.buffers.Buffer.{Buffer};
+    ghost use Rattle.m2m_queues.specs.Buffers.{IsNumbered};
+
+    ghost Value = { List Buffer };
+
+    ghost view = { λ b. b.items.items };
+
+    ghost invariant = { λ b. IsNumbered b.items.items };
+}
+
+impl Buffers {
+    /// So many buffers, all free.
+    pub(crate) fn new(count: usize) -> Buffers
+        requires { count ≤ 32 }
+        ensures { result ≡ free_buffers count }
+    {
+        let mut items = ArrayVec::new();
+        for index in 0..count {
+            items.push(Buffer::free(index));
+        }
+        Buffers { items }
     }
-}
 
-/// The buffer of that index in its queue, with this timestamp.
-pub(crate) fn queued(index: usize, timestamp: u64) -> Buffer
-    ensures { result ≡ queued index timestamp }
-{
-    Buffer {
-        index,
-        state: BufferState::Queued,
-        timestamp,
+    /// The buffer of an index, which is there for each index below the number of the buffers.
+    pub(crate) fn at(&self, index: usize) -> Option<&Buffer>
+        ensures found { option_copied result ≡ buffer_at self.now index }
+        ensures range { is_some (buffer_at self.now index) ≡ nat_lt index (length self.now) }
+    {
+        self.items.as_slice().iter().find(|b| b.index == index)
     }
-}
 
-/// The CAPTURE buffer of that index, held for the frame with this timestamp.
-pub(crate) fn held(index: usize, timestamp: u64) -> Buffer
-    ensures { result ≡ held index timestamp }
-{
-    Buffer {
-        index,
-        state: BufferState::Held,
-        timestamp,
+    /// The buffer that came into this state first, of those that are in it.
+    pub(crate) fn oldest(&self, state: BufferState) -> Option<&Buffer>
+        ensures { option_copied result ≡ oldest self.now state }
+    {
+        self.items.as_slice().iter().find(|b| b.state.is(state))
     }
-}
 
-/// The buffer of that index, ready with this timestamp.
-pub(crate) fn done(index: usize, timestamp: u64) -> Buffer
-    ensures { result ≡ done index timestamp }
-{
-    Buffer {
-        index,
-        state: BufferState::Done,
-        timestamp,
+    /// Puts this buffer in place of the one of its index, as the newest.
+    pub(crate) fn turn(&mut self, buffer: Buffer)
+        ensures { self.new ≡ turned self.old buffer }
+    {
+        if let Some(place) = place_of(self.items.as_slice(), buffer.index) {
+            self.items.remove(place);
+            self.items.push(buffer);
+        }
     }
-}
-
-/// So many buffers, all free.
-pub(crate) fn free_buffers(count: usize) -> Buffers
-    requires { count ≤ 32 }
-    ensures { result.items ≡ free_buffers count }
-{
-    let mut buffers = Buffers::new();
-    for index in 0..count {
-        buffers.push(free(index));
-    }
-    buffers
-}
-
-/// The buffer of an index.
-pub(crate) fn buffer_at(buffers: &[Buffer], index: usize) -> Option<&Buffer>
-    ensures { option_copied result ≡ buffer_at buffers.now index }
-{
-    buffers.iter().find(|b| b.index == index)
-}
-
-/// The buffer that came into this state first, of those that are in it.
-pub(crate) fn oldest(buffers: &[Buffer], state: BufferState) -> Option<&Buffer>
-    ensures { option_copied result ≡ oldest buffers.now state }
-{
-    buffers.iter().find(|b| b.state.is(state))
 }
 
 /// The place of the buffer of an index.
@@ -138,14 +168,4 @@ fn place_of(buffers: &[Buffer], index: usize) -> Option<usize>
     ensures within { IfSome result (λ place. place < length buffers.now) }
 {
     buffers.iter().position(|b| b.index == index)
-}
-
-/// Puts this buffer in place of the one of its index, as the newest.
-pub(crate) fn turn(buffers: &mut Buffers, buffer: Buffer)
-    ensures { buffers.new.items ≡ turned buffers.old.items buffer }
-{
-    if let Some(place) = place_of(buffers.as_slice(), buffer.index) {
-        buffers.remove(place);
-        buffers.push(buffer);
-    }
 }

@@ -7,7 +7,7 @@ mod buffers;
 mod requests;
 mod run;
 
-use crate::buffers::{Buffers, free_buffers};
+use crate::buffers::Buffers;
 use crate::requests::{MOST_REQUESTS, Request};
 use arrayvec::ArrayVec;
 use slab::Slab;
@@ -32,8 +32,8 @@ impl<C> Model for Queues<C> {
     ghost view = { λ q. record {
       requests = q.requests.slots;
       order = q.order.items;
-      outputs = q.outputs.items;
-      captures = q.captures.items;
+      outputs = q.outputs;
+      captures = q.captures;
     } };
 
     ghost invariant = { λ q. IsKept q.requests q.order.items };
@@ -51,8 +51,8 @@ impl<C: Drop> Queues<C> {
         Ok(Queues {
             requests: Slab::with_capacity(alloc, MOST_REQUESTS)?,
             order: ArrayVec::new(),
-            outputs: free_buffers(outputs),
-            captures: free_buffers(captures),
+            outputs: Buffers::new(outputs),
+            captures: Buffers::new(captures),
         })
     }
 }

@@ -1,23 +1,22 @@
 //! The calls on buffers.
 
-ghost use Rattle.std.specs.Prelude.{◌≡◌};
+ghost use Rattle.std.specs.Prelude.{◌≡◌, is_ok, length, nat_lt};
 ghost use Rattle.m2m_queues.specs.Queuing.{Takes, output_of, queue_capture, queue_output};
 ghost use Rattle.m2m_queues.specs.Buffers.{buffer_at};
 ghost use Rattle.m2m_queues.specs.Steps.{Follows, Looks};
 
 use super::Queues;
-use crate::buffers::{
-    Buffer, BufferState, Buffers, Dequeued, buffer_at, free, oldest, queued, turn,
-};
+use crate::buffers::{Buffer, BufferState, Buffers, Dequeued};
 use crate::fault::QueueFault;
 use crate::requests::{Output, RequestId, RequestState};
 use bytes::Bytes;
 
-/// The buffer of an index, which there has to be.
-fn look(buffers: &[Buffer], index: usize) -> Result<Buffer, QueueFault>
-    ensures { Looks (buffer_at buffers.now index) QueueFault.Invalid result }
+/// The buffer of an index, which is there for each index below the number of the buffers.
+fn look(buffers: &Buffers, index: usize) -> Result<Buffer, QueueFault>
+    ensures found { Looks (buffer_at buffers.now index) QueueFault.Invalid result }
+    ensures range { is_ok result ≡ nat_lt index (length buffers.now) }
 {
-    match buffer_at(buffers, index) {
+    match buffers.at(index) {
         Some(buffer) => Ok(*buffer),
         None => Err(QueueFault::Invalid),
     }
@@ -25,32 +24,34 @@ fn look(buffers: &[Buffer], index: usize) -> Result<Buffer, QueueFault>
 
 /// The oldest done buffer goes to the caller.
 fn dequeue(buffers: &mut Buffers) -> Result<Dequeued, QueueFault>
-    ensures { Takes result buffers.old.items buffers.new.items }
+    ensures { Takes result buffers.old buffers.new }
 {
-    let Some(done) = oldest(buffers.as_slice(), BufferState::Done) else {
+    let Some(done) = buffers.oldest(BufferState::Done) else {
         return Err(QueueFault::Again);
     };
     let answer = Dequeued {
         index: done.index,
         timestamp: done.timestamp,
     };
-    turn(buffers, free(answer.index));
+    buffers.turn(Buffer::free(answer.index));
     Ok(answer)
 }
 
 impl<C: Drop> Queues<C> {
     /// The OUTPUT buffer of an index.
     pub fn output_buffer(&self, index: usize) -> Result<Buffer, QueueFault>
-        ensures { Looks (buffer_at self.now.outputs index) QueueFault.Invalid result }
+        ensures found { Looks (buffer_at self.now.outputs index) QueueFault.Invalid result }
+        ensures range { is_ok result ≡ nat_lt index (length self.now.outputs) }
     {
-        look(self.outputs.as_slice(), index)
+        look(&self.outputs, index)
     }
 
     /// The CAPTURE buffer of an index.
     pub fn capture_buffer(&self, index: usize) -> Result<Buffer, QueueFault>
-        ensures { Looks (buffer_at self.now.captures index) QueueFault.Invalid result }
+        ensures found { Looks (buffer_at self.now.captures index) QueueFault.Invalid result }
+        ensures range { is_ok result ≡ nat_lt index (length self.now.captures) }
     {
-        look(self.captures.as_slice(), index)
+        look(&self.captures, index)
     }
 
     /// Puts a slice of the frame with this timestamp, in nanoseconds, into a free OUTPUT buffer, and binds that to an
@@ -71,7 +72,7 @@ impl<C: Drop> Queues<C> {
         let Some(found) = self.requests.get_mut(request.0) else {
             return Err(QueueFault::NoEntry);
         };
-        let Some(buffer) = buffer_at(self.outputs.as_slice(), index) else {
+        let Some(buffer) = self.outputs.at(index) else {
             return Err(QueueFault::Invalid);
         };
         if found.state != RequestState::Idle || found.output.is_some() {
@@ -80,7 +81,7 @@ impl<C: Drop> Queues<C> {
         if buffer.state != BufferState::Free {
             return Err(QueueFault::Invalid);
         }
-        turn(&mut self.outputs, queued(index, timestamp));
+        self.outputs.turn(Buffer::queued(index, timestamp));
         found.output = Some(Output {
             index,
             bytes,
@@ -94,9 +95,9 @@ impl<C: Drop> Queues<C> {
     pub fn queue_capture(&mut self, index: usize) -> Result<(), QueueFault>
         ensures { Follows (queue_capture self.old index) result self.old self.new }
     {
-        match buffer_at(self.captures.as_slice(), index) {
+        match self.captures.at(index) {
             Some(buffer) if buffer.state == BufferState::Free => {
-                turn(&mut self.captures, queued(index, 0));
+                self.captures.turn(Buffer::queued(index, 0));
                 Ok(())
             }
             _ => Err(QueueFault::Invalid),

@@ -6,16 +6,16 @@ ghost use Rattle.m2m_queues.specs.Requests.{Allocates, free_request, given_back,
 ghost use Rattle.m2m_queues.specs.Steps.{Follows, Looks};
 
 use super::Queues;
-use crate::buffers::{Buffers, free, turn};
+use crate::buffers::{Buffer, Buffers};
 use crate::fault::QueueFault;
 use crate::requests::{MOST_REQUESTS, Request, RequestId, RequestState};
 
 /// The OUTPUT buffer that is bound to a request becomes free.
 fn give_back<C>(outputs: &mut Buffers, request: &Request<C>)
-    ensures { outputs.new.items ≡ given_back outputs.old.items (Some request.now) }
+    ensures { outputs.new ≡ given_back outputs.old (Some request.now) }
 {
     if let Some(output) = &request.output {
-        turn(outputs, free(output.index));
+        outputs.turn(Buffer::free(output.index));
     }
 }
 
@@ -50,13 +50,13 @@ impl<C: Drop> Queues<C> {
     pub fn free_request(&mut self, request: RequestId) -> Result<(), QueueFault>
         ensures { Follows (free_request self.old request.0) result self.old self.new }
     {
-        let Some(found) = self.requests.get(request.0) else {
+        let Some(closed) = self.requests.get(request.0) else {
             return Err(QueueFault::NoEntry);
         };
-        if found.state == RequestState::Queued {
+        if closed.state == RequestState::Queued {
             return Err(QueueFault::Busy);
         }
-        give_back(&mut self.outputs, found);
+        give_back(&mut self.outputs, closed);
         self.requests.remove(request.0);
         Ok(())
     }
@@ -95,16 +95,16 @@ impl<C: Drop> Queues<C> {
     pub fn queue_request(&mut self, request: RequestId) -> Result<(), QueueFault>
         ensures { Follows (queue_request self.old request.0) result self.old self.new }
     {
-        let Some(found) = self.requests.get_mut(request.0) else {
+        let Some(waiting) = self.requests.get_mut(request.0) else {
             return Err(QueueFault::NoEntry);
         };
-        if found.state != RequestState::Idle {
+        if waiting.state != RequestState::Idle {
             return Err(QueueFault::Busy);
         }
-        if found.output.is_none() || found.controls.is_none() {
+        if waiting.output.is_none() || waiting.controls.is_none() {
             return Err(QueueFault::NoEntry);
         }
-        found.state = RequestState::Queued;
+        waiting.state = RequestState::Queued;
         self.order.push(request.0);
         Ok(())
     }

@@ -8,7 +8,7 @@ ghost use Rattle.m2m_queues.specs.Machine.{empty_request};
 ghost use Rattle.m2m_queues.specs.Runs.{RunsOne, begin, held_for_another, released, target_of, written};
 
 use super::Queues;
-use crate::buffers::{Buffer, BufferState, Buffers, done, held, oldest, turn};
+use crate::buffers::{Buffer, BufferState, Buffers};
 use crate::fault::QueueFault;
 use crate::requests::{Output, Request, RequestState};
 use crate::work::{RunOne, SliceWork, Target};
@@ -16,13 +16,13 @@ use slab::Slab;
 
 /// Releases a CAPTURE buffer that is held for another frame than this one, and answers whether there was one.
 fn release(captures: &mut Buffers, timestamp: u64) -> bool
-    ensures released { captures.new.items ≡ released captures.old.items timestamp }
-    ensures found { result ≡ is_some (held_for_another captures.old.items timestamp) }
+    ensures released { captures.new ≡ released captures.old timestamp }
+    ensures found { result ≡ is_some (held_for_another captures.old timestamp) }
 {
-    match oldest(captures.as_slice(), BufferState::Held) {
+    match captures.oldest(BufferState::Held) {
         Some(buffer) if buffer.timestamp != timestamp => {
-            let ready = done(buffer.index, buffer.timestamp);
-            turn(captures, ready);
+            let ready = Buffer::done(buffer.index, buffer.timestamp);
+            captures.turn(ready);
             true
         }
         _ => false,
@@ -30,10 +30,10 @@ fn release(captures: &mut Buffers, timestamp: u64) -> bool
 }
 
 /// Where the next slice of the frame with this timestamp goes.
-fn target_of(captures: &[Buffer], timestamp: u64) -> Option<Target>
+fn target_of(captures: &Buffers, timestamp: u64) -> Option<Target>
     ensures { result ≡ target_of captures.now timestamp }
 {
-    match oldest(captures, BufferState::Held) {
+    match captures.oldest(BufferState::Held) {
         Some(buffer) if buffer.timestamp == timestamp => Some(Target {
             capture: buffer.index,
             begins: false,
@@ -43,10 +43,10 @@ fn target_of(captures: &[Buffer], timestamp: u64) -> Option<Target>
 }
 
 /// The oldest queued CAPTURE buffer, for a frame that begins.
-fn beginning(captures: &[Buffer]) -> Option<Target>
+fn beginning(captures: &Buffers) -> Option<Target>
     ensures { result ≡ begin (oldest captures.now Queued) }
 {
-    let buffer = oldest(captures, BufferState::Queued)?;
+    let buffer = captures.oldest(BufferState::Queued)?;
     Some(Target {
         capture: buffer.index,
         begins: true,
@@ -58,9 +58,9 @@ fn written(target: Target, output: &Output) -> Buffer
     ensures { result ≡ written target output.now }
 {
     if output.hold {
-        held(target.capture, output.timestamp)
+        Buffer::held(target.capture, output.timestamp)
     } else {
-        done(target.capture, output.timestamp)
+        Buffer::done(target.capture, output.timestamp)
     }
 }
 
@@ -89,7 +89,7 @@ impl<C: Drop> Queues<C> {
             unreachable!()
         };
         let timestamp = output.timestamp;
-        let Some(target) = target_of(self.captures.as_slice(), timestamp) else {
+        let Some(target) = target_of(&self.captures, timestamp) else {
             return if release(&mut self.captures, timestamp) {
                 Ok(RunOne::Released)
             } else {
@@ -102,11 +102,11 @@ impl<C: Drop> Queues<C> {
         {
             return Err(QueueFault::Memory);
         }
-        let ready = done(output.index, timestamp);
+        let ready = Buffer::done(output.index, timestamp);
         let capture = written(target, output);
-        turn(&mut self.outputs, ready);
+        self.outputs.turn(ready);
         release(&mut self.captures, timestamp);
-        turn(&mut self.captures, capture);
+        self.captures.turn(capture);
         self.order.remove(0);
         complete(&mut self.requests, id);
         Ok(RunOne::Ran)

@@ -39,7 +39,7 @@ returns-then-is_err g c = record {
     controlled = search rules;
     bound = search rules;
   });
-  placed = rw (← c.self.view_is) (rw c.as_slice-2.ensures.value at (sym c.in-Some-target_of.ensures));
+  placed = rw (← c.self.view_is) (sym c.in-Some-target_of.ensures);
   left = refl;
 }
 
@@ -60,7 +60,7 @@ returns g c = record {
     controlled = search rules;
     bound = search rules;
   });
-  placed = rw (← c.self.view_is) (rw c.as_slice-2.ensures.value at (sym c.in-Some-target_of.ensures));
+  placed = rw (← c.self.view_is) (sym c.in-Some-target_of.ensures);
   work = search rules;
   left = rw (← c.self.view_is, c.complete.ensures, c.turn-2.ensures, c.release-2.ensures.released, c.turn.ensures, c.remove.ensures.items, c.done-ready.ensures, c.written-capture.ensures) refl;
 }

@@ -16,14 +16,16 @@ index_is a b e = grind (arith, nat_tests)
 -- the buffer at a place goes, and one of the same index comes: each index is there as often as before
 pub numbered_turned : (buffers : List Buffer) (buffer : Buffer) (place : Option ℕ) → position (λ b. b.index == buffer.index) buffers ≡ place → IsNumbered buffers → IsNumbered (turned_at buffers buffer place)
 numbered_turned buffers buffer None e h = h
-numbered_turned buffers buffer (Some place) e h = record { each = λ index.
-    let found = position-Some (λ b. b.index == buffer.index) buffers place buffer e in
-    let gone = sum_by-remove (λ b. cond (b.index == index) 1 0) buffers place buffer found.0 in
-    let come = sum_by-append (λ b. cond (b.index == index) 1 0) (remove buffers place) (buffer ∷ []) in
-    let same = index_is (get_or buffers place buffer).index buffer.index found.1 in
-    let counted : count_by (λ b. b.index == index) (remove buffers place ++ buffer ∷ []) ≡ count_by (λ b. b.index == index) buffers = omega (arith, come, gone, ap (λ n. cond {A = ℕ} (n == index) 1 0) same) in
-    let long : length (remove buffers place ++ buffer ∷ []) ≡ length buffers = omega (arith, length-remove buffers place found.0, length-append (remove buffers place) (buffer ∷ [])) in
-    counted ∙ (h.each index ∙ ap (λ n. cond {A = ℕ} (nat_lt index n) 1 0) (sym long)) }
+numbered_turned buffers buffer (Some place) e h = record {
+  each = λ index.
+      let found = position-Some (λ b. b.index == buffer.index) buffers place buffer e in
+      let gone = sum_by-remove (λ b. cond (b.index == index) 1 0) buffers place buffer found.0 in
+      let come = sum_by-append (λ b. cond (b.index == index) 1 0) (remove buffers place) (buffer ∷ []) in
+      let same = index_is (get_or buffers place buffer).index buffer.index found.1 in
+      let counted : count_by (λ b. b.index == index) (remove buffers place ++ buffer ∷ []) ≡ count_by (λ b. b.index == index) buffers = omega (arith, come, gone, ap (λ n. cond {A = ℕ} (n == index) 1 0) same) in
+      let long : length (remove buffers place ++ buffer ∷ []) ≡ length buffers = omega (arith, length-remove buffers place found.0, length-append (remove buffers place) (buffer ∷ [])) in
+      counted ∙ (h.each index ∙ ap (λ n. cond {A = ℕ} (nat_lt index n) 1 0) (sym long));
+}
 
 -- how often an index is among the first free buffers
 count_free : (count index : ℕ) → count_by (λ b. b.index == index) (map free (range_with_len 0 count)) ≡ cond (nat_lt index count) 1 0

@@ -1,5 +1,5 @@
 -- How a call answers: what it leaves, or the first of its refusals whose condition holds.
-use Rattle.std.specs.Prelude.{◌≡◌, Bool, true, false, Option, None, Some, Result, Ok, Err}
+use Rattle.std.specs.Prelude.{◌≡◌, Bool, List, [], ◌∷◌, if◌then◌else◌, Option, None, Some, Result, Ok, Err}
 use Rattle.m2m_queues.specs.declared.fault.QueueFault.{QueueFault}
 use Rattle.m2m_queues.specs.Machine.{Machine}
 
@@ -8,10 +8,10 @@ abbrev pub Step : Type 0 → Type 0
 Step C = Result (Machine C) QueueFault
 
 module _ {C : Type 0} where
-  -- the call is refused so where this is true; else it goes on
-  abbrev pub refused : Bool → QueueFault → Step C → Step C
-  refused true fault step = Err fault
-  refused false fault step = step
+  -- the call is refused by the first of these that holds, and else leaves this
+  abbrev pub unless : List (Bool × QueueFault) → Machine C → Step C
+  unless [] new = Ok new
+  unless (refusal ∷ later) new = if refusal.0 then Err refusal.1 else unless later new
 
   -- the call leaves what the step says, or is refused as the step is and changes nothing
   abbrev pub Follows : {A : Type 0} → Step C → Result A QueueFault → Machine C → Machine C → Type 0

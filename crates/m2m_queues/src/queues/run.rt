@@ -96,12 +96,7 @@ impl<C: Drop> Queues<C> {
                 Err(QueueFault::Again)
             };
         };
-        if work
-            .slice(controls, &output.bytes, timestamp, target)
-            .is_err()
-        {
-            return Err(QueueFault::Memory);
-        }
+        work.slice(controls, &output.bytes, timestamp, target)?;
         let ready = Buffer::done(output.index, timestamp);
         let capture = written(target, output);
         self.outputs.turn(ready);

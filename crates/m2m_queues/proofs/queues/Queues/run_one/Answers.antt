@@ -1,5 +1,6 @@
 use Rattle.std.proofs.Common.{rules, inr, refl, sym}
 use Rattle.m2m_queues.proofs.Waiting.{kept_after_first}
+use Rattle.m2m_queues.proofs.Refusing.{refused_memory}
 use Rattle.m2m_queues.proofs.Placing.{none_held_or_queued}
 use Rattle.m2m_queues.proofs.queues.Queues.run_one.Goals as goal
 use Rattle.m2m_queues.proofs.queues.Queues.run_one.Goals.{then-release, else-release}
@@ -26,22 +27,23 @@ returns-in_default-target_of g c =
       | else-release w ↦ rw w.result-is (record { idle = inr (rw (← c.self.view_is) (none_held_or_queued _ _ c.in-Some-Some.output.timestamp (search rules) (search rules))); left = rw (← c.self.view_is) (search rules); untouched = refl })
     ]
 
-pub returns-then-is_err : goal.returns-then-is_err
-returns-then-is_err g c = record {
-  id = c.in-Some.id;
-  controls = c.in-Some-Some.controls;
-  output = c.in-Some-Some.output;
-  target = c.in-Some-target_of.target;
-  next = rw (← c.self.view_is) (record {
-    request = c.in-Some-get.request.now;
-    first = search rules;
-    there = search rules;
-    controlled = search rules;
-    bound = search rules;
-  });
-  placed = rw (← c.self.view_is) (sym c.in-Some-target_of.ensures);
-  left = refl;
-}
+pub returns-in_err-slice : goal.returns-in_err-slice
+returns-in_err-slice g c =
+    rw (refused_memory c.from_residual.result c.from_residual.ensures.1) (record {
+      id = c.in-Some.id;
+      controls = c.in-Some-Some.controls;
+      output = c.in-Some-Some.output;
+      target = c.in-Some-target_of.target;
+      next = rw (← c.self.view_is) (record {
+        request = c.in-Some-get.request.now;
+        first = search rules;
+        there = search rules;
+        controlled = search rules;
+        bound = search rules;
+      });
+      placed = rw (← c.self.view_is) (sym c.in-Some-target_of.ensures);
+      left = refl;
+    })
 
 pub invariant_of-self-2 : goal.invariant_of-self-2
 invariant_of-self-2 g c =

@@ -1,0 +1,4 @@
+pub mod Waiting
+pub mod Placing
+pub mod Numbered
+pub mod Refusing

@@ -7,3 +7,4 @@ pub mod Shifts
 pub mod Lengths
 pub mod Spaced
 pub mod Members
+pub mod Stores

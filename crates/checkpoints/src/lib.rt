@@ -13,7 +13,7 @@ mod shifting;
 pub use checkpoints::{Checkpoint, Checkpoints};
 pub use laws::{
     can_shift_after_cut, can_shift_up, near_after_cut, near_after_put, near_after_shift,
-    one_before, spaced_where_near,
+    one_before, spaced_where_near, stored_after_cut, stored_after_put, stored_after_shift,
 };
 pub use length_change::LengthChange;
 

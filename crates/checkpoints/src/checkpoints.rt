@@ -150,6 +150,7 @@ impl<S: Drop> Checkpoints<S> {
         requires { lookup (nat_eq place) self.old.states ≡ None → 0 < self.old.room }
         ensures states { self.new.states ≡ insert_entry nat_cmp self.old.states place state }
         ensures room { self.new.room ≡ room_after_put self.old place }
+        ensures in_order { IsInOrder self.new.states }
     {
         let past = places_up_to(&self.places, place);
         if self.places[past - 1] == place {
@@ -166,14 +167,16 @@ impl<S: Drop> Checkpoints<S> {
     pub fn shift(&mut self, from: usize, change: LengthChange)
         requires above { 0 < from }
         requires apart { CanShift from change (keys_of self.old.states) }
-        ensures { self.new ≡ record self.old { states = shifted from change self.old.states } }
+        ensures after { self.new ≡ record self.old { states = shifted from change self.old.states } }
+        ensures in_order { IsInOrder self.new.states }
     {
         move_places(&mut self.places, from, change);
     }
 
     /// Drops the states at places above `low` and below `high`. Takes no memory.
     pub fn cut(&mut self, low: usize, high: usize)
-        ensures { self.new ≡ record self.old { states = cut low high self.old.states } }
+        ensures after { self.new ≡ record self.old { states = cut low high self.old.states } }
+        ensures in_order { IsInOrder self.new.states }
     {
         let first = places_up_to(&self.places, low);
         let past = places_below(&self.places, high).max(first);

@@ -1,6 +1,7 @@
 use Rattle.std.proofs.Common.{◌≡◌, ◌≤◌, ◌∙◌, sym, ap, suc, max, take, drop, ◌++◌, length, arith}
 use Rattle.checkpoints.specs.Search.{places_below}
 use Rattle.checkpoints.proofs.Lengths.{same_length}
+use Rattle.checkpoints.proofs.Looks.{in_order}
 use Rattle.checkpoints.proofs.Fronts.{first_up_to}
 use Rattle.checkpoints.proofs.Cuts.{cut_is, length_cut, length_cut_le, rising_cut, starts_cut}
 use Rattle.checkpoints.proofs.checkpoints.Checkpoints.cut.Goals as goal
@@ -31,8 +32,8 @@ invariant_of-self g c =
       states_fit = omega (arith, fewer, as_many, same, s, states.ok.0, ss.ok.0, kept.states_fit, c.remove_range-2.ensures.capacity);
     }
 
-pub returns : goal.returns
-returns g c =
+pub returns-clause-after : goal.returns-clause-after
+returns-clause-after g c =
     let ps = c.self.inside.places in
     let ss = c.self.inside.states in
     let kept = c.self.invariant in
@@ -42,3 +43,10 @@ returns g c =
     let most : max (places_below ps.items c.args.high) c.places_up_to-first.result ≡ c.max-past.result = sym (rw below at c.max-past.ensures) in
     let cut = cut_is ps.items ss.items c.args.low c.args.high c.places_up_to-first.result c.max-past.result kept.rising same (sym is) most in
     rw (← c.self.view_is, c.remove_range.ensures.items, c.remove_range-2.ensures.items, cut)
+
+pub returns-clause-in_order : goal.returns-clause-in_order
+returns-clause-in_order g c =
+    let kept = invariant_of-self g c in
+    let places = c.remove_range.new.items in
+    let states = c.remove_range-2.new.items in
+    in_order places.items states.items (same_length places states c.self.inside.room kept) kept.first kept.rising

@@ -1,7 +1,7 @@
-use Rattle.std.proofs.Common.{◌≡◌, ◌-◌, ◌∙◌, sym, suc, get_or, arith, refl}
+use Rattle.std.proofs.Common.{◌≡◌, ◌-◌, ◌∙◌, sym, suc, get_or, arith, refl, set, length-set}
 use Rattle.checkpoints.proofs.Lengths.{same_length}
 use Rattle.checkpoints.proofs.Fronts.{first_up_to}
-use Rattle.checkpoints.proofs.Looks.{apart_is, lookup_apart, lookup_found}
+use Rattle.checkpoints.proofs.Looks.{apart_is, lookup_apart, lookup_found, in_order}
 use Rattle.checkpoints.proofs.Puts.{put_there, put_new, rising_insert, starts_insert}
 use Rattle.checkpoints.proofs.checkpoints.Checkpoints.put.Goals as goal
 
@@ -106,3 +106,18 @@ returns-else-index-place-clause-room g c =
     let is = rw c.deref.ensures.value at c.places_up_to-past.ensures.value in
     let other = apart_is ps.items c.args.place c.places_up_to-past.result c.index.result.now kept.first kept.rising is c.index.ensures c.if-index-place.false in
     rw (← c.self.view_is, lookup_apart ps.items c.self.inside.states.items c.args.place other) refl
+
+pub returns-then-index-place-clause-in_order : goal.returns-then-index-place-clause-in_order
+returns-then-index-place-clause-in_order g c =
+    let ps = c.self.inside.places in
+    let ss = c.self.inside.states in
+    let kept = c.self.invariant in
+    let at = c.places_up_to-past.result - 1 in
+    in_order ps.items (set ss.items at c.args.state) (length-set ss.items at c.args.state ∙ same_length ps ss c.self.inside.room kept) kept.first kept.rising
+
+pub returns-else-index-place-clause-in_order : goal.returns-else-index-place-clause-in_order
+returns-else-index-place-clause-in_order g c =
+    let kept = invariant_of-self-else-index-place g c in
+    let places = c.insert.new.self in
+    let states = c.insert-else-index-place.new.self in
+    in_order places.items states.items (same_length places states (c.self.inside.room - 1) kept) kept.first kept.rising

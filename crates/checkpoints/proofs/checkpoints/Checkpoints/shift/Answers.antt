@@ -1,6 +1,7 @@
 use Rattle.std.proofs.Common.{arith}
 use Rattle.std.proofs.lemmas.Map.Made.{keys_of-zip}
 use Rattle.checkpoints.proofs.Lengths.{same_length}
+use Rattle.checkpoints.proofs.Looks.{in_order}
 use Rattle.checkpoints.proofs.Shifts.{all_movable, rising_moved, starts_moved, zip_moved}
 use Rattle.checkpoints.proofs.checkpoints.Checkpoints.shift.Goals as goal
 
@@ -28,6 +29,13 @@ invariant_of-self g c =
       states_fit = kept.states_fit;
     }
 
-pub returns : goal.returns
-returns g c =
+pub returns-clause-after : goal.returns-clause-after
+returns-clause-after g c =
     rw (← c.self.view_is, c.move_places.ensures.items, zip_moved c.args.from c.args.change c.self.inside.places.items c.self.inside.states.items)
+
+pub returns-clause-in_order : goal.returns-clause-in_order
+returns-clause-in_order g c =
+    let kept = invariant_of-self g c in
+    let places = c.move_places.new.places in
+    let states = c.self.inside.states in
+    in_order places.items states.items (same_length places states c.self.inside.room kept) kept.first kept.rising

@@ -48,6 +48,7 @@ impl<K: Eq + Hash + Drop, P: Drop> PictureCache<K, P> {
         ensures ok { OnOk result (self.new ≡ with_first K.eq self.old key picture) }
         ensures err { OnErr result (self.new ≡ self.old) }
         ensures there { IsSome (lookup (K.eq key) self.old.pairs) → IsOk result }
+        ensures bounded { IsBounded K.eq self.new }
     {
         self.cache.put(key, picture)?;
         Ok(())
@@ -57,6 +58,7 @@ impl<K: Eq + Hash + Drop, P: Drop> PictureCache<K, P> {
     pub fn take(&mut self, key: K) -> Option<P>
         ensures value { result ≡ lookup (K.eq key) self.old.pairs }
         ensures after { self.new ≡ without K.eq self.old key }
+        ensures bounded { IsBounded K.eq self.new }
     {
         self.cache.pop(&key)
     }

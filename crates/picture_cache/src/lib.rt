@@ -5,8 +5,10 @@
 #![tactic(auto)]
 
 mod cache;
+mod laws;
 
 pub use cache::PictureCache;
+pub use laws::{put_is_found, put_keeps_the_others, take_keeps_the_others};
 
 #[cfg(test)]
 mod tests;

@@ -14,3 +14,6 @@ returns-clause-ok g c =
     let old = c.self.inside.cache in
     let is = c.self.invariant.1 in
     rw (← c.self.view_is, c.in_ok-put.ensures.entries, put_entries-is g.K.PartialEq.eq c.self.invariant.0 c.args.key c.args.picture old.entries old.cap is.within is.least)
+
+pub returns-clause-bounded : goal.returns-clause-bounded
+returns-clause-bounded g c = (invariant_of-self-2 g c).1

@@ -1,0 +1,10 @@
+pub mod Searches
+pub mod Fronts
+pub mod Looks
+pub mod Puts
+pub mod Cuts
+pub mod Shifts
+pub mod Lengths
+pub mod Spaced
+pub mod Members
+pub mod Stores

@@ -1,0 +1,103 @@
+ghost use Rattle.std.specs.Prelude.{◌≤◌};
+
+use super::*;
+use std::alloc::{AllocError, Global};
+use std::test::Fail;
+
+/// A key as the crates above have it: a number of its own type.
+#[derive(Clone, Copy, Debug, PartialEq, Eq, Hash)]
+struct KeyId(u64);
+
+/// A cache of three pairs with the keys 1, 2 and 3, put in this order, and the pictures 10, 20 and 30.
+fn three_pairs(alloc: Global, capacity: u16) -> Result<PictureCache<KeyId, u8>, AllocError>
+    requires least { 1 ≤ capacity }
+    requires most { capacity ≤ 4096 }
+{
+    let mut cache = PictureCache::new(alloc, capacity)?;
+    for (key, picture) in [(1, 10), (2, 20), (3, 30)] {
+        cache.put(KeyId(key), picture)?;
+    }
+    Ok(cache)
+}
+
+/// The keys of a cache, the one put last first.
+fn keys(alloc: Global, cache: &PictureCache<KeyId, u8>) -> Result<Vec<u64>, AllocError> {
+    cache.keys(alloc)?.iter().map(|key| key.0).collect(alloc)
+}
+
+#[test]
+fn the_pair_put_last_is_first(rt: HostRuntime) -> Result<(), Fail> {
+    let cache = three_pairs(rt.alloc(), 4096)?;
+    assert_eq!(rt; keys(rt.alloc(), &cache)?.as_slice(), [3, 2, 1].as_slice());
+    assert_eq!(rt; cache.len(), 3);
+    assert_eq!(rt; cache.capacity(), 4096);
+    assert!(rt; !cache.is_empty());
+    Ok(())
+}
+
+#[test]
+fn a_full_cache_drops_the_pair_put_first(rt: HostRuntime) -> Result<(), Fail> {
+    let mut cache = three_pairs(rt.alloc(), 2)?;
+    assert_eq!(rt; keys(rt.alloc(), &cache)?.as_slice(), [3, 2].as_slice());
+    cache.put(KeyId(4), 40)?;
+    assert_eq!(rt; keys(rt.alloc(), &cache)?.as_slice(), [4, 3].as_slice());
+    assert_eq!(rt; cache.take(KeyId(2)), None);
+    assert_eq!(rt; cache.take(KeyId(3)), Some(30));
+    Ok(())
+}
+
+#[test]
+fn a_key_that_is_there_goes_first_with_its_new_picture(rt: HostRuntime) -> Result<(), Fail> {
+    let mut cache = three_pairs(rt.alloc(), 3)?;
+    cache.put(KeyId(1), 11)?;
+    assert_eq!(rt; keys(rt.alloc(), &cache)?.as_slice(), [1, 3, 2].as_slice());
+    cache.put(KeyId(4), 40)?;
+    assert_eq!(rt; keys(rt.alloc(), &cache)?.as_slice(), [4, 1, 3].as_slice());
+    assert_eq!(rt; cache.take(KeyId(1)), Some(11));
+    Ok(())
+}
+
+#[test]
+fn what_is_taken_is_out(rt: HostRuntime) -> Result<(), Fail> {
+    let mut cache = three_pairs(rt.alloc(), 3)?;
+    assert!(rt; cache.contains(&KeyId(2)));
+    assert_eq!(rt; cache.take(KeyId(2)), Some(20));
+    assert_eq!(rt; cache.take(KeyId(2)), None);
+    assert!(rt; !cache.contains(&KeyId(2)));
+    assert_eq!(rt; keys(rt.alloc(), &cache)?.as_slice(), [3, 1].as_slice());
+    cache.put(KeyId(2), 21)?;
+    assert_eq!(rt; keys(rt.alloc(), &cache)?.as_slice(), [2, 3, 1].as_slice());
+    Ok(())
+}
+
+#[test]
+fn one_pair_at_most(rt: HostRuntime) -> Result<(), Fail> {
+    let mut cache = three_pairs(rt.alloc(), 1)?;
+    assert_eq!(rt; keys(rt.alloc(), &cache)?.as_slice(), [3].as_slice());
+    assert_eq!(rt; cache.take(KeyId(3)), Some(30));
+    assert!(rt; cache.is_empty());
+    Ok(())
+}
+
+#[test]
+fn refused_put_leaves_the_pairs(rt: HostRuntime) {
+    let Ok(mut cache) = PictureCache::<u64, u8>::new(rt.alloc(), 2) else {
+        return;
+    };
+    let put = [
+        cache.put(1, 10).is_ok(),
+        cache.put(2, 20).is_ok(),
+        cache.put(3, 30).is_ok(),
+    ];
+    assert_eq!(rt; cache.contains(&3), put[2]);
+    assert_eq!(rt; cache.contains(&2), put[1]);
+    assert_eq!(rt; cache.contains(&1), put[0] && !(put[1] && put[2]));
+    // A key that is there wants no memory.
+    if put[2] {
+        assert!(rt; cache.put(3, 31).is_ok());
+        assert_eq!(rt; cache.take(3), Some(31));
+    }
+    if let Ok(keys) = cache.keys(rt.alloc()) {
+        assert_eq!(rt; keys.len(), cache.len());
+    }
+}

@@ -58,7 +58,7 @@ all_units bytes (unit ∷ units) (rest, begins, more) = All-cons IsUnit unit uni
 pub HasRest-all : (text : List ℕ) (units : List (List ℕ)) → HasUnits text units → HasRest text units
 HasRest-all text units has = record { zeros = has.zeros; rest = has.rest; text_is = has.text_is; rest_is = has.rest_is }
 
--- behind the zeros and the two of the start code stands the first byte that isn't 0
+-- after the zeros and the two of the start code stands the first byte that isn't 0
 zero_before : (zeros : ℕ) (rest : List ℕ) (at : ℕ) → at < zeros + 2 → get_or (replicate zeros 0 ++ (start_code ++ rest)) at 0 ≡ 0
 zero_before zero rest zero here = refl
 zero_before zero rest (suc zero) here = refl

@@ -40,7 +40,7 @@ module _ (nals : List (List ℕ)) (at : ℕ) (text : List ℕ) (parts : Parts) (
     sound = first_refusal-more nals at read.sound here (rw (← read.stored.nals_are) none);
   }
 
--- behind the last NAL unit all are stored
+-- after the last NAL unit all are stored
 module _ (nals : List (List ℕ)) (at : ℕ) (text : List ℕ) (parts : Parts) (read : IsReadTo nals at text parts) (end : length nals ≤ at) where
   stored_all : IsStored nals parts
   stored_all = rw (sym (take_all at nals end)) read.stored

@@ -25,7 +25,7 @@ module _ (before : List (List ℕ)) (unit : List ℕ) where
     pub IsShown-set : (refused : Refused) → IsShown (first_shown (set_rows unit)) refused → IsShown (refusal_at before unit) refused
     IsShown-set refused h = ⊎_elim (λ memory. inl memory) (λ (shown : first_shown (set_rows unit) ≡ Some refused). inr (rw (parts_shown, ← passed, shown) refl)) h
 
-    -- behind its parameter set, the slices before it decide
+    -- after its parameter set, the slices before it decide
     pub refusal_at-order : (slices : List (List ℕ)) → slices ≡ filter is_slice before → first_shown (set_rows unit) ≡ None
         → refusal_at before unit ≡ first_shown (order_rows slices unit)
     refusal_at-order slices known read = rw (parts_shown, ← passed, read, known) refl

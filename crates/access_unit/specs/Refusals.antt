@@ -5,9 +5,9 @@ use Rattle.std.specs.Option.{option_or}
 use Rattle.annexb.specs.NalUnit.{nal_unit_type, nal_ref_idc, forbidden_zero_bit, is_slice, begins_at_macroblock_zero}
 use Rattle.annexb.specs.AccessUnits.{precedes_slices}
 use Rattle.param_sets.specs.declared.fault.SetFault.{SetFault}
-use Rattle.slice_header.specs.declared.slice_types.SliceType.{SliceType}
-use Rattle.slice_header.specs.declared.slice_types.SliceType.TheVariants as types
-use Rattle.slice_header.specs.SliceHeaders.{slice_type_at}
+use Rattle.header_types.specs.declared.slice_types.SliceType.{SliceType}
+use Rattle.header_types.specs.declared.slice_types.SliceType.TheVariants as types
+use Rattle.slice_front.specs.Fronts.{slice_type_at}
 use Rattle.access_unit.specs.declared.refused.Refused.{Refused}
 use Rattle.access_unit.specs.declared.refused.Refused.TheVariants.{UnitType, ForbiddenBit, Sps, Pps, Switching, MixedIdr, IdrNotIntra, IdrNotReference, MixedReference, UnitOrder, NoPicture, TwoPictures, TooLarge}
 use Rattle.access_unit.specs.Sets.{is_sps, is_pps, sps_of, pps_of, is_unreadable}
@@ -99,12 +99,12 @@ order_rows slices unit =
     ∷ (TooLarge, is_slice unit && nat_le 256 (length slices))
     ∷ []
 
--- the least refusal that a NAL unit shows behind those before it
+-- the least refusal that a NAL unit shows after those before it
 unfoldable pub refusal_at : List (List ℕ) → List ℕ → Option Refused
 refusal_at before unit =
     first_shown (header_rows unit ++ set_rows unit ++ order_rows (filter is_slice before) unit)
 
--- the refusal of the first NAL unit that shows one, behind those before all of them
+-- the refusal of the first NAL unit that shows one, after those before all of them
 abbrev pub first_refusal : List (List ℕ) → List (List ℕ) → Option Refused
 first_refusal before [] = None
 first_refusal before (unit ∷ units) =

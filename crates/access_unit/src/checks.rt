@@ -7,7 +7,8 @@ ghost use Rattle.access_unit.specs.Stored.{refusal_in};
 use crate::refused::Refused;
 use crate::shared_nal::SharedNal;
 use annexb::Nal;
-use slice_header::{SliceType, slice_type};
+use header_types::SliceType;
+use slice_front::slice_type;
 
 /// How many slices an access unit has at most.
 const MOST_SLICES: usize = 256;

@@ -11,7 +11,7 @@ use std::alloc::AllocError;
 /// How many bytes a start code has.
 pub(crate) const START_CODE_LEN: usize = 3;
 
-/// The NAL unit that is the next of the text, which then goes on behind it. No byte is copied.
+/// The NAL unit that is the next of the text, which then goes on after it. No byte is copied.
 pub(crate) fn cut_next(text: &mut Bytes, nal: &Nal<'_>) -> Result<SharedNal, AllocError>
     requires { (units : List (List ℕ)) × HasRest text.old (nal.now ∷ units) }
     ensures nal { IfOk result (λ shared. shared ≡ nal.now) }

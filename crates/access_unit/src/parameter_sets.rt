@@ -6,7 +6,9 @@ ghost use Rattle.access_unit.specs.Stored.{IsShown};
 
 use crate::refused::Refused;
 use annexb::{Nal, payload};
-use param_sets::{Pps, SetFault, Shared, Sps, read_pps, read_sps};
+use base_types::Shared;
+use param_sets::{SetFault, read_pps, read_sps};
+use set_types::{Pps, Sps};
 use std::alloc::Global;
 
 /// A parameter set of an access unit.

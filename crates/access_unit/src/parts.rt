@@ -30,7 +30,7 @@ impl Parts {
         })
     }
 
-    /// Adds a NAL unit, unless it is refused behind those before it.
+    /// Adds a NAL unit, unless it is refused after those before it.
     pub(crate) fn add(&mut self, alloc: Global, coded: SharedNal) -> Result<(), Refused>
         requires { IsStored self.old.nals.items self.old }
         ensures ok { OnOk result (IsStored (self.old.nals.items ++ coded ∷ []) self.new

@@ -8,7 +8,7 @@ use std::alloc::{AllocError, AllocFailed};
 use thiserror::Error;
 
 /// Why a text is not an access unit. The first NAL unit that shows a refusal decides, and there the
-/// one of least number; TooLarge for the length and Split come before all, and NoPicture behind all.
+/// one of least number; TooLarge for the length and Split come before all, and NoPicture after all.
 #[derive(Clone, Copy, Debug, PartialEq, Eq, Hash, Error)]
 pub enum Refused {
     /// The text doesn't split into NAL units.
@@ -41,13 +41,13 @@ pub enum Refused {
     /// nal_ref_idc is 0 in a slice and not in the first one, or the reverse.
     #[error("slices of references and of others are mixed")]
     MixedReference,
-    /// A unit of type 6 to 9 or 14 to 18 stands behind a slice.
+    /// A unit of type 6 to 9 or 14 to 18 stands after a slice.
     #[error("a unit stands behind a slice that belongs before it")]
     UnitOrder,
     /// There is no slice.
     #[error("there is no slice")]
     NoPicture,
-    /// A slice behind the first begins at macroblock 0.
+    /// A slice after the first begins at macroblock 0.
     #[error("a second picture begins")]
     TwoPictures,
     /// The text has more than 4,194,304 bytes, or there is a 257th slice.

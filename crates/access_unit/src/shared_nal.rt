@@ -27,7 +27,7 @@ impl Model for SharedNal {
 }
 
 impl SharedNal {
-    /// The NAL unit behind the start code that these bytes begin with.
+    /// The NAL unit after the start code that these bytes begin with.
     pub(crate) fn new(coded: Bytes) -> SharedNal
         requires { IsCoded coded }
         ensures { result ≡ drop 3 coded }

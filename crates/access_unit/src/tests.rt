@@ -6,7 +6,7 @@ mod streams;
 
 use crate::{ParameterSet, Unit, one_answer, read_shared, read_stream, read_unit};
 use bytes::Bytes;
-use param_sets::{PicOrderCntType, Pps, Sps};
+use set_types::{PicOrderCntType, Pps, Sps};
 use std::alloc::{AllocError, AllocGlobal, Global};
 use std::process::Abort;
 use std::test::Fail;
@@ -17,7 +17,7 @@ const SPS: [u8; 6] = [0x67, 0x42, 0x00, 0x0A, 0xDA, 0x79];
 const PPS: [u8; 4] = [0x68, 0xCE, 0x38, 0x80];
 /// A slice of an IDR picture: first_mb_in_slice 0, slice_type 7 (I).
 const IDR: [u8; 4] = [0x65, 0x88, 0x84, 0x80];
-/// A slice of an IDR picture behind its first: first_mb_in_slice 1, slice_type 7 (I).
+/// A slice of an IDR picture after its first: first_mb_in_slice 1, slice_type 7 (I).
 const NEXT_IDR: [u8; 4] = [0x65, 0x42, 0x21, 0x30];
 /// A slice of a picture that refers to others: first_mb_in_slice 0, slice_type 5 (P).
 const P: [u8; 3] = [0x41, 0x9A, 0x23];
@@ -124,7 +124,7 @@ fn accepts_what_shows_no_refusal(rt: HostRuntime) -> Result<(), Fail> {
         ],
         &[&[9, 0x10], &[6, 1], &P, &[12, 0x80]],
     )?;
-    // Types that are passed over behind a slice.
+    // Types that are passed over after a slice.
     for unit_type in [0, 10, 11, 12, 22, 23, 24, 25, 26, 27, 28, 29, 30, 31] {
         reads_as(
             &rt,

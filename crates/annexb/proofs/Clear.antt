@@ -8,7 +8,7 @@ use Rattle.annexb.specs.Faults.{zero_run, after_zeros, begins_with_start_code, i
 use Rattle.annexb.proofs.Tails.{IsTail, IsTail-from_unit, IsTail-drop}
 use Rattle.annexb.proofs.ZeroRuns.{after_zeros-replicate, begins_with_start_code-zeros, ends_unit-end, ends_unit-code}
 
--- the bytes begin with a start code and no unit behind it
+-- the bytes begin with a start code and no unit after it
 abbrev pub begins_empty : List ℕ → Bool
 begins_empty (zero ∷ zero ∷ suc zero ∷ bytes) = ends_unit bytes
 begins_empty bytes = false
@@ -91,7 +91,7 @@ module _ (rest : List ℕ) (ends : EndsZeros rest) where
   pub ends_unit-zeros : (count : ℕ) → ends_unit (replicate count 0 ++ rest) ≡ true
   ends_unit-zeros count = elim ends as (λ l h. ends_unit (replicate count 0 ++ l) ≡ true) [ the_end ↦ ends_unit-end count | a_code {bytes} ↦ ends_unit-code count bytes ]
 
--- a start code with its unit behind it is clear
+-- a start code with its unit after it is clear
 module _ (unit rest : List ℕ) (count : ℕ) (is_unit : IsUnit unit) (ends : EndsZeros rest) where
   clear_in_unit : (bytes : List ℕ) → IsTail bytes → (place : ℕ) → place < length bytes → IsClear (drop place (bytes ++ (replicate count 0 ++ rest)))
   clear_in_unit [] tail place below = absurd (omega arith)
@@ -121,7 +121,7 @@ drop_piece unit rest count =
     ap (λ l. drop (3 + length unit + count) (start_code ++ l)) (sym (append_assoc unit (replicate count 0) rest))
     ∙ drop_at piece rest (3 + length unit + count) (omega (arith, length-append unit (replicate count 0), length-replicate {A = ℕ} count 0))
 
--- what stands behind a front is clear from its own front on
+-- what stands after a front is clear from its own front on
 clear_behind : (front bytes : List ℕ) (size place : ℕ) → drop size front ≡ bytes → size ≤ place
     → ((past : ℕ) → IsClear (drop past bytes)) → IsClear (drop place front)
 clear_behind front bytes size place e behind clear =

@@ -44,7 +44,7 @@ IsWhole-push part unit whole none at below = ⊎_elim
 IsWhole-single : (unit : List ℕ) → IsWhole (unit ∷ [])
 IsWhole-single unit = IsWhole-push [] unit (λ at below. absurd (omega arith)) refl
 
--- a boundary comes behind some unit
+-- a boundary comes after some unit
 some_before : (part : List (List ℕ)) (unit : List ℕ) → is_boundary part unit ≡ true → 0 < length part
 some_before [] unit boundary = absurd (false≢true boundary)
 some_before (first ∷ part) unit boundary = omega arith
@@ -156,7 +156,7 @@ module _ (units : List (List ℕ)) (at start : ℕ) (has_slice : Bool) (ranges :
   parts_more : parts_at units (ranges ++ record { start = start; end = at } ∷ []) ≡ parts_at units ranges ++ open_part ∷ []
   parts_more = map-append (λ (range : Range ℕ). slice_range units range.start range.end) ranges (record { start = start; end = at } ∷ [])
 
-  -- behind the last unit it is the last part, if it has a unit
+  -- after the last unit it is the last part, if it has a unit
   pub IsCutBy-end : start < at → at ≡ length units → IsCutBy units (ranges ++ record { start = start; end = length units } ∷ [])
   IsCutBy-end some end = rw (← end) (ended some end)
     where

@@ -36,7 +36,7 @@ three_byte_before-payload_of (zero ∷ zero ∷ suc (suc (suc (suc n))) ∷ byte
 three_byte_before-payload_of (zero ∷ suc n ∷ bytes) = refl
 three_byte_before-payload_of (suc n ∷ bytes) = refl
 
--- behind 00 00 03 a unit ends, or goes on with a byte of at most 3
+-- after 00 00 03 a unit ends, or goes on with a byte of at most 3
 three_byte_before-allowed : (bytes : List ℕ) → begins_forbidden (0 ∷ 0 ∷ 3 ∷ bytes) ≡ false → three_byte_before bytes ≡ 3 ∷ []
 three_byte_before-allowed [] h = refl
 three_byte_before-allowed (byte ∷ bytes) h = rw (le-leb byte 3 (ltb-false 3 byte h)) refl

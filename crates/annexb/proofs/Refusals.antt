@@ -112,7 +112,7 @@ one_fault text Memory (ForbiddenBytes b) (units, h) (here, sound) = absurd (no_f
 one_fault text Memory (EmptyUnit b) (units, h) (here, allowed, sound) = absurd (no_empty text units b h here)
 one_fault text Memory Memory h h' = refl
 
--- behind a start code, before which the text is clear
+-- after a start code, before which the text is clear
 module _ (text : List ℕ) (at : ℕ) (behind : FollowsStartCode text at) (clear : (place : ℕ) → place + 3 < at → IsClear (drop place text)) where
   -- the bytes from a place of the start code on
   in_code : (ahead : ℕ) → drop (behind.start + ahead) text ≡ drop ahead (start_code ++ drop at text)
@@ -150,7 +150,7 @@ module _ (text : List ℕ) (at : ℕ) (behind : FollowsStartCode text at) (clear
       inside (suc (suc zero)) below = refl
       inside (suc (suc (suc n))) below = absurd (omega arith)
 
-  -- the first fault behind the start code is the text's
+  -- the first fault after the start code is the text's
   pub IsFaultOf-from_fault : (fault : SplitFault) → begins_with_start_code text ≡ true → IsFaultFrom text at fault → IsFaultOf text fault
   IsFaultOf-from_fault NoStartCode begins h = elim h [ ]
   IsFaultOf-from_fault (ForbiddenBytes place) begins (past, here, scanned) =

@@ -26,7 +26,7 @@ one_first : (bytes : List ℕ) → begins_with_one bytes ≡ true → bytes ≡ 
 one_first [] h = absurd (false≢true h)
 one_first (byte ∷ bytes) h = let one : byte ≡ 1 = eqb-true byte 1 h in ap (λ b. b ∷ bytes) one
 
--- units behind a start code are one or more
+-- units after a start code are one or more
 filled_units : (bytes : List ℕ) (units : List (List ℕ)) → AreUnits (start_code ++ bytes) units → 0 < length units
 filled_units bytes [] h = cc
 filled_units bytes (unit ∷ units) h = omega arith

@@ -17,7 +17,7 @@ begins_access_unit unit = precedes_slices (nal_unit_type unit) || begins_at_macr
 abbrev pub is_boundary : List (List ℕ) → List ℕ → Bool
 is_boundary units unit = list_any is_slice units && begins_access_unit unit
 
--- no boundary stands before any of the units, behind those before it
+-- no boundary stands before any of the units, after those before it
 abbrev pub IsWhole : List (List ℕ) → Type 0
 IsWhole units =
     EachIndex units (λ at. IsFalse (is_boundary (take at units) (slice_index_or units at [])))

@@ -19,7 +19,7 @@ pub record BeginsWithUnit (bytes unit rest : List ℕ) : Type 0 where
   pub bytes_are : bytes ≡ start_code ++ (unit ++ (replicate zeros 0 ++ rest))
   pub unit_is : IsUnit unit
 
--- the bytes are the units, each with its start code before it and zeros or none behind it
+-- the bytes are the units, each with its start code before it and zeros or none after it
 abbrev pub AreUnits : List ℕ → List (List ℕ) → Type 0
 AreUnits bytes [] = bytes ≡ []
 AreUnits bytes (unit ∷ units) =

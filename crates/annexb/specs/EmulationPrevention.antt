@@ -1,7 +1,7 @@
 -- Emulation prevention: the bytes 03 that keep start codes out of a unit (ITU-T H.264, 7.3.1, 7.4.1).
 use Rattle.std.specs.Prelude.{◌≡◌, ℕ, zero, suc, ◌+◌, ◌<◌, ◌≤◌, nat_le, List, [], ◌∷◌, ◌++◌, length, take, drop, if◌then◌else◌}
 
--- the byte 03 that two zeros take behind them before the end, or before a byte of at most 3
+-- the byte 03 that two zeros take after them before the end, or before a byte of at most 3
 abbrev pub three_byte_before : List ℕ → List ℕ
 three_byte_before [] = 3 ∷ []
 three_byte_before (byte ∷ bytes) = if nat_le byte 3 then 3 ∷ [] else []

@@ -8,7 +8,7 @@ abbrev pub zero_run : List ℕ → ℕ
 zero_run (zero ∷ bytes) = suc (zero_run bytes)
 zero_run bytes = 0
 
--- what stands behind the zeros that the bytes begin with
+-- what stands after the zeros that the bytes begin with
 abbrev pub after_zeros : List ℕ → List ℕ
 after_zeros bytes = drop (zero_run bytes) bytes
 
@@ -47,7 +47,7 @@ is_nothing (byte ∷ bytes) = false
 abbrev pub ends_unit : List ℕ → Bool
 ends_unit bytes = is_nothing (after_zeros bytes) || begins_with_start_code bytes
 
--- a start code ends at the place, and no unit stands behind it
+-- a start code ends at the place, and no unit stands after it
 pub record IsEmptyAt (text : List ℕ) (at : ℕ) : Type 0 where
   pub code : FollowsStartCode text at
   pub empty : IsTrue (ends_unit (drop at text))

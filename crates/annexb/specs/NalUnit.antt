@@ -38,6 +38,6 @@ nal_unit_type unit = header_of unit % 32
 abbrev pub is_slice : List ℕ → Bool
 is_slice unit = nal_unit_type unit == 1 || nal_unit_type unit == 5
 
--- a slice whose first_mb_in_slice is 0, that is, one bit 1 behind the header (7.3.3, 9.1)
+-- a slice whose first_mb_in_slice is 0, that is, one bit 1 after the header (7.3.3, 9.1)
 abbrev pub begins_at_macroblock_zero : List ℕ → Bool
 begins_at_macroblock_zero unit = is_slice unit && nat_le 128 (slice_index unit 1)

@@ -25,7 +25,7 @@ IsRun bytes Inside =
     × (slice_index bytes 2 ≢ 0)
 IsRun bytes Forbidden = IsTrue (begins_forbidden_run bytes)
 
--- the place behind the first start code, where the text begins with one
+-- the place after the first start code, where the text begins with one
 abbrev pub IsFirstUnit : List ℕ → Option ℕ → Type 0
 IsFirstUnit text None = IsFalse (begins_with_start_code text)
 IsFirstUnit text (Some at) = IsTrue (begins_with_start_code text) × (at ≡ zero_run text + 1)
@@ -54,12 +54,12 @@ pub record EndsUnit (bytes : List ℕ) (at : ℕ) (next : Option ℕ) : Type 0 w
   pub gap : drop at bytes ≡ replicate zeros 0 ++ from_code bytes next
   pub follows : IfSome next (λ place. (at + zeros + 3 ≡ place) × (place ≤ length bytes))
 
--- the unit behind the start code that ends at the place, and where the next start code ends
+-- the unit after the start code that ends at the place, and where the next start code ends
 pub record IsFoundAt (text : List ℕ) (at : ℕ) (unit : List ℕ) (next : Option ℕ) : Type 0 where
   pub begins : BeginsWithUnit (start_code ++ drop at text) unit (from_code text next)
   pub follows : IfSome next (λ place. (at < place) × FollowsStartCode text place)
 
--- the first fault behind the start code that ends at the place
+-- the first fault after the start code that ends at the place
 abbrev pub IsFaultFrom : List ℕ → ℕ → SplitFault → Type 0
 IsFaultFrom text at NoStartCode = ⊥
 IsFaultFrom text at (ForbiddenBytes place) =

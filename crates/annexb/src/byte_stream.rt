@@ -37,7 +37,7 @@ pub fn split(alloc: Global, text: &[u8]) -> Result<Vec<Nal<'_>>, SplitFault>
     }
 }
 
-/// The units from the first one on, which begins behind the first start code.
+/// The units from the first one on, which begins after the first start code.
 fn units_from(alloc: Global, text: &[u8], first: usize) -> Result<Vec<Nal<'_>>, SplitFault>
     requires { IsFirstUnit text.now (Some first) }
     ensures ok { IfOk result (λ units. HasUnits text.now units.items) }

@@ -14,7 +14,7 @@ pub enum SplitFault {
     /// belongs to a start code.
     #[error("forbidden bytes at {at}")]
     ForbiddenBytes { at: usize },
-    /// The start code that ends here has no unit behind it.
+    /// The start code that ends here has no unit after it.
     #[error("no unit at {at}")]
     EmptyUnit { at: usize },
     /// A growth was refused.

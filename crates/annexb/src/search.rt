@@ -8,14 +8,14 @@ use crate::fault::SplitFault;
 use crate::nal_unit::Nal;
 use memchr::memmem;
 
-/// A unit, and the place behind the next start code, if there's one.
+/// A unit, and the place after the next start code, if there's one.
 #[derive(Drop)]
 pub(crate) struct Found<'a> {
     pub(crate) nal: Nal<'a>,
     pub(crate) next: Option<usize>,
 }
 
-/// How many bytes a unit has, and the place behind the next start code, if there's one.
+/// How many bytes a unit has, and the place after the next start code, if there's one.
 #[derive(Drop)]
 struct Extent {
     len: usize,
@@ -35,7 +35,7 @@ enum Run {
     Forbidden,
 }
 
-/// The place behind the start code that the text begins with, after zeros.
+/// The place after the start code that the text begins with, after zeros.
 pub(crate) fn first_unit(text: &[u8]) -> Option<usize>
     ensures { IsFirstUnit text.now result }
 {
@@ -46,7 +46,7 @@ pub(crate) fn first_unit(text: &[u8]) -> Option<usize>
     }
 }
 
-/// The unit that begins at a place behind a start code.
+/// The unit that begins at a place after a start code.
 pub(crate) fn unit_at(text: &[u8], at: usize) -> Result<Found<'_>, SplitFault>
     requires { FollowsStartCode text.now at }
     ensures ok { IfOk result (λ found. IsFoundAt text.now at found.nal found.next) }

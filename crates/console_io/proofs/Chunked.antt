@@ -26,7 +26,7 @@ front-wider a b bytes more front =
     let same = take-append-le front.0 bytes more front.1 in
     (front.0, omega (arith, front.1, length-append bytes more), rw same front.2)
 
--- a front behind what is there
+-- a front after what is there
 pub front-behind : (a b c : Option (List ℕ)) (bytes more : List ℕ)
     → Appends a b bytes → AppendsFront b c more → AppendsFront a c (bytes ++ more)
 front-behind a b c bytes more appends front =
@@ -45,7 +45,7 @@ adds-none x a = record {
   waits = sym (append-nil (waiting_of x));
 }
 
--- one text behind the other
+-- one text after the other
 pub adds-more : (x y z : Chunks) (a b c : Option (List ℕ)) (bytes more : List ℕ)
     → Adds x a bytes y b → Adds y b more z c → Adds x a (bytes ++ more) z c
 adds-more x y z a b c bytes more one other = record {
@@ -64,7 +64,7 @@ pub adds-front : (x y : Chunks) (a b : Option (List ℕ)) (bytes : List ℕ) →
 adds-front x y a b bytes adds =
     rw (sym adds.waits) (front-wider a b adds.passed (waiting_of y) (front-all a b adds.passed adds.got))
 
--- and of a text behind it
+-- and of a text after it
 pub adds-behind : (x y : Chunks) (a b c : Option (List ℕ)) (bytes more : List ℕ) → Adds x a bytes y b
     → AppendsFront b c (waiting_of y ++ more) → AppendsFront a c (waiting_of x ++ (bytes ++ more))
 adds-behind x y a b c bytes more adds front =

@@ -45,7 +45,7 @@ impl Chunks {
         }
     }
 
-    /// Adds a text behind those before it. Where it's the writer that fails, it has the front of all that waited.
+    /// Adds a text after those before it. Where it's the writer that fails, it has the front of all that waited.
     pub fn print<D: Display + Drop, W: Write>(
         &mut self,
         text: D,

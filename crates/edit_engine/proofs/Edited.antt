@@ -17,7 +17,7 @@ use Rattle.edit_engine.specs.Refusals.{IsRefused, IsSplittable, TakesMemory}
 use Rattle.edit_engine.specs.Changes.{IsFor, IsInside, stream_after, id_of, after}
 use Rattle.edit_engine.specs.Kept.{IsKept, IsPrepared}
 use Rattle.edit_engine.specs.declared.preparing.Prepared.{Prepared}
-use Rattle.request_core.specs.declared.outcome.Outcome.{Outcome}
+use Rattle.outcomes.specs.declared.outcome.Outcome.{Outcome}
 
 -- an accepted edit after others
 pub Replays-push : (from : Register) (edits : List Edit) (between : Register) (edit : Edit) (id : ℕ) (to : Register)

@@ -1,6 +1,6 @@
 -- The fold over units one after the other.
 use Rattle.std.proofs.Common.{◌≡◌, suc, ◌++◌, List, [], ◌∷◌, length, length-append, append_assoc, refl, ap, sym, ◌∙◌, arith}
-use Rattle.request_core.specs.declared.outcome.Outcome.{Outcome}
+use Rattle.outcomes.specs.declared.outcome.Outcome.{Outcome}
 use Rattle.request_core.specs.States.{FoldState, no_units}
 use Rattle.request_core.specs.Fold.{fold_step, outcomes_from}
 use Rattle.edit_engine.specs.declared.folding.Fold.{Fold}

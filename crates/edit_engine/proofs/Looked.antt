@@ -3,10 +3,10 @@ use Rattle.std.proofs.Common.{◌≡◌, ℕ, ◌<◌, List, length, get_or, Opt
 use Rattle.std.specs.Prelude.{slice_get, option_and_then}
 use Rattle.std.proofs.lemmas.List.FromFn.{length-map-range_with_len}
 use Rattle.std.proofs.lemmas.Option.{slice_get_read}
-use Rattle.request_core.specs.declared.outcome.Outcome.{Outcome}
+use Rattle.outcomes.specs.declared.outcome.Outcome.{Outcome}
 use Rattle.request_core.specs.States.{no_units}
 use Rattle.request_core.specs.Fold.{outcomes_of}
-use Rattle.request_core.specs.OutputOrder.{positions_of, position_at}
+use Rattle.output_order.specs.OutputOrder.{positions_of, position_at}
 use Rattle.edit_engine.specs.Streams.{Stream, place_of, outcome_in, position_in}
 use Rattle.edit_engine.proofs.FoldsOnward.{length-outcomes_from}
 

@@ -1,8 +1,8 @@
 -- What a session stores, beside what contracts see of it.
 use Rattle.std.specs.Prelude.{◌≡◌, ℕ, ◌≤◌, List, length, Option}
-use Rattle.request_core.specs.declared.outcome.Outcome.{Outcome}
+use Rattle.outcomes.specs.declared.outcome.Outcome.{Outcome}
 use Rattle.request_core.specs.Fold.{outcomes_of}
-use Rattle.request_core.specs.OutputOrder.{positions_of}
+use Rattle.output_order.specs.OutputOrder.{positions_of}
 use Rattle.edit_engine.specs.declared.edits.Edit.{Edit}
 use Rattle.edit_engine.specs.declared.preparing.Prepared.{Prepared}
 use Rattle.edit_engine.specs.Changes.{IsFor, stream_after}

@@ -1,8 +1,8 @@
 -- A stream of access units, and what the plain fold says of a unit of it.
 use Rattle.std.specs.Prelude.{ℕ, ◌+◌, ◌==◌, Bool, List, Option, Some, position, slice_get, option_and_then, option_map}
-use Rattle.request_core.specs.declared.outcome.Outcome.{Outcome}
+use Rattle.outcomes.specs.declared.outcome.Outcome.{Outcome}
 use Rattle.request_core.specs.Fold.{outcomes_of}
-use Rattle.request_core.specs.OutputOrder.{positions_of}
+use Rattle.output_order.specs.OutputOrder.{positions_of}
 use Rattle.edit_engine.specs.declared.edits.Place.{Place}
 use Rattle.edit_engine.specs.declared.edits.Place.TheVariants.{First, After}
 

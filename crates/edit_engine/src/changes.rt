@@ -10,7 +10,7 @@ use crate::places::{place_of, start_of};
 use crate::refusals::EditRefused;
 use access_unit::{Unit, read_shared};
 use bytes::Bytes;
-use ref_marking::AuId;
+use pictures::AuId;
 use std::alloc::{AllocError, Global};
 
 /// The most units of a stream.

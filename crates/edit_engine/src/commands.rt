@@ -3,7 +3,7 @@
 ghost use Rattle.std.specs.Prelude.{◌≡◌, IfOk};
 
 use crate::edits::Edit;
-use ref_marking::AuId;
+use pictures::AuId;
 use std::alloc::AllocError;
 
 /// What a session is told to do.

@@ -5,8 +5,9 @@ ghost use Rattle.request_core.specs.States.{no_units};
 ghost use Rattle.edit_engine.specs.Folding.{FoldsOn, IsFoldOf};
 
 use access_unit::Unit;
-use ref_marking::AuId;
-use request_core::{Outcome, State, Steps, step};
+use outcomes::Outcome;
+use pictures::AuId;
+use request_core::{State, Steps, step};
 use std::alloc::{AllocError, Global};
 
 /// A fold under way: the state after the units so far, what became of them, and how many steps were made.

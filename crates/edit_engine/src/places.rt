@@ -5,7 +5,7 @@ ghost use Rattle.edit_engine.specs.Streams.{place_of, start_of};
 
 use crate::edits::Place;
 use access_unit::Unit;
-use ref_marking::AuId;
+use pictures::AuId;
 
 #[tactic(auto, unfolding(crate::specs::Streams::place_of))]
 /// The place of the unit that has the id.

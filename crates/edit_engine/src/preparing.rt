@@ -12,8 +12,9 @@ use crate::edits::Edit;
 use crate::folding::Fold;
 use crate::refusals::EditRefused;
 use access_unit::Unit;
-use ref_marking::AuId;
-use request_core::{Outcome, positions};
+use outcomes::Outcome;
+use output_order::positions;
+use pictures::AuId;
 use std::alloc::{AllocError, Global};
 
 /// A change of a stream, with what becomes of each unit after it.

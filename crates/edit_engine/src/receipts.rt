@@ -1,6 +1,6 @@
 //! What a session answers.
 
-use ref_marking::AuId;
+use pictures::AuId;
 
 /// What an accepted edit answers.
 #[derive(Clone, Copy, Debug, PartialEq, Eq)]

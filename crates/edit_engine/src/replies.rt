@@ -2,7 +2,7 @@
 
 use crate::receipts::Receipt;
 use crate::refusals::{EditRefused, NoSuchUnit};
-use request_core::Outcome;
+use outcomes::Outcome;
 
 /// What a command is answered, by the variant of the command's name.
 #[derive(Debug, Drop)]

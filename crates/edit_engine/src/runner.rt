@@ -8,7 +8,7 @@ use crate::config::Config;
 use crate::refusals::NoSuchUnit;
 use crate::replies::{Reply, UnitReport};
 use crate::session::Session;
-use ref_marking::AuId;
+use pictures::AuId;
 use std::alloc::{AllocError, Global};
 use std::marker::Model;
 

@@ -12,8 +12,8 @@ use crate::preparing::{enter, prepare};
 use crate::receipts::{Last, Receipt};
 use crate::refusals::{EditRefused, NoSuchUnit};
 use access_unit::Unit;
-use ref_marking::AuId;
-use request_core::Outcome;
+use outcomes::Outcome;
+use pictures::AuId;
 use std::alloc::Global;
 use std::marker::Model;
 

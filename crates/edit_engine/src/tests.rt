@@ -1,8 +1,8 @@
 use super::*;
 use access_unit::Refused;
 use bytes::Bytes;
-use ref_marking::AuId;
-use request_core::{Outcome, Plan, ValidityFault};
+use outcomes::{Outcome, Plan, ValidityFault};
+use pictures::AuId;
 use std::alloc::AllocGlobal;
 use std::process::Abort;
 use std::test::Fail;

@@ -20,7 +20,7 @@ pub text_at : (items : List (Bor (List ℕ))) (i : ℕ) (d : Bor (List ℕ)) →
     → get_or (texts_of items) i e ≡ (get_or items i d).now
 text_at items i d below e = get_or-map (λ word. word.now) items i d e below
 
--- the line behind those that are right is wrong
+-- the line after those that are right is wrong
 pub first-wrong : (items : List (Bor (List ℕ))) (i : ℕ) (d : Bor (List ℕ)) → i < length items
     → is_skipped (get_or items i d).now ≡ false → IsWrongLine (get_or items i d).now
     → AllWithin IsRightLine (texts_of items) 0 i → IsFirstWrong (texts_of items) i

@@ -15,7 +15,7 @@ use Rattle.edit_script.specs.Words.{number_of, id_of, hex_of}
 abbrev pub id_of_word : List ℕ → Option ℕ
 id_of_word word = option_map id_of (number_of word)
 
--- the deletion that the words behind `delete` ask for
+-- the deletion that the words after `delete` ask for
 abbrev pub deletion_of : List (List ℕ) → Option Edit
 deletion_of (id ∷ []) = option_map Delete (id_of_word id)
 deletion_of words = None
@@ -26,12 +26,12 @@ insert_at (Some place) (Some text) = Some (Insert place text)
 insert_at (Some place) None = None
 insert_at None text = None
 
--- the insertion that the words behind `insert after` ask for
+-- the insertion that the words after `insert after` ask for
 abbrev pub insertion_after : List (List ℕ) → Option Edit
 insertion_after [] = None
 insertion_after (id ∷ text) = insert_at (option_map After (id_of_word id)) (hex_of text)
 
--- the insertion that the words behind `insert` ask for
+-- the insertion that the words after `insert` ask for
 abbrev pub insertion_of : List (List ℕ) → Option Edit
 insertion_of [] = None
 insertion_of (place ∷ words) =
@@ -45,7 +45,7 @@ replace_by (Some id) (Some text) = Some (Replace id text)
 replace_by (Some id) None = None
 replace_by None text = None
 
--- the replacement that the words behind `replace` ask for
+-- the replacement that the words after `replace` ask for
 abbrev pub replacement_of : List (List ℕ) → Option Edit
 replacement_of [] = None
 replacement_of (id ∷ text) = replace_by (id_of_word id) (hex_of text)

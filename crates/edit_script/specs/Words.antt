@@ -35,7 +35,7 @@ number_of word = if has_number word then Some (digits_value 10 word) else None
 abbrev pub id_of : ℕ → ℕ
 id_of number = if nat_lt number (2 ^ 32) then number else 0
 
--- one text behind the other, where both are there
+-- one text after the other, where both are there
 abbrev pub both : Option (List ℕ) → Option (List ℕ) → Option (List ℕ)
 both (Some front) (Some rest) = Some (front ++ rest)
 both (Some front) None = None

@@ -10,7 +10,7 @@ ghost use Rattle.edit_script.specs.declared.commands.LineFault.TheVariants.{Memo
 use bytes::Bytes;
 use edit_engine::{Edit, Place};
 use hex::FromHexError;
-use ref_marking::AuId;
+use pictures::AuId;
 use std::alloc::{AllocError, AllocFailed, Global};
 
 /// What a line of a script asks for.
@@ -18,7 +18,7 @@ use std::alloc::{AllocError, AllocFailed, Global};
 pub enum Command<'a> {
     /// An edit of the stream.
     Edit(Edit),
-    /// The insertion of the units in the file of this name, each behind the last one.
+    /// The insertion of the units in the file of this name, each after the last one.
     Load { path: &'a str },
     /// The lines of the unit of this number.
     Unit { number: u64 },
@@ -92,7 +92,7 @@ fn read_edit(alloc: Global, words: &[&str]) -> Result<Edit, LineFault>
     }
 }
 
-/// The insertion that the words behind `insert` ask for.
+/// The insertion that the words after `insert` ask for.
 fn read_insertion(alloc: Global, words: &[&str]) -> Result<Edit, LineFault>
     ensures { IsEditAnswer (insertion_of (texts_of words.now)) result }
 {

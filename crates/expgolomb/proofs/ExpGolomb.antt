@@ -45,7 +45,7 @@ pub many_zeros : (p : Place) → 32 ≤ prefix_len not p.rest → ue_at p ≡ Er
 unfolding ue_at
 many_zeros p h = rw (le-leb 32 (prefix_len not p.rest) h) refl
 
--- n zeros, and what is read behind them
+-- n zeros, and what is read after them
 few_zeros : (p : Place) (n : ℕ) → prefix_len not p.rest ≡ n → n < 32 → ue_at p ≡ before (fixed_at (n + 1) (skip n p))
 unfolding ue_at
 few_zeros p n is h = rw (is, lt-leb 32 n h) refl
@@ -62,7 +62,7 @@ pub record EndsInZeros (p : Place) : Type 0 where
   pub bits : p.rest ≡ replicate n false
   pub read : ue_at p ≡ Err Cut
 
--- they end behind n zeros, a 1 and fewer than n bits
+-- they end after n zeros, a 1 and fewer than n bits
 pub record EndsInText (p : Place) : Type 0 where
   pub n : ℕ
   pub few : n < 32
@@ -102,7 +102,7 @@ all_zeros p all few =
     let left : length (drop n p.rest) < n + 1 = rw length-drop (omega arith) in
     few_zeros p n all few ∙ ap before (fixed_short (n + 1) (skip n p) left)
 
--- behind zeros and a 1: what stands there is the value's successor
+-- after zeros and a 1: what stands there is the value's successor
 pub read_behind : (p : Place) (n : ℕ) → IsZeros p.rest n → ue_at p ≡ before (fixed_at (n + 1) (skip n p))
 read_behind p n z = few_zeros p n (sym z.zeros) z.few
 
@@ -112,7 +112,7 @@ ends_in_zeros p few zeros =
     let left : length (drop n p.rest) < n + 1 = rw length-drop (omega (arith, ap length zeros, length-replicate {A = Bool} n false)) in
     record { n = n; few = few; bits = zeros; read = few_zeros p n refl few ∙ ap before (fixed_short (n + 1) (skip n p) left) }
 
--- what stands behind n zeros
+-- what stands after n zeros
 behind_zeros : (n : ℕ) (bits tail : List Bool) → bits ≡ replicate n false ++ true ∷ tail → drop n bits ≡ true ∷ tail
 behind_zeros n bits tail is = ap (drop n) is ∙ drop_at (replicate n false) (true ∷ tail) n (length-replicate n false)
 
@@ -186,7 +186,7 @@ code_is n tail few long =
       short = omega arith;
     }
 
--- what was read is a code, and the place is behind it
+-- what was read is a code, and the place is past it
 pub ue_ok : (p : Place) (x : ℕ × Place) → ue_at p ≡ Ok x → (word : List Bool) × IsUe word x.0 × Follows word p x.1
 ue_ok p x is =
     elim (shape p) [

@@ -31,7 +31,7 @@ number-low byte k h le =
     let left : length (drop k bits) ≡ 8 - k = length-drop k bits in
     sym (number-mod (take k bits) (drop k bits)) ∙ (ap (λ (xs : List Bool). number xs % 2 ^ length (drop k bits)) (take-append-drop k bits) ∙ (ap (λ n. n % 2 ^ length (drop k bits)) (number-byte byte h) ∙ ap (λ n. byte % 2 ^ n) left))
 
--- a 1 behind k bits of a byte and the bytes behind it
+-- a 1 after k bits of a byte and the bytes after it
 pub one_past : (byte k : ℕ) (more : List ℕ) → byte < 256 → k ≤ 8 → (0 < byte % 2 ^ (8 - k)) ⊎ Contains (bits_of more) true → Contains (drop k (byte_bits byte ++ bits_of more)) true
 one_past byte k more h le (inl low) = rw (drop-append-le k (byte_bits byte) (bits_of more) le) (Contains-append_left (drop k (byte_bits byte)) (bits_of more) true (one_in (drop k (byte_bits byte)) (rw (number-low byte k h le) low)))
 one_past byte k more h le (inr behind) = rw (drop-append-le k (byte_bits byte) (bits_of more) le) (Contains-append_right (drop k (byte_bits byte)) (bits_of more) true behind)
@@ -69,7 +69,7 @@ low_one (byte ∷ bytes) bit low are some h is not_zero =
     let left : 8 - (bit + 1) ≡ 7 - bit = omega arith in
     one_past byte (bit + 1) bytes (are 0) (omega arith) (inl (rw left (omega (arith, not_zero))))
 
--- behind a byte whose low bits are 0 a 1 stands in the bytes behind it
+-- after a byte whose low bits are 0 a 1 stands in the bytes after it
 pub more_one : (bytes : List ℕ) (bit low : ℕ) (answer : Bool) → AreBytes bytes → 1 ≤ length bytes → bit < 8 → low ≡ get_or bytes 0 0 % 2 ^ (7 - bit) → low ≡ 0 → answer ≡ list_any (λ byte. not (eqb byte 0)) (drop 1 bytes) → answer ≡ true ↔ Contains (drop (bit + 1) (bits_of bytes)) true
 more_one [] bit low answer are some h is none told = absurd (omega arith)
 more_one (byte ∷ bytes) bit low answer are some h is none told =

@@ -67,11 +67,11 @@ drop-bits_of zero bytes = refl
 drop-bits_of (suc n) [] = let more : 8 * suc n ≡ suc (8 * n + 7) = omega arith in rw more refl
 drop-bits_of (suc n) (b ∷ bytes) = let more : 8 * suc n ≡ suc (suc (suc (suc (suc (suc (suc (suc (8 * n)))))))) = omega arith in rw more (drop-bits_of n bytes)
 
--- how many bits stand behind the first n
+-- how many bits stand after the first n
 pub length-left : (n : ℕ) (bytes : List ℕ) → length (drop n (bits_of bytes)) ≡ 8 * length bytes - n
 length-left n bytes = rw (length-drop n (bits_of bytes), length-bits_of bytes) refl
 
--- the bits behind some bytes and bits
+-- the bits after some bytes and bits
 pub rest-start : (bytes : List ℕ) (at bit : ℕ) → (skip (8 * at + bit) (start bytes)).rest ≡ drop bit (bits_of (drop at bytes))
 rest-start bytes at bit = sym (drop-drop bit (8 * at) (bits_of bytes)) ∙ ap (drop bit) (drop-bits_of at bytes)
 
@@ -109,7 +109,7 @@ number-eight (a ∷ b ∷ c ∷ d ∷ e ∷ f ∷ g ∷ h ∷ bytes) more l are 
     omega (arith, number-bits_of (a ∷ b ∷ c ∷ d ∷ e ∷ f ∷ g ∷ h ∷ []) (AreBytes-take 8 (a ∷ b ∷ c ∷ d ∷ e ∷ f ∷ g ∷ h ∷ bytes) are))
 number-eight _ more l are = absurd (omega arith)
 
--- zeros behind bytes read as nothing
+-- zeros after bytes read as nothing
 pub get_or-zeros : (bytes : List ℕ) (n i : ℕ) → get_or (bytes ++ replicate n 0) i 0 ≡ get_or bytes i 0
 get_or-zeros [] n i = elim (cases_lt i n) [ inl h ↦ get_or-replicate n i 0 0 h | inr h ↦ get_or_past (replicate n 0) i 0 (rw (length-replicate {A = ℕ} n 0) h) ]
 get_or-zeros (b ∷ bytes) n zero = refl

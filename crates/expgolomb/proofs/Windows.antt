@@ -1,4 +1,4 @@
--- What a window of 64 bits says of the bits behind it.
+-- What a window of 64 bits says of the bits after it.
 use Rattle.std.proofs.Common.{◌≡◌, ℕ, zero, suc, ◌+◌, ◌-◌, ◌*◌, ◌/◌, ◌%◌, ◌^◌, ◌<◌, ◌≤◌, Bool, true, false, not, List, [], ◌∷◌, ◌++◌, length, take, drop, replicate, refl, sym, ◌∙◌, ap, subst, arith, inl, inr, min, ◌⊎◌}
 use Rattle.std.specs.List.{prefix_len}
 use lib.Count.{count_leading_zeros, leading_of_zero}
@@ -102,7 +102,7 @@ prefix_len-take (suc n) [] = omega arith
 prefix_len-take (suc n) (true ∷ bits) = omega arith
 prefix_len-take (suc n) (false ∷ bits) = omega (arith, prefix_len-take n bits)
 
--- The zeros at the front of a window are those of the bits behind it, or the bits end before them.
+-- The zeros at the front of a window are those of the bits after it, or the bits end before them.
 pub zeros_of_window : (rest : List Bool) (word : ℕ) → IsWindow rest word → min 57 (count_leading_zeros 64 word) ≡ min 57 (prefix_len not (rest ++ replicate 64 false))
 zeros_of_window rest word w =
     let zeros : count_leading_zeros 64 word ≡ prefix_len not w.bits =
@@ -116,7 +116,7 @@ zeros_of_padded (true ∷ rest) = inl (refl, omega arith)
 zeros_of_padded (false ∷ rest) =
     elim (zeros_of_padded rest) [ inl h ↦ inl (omega (arith, h.0), omega (arith, h.1)) | inr h ↦ inr (omega (arith, h.0), omega (arith, h.1)) ]
 
--- fewer than 32 zeros in a window: a 1 comes behind them
+-- fewer than 32 zeros in a window: a 1 comes after them
 pub few_in_window : (rest : List Bool) (word : ℕ) → IsWindow rest word → count_leading_zeros 64 word < 32 → (count_leading_zeros 64 word ≡ prefix_len not rest) × (prefix_len not rest < length rest)
 few_in_window rest word w few =
     let same = zeros_of_window rest word w in

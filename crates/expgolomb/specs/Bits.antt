@@ -19,7 +19,7 @@ abbrev pub number : List Bool → ℕ
 number [] = 0
 number (bit ∷ bits) = cond bit 1 0 * 2 ^ length bits + number bits
 
--- a place among bits: how many stand before it, and those behind it
+-- a place among bits: how many stand before it, and those after it
 pub record Place : Type 0 where
   pub before : ℕ
   pub rest : List Bool

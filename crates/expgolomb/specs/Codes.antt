@@ -4,7 +4,7 @@ use Rattle.std.specs.Prelude.{ℤ, pos, neg_ℤ}
 use Rattle.std.specs.List.{prefix_len}
 use Rattle.expgolomb.specs.Bits.{number, Place}
 
--- the code word stands at the old place, and the new place is the one behind it
+-- the code word stands at the old place, and the new place is the one after it
 pub record Follows (word : List Bool) (old new : Place) : Type 0 where
   pub bits : old.rest ≡ word ++ new.rest
   pub before : new.before ≡ old.before + length word

@@ -145,7 +145,7 @@ impl<'a> Bits<'a> {
         }
     }
 
-    // The next n bits as a number, and a reader behind them.
+    // The next n bits as a number, and a reader after them.
     fn fixed_code(&self, n: u8) -> Result<(u32, Bits<'a>), CodeFault>
         requires some { 1 ≤ n }
         requires few { n ≤ 32 }
@@ -158,7 +158,7 @@ impl<'a> Bits<'a> {
         Ok((number as u32, self.ahead(n)))
     }
 
-    // The next ue(v) value, and a reader behind its code.
+    // The next ue(v) value, and a reader after its code.
     fn ue_code(&self) -> Result<(u32, Bits<'a>), CodeFault>
         ensures exact { result ≡ ue_at self.now }
         ensures below { IfOk result (λ read. read.0 < 2 ^ 32 - 1) }
@@ -168,7 +168,7 @@ impl<'a> Bits<'a> {
         Ok((successor - 1, behind))
     }
 
-    // The next se(v) value, and a reader behind its code.
+    // The next se(v) value, and a reader after its code.
     fn se_code(&self) -> Result<(i32, Bits<'a>), CodeFault>
         ensures { result ≡ se_at self.now }
     {
@@ -176,7 +176,7 @@ impl<'a> Bits<'a> {
         Ok((signed(k), behind))
     }
 
-    // Goes behind a code that was read.
+    // Goes after a code that was read.
     fn take<V>(&mut self, code: Result<(V, Bits<'a>), CodeFault>) -> Result<V, CodeFault>
         ensures { Gives (λ v. v) result self.old self.new code.entry }
     {
@@ -185,7 +185,7 @@ impl<'a> Bits<'a> {
         Ok(value)
     }
 
-    // How many zeros the next code begins with, where a 1 comes behind them.
+    // How many zeros the next code begins with, where a 1 comes after them.
     fn zeros(&self) -> Result<u8, CodeFault>
         ensures { MatchResult result (IsZeros self.now.rest) (λ fault. ue_at self.now ≡ Err fault) }
     {
@@ -200,7 +200,7 @@ impl<'a> Bits<'a> {
     }
 }
 
-// Whether a 1 stands behind a bit of the first byte.
+// Whether a 1 stands after a bit of the first byte.
 fn has_one_past(bytes: &[u8], bit: u8) -> bool
     requires { bit < 8 }
     ensures { IsTrue result ↔ Contains (drop (bit + 1) (bits_of bytes.now)) true }

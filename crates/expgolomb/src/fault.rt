@@ -12,3 +12,15 @@ pub enum CodeFault {
     #[error("a code has more than 31 zeros at its front")]
     TooLong = 2,
 }
+
+impl CodeFault {
+    ghost use Rattle.std.specs.Prelude.{◌≡◌};
+    ghost use Rattle.expgolomb.specs.FaultNumbers.{number_of};
+
+    /// The number, from 1 in the order above.
+    pub fn number(self) -> u8
+        ensures { result ≡ number_of self }
+    {
+        self as u8
+    }
+}

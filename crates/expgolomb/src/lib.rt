@@ -1,6 +1,6 @@
 //! Bits of a payload and the codes of its syntax elements (ITU-T H.264, 7.2 and 9.1).
 //!
-//! Each call of `Bits` answers the value of the code at the place and moves behind it, or says why there is no
+//! Each call of `Bits` answers the value of the code at the place and moves past it, or says why there is no
 //! code and stays. The parameter sets and the slice headers are read by it.
 #![tactic(auto)]
 

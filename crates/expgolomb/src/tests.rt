@@ -12,7 +12,7 @@ fn unsigned_codes(rt: HostRuntime) -> Result<(), Fail> {
     assert_eq!(rt; bits.ue()?, 3);
     assert_eq!(rt; bits.ue()?, 4);
     assert_eq!(rt; bits.place(), 17);
-    // 31 zeros, and the largest number behind them.
+    // 31 zeros, and the largest number after them.
     let longest = [0x00, 0x00, 0x00, 0x01, 0xFF, 0xFF, 0xFF, 0xFE];
     let mut bits = Bits::new(&longest);
     assert_eq!(rt; bits.ue()?, 4_294_967_294);
@@ -62,7 +62,7 @@ fn bits_of_bytes(rt: HostRuntime) -> Result<(), Fail> {
 
 #[test]
 fn data_past_the_stop_bit(rt: HostRuntime) -> Result<(), Fail> {
-    // A stop bit alone, with bytes of zeros behind it, is no data.
+    // A stop bit alone, with bytes of zeros after it, is no data.
     let stop = [0b1000_0000, 0x00];
     assert!(rt; !Bits::new(&stop).more_data());
     let one_more = [0b1000_0001];

@@ -24,7 +24,7 @@ fn last_word(bytes: &[u8]) -> u64
     word
 }
 
-/// The bits of `bytes` behind the first few of the first byte.
+/// The bits of `bytes` after the first few of the first byte.
 pub fn window(bytes: &[u8], bit: u8) -> u64
     requires bit { bit < 8 }
     requires within { bit ≤ 8 * length bytes.now }

@@ -1,7 +1,7 @@
 -- The control of a picture parameter set (struct v4l2_ctrl_h264_pps; ITU-T H.264, 7.4.2.2).
 use Rattle.std.specs.Prelude.{◌||◌}
-use Rattle.param_sets.specs.declared.sps.Sps.{Sps}
-use Rattle.param_sets.specs.declared.pps.Pps.{Pps}
+use Rattle.set_types.specs.declared.sps.Sps.{Sps}
+use Rattle.set_types.specs.declared.pps.Pps.{Pps}
 use Rattle.h264_controls.specs.declared.v4l2_ctrl_h264_pps.PpsFlags.{PpsFlags}
 use Rattle.h264_controls.specs.declared.v4l2_ctrl_h264_pps.V4l2CtrlH264Pps.{V4l2CtrlH264Pps}
 

@@ -3,7 +3,7 @@ use Rattle.std.specs.Prelude.{ℕ, List, ◌++◌}
 use Rattle.std.specs.List.{flat_map}
 use Rattle.h264_controls.specs.declared.v4l2_ctrl_h264_scaling_matrix.V4l2CtrlH264ScalingMatrix.{V4l2CtrlH264ScalingMatrix}
 
--- lists one behind the other, an entry a byte
+-- lists one after the other, an entry a byte
 abbrev pub lists_form : List (List ℕ) → List ℕ
 lists_form lists = flat_map (λ list. list) lists
 

@@ -1,6 +1,6 @@
 -- The control of a sequence parameter set (struct v4l2_ctrl_h264_sps; ITU-T H.264, 7.4.2.1.1).
 use Rattle.std.specs.Prelude.{◌-◌, ◌++◌, true, false, ℤ, pos, List, length, replicate}
-use Rattle.param_sets.specs.declared.sps.Sps.{Sps}
+use Rattle.set_types.specs.declared.sps.Sps.{Sps}
 use Rattle.h264_controls.specs.declared.v4l2_ctrl_h264_sps.SpsFlags.{SpsFlags}
 use Rattle.h264_controls.specs.declared.v4l2_ctrl_h264_sps.V4l2CtrlH264Sps.{V4l2CtrlH264Sps}
 

@@ -8,7 +8,7 @@ use crate::v4l2_ctrl_h264_pred_weights::V4l2CtrlH264PredWeights;
 use crate::v4l2_ctrl_h264_scaling_matrix::V4l2CtrlH264ScalingMatrix;
 use crate::v4l2_ctrl_h264_slice_params::V4l2CtrlH264SliceParams;
 use crate::v4l2_ctrl_h264_sps::V4l2CtrlH264Sps;
-use param_sets::Shared;
+use base_types::Shared;
 use std::alloc::AllocError;
 
 /// The six controls of a slice. What is large is shared.

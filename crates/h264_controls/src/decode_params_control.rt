@@ -1,17 +1,16 @@
 //! The control of a picture: what its header says of it, and the frames that were marked before it.
 
 ghost use Rattle.std.specs.Prelude.{◌≡◌, ◌≤◌, length, map};
-ghost use Rattle.ref_marking.specs.PicNums.{frame_num_wrap};
+ghost use Rattle.pictures.specs.PicNums.{frame_num_wrap};
 ghost use Rattle.h264_controls.specs.DecodeParamsControl.{decode_params_control, dpb, dpb_entry, frame_num_in, number_in};
 
 use crate::v4l2_ctrl_h264_decode_params::{
     DecodeFlags, DpbEntryFlags, V4l2CtrlH264DecodeParams, V4l2H264DpbEntry, V4l2H264FieldReference,
 };
 use arrayvec::ArrayVec;
-use order_count::Counts;
-use param_sets::Sps;
-use ref_marking::{Frame, Marks, Term};
-use slice_header::SliceHeader;
+use header_types::SliceHeader;
+use pictures::{Counts, Frame, Marks, Term, frame_num_wrap};
+use set_types::Sps;
 
 impl V4l2CtrlH264DecodeParams {
     /// The control of a slice with this header, of a picture with these counts, before its marking.
@@ -94,10 +93,7 @@ fn pic_num(sps: &Sps, frame_num: u16, frame: &Frame) -> i32
         Term::LongTerm {
             long_term_frame_idx,
         } => i32::from(long_term_frame_idx),
-        Term::ShortTerm if frame.frame_num > frame_num => {
-            i32::from(frame.frame_num) - sps.max_frame_num() as i32
-        }
-        Term::ShortTerm => i32::from(frame.frame_num),
+        Term::ShortTerm => frame_num_wrap(sps, frame_num, frame.frame_num) as i32,
     }
 }
 

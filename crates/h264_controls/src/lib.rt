@@ -34,6 +34,3 @@ pub use v4l2_ctrl_h264_pred_weights::{V4l2CtrlH264PredWeights, V4l2H264WeightFac
 pub use v4l2_ctrl_h264_scaling_matrix::V4l2CtrlH264ScalingMatrix;
 pub use v4l2_ctrl_h264_slice_params::{SliceFlags, V4l2CtrlH264SliceParams};
 pub use v4l2_ctrl_h264_sps::{SpsFlags, V4l2CtrlH264Sps};
-
-#[cfg(test)]
-mod tests;

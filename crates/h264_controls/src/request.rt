@@ -10,7 +10,7 @@ use std::alloc::AllocError;
 #[derive(Debug, Drop)]
 pub struct Request {
     pub controls: Controls,
-    /// The slice's NAL unit behind a start code of three bytes.
+    /// The slice's NAL unit after a start code of three bytes.
     pub bytes: Bytes,
     /// The timestamp of the unit, in nanoseconds.
     pub timestamp: u64,

@@ -4,8 +4,8 @@ ghost use Rattle.std.specs.Prelude.{◌≡◌};
 ghost use Rattle.h264_controls.specs.SliceParamsControl.{slice_params_control};
 
 use crate::v4l2_ctrl_h264_slice_params::{SliceFlags, V4l2CtrlH264SliceParams};
-use ref_lists::List;
-use slice_header::SliceHeader;
+use header_types::SliceHeader;
+use pictures::List;
 
 impl V4l2CtrlH264SliceParams {
     /// The control of the slice with this header and these lists.

@@ -96,7 +96,7 @@ impl DecodeFlags {
 }
 
 impl V4l2H264DpbEntry {
-    /// Its digest form, which is without the timestamp, goes behind the form.
+    /// Its digest form, which is without the timestamp, goes after the form.
     #[tactic(auto, unfolding(crate::specs::DecodeParamsForm::dpb_entry_form))]
     fn put(&self, form: &mut Vec<u8>)
         requires { vec_len form.old + 19 ≤ vec_capacity form.old }
@@ -138,7 +138,7 @@ impl V4l2CtrlH264DecodeParams {
         }
     }
 
-    /// Its digest form goes behind the form.
+    /// Its digest form goes after the form.
     #[tactic(auto, unfolding(crate::specs::DecodeParamsForm::decode_params_form))]
     pub(crate) fn put(&self, form: &mut Vec<u8>)
         requires { vec_len form.old + 348 ≤ vec_capacity form.old }

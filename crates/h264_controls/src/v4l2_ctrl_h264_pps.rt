@@ -5,7 +5,7 @@ ghost use Rattle.std.specs.Vec.{vec_capacity};
 ghost use Rattle.h264_controls.specs.PpsForm.{pps_flags, pps_form, weighted_bipred_number};
 
 use crate::words::{flag, put, put_u16};
-use param_sets::WeightedBipred;
+use set_types::WeightedBipred;
 
 /// struct v4l2_ctrl_h264_pps: the picture parameter set of the slice.
 #[derive(Clone, Copy, Debug, PartialEq, Eq)]
@@ -56,7 +56,7 @@ impl PpsFlags {
 
 impl V4l2CtrlH264Pps {
     #[tactic(auto, unfolding(crate::specs::PpsForm::pps_form))]
-    /// Its digest form goes behind the form.
+    /// Its digest form goes after the form.
     pub(crate) fn put(&self, form: &mut Vec<u8>)
         requires { vec_len form.old + 12 ≤ vec_capacity form.old }
         ensures items { form.new.items ≡ form.old.items ++ pps_form self.now }

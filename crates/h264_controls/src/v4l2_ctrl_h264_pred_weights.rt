@@ -30,7 +30,7 @@ pub struct V4l2H264WeightFactors {
 }
 
 impl V4l2CtrlH264PredWeights {
-    /// Its digest form goes behind the form.
+    /// Its digest form goes after the form.
     #[tactic(auto, unfolding(crate::specs::PredWeightsForm::pred_weights_form))]
     pub(crate) fn put(&self, form: &mut Vec<u8>)
         requires { vec_len form.old + 772 ≤ vec_capacity form.old }
@@ -45,7 +45,7 @@ impl V4l2CtrlH264PredWeights {
 }
 
 impl V4l2H264WeightFactors {
-    /// Its digest form goes behind the form.
+    /// Its digest form goes after the form.
     #[tactic(auto, unfolding(crate::specs::PredWeightsForm::weight_factors_form))]
     fn put(&self, form: &mut Vec<u8>)
         requires { vec_len form.old + 384 ≤ vec_capacity form.old }

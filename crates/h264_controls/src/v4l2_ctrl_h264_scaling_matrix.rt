@@ -18,7 +18,7 @@ pub struct V4l2CtrlH264ScalingMatrix {
 }
 
 impl V4l2CtrlH264ScalingMatrix {
-    /// Its digest form goes behind the form.
+    /// Its digest form goes after the form.
     #[tactic(auto, unfolding(crate::specs::ScalingMatrixForm::scaling_matrix_form))]
     pub(crate) fn put(&self, form: &mut Vec<u8>)
         requires { vec_len form.old + 480 ≤ vec_capacity form.old }

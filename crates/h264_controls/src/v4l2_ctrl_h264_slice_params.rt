@@ -6,8 +6,8 @@ ghost use Rattle.std.specs.List.{flat_map};
 ghost use Rattle.h264_controls.specs.SliceParamsForm.{list_form, reference_form, slice_flags, slice_params_form, slice_type_number};
 
 use crate::words::{flag, put, put_u32, put_zeros};
-use ref_lists::List;
-use slice_header::SliceType;
+use header_types::SliceType;
+use pictures::List;
 
 /// struct v4l2_ctrl_h264_slice_params: what the slice header says of the slice, and its lists.
 #[derive(Debug, Drop)]
@@ -78,7 +78,7 @@ impl V4l2CtrlH264SliceParams {
         }
     }
 
-    /// Its digest form goes behind the form.
+    /// Its digest form goes after the form.
     #[tactic(auto, unfolding(crate::specs::SliceParamsForm::slice_params_form))]
     pub(crate) fn put(&self, form: &mut Vec<u8>)
         requires { vec_len form.old + 151 ≤ vec_capacity form.old }

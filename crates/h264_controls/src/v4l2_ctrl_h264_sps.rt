@@ -5,7 +5,7 @@ ghost use Rattle.std.specs.Vec.{vec_capacity};
 ghost use Rattle.h264_controls.specs.SpsForm.{chroma_format_number, constraint_set_number, pic_order_cnt_type_number, sps_flags, sps_form};
 
 use crate::words::{flag, put, put_s32, put_s32s, put_u16, put_u32};
-use param_sets::{ChromaFormat, PicOrderCntType};
+use set_types::{ChromaFormat, PicOrderCntType};
 
 /// struct v4l2_ctrl_h264_sps: the active sequence parameter set.
 #[derive(Debug, Drop)]
@@ -64,7 +64,7 @@ impl SpsFlags {
 }
 
 impl V4l2CtrlH264Sps {
-    /// Its digest form goes behind the form.
+    /// Its digest form goes after the form.
     #[tactic(auto, unfolding(crate::specs::SpsForm::sps_form))]
     pub(crate) fn put(&self, form: &mut Vec<u8>)
         requires { vec_len form.old + 1048 ≤ vec_capacity form.old }

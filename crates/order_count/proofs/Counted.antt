@@ -1,17 +1,17 @@
 -- What the definition's answer says.
 use Rattle.std.proofs.Common.{◌≡◌, ◌^◌, ◌<◌, Bool, true, false, ◌&&◌, if◌then◌else◌, ◌≤◌, ℤ, pos, negsuc, ◌+ℤ◌, unsigned_abs, Result, Ok, Err, ◌⊎◌, inl, inr, refl, subst, ap, sym, arith}
 use Rattle.std.proofs.lemmas.Int.{ints}
-use Rattle.param_sets.specs.declared.sps.Sps.{Sps}
-use Rattle.param_sets.specs.declared.sps.PicOrderCntType.{PicOrderCntType}
-use Rattle.param_sets.specs.declared.sps.PicOrderCntType.TheVariants.{Zero, One, Two}
-use Rattle.slice_header.specs.declared.slice_headers.SliceHeader.{SliceHeader}
+use Rattle.set_types.specs.declared.sps.Sps.{Sps}
+use Rattle.set_types.specs.declared.sps.PicOrderCntType.{PicOrderCntType}
+use Rattle.set_types.specs.declared.sps.PicOrderCntType.TheVariants.{Zero, One, Two}
+use Rattle.header_types.specs.declared.slice_headers.SliceHeader.{SliceHeader}
 use Rattle.order_count.specs.declared.anchors.Anchor.{Anchor}
-use Rattle.order_count.specs.declared.counts.Counts.{Counts}
+use Rattle.pictures.specs.declared.counts.Counts.{Counts}
 use Rattle.order_count.specs.declared.fault.OrderRange.{OrderRange}
-use Rattle.order_count.specs.PicOrderCnt.{is_in_range, are_in_range}
+use Rattle.pictures.specs.PicOrderCnt.{is_in_range, are_in_range}
 use Rattle.order_count.specs.FrameNumbers.{frame_num_offset}
 use Rattle.order_count.specs.TypeZero.{type_zero, pic_order_cnt_msb}
-use Rattle.order_count.specs.Resetting.{counts_after_reset}
+use Rattle.pictures.specs.Resetting.{counts_after_reset}
 use Rattle.order_count.specs.Counting.{counts_of, by_type, has_small_offset}
 
 -- what is true of counts that are answered

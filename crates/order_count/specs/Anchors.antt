@@ -1,15 +1,15 @@
 -- What counting keeps of the pictures before (ITU-T H.264, 8.2.1.1 and 8.2.1.2). What the type doesn't read is 0.
 use Rattle.std.specs.Prelude.{pos, if◌then◌else◌}
-use Rattle.param_sets.specs.declared.sps.Sps.{Sps}
-use Rattle.param_sets.specs.declared.sps.PicOrderCntType.{PicOrderCntType}
-use Rattle.param_sets.specs.declared.sps.PicOrderCntType.TheVariants.{Zero, One, Two}
-use Rattle.slice_header.specs.declared.slice_headers.SliceHeader.{SliceHeader}
+use Rattle.set_types.specs.declared.sps.Sps.{Sps}
+use Rattle.set_types.specs.declared.sps.PicOrderCntType.{PicOrderCntType}
+use Rattle.set_types.specs.declared.sps.PicOrderCntType.TheVariants.{Zero, One, Two}
+use Rattle.header_types.specs.declared.slice_headers.SliceHeader.{SliceHeader}
 use Rattle.order_count.specs.declared.anchors.Anchor.{Anchor}
-use Rattle.order_count.specs.declared.counts.Counts.{Counts}
-use Rattle.order_count.specs.Pictures.{is_reference}
+use Rattle.pictures.specs.declared.counts.Counts.{Counts}
+use Rattle.header_types.specs.Pictures.{is_reference}
 use Rattle.order_count.specs.FrameNumbers.{frame_num_offset}
 use Rattle.order_count.specs.TypeZero.{pic_order_cnt_msb}
-use Rattle.order_count.specs.Resetting.{has_operation_five, counts_after_reset}
+use Rattle.pictures.specs.Resetting.{has_operation_five, counts_after_reset}
 
 -- before the first picture
 abbrev pub no_pictures : Anchor
@@ -20,7 +20,7 @@ no_pictures = record {
   prev_frame_num = 0;
 }
 
--- of a reference picture of type 0; behind operation 5 its top count stands for pic_order_cnt_lsb (8.2.1.1)
+-- of a reference picture of type 0; after operation 5 its top count stands for pic_order_cnt_lsb (8.2.1.1)
 abbrev pub of_reference_picture : Anchor → Sps → SliceHeader → Counts → Anchor
 of_reference_picture anchor sps header counts =
     if has_operation_five header
@@ -30,7 +30,7 @@ of_reference_picture anchor sps header counts =
       prev_pic_order_cnt_lsb = pos header.pic_order_cnt_lsb;
     }
 
--- of a picture of type 1 or 2; behind operation 5 both are 0 (8.2.1.2)
+-- of a picture of type 1 or 2; after operation 5 both are 0 (8.2.1.2)
 abbrev pub of_picture : Anchor → Sps → SliceHeader → Anchor
 of_picture anchor sps header =
     if has_operation_five header
@@ -47,6 +47,6 @@ of_type Zero anchor sps header counts =
 of_type One anchor sps header counts = of_picture anchor sps header
 of_type Two anchor sps header counts = of_picture anchor sps header
 
--- the anchor behind a picture of these counts
+-- the anchor after a picture of these counts
 unfoldable pub anchor_after_of : Anchor → Sps → SliceHeader → Counts → Anchor
 anchor_after_of anchor sps header counts = of_type sps.pic_order_cnt_type anchor sps header counts

@@ -1,18 +1,18 @@
 -- The counts of a picture by its type of counting, where they have 32 bits (ITU-T H.264, 8.2.1).
 use Rattle.std.specs.Prelude.{◌^◌, Bool, true, ◌&&◌, nat_lt, Result, Ok, Err, if◌then◌else◌}
-use Rattle.param_sets.specs.declared.sps.Sps.{Sps}
-use Rattle.param_sets.specs.declared.sps.PicOrderCntType.{PicOrderCntType}
-use Rattle.param_sets.specs.declared.sps.PicOrderCntType.TheVariants.{Zero, One, Two}
-use Rattle.slice_header.specs.declared.slice_headers.SliceHeader.{SliceHeader}
+use Rattle.set_types.specs.declared.sps.Sps.{Sps}
+use Rattle.set_types.specs.declared.sps.PicOrderCntType.{PicOrderCntType}
+use Rattle.set_types.specs.declared.sps.PicOrderCntType.TheVariants.{Zero, One, Two}
+use Rattle.header_types.specs.declared.slice_headers.SliceHeader.{SliceHeader}
 use Rattle.order_count.specs.declared.anchors.Anchor.{Anchor}
-use Rattle.order_count.specs.declared.counts.Counts.{Counts}
+use Rattle.pictures.specs.declared.counts.Counts.{Counts}
 use Rattle.order_count.specs.declared.fault.OrderRange.{OrderRange}
-use Rattle.order_count.specs.PicOrderCnt.{are_in_range}
+use Rattle.pictures.specs.PicOrderCnt.{are_in_range}
 use Rattle.order_count.specs.FrameNumbers.{frame_num_offset}
 use Rattle.order_count.specs.TypeZero.{type_zero}
 use Rattle.order_count.specs.TypeOne.{type_one}
 use Rattle.order_count.specs.TypeTwo.{type_two}
-use Rattle.order_count.specs.Resetting.{counts_after_reset}
+use Rattle.pictures.specs.Resetting.{counts_after_reset}
 
 -- the counts by pic_order_cnt_type
 abbrev pub by_type : PicOrderCntType → Anchor → Sps → SliceHeader → Counts

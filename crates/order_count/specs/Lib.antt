@@ -1,10 +1,7 @@
-pub mod Pictures
-pub mod PicOrderCnt
 pub mod Width
 pub mod FrameNumbers
 pub mod TypeZero
 pub mod TypeOne
 pub mod TypeTwo
-pub mod Resetting
 pub mod Counting
 pub mod Anchors

@@ -1,9 +1,9 @@
 -- Type 1: the counts are expected from frame_num by a cycle of offsets, and differences are sent (ITU-T H.264, 8.2.1.2).
 use Rattle.std.specs.Prelude.{ℕ, zero, suc, ◌+◌, ◌-◌, ◌/◌, ◌%◌, ◌==◌, List, length, take, fold, ℤ, pos, ◌+ℤ◌, ◌*ℤ◌, if◌then◌else◌}
-use Rattle.param_sets.specs.declared.sps.Sps.{Sps}
-use Rattle.slice_header.specs.declared.slice_headers.SliceHeader.{SliceHeader}
-use Rattle.order_count.specs.declared.counts.Counts.{Counts}
-use Rattle.order_count.specs.Pictures.{is_reference}
+use Rattle.set_types.specs.declared.sps.Sps.{Sps}
+use Rattle.header_types.specs.declared.slice_headers.SliceHeader.{SliceHeader}
+use Rattle.pictures.specs.declared.counts.Counts.{Counts}
+use Rattle.header_types.specs.Pictures.{is_reference}
 
 -- absFrameNum (8-7): 0 where the cycle is empty, and one less for a picture that is no reference
 abbrev pub abs_frame_num : (frame_num_offset : ℕ) → Sps → SliceHeader → ℕ
@@ -23,13 +23,13 @@ expected offsets zero = pos 0
 expected offsets (suc before) =
     pos (before / length offsets) *ℤ total offsets +ℤ total (take (before % length offsets + 1) offsets)
 
--- expectedPicOrderCnt (8-10)
+-- expectedPicOrderCnt (8-9)
 abbrev pub expected_pic_order_cnt : (frame_num_offset : ℕ) → Sps → SliceHeader → ℤ
 expected_pic_order_cnt frame_num_offset sps header =
     expected sps.offset_for_ref_frame (abs_frame_num frame_num_offset sps header)
     +ℤ (if is_reference header then pos 0 else sps.offset_for_non_ref_pic)
 
--- the counts of a frame (8-11)
+-- the counts of a frame (8-10)
 abbrev pub counts_from : ℤ → Sps → SliceHeader → Counts
 counts_from expected sps header = record {
   top = expected +ℤ header.delta_pic_order_cnt0;

@@ -1,6 +1,6 @@
 -- Counts in the width in which the code forms them.
-use Rattle.order_count.specs.declared.counts.Counts.{Counts}
-use Rattle.order_count.specs.declared.counts.WideCounts.{WideCounts}
+use Rattle.pictures.specs.declared.counts.Counts.{Counts}
+use Rattle.order_count.specs.declared.wide_counts.WideCounts.{WideCounts}
 
 -- the same counts
 abbrev pub plain : WideCounts → Counts

@@ -1,24 +1,27 @@
+//! What counting keeps of the pictures before (8.2.1).
+
 ghost use Rattle.std.specs.Prelude.{◌≡◌, Ok, ◌<◌, ◌^◌};
 ghost use Rattle.order_count.specs.FrameNumbers.{frame_num_offset};
 ghost use Rattle.order_count.specs.Counting.{counts_of};
 ghost use Rattle.order_count.specs.Anchors.{no_pictures, of_reference_picture, of_picture, anchor_after_of};
 
-use crate::counts::Counts;
 use crate::frame_numbers::frame_num_offset;
-use crate::resetting::{after_reset, resets};
 use crate::type_zero::pic_order_cnt_msb;
-use param_sets::{PicOrderCntType, Sps};
-use slice_header::SliceHeader;
+use header_types::SliceHeader;
+use pictures::{Counts, after_reset, resets};
+use set_types::{PicOrderCntType, Sps};
 
 /// What counting keeps of the pictures before. What the type of counting doesn't read is 0.
 #[derive(Clone, Copy, Debug, PartialEq, Eq)]
 pub struct Anchor {
-    // Type 0: of the previous reference picture.
-    pub(crate) prev_pic_order_cnt_msb: i64,
-    pub(crate) prev_pic_order_cnt_lsb: i32,
-    // Types 1 and 2: of the previous picture.
-    pub(crate) prev_frame_num_offset: u32,
-    pub(crate) prev_frame_num: u16,
+    /// prevPicOrderCntMsb of type 0: of the previous reference picture.
+    pub prev_pic_order_cnt_msb: i64,
+    /// prevPicOrderCntLsb of type 0; its top count where operation 5 stood.
+    pub prev_pic_order_cnt_lsb: i32,
+    /// prevFrameNumOffset of types 1 and 2: of the previous picture.
+    pub prev_frame_num_offset: u32,
+    /// prevFrameNum of types 1 and 2.
+    pub prev_frame_num: u16,
 }
 
 impl Anchor {
@@ -35,7 +38,7 @@ impl Anchor {
     }
 }
 
-/// The anchor of the next picture, behind this one, whose counts `count` answered.
+/// The anchor of the next picture, after this one, whose counts `count` answered.
 #[tactic(auto, unfolding(crate::specs::Anchors::anchor_after_of))]
 pub fn anchor_after(anchor: &Anchor, sps: &Sps, header: &SliceHeader, counts: Counts) -> Anchor
     requires { counts_of anchor.now sps.now header.now ≡ Ok counts }

@@ -1,18 +1,17 @@
 ghost use Rattle.std.specs.Prelude.{◌≡◌, IsTrue, IfOk};
-ghost use Rattle.order_count.specs.PicOrderCnt.{are_in_range};
-ghost use Rattle.order_count.specs.Resetting.{counts_after_reset};
+ghost use Rattle.pictures.specs.PicOrderCnt.{are_in_range};
+ghost use Rattle.pictures.specs.Resetting.{counts_after_reset};
 ghost use Rattle.order_count.specs.Counting.{counts_of};
 
 use crate::anchors::Anchor;
-use crate::counts::Counts;
 use crate::fault::OrderRange;
 use crate::frame_numbers::small_offset;
-use crate::resetting::resets;
 use crate::type_one::type_one;
 use crate::type_two::type_two;
 use crate::type_zero::type_zero;
-use param_sets::{PicOrderCntType, Sps};
-use slice_header::SliceHeader;
+use header_types::SliceHeader;
+use pictures::{Counts, resets};
+use set_types::{PicOrderCntType, Sps};
 
 /// The counts of a picture, before operation 5 resets them.
 ///
@@ -37,7 +36,7 @@ pub fn count(anchor: &Anchor, sps: &Sps, header: &SliceHeader) -> Result<Counts,
 }
 
 // Whether what is kept of the counts is in range.
-#[tactic(auto, unfolding(crate::specs::Resetting::counts_after_reset))]
+#[tactic(auto, unfolding(pictures::specs::Resetting::counts_after_reset))]
 fn can_be_kept(header: &SliceHeader, counts: Counts) -> bool
     ensures { result ≡ are_in_range (counts_after_reset header.now counts) }
 {

@@ -1,19 +1,11 @@
-//! MaxFrameNum, and FrameNumOffset, which counts the rounds of frame_num (8.2.1.2).
+//! FrameNumOffset, which counts the rounds of frame_num (8.2.1.2).
 ghost use Rattle.std.specs.Prelude.{◌≡◌, ◌<◌, ◌≤◌, ◌^◌, Ok, Err, nat_lt, if◌then◌else◌};
-ghost use Rattle.order_count.specs.FrameNumbers.{max_frame_num, frame_num_offset};
+ghost use Rattle.order_count.specs.FrameNumbers.{frame_num_offset};
 
 use crate::anchors::Anchor;
 use crate::fault::OrderRange;
-use param_sets::Sps;
-use slice_header::SliceHeader;
-
-/// MaxFrameNum: frame_num counts up to it, and then from 0 again (7-10).
-pub fn max_frame_num(sps: &Sps) -> u32
-    ensures value { result ≡ max_frame_num sps.now }
-    ensures bound { result ≤ 2 ^ 16 }
-{
-    sps.max_frame_num()
-}
+use header_types::SliceHeader;
+use set_types::Sps;
 
 /// FrameNumOffset of a picture of type 1 or 2 (8-6).
 pub(crate) fn frame_num_offset(anchor: &Anchor, sps: &Sps, header: &SliceHeader) -> u64
@@ -24,7 +16,7 @@ pub(crate) fn frame_num_offset(anchor: &Anchor, sps: &Sps, header: &SliceHeader)
     if header.is_idr() {
         0
     } else if header.frame_num < anchor.prev_frame_num {
-        prev_offset + u64::from(max_frame_num(sps))
+        prev_offset + u64::from(sps.max_frame_num())
     } else {
         prev_offset
     }

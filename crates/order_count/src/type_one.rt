@@ -3,9 +3,9 @@ ghost use Rattle.std.specs.Prelude.{◌≡◌, ◌+◌, ◌*◌, ◌<◌, ◌≤
 ghost use Rattle.order_count.specs.Width.{plain};
 ghost use Rattle.order_count.specs.TypeOne.{type_one, abs_frame_num, total, expected, expected_pic_order_cnt};
 
-use crate::counts::WideCounts;
-use param_sets::Sps;
-use slice_header::SliceHeader;
+use crate::wide_counts::WideCounts;
+use header_types::SliceHeader;
+use set_types::Sps;
 
 /// The counts of a picture of type 1, by its FrameNumOffset.
 #[tactic(auto, unfolding(crate::specs::TypeOne::type_one))]
@@ -21,7 +21,7 @@ pub(crate) fn type_one(frame_num_offset: u32, sps: &Sps, header: &SliceHeader) -
     }
 }
 
-// expectedPicOrderCnt (8-10).
+// expectedPicOrderCnt (8-9).
 fn expected_pic_order_cnt(frame_num_offset: u32, sps: &Sps, header: &SliceHeader) -> i128
     ensures value { result ≡ expected_pic_order_cnt frame_num_offset sps.now header.now }
     ensures bound { unsigned_abs result < 2 ^ 100 }

@@ -4,9 +4,9 @@ ghost use Rattle.order_count.specs.Width.{plain};
 ghost use Rattle.order_count.specs.TypeZero.{type_zero, pic_order_cnt_msb, max_pic_order_cnt_lsb, msb_near};
 
 use crate::anchors::Anchor;
-use crate::counts::WideCounts;
-use param_sets::Sps;
-use slice_header::SliceHeader;
+use crate::wide_counts::WideCounts;
+use header_types::SliceHeader;
+use set_types::Sps;
 
 /// The counts of a picture of type 0.
 #[tactic(auto, unfolding(crate::specs::TypeZero::type_zero))]

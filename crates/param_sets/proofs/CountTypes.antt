@@ -1,14 +1,16 @@
 -- The rows of the types of counts: those of the other types are absent.
 use Rattle.std.proofs.Common.{◌≡◌, ◌++◌, [], List, ℤ, false, Result, Ok, Err, refl, ◌∙◌, ap}
 use Rattle.expgolomb.specs.Bits.{Place}
-use Rattle.param_sets.specs.Answer.{Reads, Refuses, Stores}
-use Rattle.param_sets.specs.Reading.{rows_at}
-use Rattle.param_sets.specs.SpsSyntax.{take, is_type_zero, is_type_one, type_zero_rows, type_one_rows, offset_row, offset_rows, typed_rows, with_offsets}
+use Rattle.syntax_tables.specs.Answer.{Reads}
+use Rattle.param_sets.specs.Answer.{Refuses, Stores}
+use Rattle.syntax_tables.specs.Reading.{rows_at}
+use Rattle.param_sets.specs.SpsSyntax.{take, type_zero_rows, type_one_rows, offset_row, offset_rows, typed_rows, with_offsets}
+use Rattle.set_types.specs.CountTypes.{is_type_zero, is_type_one}
 use Rattle.param_sets.specs.declared.fault.SetFault.{SetFault}
-use Rattle.param_sets.specs.declared.sps.Sps.{Sps}
-use Rattle.param_sets.specs.declared.sps.PicOrderCntType.TheVariants.{Zero, One, Two}
-use Rattle.param_sets.proofs.Tables.{rows_absent}
-use Rattle.param_sets.proofs.Loops.{behind_ok, behind_err, repeat_absent}
+use Rattle.set_types.specs.declared.sps.Sps.{Sps}
+use Rattle.set_types.specs.declared.sps.PicOrderCntType.TheVariants.{Zero, One, Two}
+use Rattle.syntax_tables.proofs.Tables.{rows_absent}
+use Rattle.syntax_tables.proofs.Loops.{behind_ok, behind_err, repeat_absent}
 use Rattle.param_sets.proofs.Refusals.{refused, refused_by}
 
 -- outside type 1 its rows are absent
@@ -40,7 +42,7 @@ pub type_one_fault : (s : Sps) (p : Place) (e : SetFault) → s.pic_order_cnt_ty
 type_one_fault s p e one read =
     refused e (rows_at take typed_rows s p) (behind_zero s p one ∙ behind_err take type_one_rows offset_rows s p e read)
 
--- the cycle stands behind them
+-- the cycle stands after them
 behind_one : (s t : Sps) (p q : Place) → s.pic_order_cnt_type ≡ One → rows_at take type_one_rows s p ≡ Ok (t, q) → t.offset_for_ref_frame ≡ [] → rows_at take typed_rows s p ≡ rows_at take offset_rows (with_offsets t []) q
 behind_one s t p q one read none =
     behind_zero s p one ∙ behind_ok take type_one_rows offset_rows s p t q read ∙ ap (λ (os : List ℤ). rows_at take offset_rows (with_offsets t os) q) none

@@ -5,9 +5,10 @@ use Rattle.std.proofs.lemmas.List.Sums.{fold_push}
 use Rattle.expgolomb.specs.Bits.{Place}
 use Rattle.param_sets.specs.declared.fault.SetFault.{SetFault}
 use Rattle.param_sets.specs.Answer.{Refuses}
-use Rattle.param_sets.specs.Reading.{field_at, rows_at}
-use Rattle.param_sets.specs.Scaling.{Deltas, take_list, present_row, delta_row, list_size, list_rows, is_reading, goes_on, add_delta, next_scale, scale_behind}
-use Rattle.param_sets.proofs.Loops.{rows_step, rows_stop, rows_none, repeat_step, repeat_stop, repeat_absent, behind_ok, behind_err}
+use Rattle.syntax_tables.specs.Reading.{field_at, rows_at}
+use Rattle.set_types.specs.ScaleSteps.{Deltas, list_size, next_scale, scale_behind}
+use Rattle.param_sets.specs.Scaling.{take_list, present_row, delta_row, list_rows, is_reading, goes_on, add_delta}
+use Rattle.syntax_tables.proofs.Loops.{rows_step, rows_stop, rows_none, repeat_step, repeat_stop, repeat_absent, behind_ok, behind_err}
 use Rattle.param_sets.proofs.Refusals.{refused_by}
 
 -- the last list is the one that is read

@@ -2,15 +2,16 @@
 use Rattle.std.proofs.Common.{◌≡◌, ℕ, Bool, List, [], Result, Ok, Err, refl, ◌∙◌, ap}
 use Rattle.expgolomb.specs.Bits.{Place}
 use Rattle.expgolomb.specs.Reading.{ue_at}
-use Rattle.param_sets.proofs.Loops.{rows_stop}
+use Rattle.syntax_tables.proofs.Loops.{rows_stop}
 use Rattle.param_sets.specs.declared.fault.SetFault.{SetFault}
 use Rattle.param_sets.specs.declared.fault.SetFault.TheVariants.{Cut}
-use Rattle.param_sets.specs.declared.pps.Pps.{Pps}
+use Rattle.set_types.specs.declared.pps.Pps.{Pps}
 use Rattle.param_sets.specs.Answer.{Stores}
-use Rattle.param_sets.specs.Reading.{rows_at, value_at}
-use Rattle.param_sets.specs.Sets.{behind_first, first_of, IsPps, PpsHasFault, pps_at, Answers}
+use Rattle.syntax_tables.specs.Reading.{rows_at, value_at}
+use Rattle.syntax_tables.specs.Payloads.{behind_first}
+use Rattle.param_sets.specs.Sets.{first_of, IsPps, PpsHasFault, pps_at, Answers}
 use Rattle.param_sets.specs.PpsSyntax.{PpsSoFar, so_far, take, no_pps, id_row, pps_rows}
-use Rattle.param_sets.proofs.Tables.{rows_found, rows_only, rows_fault, fault_rows}
+use Rattle.syntax_tables.proofs.Tables.{rows_found, rows_only, rows_fault, fault_rows}
 use Rattle.param_sets.proofs.Refusals.{refused_by}
 use Rattle.param_sets.proofs.SetLaws.{first_ok, first_err}
 
@@ -43,7 +44,7 @@ pps_answer payload more (Ok s) q read = ap (first_of (λ (t : PpsSoFar). t.pps))
 pps_answer payload more (Err e) q read =
     refused_by e (rows_at take pps_rows no_pps (behind_first payload)) (first_of (λ (t : PpsSoFar). t.pps) (rows_at take pps_rows no_pps (behind_first payload))) (λ h. ap (first_of (λ (t : PpsSoFar). t.pps)) h) read
 
--- no bit is behind the header
+-- no bit is after the header
 pub pps_empty : (payload : List ℕ) → (behind_first payload).rest ≡ [] → pps_at payload ≡ Err Cut
 unfolding pps_at pps_rows value_at ue_at
 pps_empty payload none =

@@ -1,15 +1,17 @@
--- What stands behind the first part of a picture parameter set.
+-- What stands after the first part of a picture parameter set.
 use Rattle.std.proofs.Common.{◌≡◌, ◌++◌, [], Bool, true, false, cond, List, Result, Ok, Err, refl, sym, ◌∙◌, ap}
 use Rattle.expgolomb.specs.Bits.{Place}
 use Rattle.param_sets.specs.declared.fault.SetFault.{SetFault}
 use Rattle.param_sets.specs.Answer.{Refuses}
-use Rattle.param_sets.specs.Reading.{◌>>=◌, rows_at}
-use Rattle.param_sets.specs.Scaling.{Deltas, take_list, list_rows}
+use Rattle.base_types.specs.Chains.{◌>>=◌}
+use Rattle.syntax_tables.specs.Reading.{rows_at}
+use Rattle.set_types.specs.ScaleSteps.{Deltas}
+use Rattle.param_sets.specs.Scaling.{take_list, list_rows}
 use Rattle.param_sets.specs.PpsSyntax.{ScalingList, PpsSoFar, so_far, take, has_matrix, has_large_lists, transform_rows, small_list_rows, large_list_rows, pic_list_rows, list_count, second_offset_rows, more_rows}
-use Rattle.param_sets.specs.declared.pps.Pps.{Pps}
-use Rattle.param_sets.proofs.Tables.{rows_append}
-use Rattle.param_sets.proofs.Loops.{behind_ok, rows_pass, rows_none}
-use Rattle.param_sets.proofs.Parts.{mapped, part_absent, part_read}
+use Rattle.set_types.specs.declared.pps.Pps.{Pps}
+use Rattle.syntax_tables.proofs.Tables.{rows_append}
+use Rattle.syntax_tables.proofs.Loops.{behind_ok, rows_pass, rows_none}
+use Rattle.syntax_tables.proofs.Parts.{mapped, part_absent, part_read}
 use Rattle.param_sets.proofs.Refusals.{refused_by}
 
 large_absent : (s : PpsSoFar) (p : Place) → has_large_lists s ≡ false → rows_at take large_list_rows s p ≡ Ok (s, p)
@@ -51,7 +53,7 @@ unfolding large_list_rows
 large_as s lists p there large =
     part_read take take_list ScalingList (λ (t : PpsSoFar). t.pps.scaling_lists) has_large_lists (with_lists s) (λ ls. refl) (λ ls. rw (there, large) refl) (λ f v ls. refl) (list_rows 6 2) lists p
 
--- behind the small lists come the large ones
+-- after the small lists come the large ones
 large_behind : (s : Pps) (r : Result (List Deltas × Place) SetFault) → s.pic_scaling_matrix_present_flag ≡ true → s.transform_8x8_mode_flag ≡ true → (mapped (with_lists s) r >>= (λ x. rows_at take large_list_rows x.0 x.1)) ≡ mapped (with_lists s) (r >>= (λ x. rows_at take_list (list_rows 6 2) x.0 x.1))
 large_behind s (Ok x) there large = large_as s x.0 x.1 there large
 large_behind s (Err e) there large = refl

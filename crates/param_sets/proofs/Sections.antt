@@ -1,11 +1,11 @@
--- Sections of a table, read one behind the other.
+-- Sections of a table, read one after the other.
 use Rattle.std.proofs.Common.{◌≡◌, ◌++◌, List, Result, Ok, Err, ℤ, ◌∙◌}
 use Rattle.expgolomb.specs.Bits.{Place}
 use Rattle.param_sets.specs.Answer.{Refuses}
-use Rattle.param_sets.specs.Grammar.{Row}
-use Rattle.param_sets.specs.Reading.{rows_at}
+use Rattle.syntax_tables.specs.Grammar.{Row}
+use Rattle.syntax_tables.specs.Reading.{rows_at}
 use Rattle.param_sets.specs.declared.fault.SetFault.{SetFault}
-use Rattle.param_sets.proofs.Loops.{behind_ok, behind_err}
+use Rattle.syntax_tables.proofs.Loops.{behind_ok, behind_err}
 use Rattle.param_sets.proofs.Refusals.{refused, refused_by}
 
 -- a section was read, and the rest is left

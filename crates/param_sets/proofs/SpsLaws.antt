@@ -4,13 +4,14 @@ use Rattle.expgolomb.specs.Bits.{Place}
 use Rattle.expgolomb.proofs.ExpGolomb.{fixed_short}
 use Rattle.param_sets.specs.declared.fault.SetFault.{SetFault}
 use Rattle.param_sets.specs.declared.fault.SetFault.TheVariants.{Cut}
-use Rattle.param_sets.specs.declared.sps.Sps.{Sps}
+use Rattle.set_types.specs.declared.sps.Sps.{Sps}
 use Rattle.param_sets.specs.Answer.{Stores}
-use Rattle.param_sets.specs.Reading.{unsigned, checked, value_at, rows_at}
-use Rattle.param_sets.specs.Sets.{behind_first, first_of, IsSps, SpsHasFault, sps_at, Answers}
+use Rattle.syntax_tables.specs.Reading.{unsigned, checked, value_at, rows_at}
+use Rattle.syntax_tables.specs.Payloads.{behind_first}
+use Rattle.param_sets.specs.Sets.{first_of, IsSps, SpsHasFault, sps_at, Answers}
 use Rattle.param_sets.specs.SpsSyntax.{take, no_sps, profile_row, profile_range, sps_rows}
-use Rattle.param_sets.proofs.Tables.{rows_found, rows_only, rows_fault, fault_rows}
-use Rattle.param_sets.proofs.Loops.{rows_stop}
+use Rattle.syntax_tables.proofs.Tables.{rows_found, rows_only, rows_fault, fault_rows}
+use Rattle.syntax_tables.proofs.Loops.{rows_stop}
 use Rattle.param_sets.proofs.Refusals.{refused_by}
 use Rattle.param_sets.proofs.SetLaws.{first_ok, first_err}
 
@@ -43,7 +44,7 @@ sps_answer payload (Ok s) q read = ap (first_of (λ (s : Sps). s)) read
 sps_answer payload (Err e) q read =
     refused_by e (rows_at take sps_rows no_sps (behind_first payload)) (first_of (λ (s : Sps). s) (rows_at take sps_rows no_sps (behind_first payload))) (λ h. ap (first_of (λ (s : Sps). s)) h) read
 
--- no bit is behind the header
+-- no bit is after the header
 pub sps_empty : (payload : List ℕ) → (behind_first payload).rest ≡ [] → sps_at payload ≡ Err Cut
 unfolding sps_at sps_rows value_at
 sps_empty payload none =

@@ -1,12 +1,12 @@
--- The sections of the table of sequence parameter sets, one behind the other.
+-- The sections of the table of sequence parameter sets, one after the other.
 use Rattle.std.proofs.Common.{◌≡◌, ◌++◌, List, Ok, Err, ◌∙◌}
 use Rattle.expgolomb.specs.Bits.{Place}
 use Rattle.param_sets.specs.Answer.{Refuses}
-use Rattle.param_sets.specs.Reading.{rows_at}
+use Rattle.syntax_tables.specs.Reading.{rows_at}
 use Rattle.param_sets.specs.SpsSyntax.{take, no_sps, SpsRow, beginning_rows, high_rows, count_rows, typed_rows, frame_rows, size_rows, sps_rows}
 use Rattle.param_sets.specs.declared.fault.SetFault.{SetFault}
-use Rattle.param_sets.specs.declared.sps.Sps.{Sps}
-use Rattle.param_sets.proofs.Loops.{behind_ok, behind_err}
+use Rattle.set_types.specs.declared.sps.Sps.{Sps}
+use Rattle.syntax_tables.proofs.Loops.{behind_ok, behind_err}
 use Rattle.param_sets.proofs.Refusals.{refused, refused_by}
 
 -- the sections from the types of counts on

@@ -1,15 +1,7 @@
-pub mod Grammar
-pub mod Reading
-pub mod Ranges
 pub mod Rows
 pub mod Answer
 pub mod FaultNumbers
 pub mod Scaling
-pub mod DefaultScalingLists
-pub mod InverseScan
 pub mod SpsSyntax
 pub mod PpsSyntax
-pub mod ScalingMatrix
-pub mod FallBack
 pub mod Sets
-pub mod SameSets

@@ -3,12 +3,13 @@ use Rattle.std.specs.Prelude.{ℕ, ◌==◌, Bool, false, List, [], ◌∷◌, �
 use Rattle.param_sets.specs.declared.fault.SetFault.{SetFault}
 use Rattle.param_sets.specs.declared.fault.SetFault.TheVariants.{Cut, Range, SliceGroups}
 use Rattle.param_sets.specs.declared.fault.SetField.TheVariants as ranges
-use Rattle.param_sets.specs.declared.pps.Pps.{Pps}
-use Rattle.param_sets.specs.declared.pps.WeightedBipred.{WeightedBipred}
-use Rattle.param_sets.specs.declared.pps.WeightedBipred.TheVariants.{Default, Explicit, Implicit}
-use Rattle.param_sets.specs.Grammar.{MoreData, Row}
-use Rattle.param_sets.specs.Rows.{u, u_of, ue, se, within, always, flag_of}
-use Rattle.param_sets.specs.Ranges.{any, at_most}
+use Rattle.set_types.specs.declared.pps.Pps.{Pps}
+use Rattle.set_types.specs.declared.pps.WeightedBipred.{WeightedBipred}
+use Rattle.set_types.specs.declared.pps.WeightedBipred.TheVariants.{Default, Explicit, Implicit}
+use Rattle.syntax_tables.specs.Grammar.{MoreData, Row}
+use Rattle.param_sets.specs.Rows.{u, u_of, ue, se}
+use Rattle.syntax_tables.specs.Rows.{within, always, flag_of}
+use Rattle.syntax_tables.specs.Ranges.{any, at_most}
 use Rattle.param_sets.specs.Scaling.{ListField, take_list, list_rows}
 
 -- the fields, in the standard's names; MoreRbspData is whether more_rbsp_data() holds, and has no bits
@@ -34,7 +35,7 @@ pub data PpsField : Type 0 where
   ScalingList : ListField → PpsField
   SecondChromaQpIndexOffset : PpsField
 
--- the fields so far, and whether more_rbsp_data() holds behind the first part
+-- the fields so far, and whether more_rbsp_data() holds after the first part
 pub record PpsSoFar : Type 0 where
   pub pps : Pps
   pub more_data : Bool
@@ -179,7 +180,7 @@ list_count s = if s.transform_8x8_mode_flag then 8 else 6
 abbrev pub second_offset_rows : List PpsRow
 second_offset_rows = se SecondChromaQpIndexOffset has_more (negsuc 11) (pos 12) (Range ranges.ChromaOffset) ∷ []
 
--- what stands behind the first part
+-- what stands after the first part
 abbrev pub more_rows : List PpsRow
 more_rows = transform_rows ++ (pic_list_rows ++ second_offset_rows)
 

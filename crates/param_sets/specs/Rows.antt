@@ -2,8 +2,8 @@
 use Rattle.std.specs.Prelude.{ℕ, Bool, true, ℤ, Option, nat_abs, ◌==◌, ◌&&◌}
 use Rattle.param_sets.specs.declared.fault.SetFault.{SetFault}
 use Rattle.param_sets.specs.declared.fault.SetFault.TheVariants.{Cut}
-use Rattle.param_sets.specs.Grammar.{Fixed, Unsigned, Signed, Row}
-use Rattle.param_sets.specs.Ranges.{any, at_most, between}
+use Rattle.syntax_tables.specs.Grammar.{Fixed, Unsigned, Signed, Row}
+use Rattle.syntax_tables.specs.Ranges.{any, at_most, between}
 
 -- u(n), any value
 abbrev pub u : {F S : Type 0} → F → ℕ → (S → Bool) → Row F S SetFault
@@ -33,21 +33,3 @@ se field present least most fault =
 abbrev pub se_any : {F S : Type 0} → F → (S → Bool) → SetFault → Row F S SetFault
 se_any field present long =
     record { field = field; code = Signed; present = present; cut = Cut; long = long; wrong = λ s. any }
-
-abbrev pub always : {S : Type 0} → S → Bool
-always s = true
-
--- a flag from its value
-abbrev pub flag_of : ℤ → Bool
-flag_of v = nat_abs v == 1
-
--- a row of a part of the values, where a condition on them holds
-abbrev pub within : {F G S T E : Type 0} → (F → G) → (T → S) → (T → Bool) → Row F S E → Row G T E
-within field part holds row = record {
-  field = field row.field;
-  code = row.code;
-  present = λ t. holds t && row.present (part t);
-  cut = row.cut;
-  long = row.long;
-  wrong = λ t. row.wrong (part t);
-}

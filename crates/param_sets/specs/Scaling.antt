@@ -5,25 +5,15 @@ use Rattle.std.specs.List.{fold}
 use Rattle.param_sets.specs.declared.fault.SetFault.{SetFault}
 use Rattle.param_sets.specs.declared.fault.SetFault.TheVariants.{Range}
 use Rattle.param_sets.specs.declared.fault.SetField.TheVariants as ranges
-use Rattle.param_sets.specs.Grammar.{Row}
-use Rattle.param_sets.specs.Rows.{u, se, always, flag_of}
+use Rattle.syntax_tables.specs.Grammar.{Row}
+use Rattle.param_sets.specs.Rows.{u, se}
+use Rattle.syntax_tables.specs.Rows.{always, flag_of}
+use Rattle.set_types.specs.ScaleSteps.{Deltas, next_scale, list_size}
 
 -- the fields of a list, in the standard's names
 pub data ListField : Type 0 where
   ScalingListPresentFlag : ListField
   DeltaScale : ListField
-
--- a list as it was read: its deltas; nothing where its present flag is 0
-abbrev pub Deltas : Type 0
-Deltas = Option (List ℤ)
-
--- nextScale behind a delta
-abbrev pub scale_behind : ℕ → ℤ → ℕ
-scale_behind last delta = unsigned_abs (int_rem_euclid (pos last +ℤ delta) (pos 256))
-
--- nextScale behind these deltas: 8 at first, and 0 where the list is over
-abbrev pub next_scale : List ℤ → ℕ
-next_scale deltas = fold scale_behind 8 deltas
 
 -- a list that is present, with one more delta
 abbrev pub with_delta : Deltas → ℤ → Deltas
@@ -66,10 +56,6 @@ present_row = u ScalingListPresentFlag 1 always
 -- a delta of list number j, where the list goes on
 abbrev pub delta_row : ℕ → ListRow
 delta_row j = se DeltaScale (is_reading j) (negsuc 127) (pos 127) (Range ranges.Delta)
-
--- how many entries list number j has: 4x4 in lists 0 to 5, 8x8 behind them
-abbrev pub list_size : ℕ → ℕ
-list_size j = if nat_lt j 6 then 16 else 64
 
 -- this many lists from number j on
 unfoldable pub list_rows : ℕ → ℕ → List ListRow

@@ -3,17 +3,14 @@ use Rattle.std.specs.Prelude.{◌≡◌, ℕ, List, Result, Ok, Err}
 use Rattle.expgolomb.specs.Bits.{Place, start, skip}
 use Rattle.param_sets.specs.declared.fault.SetFault.{SetFault}
 use Rattle.param_sets.specs.declared.fault.SetFault.TheVariants.{Memory}
-use Rattle.param_sets.specs.declared.sps.Sps.{Sps}
-use Rattle.param_sets.specs.declared.pps.Pps.{Pps}
-use Rattle.param_sets.specs.Grammar.{Header, values, HasRows, HasFault}
-use Rattle.param_sets.specs.Reading.{rows_at}
+use Rattle.set_types.specs.declared.sps.Sps.{Sps}
+use Rattle.set_types.specs.declared.pps.Pps.{Pps}
+use Rattle.syntax_tables.specs.Grammar.{Header, values, HasRows, HasFault}
+use Rattle.syntax_tables.specs.Reading.{rows_at}
+use Rattle.syntax_tables.specs.Payloads.{behind_first}
 use Rattle.param_sets.specs.Answer.{Refuses}
 use Rattle.param_sets.specs.SpsSyntax as sps
 use Rattle.param_sets.specs.PpsSyntax as pps
-
--- the bits behind a payload's first byte
-abbrev pub behind_first : List ℕ → Place
-behind_first payload = skip 8 (start payload)
 
 -- the payload has this sequence parameter set: its header says so
 pub record IsSps (payload : List ℕ) (set : Sps) : Type 0 where

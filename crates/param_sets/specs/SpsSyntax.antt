@@ -4,13 +4,16 @@ use Rattle.std.specs.List.{list_any}
 use Rattle.param_sets.specs.declared.fault.SetFault.{SetFault}
 use Rattle.param_sets.specs.declared.fault.SetFault.TheVariants.{Range, Profile, Chroma444, Interlaced, RefFrames}
 use Rattle.param_sets.specs.declared.fault.SetField.TheVariants as ranges
-use Rattle.param_sets.specs.declared.sps.Sps.{Sps}
-use Rattle.param_sets.specs.declared.sps.ChromaFormat.{ChromaFormat}
-use Rattle.param_sets.specs.declared.sps.ChromaFormat.TheVariants.{Monochrome, Yuv420, Yuv422}
-use Rattle.param_sets.specs.declared.sps.PicOrderCntType.{PicOrderCntType}
-use Rattle.param_sets.specs.declared.sps.PicOrderCntType.TheVariants.{Zero, One, Two}
-use Rattle.param_sets.specs.Grammar.{Row}
-use Rattle.param_sets.specs.Rows.{u, u_of, ue, ue_of, se_any, within, always, flag_of}
+use Rattle.set_types.specs.declared.sps.Sps.{Sps}
+use Rattle.set_types.specs.declared.sps.ChromaFormat.{ChromaFormat}
+use Rattle.set_types.specs.declared.sps.ChromaFormat.TheVariants.{Monochrome, Yuv420, Yuv422}
+use Rattle.set_types.specs.declared.sps.PicOrderCntType.{PicOrderCntType}
+use Rattle.set_types.specs.declared.sps.PicOrderCntType.TheVariants.{Zero, One, Two}
+use Rattle.syntax_tables.specs.Grammar.{Row}
+use Rattle.param_sets.specs.Rows.{u, u_of, ue, ue_of, se_any}
+use Rattle.syntax_tables.specs.Rows.{within, always, flag_of}
+use Rattle.set_types.specs.Profiles.{is_high}
+use Rattle.set_types.specs.CountTypes.{is_type_zero, is_type_one}
 use Rattle.param_sets.specs.Scaling.{ListField, take_list, list_rows}
 
 -- the fields, in the standard's names
@@ -132,10 +135,6 @@ level_rows =
 abbrev pub beginning_rows : List SpsRow
 beginning_rows = profile_row ∷ (constraint_rows ++ level_rows)
 
--- a profile with a chroma format, bit depths and scaling lists
-abbrev pub is_high : Sps → Bool
-is_high s = s.profile_idc == 100 || s.profile_idc == 110 || s.profile_idc == 122
-
 abbrev pub has_matrix : Sps → Bool
 has_matrix s = is_high s && s.seq_scaling_matrix_present_flag
 
@@ -158,20 +157,6 @@ high_fields =
 
 abbrev pub high_rows : List SpsRow
 high_rows = high_fields ++ scaling_rows
-
-abbrev pub is_type_zero : Sps → Bool
-is_type_zero s = is_zero s.pic_order_cnt_type
-  where
-    is_zero : PicOrderCntType → Bool
-    is_zero Zero = true
-    is_zero t = false
-
-abbrev pub is_type_one : Sps → Bool
-is_type_one s = is_one s.pic_order_cnt_type
-  where
-    is_one : PicOrderCntType → Bool
-    is_one One = true
-    is_one t = false
 
 -- an offset of the cycle that isn't read yet
 abbrev pub has_offset : Sps → Bool

@@ -1,24 +1,25 @@
 //! The syntax of picture parameter sets, section by section of its table (7.3.2.2).
 
 ghost use Rattle.std.specs.Prelude.{◌≡◌, Bool, IfOk, IfErr, Ok, Err, true, false, []};
-ghost use Rattle.param_sets.specs.Reading.{rows_at};
-ghost use Rattle.param_sets.specs.Answer.{Reads, Stores};
+ghost use Rattle.syntax_tables.specs.Reading.{rows_at};
+ghost use Rattle.syntax_tables.specs.Answer.{Reads};
+ghost use Rattle.param_sets.specs.Answer.{Stores};
 ghost use Rattle.param_sets.specs.Sets.{IsPps, PpsHasFault, pps_at, Answers, IsShown};
 ghost use Rattle.param_sets.specs.declared.fault.SetFault.{SetFault};
 ghost use Rattle.param_sets.specs.PpsSyntax.{PpsSoFar, take, no_pps, so_far, id_rows, coding_rows, prediction_rows, quantisation_rows, slice_rows, transform_rows, pic_list_rows, list_count, second_offset_rows, more_rows, pps_rows};
-ghost use Rattle.param_sets.specs.declared.pps.Pps.{Pps};
+ghost use Rattle.set_types.specs.declared.pps.Pps.{Pps};
 
-use crate::at_most::AtMost;
 use crate::fault::{SetFault, SetField};
-use crate::pps::{Pps, WeightedBipred};
-use crate::scaling::ScalingLists;
 use crate::scaling_list::scaling_lists;
-use crate::syntax::{behind_header, bounded, fixed_at_most, flag, more_data, small, ue};
+use crate::set_fields::{behind_header, bounded, more_data, small};
+use base_types::AtMost;
 use expgolomb::Bits;
+use set_types::{Pps, ScalingLists, WeightedBipred};
 use std::alloc::Global;
+use syntax_tables::{fixed_at_most, flag, ue};
 
 // The beginning of a set: what isn't read yet has the value that is inferred where it stays absent.
-#[tactic(auto, unfolding(crate::specs::Reading::rows_at))]
+#[tactic(auto, unfolding(syntax_tables::specs::Reading::rows_at))]
 fn beginning(alloc: Global, bits: &mut Bits<'_>) -> Result<Pps, SetFault>
     ensures exact { Reads (so_far false) result bits.new (rows_at take id_rows no_pps bits.old) }
     ensures none { IfOk result (λ pps. pps.scaling_lists ≡ []) }
@@ -55,7 +56,7 @@ fn beginning(alloc: Global, bits: &mut Bits<'_>) -> Result<Pps, SetFault>
     })
 }
 
-#[tactic(auto, unfolding(crate::specs::Reading::rows_at))]
+#[tactic(auto, unfolding(syntax_tables::specs::Reading::rows_at))]
 fn coding(bits: &mut Bits<'_>, pps: &mut Pps) -> Result<(), SetFault>
     ensures exact { Reads (λ _. so_far false pps.new) result bits.new (rows_at take coding_rows (so_far false pps.old) bits.old) }
     ensures same { pps.new.scaling_lists ≡ pps.old.scaling_lists }
@@ -66,7 +67,7 @@ fn coding(bits: &mut Bits<'_>, pps: &mut Pps) -> Result<(), SetFault>
     Ok(())
 }
 
-#[tactic(auto, unfolding(crate::specs::Reading::rows_at))]
+#[tactic(auto, unfolding(syntax_tables::specs::Reading::rows_at))]
 fn prediction(bits: &mut Bits<'_>, pps: &mut Pps) -> Result<(), SetFault>
     ensures exact { Reads (λ _. so_far false pps.new) result bits.new (rows_at take prediction_rows (so_far false pps.old) bits.old) }
     ensures same { pps.new.scaling_lists ≡ pps.old.scaling_lists }
@@ -88,7 +89,7 @@ fn prediction(bits: &mut Bits<'_>, pps: &mut Pps) -> Result<(), SetFault>
     Ok(())
 }
 
-#[tactic(auto, unfolding(crate::specs::Reading::rows_at))]
+#[tactic(auto, unfolding(syntax_tables::specs::Reading::rows_at))]
 fn quantisation(bits: &mut Bits<'_>, pps: &mut Pps) -> Result<(), SetFault>
     ensures exact { Reads (λ _. so_far false pps.new) result bits.new (rows_at take quantisation_rows (so_far false pps.old) bits.old) }
     ensures same { pps.new.scaling_lists ≡ pps.old.scaling_lists }
@@ -109,7 +110,7 @@ fn quantisation(bits: &mut Bits<'_>, pps: &mut Pps) -> Result<(), SetFault>
     Ok(())
 }
 
-#[tactic(auto, unfolding(crate::specs::Reading::rows_at))]
+#[tactic(auto, unfolding(syntax_tables::specs::Reading::rows_at))]
 fn slices(bits: &mut Bits<'_>, pps: &mut Pps) -> Result<(), SetFault>
     ensures exact { Reads (λ _. so_far false pps.new) result bits.new (rows_at take slice_rows (so_far false pps.old) bits.old) }
     ensures same { pps.new.scaling_lists ≡ pps.old.scaling_lists }
@@ -121,7 +122,7 @@ fn slices(bits: &mut Bits<'_>, pps: &mut Pps) -> Result<(), SetFault>
 }
 
 // Whether there is more data, and what it has before the scaling lists.
-#[tactic(auto, unfolding(crate::specs::Reading::rows_at))]
+#[tactic(auto, unfolding(syntax_tables::specs::Reading::rows_at))]
 fn transform(bits: &mut Bits<'_>, pps: &mut Pps) -> Result<bool, SetFault>
     ensures exact { Reads (λ more. so_far more pps.new) result bits.new (rows_at take transform_rows (so_far false pps.old) bits.old) }
     ensures same { pps.new.scaling_lists ≡ pps.old.scaling_lists }
@@ -134,7 +135,7 @@ fn transform(bits: &mut Bits<'_>, pps: &mut Pps) -> Result<bool, SetFault>
     Ok(true)
 }
 
-#[tactic(auto, unfolding(crate::specs::Reading::rows_at))]
+#[tactic(auto, unfolding(syntax_tables::specs::Reading::rows_at))]
 fn second_offset(bits: &mut Bits<'_>, pps: &mut Pps) -> Result<(), SetFault>
     ensures { Reads (λ _. so_far true pps.new) result bits.new (rows_at take second_offset_rows (so_far true pps.old) bits.old) }
 {
@@ -163,7 +164,7 @@ fn list_count(pps: &Pps) -> u8
     if pps.transform_8x8_mode_flag { 8 } else { 6 }
 }
 
-// What stands behind the first part.
+// What stands after the first part.
 fn more(alloc: Global, bits: &mut Bits<'_>, pps: &mut Pps) -> Result<(), SetFault>
     requires { pps.old.scaling_lists ≡ [] }
     ensures { (more : Bool) × Stores (λ _. so_far more pps.new) result bits.new (rows_at take more_rows (so_far false pps.old) bits.old) }
@@ -175,7 +176,7 @@ fn more(alloc: Global, bits: &mut Bits<'_>, pps: &mut Pps) -> Result<(), SetFaul
     Ok(())
 }
 
-// A set behind the payload's first byte.
+// A set after the payload's first byte.
 fn pic_parameter_set_rbsp(alloc: Global, bits: &mut Bits<'_>) -> Result<Pps, SetFault>
     ensures { (more : Bool) × Stores (so_far more) result bits.new (rows_at take pps_rows no_pps bits.old) }
 {

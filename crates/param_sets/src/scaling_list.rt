@@ -1,15 +1,17 @@
 //! The syntax of scaling lists (7.3.2.1.1.1).
 
 ghost use Rattle.std.specs.Prelude.{◌≡◌, ◌≤◌, List, [], ◌∷◌, ◌++◌, replicate, length, Some};
-ghost use Rattle.param_sets.specs.Reading.{rows_at};
+ghost use Rattle.syntax_tables.specs.Reading.{rows_at};
 ghost use Rattle.param_sets.specs.Answer.{Stores};
-ghost use Rattle.param_sets.specs.Scaling.{Deltas, take_list, present_row, delta_row, list_size, list_rows, scale_behind};
+ghost use Rattle.set_types.specs.ScaleSteps.{Deltas, list_size};
+ghost use Rattle.param_sets.specs.Scaling.{take_list, present_row, delta_row, list_rows};
 
 use crate::fault::{SetFault, SetField};
-use crate::scaling::{ScalingList, ScalingLists};
-use crate::syntax::{flag, small};
+use crate::set_fields::small;
 use expgolomb::Bits;
+use set_types::{ScalingList, ScalingLists, scale_behind};
 use std::alloc::Global;
+use syntax_tables::flag;
 
 /// Reads so many scaling lists.
 pub fn scaling_lists(
@@ -62,13 +64,6 @@ fn deltas(alloc: Global, bits: &mut Bits<'_>, size: u8) -> Result<ScalingList, S
         next = scale_behind(next, delta);
     }
     Ok(list)
-}
-
-// nextScale behind a delta.
-pub fn scale_behind(last: u8, delta: i8) -> u8
-    ensures { result ≡ scale_behind last delta }
-{
-    (i32::from(last) + i32::from(delta)).rem_euclid(256) as u8
 }
 
 // How many entries list number j has.

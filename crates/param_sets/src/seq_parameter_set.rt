@@ -1,26 +1,27 @@
 //! The syntax of sequence parameter sets, section by section of its table (7.3.2.1.1).
 
 ghost use Rattle.std.specs.Prelude.{◌≡◌, ◌⊎◌, IfOk, IfErr, Ok, Err, pos, [], true, false};
-ghost use Rattle.param_sets.specs.Grammar.{Fixed, Unsigned};
-ghost use Rattle.param_sets.specs.Reading.{rows_at, value_at};
-ghost use Rattle.param_sets.specs.Answer.{Reads, Stores, flag_value};
+ghost use Rattle.syntax_tables.specs.Grammar.{Fixed, Unsigned};
+ghost use Rattle.syntax_tables.specs.Reading.{rows_at, value_at};
+ghost use Rattle.syntax_tables.specs.Answer.{Reads, flag_value};
+ghost use Rattle.param_sets.specs.Answer.{Stores};
 ghost use Rattle.param_sets.specs.Sets.{IsSps, SpsHasFault, sps_at, Answers, IsShown};
 ghost use Rattle.param_sets.specs.declared.fault.SetFault.{SetFault};
-ghost use Rattle.param_sets.specs.SpsSyntax.{take, no_sps, profile_range, chroma_range, high_fields, high_rows, scaling_rows, frames_only, is_high, beginning_rows, constraint_rows, level_rows, count_rows, type_zero_rows, type_one_rows, with_offsets, IsCycleOf, offset_rows, typed_rows, frame_rows, size_rows, sps_rows};
-ghost use Rattle.param_sets.specs.declared.sps.Sps.{Sps};
+ghost use Rattle.param_sets.specs.SpsSyntax.{take, no_sps, profile_range, chroma_range, high_fields, high_rows, scaling_rows, frames_only, beginning_rows, constraint_rows, level_rows, count_rows, type_zero_rows, type_one_rows, with_offsets, IsCycleOf, offset_rows, typed_rows, frame_rows, size_rows, sps_rows};
+ghost use Rattle.set_types.specs.Profiles.{is_high};
+ghost use Rattle.set_types.specs.declared.sps.Sps.{Sps};
 
-use crate::at_most::AtMost;
 use crate::fault::{SetFault, SetField};
-use crate::offsets::Offsets;
-use crate::scaling::ScalingLists;
 use crate::scaling_list::scaling_lists;
-use crate::sps::{ChromaFormat, PicOrderCntType, Sps};
-use crate::syntax::{behind_header, bounded, fixed, flag, se_any, ue, ue_any};
+use crate::set_fields::{behind_header, bounded};
+use base_types::AtMost;
 use expgolomb::Bits;
+use set_types::{ChromaFormat, Offsets, PicOrderCntType, ScalingLists, Sps};
 use std::alloc::Global;
+use syntax_tables::{fixed, flag, se_any, ue, ue_any};
 
 // profile_idc.
-#[tactic(auto, using(crate::proofs::Fields::narrow_ok, crate::proofs::Fields::narrow_err))]
+#[tactic(auto, using(syntax_tables::proofs::FieldLaws::narrow_ok, syntax_tables::proofs::FieldLaws::narrow_err))]
 fn profile_idc(bits: &mut Bits<'_>) -> Result<u8, SetFault>
     ensures { Reads pos result bits.new (value_at (Fixed 8) SetFault.Cut SetFault.Cut profile_range bits.old) }
 {
@@ -43,7 +44,7 @@ fn constraint_set_flags(bits: &mut Bits<'_>) -> Result<[bool; 6], SetFault>
 }
 
 // Two bits that aren't tested, level_idc and seq_parameter_set_id.
-#[tactic(auto, unfolding(crate::specs::Reading::rows_at))]
+#[tactic(auto, unfolding(syntax_tables::specs::Reading::rows_at))]
 fn level_and_id(bits: &mut Bits<'_>) -> Result<(u8, AtMost<31>), SetFault>
     ensures { (s : Sps) → Reads (λ x. record s { level_idc = x.0; seq_parameter_set_id = x.1 }) result bits.new (rows_at take level_rows s bits.old) }
 {
@@ -109,7 +110,7 @@ fn chroma_format_idc(bits: &mut Bits<'_>) -> Result<u32, SetFault>
 }
 
 // What the high profiles have before their lists.
-#[tactic(auto, unfolding(crate::specs::Reading::rows_at))]
+#[tactic(auto, unfolding(syntax_tables::specs::Reading::rows_at))]
 fn chroma_and_depths(bits: &mut Bits<'_>, sps: &mut Sps) -> Result<(), SetFault>
     requires { is_high sps.old ≡ true }
     ensures exact { Reads (λ _. sps.new) result bits.new (rows_at take high_fields sps.old bits.old) }
@@ -158,7 +159,7 @@ fn high(alloc: Global, bits: &mut Bits<'_>, sps: &mut Sps) -> Result<(), SetFaul
     Ok(())
 }
 
-#[tactic(auto, unfolding(crate::specs::Reading::rows_at))]
+#[tactic(auto, unfolding(syntax_tables::specs::Reading::rows_at))]
 fn frame_num_and_count_type(bits: &mut Bits<'_>, sps: &mut Sps) -> Result<(), SetFault>
     ensures exact { Reads (λ _. sps.new) result bits.new (rows_at take count_rows sps.old bits.old) }
     ensures same { sps.new.offset_for_ref_frame ≡ sps.old.offset_for_ref_frame }
@@ -181,7 +182,7 @@ fn frame_num_and_count_type(bits: &mut Bits<'_>, sps: &mut Sps) -> Result<(), Se
 }
 
 // What count type 0 has.
-#[tactic(auto, unfolding(crate::specs::Reading::rows_at))]
+#[tactic(auto, unfolding(syntax_tables::specs::Reading::rows_at))]
 fn type_zero(bits: &mut Bits<'_>, sps: &mut Sps) -> Result<(), SetFault>
     requires { sps.old.pic_order_cnt_type ≡ PicOrderCntType.Zero }
     ensures exact { Reads (λ _. sps.new) result bits.new (rows_at take type_zero_rows sps.old bits.old) }
@@ -195,7 +196,7 @@ fn type_zero(bits: &mut Bits<'_>, sps: &mut Sps) -> Result<(), SetFault>
 }
 
 // What count type 1 has before its cycle.
-#[tactic(auto, unfolding(crate::specs::Reading::rows_at))]
+#[tactic(auto, unfolding(syntax_tables::specs::Reading::rows_at))]
 fn type_one(bits: &mut Bits<'_>, sps: &mut Sps) -> Result<(), SetFault>
     requires { sps.old.pic_order_cnt_type ≡ PicOrderCntType.One }
     ensures exact { Reads (λ _. sps.new) result bits.new (rows_at take type_one_rows sps.old bits.old) }
@@ -251,7 +252,7 @@ fn counts(alloc: Global, bits: &mut Bits<'_>, sps: &mut Sps) -> Result<(), SetFa
     }
 }
 
-#[tactic(auto, unfolding(crate::specs::Reading::rows_at))]
+#[tactic(auto, unfolding(syntax_tables::specs::Reading::rows_at))]
 fn frames(bits: &mut Bits<'_>, sps: &mut Sps) -> Result<(), SetFault>
     ensures { Reads (λ _. sps.new) result bits.new (rows_at take frame_rows sps.old bits.old) }
 {
@@ -260,7 +261,7 @@ fn frames(bits: &mut Bits<'_>, sps: &mut Sps) -> Result<(), SetFault>
     Ok(())
 }
 
-#[tactic(auto, unfolding(crate::specs::Reading::rows_at))]
+#[tactic(auto, unfolding(syntax_tables::specs::Reading::rows_at))]
 fn size(bits: &mut Bits<'_>, sps: &mut Sps) -> Result<(), SetFault>
     ensures { Reads (λ _. sps.new) result bits.new (rows_at take size_rows sps.old bits.old) }
 {
@@ -278,7 +279,7 @@ fn size(bits: &mut Bits<'_>, sps: &mut Sps) -> Result<(), SetFault>
 }
 
 // frame_mbs_only_flag, which is 1.
-#[tactic(auto, using(crate::proofs::Fields::narrow_ok, crate::proofs::Fields::narrow_err))]
+#[tactic(auto, using(syntax_tables::proofs::FieldLaws::narrow_ok, syntax_tables::proofs::FieldLaws::narrow_err))]
 fn frame_mbs_only_flag(bits: &mut Bits<'_>) -> Result<bool, SetFault>
     ensures { Reads flag_value result bits.new (value_at (Fixed 1) SetFault.Cut SetFault.Cut frames_only bits.old) }
 {
@@ -289,7 +290,7 @@ fn frame_mbs_only_flag(bits: &mut Bits<'_>) -> Result<bool, SetFault>
     }
 }
 
-// A set behind the payload's first byte.
+// A set after the payload's first byte.
 fn seq_parameter_set_data(alloc: Global, bits: &mut Bits<'_>) -> Result<Sps, SetFault>
     ensures { Stores (λ s. s) result bits.new (rows_at take sps_rows no_sps bits.old) }
 {
@@ -312,7 +313,7 @@ fn sps_of(alloc: Global, payload: &[u8]) -> Result<Sps, SetFault>
 
 /// Reads the sequence parameter set of a payload, the unit's first byte included.
 ///
-/// What stands behind direct_8x8_inference_flag, cropping and VUI, isn't read.
+/// What stands after direct_8x8_inference_flag, cropping and VUI, isn't read.
 pub fn read_sps(alloc: Global, payload: &[u8]) -> Result<Sps, SetFault>
     ensures exact { Answers result (sps_at payload.now) }
     ensures found { IfOk result (λ set. IsSps payload.now set) }

@@ -8,7 +8,7 @@ use Rattle.std.specs.Global.{Vec}
 use Rattle.access_unit.specs.Rooms.{IsReadAs, IsStream, IsStreamRefused, most_units}
 use Rattle.unit_lines.specs.Refusals.{refusal_text}
 use Rattle.plan_stream.specs.Streams.{numbered_from}
-use Rattle.unit_lines.specs.UnitLines.{stream_text}
+use Rattle.plan_stream.specs.StreamText.{stream_text}
 use Rattle.access_unit.specs.declared.room.ReadFault.{ReadFault}
 use Rattle.access_unit.specs.declared.room.ReadFault.TheVariants.{Refused}
 use Rattle.access_unit.specs.declared.room.Refusal.{Refusal}

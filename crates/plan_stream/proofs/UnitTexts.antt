@@ -1,12 +1,13 @@
 -- The lines of units, one after the other.
 use Rattle.std.proofs.Common.{◌≡◌, ◌∙◌, ◌<◌, ◌≤◌, ℕ, ◌+◌, List, [], ◌∷◌, ◌++◌, length, take, drop, get_or, take-append-drop, length-take-le, Option, None, refl, ap, sym, arith, append_assoc, append-nil, suc}
 use Rattle.std.proofs.lemmas.List.{take_more}
-use Rattle.request_core.specs.declared.outcome.Outcome.{Outcome}
+use Rattle.outcomes.specs.declared.outcome.Outcome.{Outcome}
 use Rattle.std.proofs.lemmas.List.FromFn.{length-map-range_with_len}
 use Rattle.request_core.specs.States.{FoldState, no_units}
 use Rattle.request_core.specs.Fold.{fold_step, outcomes_from, outcomes_of}
-use Rattle.request_core.specs.OutputOrder.{position_at, positions_of}
-use Rattle.unit_lines.specs.UnitLines.{outcome_lines, units_text, stream_text}
+use Rattle.output_order.specs.OutputOrder.{position_at, positions_of}
+use Rattle.unit_lines.specs.UnitLines.{outcome_lines}
+use Rattle.plan_stream.specs.StreamText.{units_text, stream_text}
 
 -- units under their ids
 abbrev Stream : Type 0

@@ -1,2 +1,3 @@
+pub mod StreamText
 pub mod Plans
 pub mod Streams

@@ -5,7 +5,7 @@ use Rattle.console_io.specs.Chunks.{AppendsFront}
 use Rattle.access_unit.specs.Rooms.{IsStream, IsStreamRefused, most_units}
 use Rattle.unit_lines.specs.Refusals.{refusal_text}
 use Rattle.plan_stream.specs.Streams.{numbered_from}
-use Rattle.unit_lines.specs.UnitLines.{stream_text}
+use Rattle.plan_stream.specs.StreamText.{stream_text}
 use Rattle.access_unit.specs.declared.room.Refusal.{Refusal}
 
 -- the text is a stream, and these are the lines of its units, whose ids are 1, 2, 3 and so on

@@ -4,22 +4,19 @@ ghost use Rattle.std.specs.Prelude.{◌≡◌, ◌≤◌, ◌≢◌, ◌++◌, l
 ghost use Rattle.std.specs.Io.KnownBytes.{Appends, Keeps};
 ghost use Rattle.access_unit.specs.Rooms.{most_units};
 ghost use Rattle.request_core.specs.Fold.{outcomes_of};
-ghost use Rattle.request_core.specs.OutputOrder.{positions_of};
+ghost use Rattle.output_order.specs.OutputOrder.{positions_of};
 ghost use Rattle.console_io.specs.Chunks.{Adds, AppendsFront, waiting_of};
 ghost use Rattle.console_io.specs.Messages.{input_fault_text, out_of_memory};
 ghost use Rattle.plan_stream.specs.Plans.{WritesFront, WritesPlan};
 ghost use Rattle.console_io.specs.declared.input.InputFault.{InputFault};
 ghost use Rattle.unit_lines.specs.Refusals.{refusal_text};
 ghost use Rattle.plan_stream.specs.Streams.{numbered_from};
-ghost use Rattle.unit_lines.specs.UnitLines.{stream_text, units_text};
+ghost use Rattle.plan_stream.specs.StreamText.{stream_text, units_text};
 
 use access_unit::{MOST_UNITS, ReadFault, Refusal, Unit, read_units};
-use console_io::{
-    Chunks, PrintFault, Status, say_input_fault, say_out_of_memory, say_print_fault, whole_input,
-    write_bytes,
-};
-use ref_marking::AuId;
-use request_core::Outcome;
+use console_io::{Chunks, PrintFault, Status, say_input_fault, say_out_of_memory, say_print_fault, whole_input, write_bytes};
+use outcomes::Outcome;
+use pictures::AuId;
 use std::alloc::{AllocError, Global};
 use std::io::{Read, Write};
 use std::thread::Threads;
@@ -113,7 +110,7 @@ fn print_units<W: Write>(alloc: Global, units: Vec<Unit>, writer: &mut W) -> Res
 {
     let stream = numbered(alloc, units)?;
     let outcomes = request_core::scratch(alloc, &stream)?;
-    let positions = request_core::positions(alloc, &outcomes)?;
+    let positions = output_order::positions(alloc, &outcomes)?;
     print_all(alloc, &stream, &outcomes, &positions, writer)
 }
 

@@ -67,16 +67,16 @@ abbrev pub cache_of : Text → Option ℕ
 cache_of text =
     if is_unsigned_in 1 most_cache text then Some (digits_value 10 (without_leading_plus text)) else None
 
--- what the words behind `plan` ask for
+-- what the words after `plan` ask for
 abbrev pub plan_in : List Row → Option Wanted
 plan_in rows = option_map plan (first_of (codes "FILE") rows)
 
--- what the words behind `run` ask for
+-- what the words after `run` ask for
 abbrev pub run_in : List Row → Option Wanted
 run_in rows = option_and_then (λ name. option_map (run name)
     (option_and_then cache_of (one_of (codes "cache") rows))) (first_of (codes "SCRIPT") rows)
 
--- what a subcommand and the words behind it ask for
+-- what a subcommand and the words after it ask for
 abbrev pub wanted_by : Text × List Row → Option Wanted
 wanted_by met = if bytes_eq met.0 (codes "plan") then plan_in met.1
     else (if bytes_eq met.0 (codes "run") then run_in met.1 else None)

@@ -24,7 +24,7 @@ const A: [u8; 23] = [
     0x88, 0x84, 0x80,
 ];
 
-/// The picture behind it, with frame_num 1.
+/// The picture after it, with frame_num 1.
 const P1: [u8; 6] = [0, 0, 1, 0x41, 0x9A, 0x23];
 
 /// A picture with frame_num 2.
@@ -36,7 +36,7 @@ request 1.0 ts 1000 bits 25 type 2 frame 0 dpb - l0 - l1 - hold 0\n";
 const LINES_OF_P1: &str = "unit 2 position 1 counts 2 2 requests 1\n\
 request 2.0 ts 2000 bits 23 type 0 frame 1 dpb 1000:0:3 l0 0 l1 - hold 0\n";
 
-/// The parts, one behind the other.
+/// The parts, one after the other.
 fn joined(alloc: Global, parts: &[&[u8]]) -> Result<Vec<u8>, AllocError> {
     let mut text = Vec::new(alloc);
     for part in parts {
@@ -175,7 +175,7 @@ fn plans_a_sample(rt: HostRuntime) -> Result<(), Fail> {
     Ok(())
 }
 
-/// A reader that fails behind its text.
+/// A reader that fails after its text.
 #[derive(Drop)]
 struct FailingReader<'a>(&'a [u8]);
 

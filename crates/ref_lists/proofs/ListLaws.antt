@@ -5,13 +5,13 @@ use Rattle.std.proofs.lemmas.Bool.{cases_Bool}
 use Rattle.std.proofs.lemmas.List.{drop_more, length-take}
 use Rattle.std.proofs.lemmas.List.Elements.{All-nil, All-cons, All-head, All-tail, All-append, All-take, All-drop, All-filter, All-weaker, All-contains_itself}
 use Rattle.std.proofs.lemmas.List.Sums.{sum_by-cons}
-use Rattle.param_sets.specs.declared.sps.Sps.{Sps}
-use Rattle.slice_header.specs.declared.slice_headers.SliceHeader.{SliceHeader}
-use Rattle.slice_header.specs.declared.ref_pic_list_modification.RefPicListModification.{RefPicListModification}
-use Rattle.order_count.specs.declared.counts.Counts.{Counts}
-use Rattle.ref_marking.specs.MarkedFrames.{Marked}
-use Rattle.ref_marking.specs.declared.frames.Frame.{Frame}
-use Rattle.ref_marking.specs.PicNums.{curr_pic_num}
+use Rattle.set_types.specs.declared.sps.Sps.{Sps}
+use Rattle.header_types.specs.declared.slice_headers.SliceHeader.{SliceHeader}
+use Rattle.header_types.specs.declared.ref_pic_list_modification.RefPicListModification.{RefPicListModification}
+use Rattle.pictures.specs.declared.counts.Counts.{Counts}
+use Rattle.pictures.specs.MarkedFrames.{Marked}
+use Rattle.pictures.specs.declared.frames.Frame.{Frame}
+use Rattle.pictures.specs.PicNums.{curr_pic_num}
 use Rattle.ref_lists.specs.declared.fault.ListFault.{ListFault}
 use Rattle.ref_lists.specs.declared.fault.ListFault.TheVariants.{OrderTie, NoReference, BadModification}
 use Rattle.ref_lists.specs.declared.initial_lists.ListOrder.{ListOrder}

@@ -79,7 +79,7 @@ module _ {X : Type 0} (p : X → Bool) where
   count_by-take_without q count xs =
       omega (arith, sum_by-take-drop (λ (x : X). cond (q x) 1 0) (without xs) count, sum_by-filter_both p (λ x. not (p x)) (λ x. refl) (λ (x : X). cond (q x) 1 0) xs)
 
--- into a list at an index: the entries before it, the new one, and those behind it
+-- into a list at an index: the entries before it, the new one, and those after it
 insert_between : {X : Type 0} (front rest : List X) (index : ℕ) (x : X) → length front ≡ index → insert (front ++ rest) index x ≡ front ++ x ∷ rest
 insert_between front rest index x long = rw (take_at front rest index long, drop_at front rest index long) refl
 
@@ -127,7 +127,7 @@ module _ (index place : ℕ) (entries : List (Option ℕ)) (inside : index < len
         length-without is rest,
       )
 
-  -- no frame stands behind the index more often than it stood there before
+  -- no frame stands after the index more often than it stood there before
   pub count_by-put : (q : Option ℕ → Bool) → count_by q (drop (index + 1) (put index place entries)) ≤ count_by q rest
   count_by-put q =
       let last = length rest - 1 in

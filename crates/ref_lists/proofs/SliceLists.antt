@@ -3,14 +3,14 @@ use Rattle.std.proofs.Common.{◌≡◌, ℕ, ◌+◌, ◌<◌, ◌∷◌, Bool,
 use Rattle.std.specs.List.{list_any}
 use Rattle.std.specs.Ordering.{int_eq}
 use Rattle.std.proofs.lemmas.List.{drop_more}
-use Rattle.param_sets.specs.declared.sps.Sps.{Sps}
-use Rattle.slice_header.specs.declared.slice_headers.SliceHeader.{SliceHeader}
-use Rattle.slice_header.specs.declared.slice_types.SliceType.{SliceType}
-use Rattle.slice_header.specs.declared.slice_types.SliceType.TheVariants.{P, B, I, Sp, Si}
-use Rattle.slice_header.specs.declared.ref_pic_list_modification.RefPicListModification.{RefPicListModification}
-use Rattle.order_count.specs.PicOrderCnt.{pic_order_cnt}
-use Rattle.order_count.specs.declared.counts.Counts.{Counts}
-use Rattle.ref_marking.specs.MarkedFrames.{Marked}
+use Rattle.set_types.specs.declared.sps.Sps.{Sps}
+use Rattle.header_types.specs.declared.slice_headers.SliceHeader.{SliceHeader}
+use Rattle.header_types.specs.declared.slice_types.SliceType.{SliceType}
+use Rattle.header_types.specs.declared.slice_types.SliceType.TheVariants.{P, B, I, Sp, Si}
+use Rattle.header_types.specs.declared.ref_pic_list_modification.RefPicListModification.{RefPicListModification}
+use Rattle.pictures.specs.PicOrderCnt.{pic_order_cnt}
+use Rattle.pictures.specs.declared.counts.Counts.{Counts}
+use Rattle.pictures.specs.MarkedFrames.{Marked}
 use Rattle.ref_lists.specs.declared.fault.ListFault.{ListFault}
 use Rattle.ref_lists.specs.declared.fault.ListFault.TheVariants.{OrderTie, NoReference, BadModification}
 use Rattle.ref_lists.specs.declared.initial_lists.ListOrder.{ListOrder}
@@ -26,7 +26,7 @@ has_list_0-from_1 Sp has = refl
 has_list_0-from_1 I has = cc
 has_list_0-from_1 Si has = cc
 
--- one number in turn: whether it stands again decides, or the numbers behind it do
+-- one number in turn: whether it stands again decides, or the numbers after it do
 module _ (numbers : List ℤ) (index : ℕ) (below : index < length numbers) where
   pub has_repeat-found : list_any (int_eq (get_or numbers index (pos 0))) (drop (index + 1) numbers) ≡ true → has_repeat (drop index numbers) ≡ true
   has_repeat-found again = ap has_repeat (drop_more numbers index (pos 0) below) ∙ ap (λ b. b || has_repeat (drop (index + 1) numbers)) again

@@ -41,7 +41,7 @@ Less-from_is_lt Equal test = absurd (false≢true test)
 Less-from_is_lt Greater test = absurd (false≢true test)
 
 module _ (cmp : ℕ → ℕ → Ordering) (total : IsTotalOrder cmp) where
-  -- one place isn't before the other and behind it
+  -- one place isn't before the other and after it
   not_both : (place other : ℕ) → cmp place other ≡ Less → cmp other place ≡ Less → ⊥
   not_both place other before behind =
       let turned = total.antisymm place other in
@@ -71,7 +71,7 @@ module _ (cmp : ℕ → ℕ → Ordering) (total : IsTotalOrder cmp) where
   same_head first other places others sorted sorted' (inr there) (inr there') =
       absurd (not_both first other (head_before first places other sorted there') (head_before other others first sorted' there))
 
-  -- what one has behind its first, the other has behind the same
+  -- what one has after its first, the other has after the same
   in_tail : (first : ℕ) (places others : List ℕ) (place : ℕ) → IsStrictlySortedBy cmp (first ∷ places)
       → Among places place → Among (first ∷ others) place → Among others place
   in_tail first places others place sorted h (inl is) = absurd (not_itself first (rw (← is) at (head_before first places place sorted h)))

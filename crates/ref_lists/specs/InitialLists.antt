@@ -4,10 +4,10 @@ use Rattle.std.specs.declared.cmp.Ordering.{Ordering}
 use Rattle.std.specs.declared.cmp.Ordering.TheVariants.{Less}
 use Rattle.std.specs.Ordering.{is_lt, nat_cmp, int_cmp, on, then_cmp}
 use lib.Pointwise.{pointwise}
-use Rattle.param_sets.specs.declared.sps.Sps.{Sps}
-use Rattle.order_count.specs.PicOrderCnt.{pic_order_cnt}
-use Rattle.ref_marking.specs.declared.frames.Frame.{Frame}
-use Rattle.ref_marking.specs.PicNums.{frame_num_wrap, long_term_pic_num}
+use Rattle.set_types.specs.declared.sps.Sps.{Sps}
+use Rattle.pictures.specs.PicOrderCnt.{pic_order_cnt}
+use Rattle.pictures.specs.declared.frames.Frame.{Frame}
+use Rattle.pictures.specs.PicNums.{frame_num_wrap, long_term_pic_num}
 use Rattle.ref_lists.specs.declared.initial_lists.ListOrder.{ListOrder}
 use Rattle.ref_lists.specs.declared.initial_lists.ListOrder.TheVariants.{ByPicNum, BelowFirst, AboveFirst}
 use Rattle.ref_lists.specs.declared.initial_lists.Group.{Group}
@@ -34,7 +34,7 @@ short_term_standing sps frame_num (AboveFirst picture) frame place =
     let count = pic_order_cnt frame.counts in
     if int_lt count picture then falling Second count place else rising First count place
 
--- long-term frames come behind them, by rising LongTermPicNum
+-- long-term frames come after them, by rising LongTermPicNum
 abbrev pub standing_by : Option ℕ → Standing → ℕ → Standing
 standing_by None short_term place = short_term
 standing_by (Some number) short_term place = rising LongTerm (pos number) place
@@ -54,7 +54,7 @@ group_index LongTerm = 2
 abbrev pub compare : Standing → Standing → Ordering
 compare = then_cmp (on (λ s. group_index s.group) nat_cmp) (then_cmp (on (λ s. s.number) int_cmp) (on (λ s. s.place) nat_cmp))
 
--- a place with no frame is behind all others
+-- a place with no frame is after all others
 abbrev pub standing_of : Sps → (frame_num : ℕ) → ListOrder → Option Frame → ℕ → Standing
 standing_of sps frame_num order None place = rising LongTerm (pos 0) place
 standing_of sps frame_num order (Some frame) place = standing sps frame_num order frame place

@@ -1,3 +1,4 @@
 pub mod InitialLists
 pub mod Modification
 pub mod ReferenceLists
+pub mod FaultNumbers

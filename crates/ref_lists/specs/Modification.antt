@@ -2,12 +2,12 @@
 use Rattle.std.specs.Prelude.{ℕ, suc, ◌+◌, Bool, not, nat_eq, List, [], ◌∷◌, ◌++◌, length, take, drop, filter, position, ◌||◌, false, Option, Some, None, is_none, ℤ, pos, ◌+ℤ◌, ◌-ℤ◌, int_lt, if◌then◌else◌}
 use Rattle.std.specs.Option.{option_eq}
 use Rattle.std.specs.Ordering.{int_eq}
-use Rattle.param_sets.specs.declared.sps.Sps.{Sps}
-use Rattle.slice_header.specs.declared.ref_pic_list_modification.RefPicListModification.{RefPicListModification}
-use Rattle.slice_header.specs.declared.ref_pic_list_modification.RefPicListModification.TheVariants.{Subtract, Add, LongTerm}
-use Rattle.order_count.specs.FrameNumbers.{max_frame_num}
-use Rattle.ref_marking.specs.declared.frames.Frame.{Frame}
-use Rattle.ref_marking.specs.PicNums.{pic_num, long_term_pic_num, curr_pic_num}
+use Rattle.set_types.specs.declared.sps.Sps.{Sps}
+use Rattle.header_types.specs.declared.ref_pic_list_modification.RefPicListModification.{RefPicListModification}
+use Rattle.header_types.specs.declared.ref_pic_list_modification.RefPicListModification.TheVariants.{Subtract, Add, LongTerm}
+use Rattle.set_types.specs.FrameNumbers.{max_frame_num}
+use Rattle.pictures.specs.declared.frames.Frame.{Frame}
+use Rattle.pictures.specs.PicNums.{pic_num, long_term_pic_num, curr_pic_num}
 use Rattle.ref_lists.specs.InitialLists.{Entries}
 use Rattle.ref_lists.specs.declared.modification.PictureNumber.{PictureNumber}
 use Rattle.ref_lists.specs.declared.modification.PictureNumber.TheVariants.{PicNum, LongTermPicNum}
@@ -37,7 +37,7 @@ has_number sps frame_num (LongTermPicNum number) frame = option_eq nat_eq (long_
 abbrev pub is_entry_of : ℕ → Option ℕ → Bool
 is_entry_of place entry = option_eq nat_eq entry (Some place)
 
--- the frame at a place in the marks goes to an index of the list, and out behind it; the list keeps its length (8-37)
+-- the frame at a place in the marks goes to an index of the list, and out after it; the list keeps its length (8-37)
 abbrev pub put : (index place : ℕ) → Entries → Entries
 put index place entries =
     take (length entries) (take index entries ++ Some place ∷ filter (λ entry. not (is_entry_of place entry)) (drop index entries))

@@ -2,20 +2,20 @@
 use Rattle.std.specs.Prelude.{◌≡◌, ℕ, ◌+◌, ◌<◌, Bool, true, false, ◌&&◌, ◌||◌, ◌==◌, List, [], ◌∷◌, length, map, filter, Option, IfSome, is_none, Result, Ok, Err, ℤ, if◌then◌else◌}
 use Rattle.std.specs.List.{list_any}
 use Rattle.std.specs.Ordering.{int_eq}
-use Rattle.param_sets.specs.declared.sps.Sps.{Sps}
-use Rattle.slice_header.specs.declared.slice_headers.SliceHeader.{SliceHeader}
-use Rattle.slice_header.specs.declared.slice_types.SliceType.{SliceType}
-use Rattle.slice_header.specs.declared.slice_types.SliceType.TheVariants.{B, I, Si}
-use Rattle.slice_header.specs.declared.ref_pic_list_modification.RefPicListModification.{RefPicListModification}
-use Rattle.order_count.specs.PicOrderCnt.{pic_order_cnt}
-use Rattle.order_count.specs.declared.counts.Counts.{Counts}
-use Rattle.ref_marking.specs.MarkedFrames.{Marked}
-use Rattle.ref_marking.specs.declared.frames.Frame.{Frame}
+use Rattle.set_types.specs.declared.sps.Sps.{Sps}
+use Rattle.header_types.specs.declared.slice_headers.SliceHeader.{SliceHeader}
+use Rattle.header_types.specs.declared.slice_types.SliceType.{SliceType}
+use Rattle.header_types.specs.declared.slice_types.SliceType.TheVariants.{B, I, Si}
+use Rattle.header_types.specs.declared.ref_pic_list_modification.RefPicListModification.{RefPicListModification}
+use Rattle.pictures.specs.PicOrderCnt.{pic_order_cnt}
+use Rattle.pictures.specs.declared.counts.Counts.{Counts}
+use Rattle.pictures.specs.MarkedFrames.{Marked}
+use Rattle.pictures.specs.declared.frames.Frame.{Frame}
 use Rattle.ref_lists.specs.declared.fault.ListFault.{ListFault}
 use Rattle.ref_lists.specs.declared.fault.ListFault.TheVariants.{OrderTie, NoReference, BadModification}
 use Rattle.ref_lists.specs.declared.initial_lists.ListOrder.{ListOrder}
 use Rattle.ref_lists.specs.declared.initial_lists.ListOrder.TheVariants.{ByPicNum, BelowFirst, AboveFirst}
-use Rattle.ref_marking.specs.PicNums.{long_term_pic_num}
+use Rattle.pictures.specs.PicNums.{long_term_pic_num}
 use Rattle.ref_lists.specs.InitialLists.{Entries, IsInitialList, initial_list, exchanged, cut}
 use Rattle.ref_lists.specs.Modification.{has_bad_command, modified}
 

@@ -3,7 +3,7 @@
 ghost use Rattle.std.specs.Prelude.{◌↔◌, IsTrue, IsFalse, IfOk, All, ◌≡◌, ◌+◌, ◌∷◌, ◌≤◌, true, false, nat_eq, length, Ok, Err, if◌then◌else◌};
 ghost use Rattle.std.specs.List.{IsDistinct, list_any};
 ghost use Rattle.std.specs.Ordering.{int_eq};
-ghost use Rattle.order_count.specs.declared.counts.Counts.{Counts};
+ghost use Rattle.pictures.specs.declared.counts.Counts.{Counts};
 ghost use Rattle.ref_lists.specs.InitialLists.{cut};
 ghost use Rattle.ref_lists.specs.Modification.{has_bad_command, modified};
 ghost use Rattle.ref_lists.specs.declared.fault.ListFault.TheVariants.{OrderTie, NoReference, BadModification};
@@ -12,12 +12,12 @@ ghost use Rattle.ref_lists.specs.ReferenceLists.{has_list_0, has_list_1, has_rep
 use crate::fault::ListFault;
 use crate::initial_lists::{ListOrder, exchange, initial_list};
 use crate::modification::modified;
-use crate::reference_list::List;
+use crate::reference_list::cut;
 use arrayvec::ArrayVec;
-use order_count::Counts;
-use param_sets::{AtMost, Sps};
-use ref_marking::{Frame, Marks};
-use slice_header::{RefPicListModifications, SliceHeader, SliceType};
+use base_types::AtMost;
+use header_types::{RefPicListModifications, SliceHeader, SliceType};
+use pictures::{Counts, Frame, List, Marks};
+use set_types::Sps;
 
 /// List 0 and list 1 of a slice, from the frames marked before its picture and the picture's counts before resetting.
 ///
@@ -139,7 +139,7 @@ fn final_list(
         else Ok (modified sps.now frame_num frames.now commands.now (cut active initial.now))) }
 {
     let active = usize::from(num_ref_idx_active_minus1.get()) + 1;
-    let list = List::cut(initial, active);
+    let list = cut(initial, active);
     modified(list, commands.as_slice(), frames, sps, frame_num)
 }
 

@@ -15,3 +15,15 @@ pub enum ListFault {
     #[error("a modification names no reference picture")]
     BadModification = 3,
 }
+
+impl ListFault {
+    ghost use Rattle.std.specs.Prelude.{◌≡◌};
+    ghost use Rattle.ref_lists.specs.FaultNumbers.{number_of};
+
+    /// The number, from 1 in the order above.
+    pub fn number(self) -> u8
+        ensures { result ≡ number_of self }
+    {
+        self as u8
+    }
+}

@@ -6,8 +6,8 @@ ghost use Rattle.std.specs.List.{range_with_len};
 ghost use Rattle.ref_lists.specs.InitialLists.{rising, falling, standing, short_term_standing, standing_at, compare, initial_list, exchanged};
 
 use arrayvec::ArrayVec;
-use param_sets::Sps;
-use ref_marking::{Frame, frame_num_wrap};
+use pictures::{Frame, frame_num_wrap};
+use set_types::Sps;
 
 /// How the short-term frames of a list are ordered.
 #[derive(Clone, Copy)]
@@ -20,7 +20,7 @@ pub(crate) enum ListOrder {
     AboveFirst { pic_order_cnt: i32 },
 }
 
-/// The groups of a list, one behind the other.
+/// The groups of a list, one after the other.
 #[derive(Clone, Copy, Debug, Default, PartialEq, Eq, PartialOrd, Ord)]
 pub(crate) enum Group {
     #[default]

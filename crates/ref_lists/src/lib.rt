@@ -1,8 +1,7 @@
 //! Construction of the reference picture lists of a slice (ITU-T H.264, 8.2.4).
 //!
 //! `lists` answers list 0 and list 1 of a slice, or why it has none: the marked frames in their initial order, cut to the
-//! active entries and modified by the header's commands. It takes the marks of `ref_marking` and the counts of
-//! `order_count`; the controls above are filled from what it answers.
+//! active entries and modified by the header's commands.
 #![tactic(auto)]
 
 mod construction;
@@ -13,7 +12,4 @@ mod reference_list;
 
 pub use construction::lists;
 pub use fault::ListFault;
-pub use reference_list::List;
-
-#[cfg(test)]
-mod tests;
+pub use pictures::List;

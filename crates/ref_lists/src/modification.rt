@@ -5,11 +5,10 @@ ghost use Rattle.ref_lists.specs.declared.fault.ListFault.TheVariants.{BadModifi
 ghost use Rattle.ref_lists.specs.Modification.{no_wrap, named, has_number, is_entry_of, has_bad_command, modified};
 
 use crate::fault::ListFault;
-use crate::reference_list::List;
-use order_count::max_frame_num;
-use param_sets::Sps;
-use ref_marking::Frame;
-use slice_header::RefPicListModification;
+use crate::reference_list::put;
+use header_types::RefPicListModification;
+use pictures::{Frame, List};
+use set_types::Sps;
 
 /// The number by which a command names a frame.
 #[derive(Clone, Copy)]
@@ -40,7 +39,7 @@ pub(crate) fn modified(
         let Some(place) = named.place_in(frames, sps, frame_num) else {
             return Err(ListFault::BadModification);
         };
-        list.put(index, place as u8);
+        put(&mut list, index, place as u8);
     }
     Ok(list)
 }
@@ -61,7 +60,7 @@ impl PictureNumber {
                 PictureNumber::LongTermPicNum(long_term_pic_num)
             }
             _ if number > i64::from(frame_num) => {
-                PictureNumber::PicNum(number - i64::from(max_frame_num(sps)))
+                PictureNumber::PicNum(number - i64::from(sps.max_frame_num()))
             }
             _ => PictureNumber::PicNum(number),
         }
@@ -96,7 +95,7 @@ fn no_wrap(command: RefPicListModification, last: i64, sps: &Sps) -> i64
     ensures low { (last -ℤ pos 8589934592) ≤ℤ result }
     ensures high { result ≤ℤ (last +ℤ pos 8589934592) }
 {
-    let max_frame_num = i64::from(max_frame_num(sps));
+    let max_frame_num = i64::from(sps.max_frame_num());
     match command {
         RefPicListModification::Subtract {
             abs_diff_pic_num_minus1,

@@ -5,8 +5,8 @@ use Rattle.std.specs.List.{refill}
 use Rattle.std.specs.Option.{SomeIff}
 use Rattle.arrayvec.specs.ArrayVec.{ArrayVec}
 use Rattle.arrayvec.proofs.ArrayVecLemmas.{items-with_items}
-use Rattle.ref_marking.specs.declared.frames.Frame.{Frame}
-use Rattle.ref_marking.specs.MarkedFrames.{Marked, as_long_term}
+use Rattle.pictures.specs.declared.frames.Frame.{Frame}
+use Rattle.pictures.specs.MarkedFrames.{Marked, as_long_term}
 use Rattle.ref_marking.specs.Operations.{max_idx}
 
 -- sets of equal frames are equal

@@ -4,7 +4,7 @@ use Rattle.std.specs.Bool.{Decides}
 use Rattle.std.proofs.lemmas.Bool.Decides.{not_from_Decides}
 use Rattle.std.proofs.lemmas.List.Elements.{All-nil, All-cons, All-head, All-tail, All-same}
 use Rattle.std.proofs.lemmas.Option.{same_Some}
-use Rattle.ref_marking.specs.declared.frames.Frame.{Frame}
+use Rattle.pictures.specs.declared.frames.Frame.{Frame}
 use Rattle.ref_marking.specs.Steps.{Place, IsFirst}
 use Rattle.ref_marking.specs.MarksAfter.{first, behind}
 

@@ -6,9 +6,9 @@ use Rattle.std.specs.List.{reduce, cons_option}
 use Rattle.std.proofs.lemmas.Int.{ints, fold-int_min_bounds, fold-int_min_reached}
 use Rattle.std.proofs.lemmas.List.Elements.{All-nil, All-cons, All-head, All-tail, All-contains, All-contains_itself, All-weaker, Contains-append_cases, Contains-append_left, Contains-append_right, Contains-push, Contains-push_cases}
 use Rattle.std.proofs.lemmas.Option.{same_Some}
-use Rattle.param_sets.specs.declared.sps.Sps.{Sps}
-use Rattle.ref_marking.specs.declared.frames.Frame.{Frame}
-use Rattle.ref_marking.specs.PicNums.{pic_num}
+use Rattle.set_types.specs.declared.sps.Sps.{Sps}
+use Rattle.pictures.specs.declared.frames.Frame.{Frame}
+use Rattle.pictures.specs.PicNums.{pic_num}
 use Rattle.ref_marking.specs.SlidingWindow.{HasLeastFrameNumWrap}
 use Rattle.ref_marking.specs.MarksAfter.{has_pic_num}
 use Rattle.ref_marking.proofs.Firsts.{Agrees}
@@ -27,7 +27,7 @@ pub all_numbered : (number : Frame → Option ℤ) (P : ℤ → Type 0) (frames 
 all_numbered number P [] all = All-nil (λ frame. IfSome (number frame) P)
 all_numbered number P (x ∷ xs) all = all_behind number P x xs (filter_map number xs) (number x) refl (all_numbered number P xs) all
 
--- an element of a list is the first, or one behind it
+-- an element of a list is the first, or one after it
 among : {A : Type 0} (x : A) (xs : List A) (y : A) → Contains (x ∷ xs) y → (x ≡ y) ⊎ Contains xs y
 among x xs y there = elim (Contains-append_cases (x ∷ []) xs y there) [
   | inl first ↦ elim (Contains-push_cases [] x y first) [ inl none ↦ absurd (omega (arith, none.1)) | inr same ↦ inl same ]

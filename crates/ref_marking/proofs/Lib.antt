@@ -1,4 +1,3 @@
-mod Same
 mod Filters
 mod Places
 mod Turns

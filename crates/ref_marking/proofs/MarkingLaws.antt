@@ -1,18 +1,18 @@
 -- Marking has one outcome: that of `marks_after`.
 use Rattle.std.proofs.Common.{◌≡◌, ℕ, Bool, true, false, List, Result, Ok, Err, if◌then◌else◌, MatchBool, refl}
-use Rattle.param_sets.specs.declared.sps.Sps.{Sps}
-use Rattle.slice_header.specs.declared.slice_headers.SliceHeader.{SliceHeader}
-use Rattle.slice_header.specs.declared.dec_ref_pic_marking.DecRefPicMarking.{DecRefPicMarking}
-use Rattle.slice_header.specs.declared.dec_ref_pic_marking.DecRefPicMarking.TheVariants.{Idr, SlidingWindow, Adaptive}
-use Rattle.slice_header.specs.declared.dec_ref_pic_marking.MemoryManagementControlOperation.{MemoryManagementControlOperation}
-use Rattle.order_count.specs.declared.counts.Counts.{Counts}
-use Rattle.order_count.specs.Pictures.{is_reference}
+use Rattle.set_types.specs.declared.sps.Sps.{Sps}
+use Rattle.header_types.specs.declared.slice_headers.SliceHeader.{SliceHeader}
+use Rattle.header_types.specs.declared.dec_ref_pic_marking.DecRefPicMarking.{DecRefPicMarking}
+use Rattle.header_types.specs.declared.dec_ref_pic_marking.DecRefPicMarking.TheVariants.{Idr, SlidingWindow, Adaptive}
+use Rattle.header_types.specs.declared.dec_ref_pic_marking.MemoryManagementControlOperation.{MemoryManagementControlOperation}
+use Rattle.pictures.specs.declared.counts.Counts.{Counts}
+use Rattle.header_types.specs.Pictures.{is_reference}
 use Rattle.ref_marking.specs.declared.fault.MarkFault.{MarkFault}
 use Rattle.ref_marking.specs.declared.fault.MarkFault.TheVariants.{BadMarking}
-use Rattle.ref_marking.specs.declared.frames.Frame.{Frame}
-use Rattle.ref_marking.specs.declared.frames.Term.{Term}
-use Rattle.ref_marking.specs.declared.frames.Term.TheVariants.{ShortTerm}
-use Rattle.ref_marking.specs.MarkedFrames.{Marked}
+use Rattle.pictures.specs.declared.frames.Frame.{Frame}
+use Rattle.pictures.specs.declared.frames.Term.{Term}
+use Rattle.pictures.specs.declared.frames.Term.TheVariants.{ShortTerm}
+use Rattle.pictures.specs.MarkedFrames.{Marked}
 use Rattle.ref_marking.specs.Steps.{Step, Stays, Then}
 use Rattle.ref_marking.specs.SlidingWindow.{SlidesWindow}
 use Rattle.ref_marking.specs.Operations.{OperatesAll}

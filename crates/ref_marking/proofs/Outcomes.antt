@@ -1,9 +1,9 @@
 -- Steps that have one outcome for each set: that of a function.
 use Rattle.std.proofs.Common.{◌≡◌, inl, inr, Bool, Option, Some, None, Result, Ok, Err, refl, sym, ◌∙◌, ap, subst}
-use Rattle.param_sets.specs.Reading.{◌>>=◌}
+use Rattle.base_types.specs.Chains.{◌>>=◌}
 use Rattle.ref_marking.specs.declared.fault.MarkFault.{MarkFault}
-use Rattle.ref_marking.specs.declared.frames.Frame.{Frame}
-use Rattle.ref_marking.specs.MarkedFrames.{Marked}
+use Rattle.pictures.specs.declared.frames.Frame.{Frame}
+use Rattle.pictures.specs.MarkedFrames.{Marked}
 use Rattle.ref_marking.specs.Steps.{Step, Then, Stays, Place, Frees}
 use Rattle.ref_marking.specs.MarksAfter.{first, freed}
 use Rattle.ref_marking.proofs.Firsts.{Agrees, first_some, first_none, first_only, none_only}

@@ -9,14 +9,14 @@ use Rattle.std.specs.Bool.{Decides}
 use Rattle.std.specs.List.{position_or_len}
 use Rattle.std.specs.Option.{option_eq}
 use Rattle.std.specs.Ordering.{int_eq}
-use Rattle.param_sets.specs.declared.sps.Sps.{Sps}
+use Rattle.set_types.specs.declared.sps.Sps.{Sps}
 use Rattle.ref_marking.specs.declared.fault.MarkFault.{MarkFault}
 use Rattle.ref_marking.specs.declared.fault.MarkFault.TheVariants.{BadMarking}
-use Rattle.ref_marking.specs.declared.frames.Frame.{Frame}
-use Rattle.ref_marking.specs.declared.frames.Term.{Term}
-use Rattle.ref_marking.specs.declared.frames.Term.TheVariants.{ShortTerm, LongTerm}
-use Rattle.ref_marking.specs.MarkedFrames.{Marked, holds, without_idx, as_long_term}
-use Rattle.ref_marking.specs.PicNums.{pic_num_of}
+use Rattle.pictures.specs.declared.frames.Frame.{Frame}
+use Rattle.pictures.specs.declared.frames.Term.{Term}
+use Rattle.pictures.specs.declared.frames.Term.TheVariants.{ShortTerm, LongTerm}
+use Rattle.pictures.specs.MarkedFrames.{Marked, holds, without_idx, as_long_term}
+use Rattle.pictures.specs.PicNums.{pic_num_of}
 use Rattle.ref_marking.specs.Steps.{Place}
 use Rattle.ref_marking.specs.MarksAfter.{first, behind, freed, without_at, has_pic_num, assigned}
 

@@ -2,11 +2,11 @@
 use Rattle.std.proofs.Common.{◌≡◌, ℕ, ℤ, length, eq-eqb, filter_map, position, Option, Some, Result, refl, sym, ◌∙◌, ap}
 use Rattle.std.specs.Int.{int_min}
 use Rattle.std.specs.List.{reduce}
-use Rattle.param_sets.specs.declared.sps.Sps.{Sps}
+use Rattle.set_types.specs.declared.sps.Sps.{Sps}
 use Rattle.ref_marking.specs.declared.fault.MarkFault.{MarkFault}
 use Rattle.ref_marking.specs.declared.fault.MarkFault.TheVariants.{NoShortTerm}
-use Rattle.ref_marking.specs.MarkedFrames.{Marked, most_frames}
-use Rattle.ref_marking.specs.PicNums.{pic_num}
+use Rattle.pictures.specs.MarkedFrames.{Marked, most_frames}
+use Rattle.pictures.specs.PicNums.{pic_num}
 use Rattle.ref_marking.specs.MarksAfter.{has_pic_num, without_at, window_slid, least_freed}
 use Rattle.ref_marking.proofs.Places.{without_first}
 

@@ -6,16 +6,16 @@ use Rattle.std.specs.List.{reduce}
 use Rattle.std.proofs.lemmas.Bool.{ltb-false, leb-false}
 use Rattle.std.proofs.lemmas.Bool.Decides.{Decides-ltb, not_from_Decides}
 use Rattle.std.proofs.lemmas.List.Elements.{All-weaker}
-use Rattle.param_sets.specs.declared.sps.Sps.{Sps}
-use Rattle.slice_header.specs.declared.dec_ref_pic_marking.MemoryManagementControlOperation.{MemoryManagementControlOperation}
-use Rattle.slice_header.specs.declared.dec_ref_pic_marking.MemoryManagementControlOperation.TheVariants.{FreeShortTerm, FreeLongTerm, AssignLongTerm, LimitLongTerm, FreeAll, CurrentLongTerm}
+use Rattle.set_types.specs.declared.sps.Sps.{Sps}
+use Rattle.header_types.specs.declared.dec_ref_pic_marking.MemoryManagementControlOperation.{MemoryManagementControlOperation}
+use Rattle.header_types.specs.declared.dec_ref_pic_marking.MemoryManagementControlOperation.TheVariants.{FreeShortTerm, FreeLongTerm, AssignLongTerm, LimitLongTerm, FreeAll, CurrentLongTerm}
 use Rattle.ref_marking.specs.declared.fault.MarkFault.{MarkFault}
 use Rattle.ref_marking.specs.declared.fault.MarkFault.TheVariants.{BadMarking, NoShortTerm, TooManyReferences}
-use Rattle.ref_marking.specs.declared.frames.Frame.{Frame}
-use Rattle.ref_marking.specs.declared.frames.Term.{Term}
-use Rattle.ref_marking.specs.declared.frames.Term.TheVariants.{ShortTerm, LongTerm}
-use Rattle.ref_marking.specs.MarkedFrames.{Marked, most_frames, without_idx}
-use Rattle.ref_marking.specs.PicNums.{pic_num, long_term_pic_num}
+use Rattle.pictures.specs.declared.frames.Frame.{Frame}
+use Rattle.pictures.specs.declared.frames.Term.{Term}
+use Rattle.pictures.specs.declared.frames.Term.TheVariants.{ShortTerm, LongTerm}
+use Rattle.pictures.specs.MarkedFrames.{Marked, most_frames, without_idx}
+use Rattle.pictures.specs.PicNums.{pic_num, long_term_pic_num}
 use Rattle.ref_marking.specs.Steps.{Step, Stays, Place, Frees}
 use Rattle.ref_marking.specs.SlidingWindow.{HasLeastFrameNumWrap, SlidesWindow}
 use Rattle.ref_marking.specs.Operations.{pic_num_x, IsShortTermNamed, FreesShortTerm, FreesLongTerm, Allows, AssignsLongTerm, max_idx, is_below, LimitsLongTerm, FreesHolder, Operates, OperatesAll}

@@ -1,25 +1,25 @@
 -- Decoded reference picture marking process (ITU-T H.264, 8.2.5.1): the set of marked frames after a picture.
 use Rattle.std.specs.Prelude.{◌≡◌, ◌<◌, ◌≤◌, ◌++◌, ◌∷◌, ◌&&◌, ◌||◌, ℕ, Bool, true, false, nat_lt, List, [], length, count_by, Option, Some, None, Ok, Err, MatchBool, if◌then◌else◌}
 use Rattle.std.specs.List.{list_any}
-use Rattle.param_sets.specs.declared.sps.Sps.{Sps}
-use Rattle.slice_header.specs.declared.slice_headers.SliceHeader.{SliceHeader}
-use Rattle.slice_header.specs.declared.dec_ref_pic_marking.DecRefPicMarking.{DecRefPicMarking}
-use Rattle.slice_header.specs.declared.dec_ref_pic_marking.DecRefPicMarking.TheVariants.{Idr, SlidingWindow, Adaptive}
-use Rattle.slice_header.specs.declared.dec_ref_pic_marking.MemoryManagementControlOperation.{MemoryManagementControlOperation}
-use Rattle.slice_header.specs.declared.dec_ref_pic_marking.MemoryManagementControlOperation.TheVariants.{FreeShortTerm, FreeLongTerm, AssignLongTerm, LimitLongTerm, CurrentLongTerm}
-use Rattle.order_count.specs.declared.counts.Counts.{Counts}
-use Rattle.order_count.specs.Pictures.{is_reference}
-use Rattle.order_count.specs.Resetting.{is_five, has_operation_five, counts_after_reset}
+use Rattle.set_types.specs.declared.sps.Sps.{Sps}
+use Rattle.header_types.specs.declared.slice_headers.SliceHeader.{SliceHeader}
+use Rattle.header_types.specs.declared.dec_ref_pic_marking.DecRefPicMarking.{DecRefPicMarking}
+use Rattle.header_types.specs.declared.dec_ref_pic_marking.DecRefPicMarking.TheVariants.{Idr, SlidingWindow, Adaptive}
+use Rattle.header_types.specs.declared.dec_ref_pic_marking.MemoryManagementControlOperation.{MemoryManagementControlOperation}
+use Rattle.header_types.specs.declared.dec_ref_pic_marking.MemoryManagementControlOperation.TheVariants.{FreeShortTerm, FreeLongTerm, AssignLongTerm, LimitLongTerm, CurrentLongTerm}
+use Rattle.pictures.specs.declared.counts.Counts.{Counts}
+use Rattle.header_types.specs.Pictures.{is_reference}
+use Rattle.pictures.specs.Resetting.{is_five, has_operation_five, counts_after_reset}
 use Rattle.ref_marking.specs.declared.fault.MarkFault.TheVariants.{BadMarking, TooManyReferences}
-use Rattle.ref_marking.specs.declared.frames.Frame.{Frame}
-use Rattle.ref_marking.specs.declared.frames.Term.{Term}
-use Rattle.ref_marking.specs.declared.frames.Term.TheVariants.{ShortTerm, LongTerm}
-use Rattle.ref_marking.specs.MarkedFrames.{Marked, most_frames}
+use Rattle.pictures.specs.declared.frames.Frame.{Frame}
+use Rattle.pictures.specs.declared.frames.Term.{Term}
+use Rattle.pictures.specs.declared.frames.Term.TheVariants.{ShortTerm, LongTerm}
+use Rattle.pictures.specs.MarkedFrames.{Marked, most_frames}
 use Rattle.ref_marking.specs.Steps.{Step, Stays, Then}
 use Rattle.ref_marking.specs.SlidingWindow.{SlidesWindow}
 use Rattle.ref_marking.specs.Operations.{FreesHolder, OperatesAll}
 
--- the frame of the current picture as it is marked: behind operation 5 its frame_num counts as 0, and its counts are
+-- the frame of the current picture as it is marked: after operation 5 its frame_num counts as 0, and its counts are
 -- those after resetting (8.2.1, 7.4.3)
 abbrev pub current_frame : ℕ → SliceHeader → Counts → Term → Frame
 current_frame id header counts term = record {

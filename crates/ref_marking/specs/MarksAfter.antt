@@ -4,27 +4,27 @@ use Rattle.std.specs.Int.{int_min}
 use Rattle.std.specs.List.{reduce}
 use Rattle.std.specs.Option.{option_eq}
 use Rattle.std.specs.Ordering.{int_eq}
-use Rattle.param_sets.specs.declared.sps.Sps.{Sps}
-use Rattle.param_sets.specs.Reading.{◌>>=◌}
-use Rattle.slice_header.specs.declared.slice_headers.SliceHeader.{SliceHeader}
-use Rattle.slice_header.specs.declared.dec_ref_pic_marking.DecRefPicMarking.{DecRefPicMarking}
-use Rattle.slice_header.specs.declared.dec_ref_pic_marking.DecRefPicMarking.TheVariants.{Idr, SlidingWindow, Adaptive}
-use Rattle.slice_header.specs.declared.dec_ref_pic_marking.MemoryManagementControlOperation.{MemoryManagementControlOperation}
-use Rattle.slice_header.specs.declared.dec_ref_pic_marking.MemoryManagementControlOperation.TheVariants.{FreeShortTerm, FreeLongTerm, AssignLongTerm, LimitLongTerm, FreeAll, CurrentLongTerm}
-use Rattle.order_count.specs.declared.counts.Counts.{Counts}
-use Rattle.order_count.specs.Pictures.{is_reference}
+use Rattle.set_types.specs.declared.sps.Sps.{Sps}
+use Rattle.base_types.specs.Chains.{◌>>=◌}
+use Rattle.header_types.specs.declared.slice_headers.SliceHeader.{SliceHeader}
+use Rattle.header_types.specs.declared.dec_ref_pic_marking.DecRefPicMarking.{DecRefPicMarking}
+use Rattle.header_types.specs.declared.dec_ref_pic_marking.DecRefPicMarking.TheVariants.{Idr, SlidingWindow, Adaptive}
+use Rattle.header_types.specs.declared.dec_ref_pic_marking.MemoryManagementControlOperation.{MemoryManagementControlOperation}
+use Rattle.header_types.specs.declared.dec_ref_pic_marking.MemoryManagementControlOperation.TheVariants.{FreeShortTerm, FreeLongTerm, AssignLongTerm, LimitLongTerm, FreeAll, CurrentLongTerm}
+use Rattle.pictures.specs.declared.counts.Counts.{Counts}
+use Rattle.header_types.specs.Pictures.{is_reference}
 use Rattle.ref_marking.specs.declared.fault.MarkFault.{MarkFault}
 use Rattle.ref_marking.specs.declared.fault.MarkFault.TheVariants.{BadMarking, NoShortTerm, TooManyReferences}
-use Rattle.ref_marking.specs.declared.frames.Frame.{Frame}
-use Rattle.ref_marking.specs.declared.frames.Term.{Term}
-use Rattle.ref_marking.specs.declared.frames.Term.TheVariants.{ShortTerm, LongTerm}
-use Rattle.ref_marking.specs.MarkedFrames.{Marked, no_frames, most_frames, without_idx, as_long_term}
-use Rattle.ref_marking.specs.PicNums.{pic_num, long_term_pic_num}
+use Rattle.pictures.specs.declared.frames.Frame.{Frame}
+use Rattle.pictures.specs.declared.frames.Term.{Term}
+use Rattle.pictures.specs.declared.frames.Term.TheVariants.{ShortTerm, LongTerm}
+use Rattle.pictures.specs.MarkedFrames.{Marked, no_frames, most_frames, without_idx, as_long_term}
+use Rattle.pictures.specs.PicNums.{pic_num, long_term_pic_num}
 use Rattle.ref_marking.specs.Steps.{Place}
 use Rattle.ref_marking.specs.Operations.{pic_num_x, max_idx, is_below}
 use Rattle.ref_marking.specs.Marking.{current_frame, idr_marked, contradict, current_idx}
 
--- a place behind one more frame
+-- a place after one more frame
 abbrev pub behind : Frame → Place → Place
 behind frame place = record place { earlier = frame ∷ place.earlier }
 

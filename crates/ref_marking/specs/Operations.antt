@@ -1,14 +1,14 @@
 -- Adaptive memory control decoded reference picture marking process (ITU-T H.264, 8.2.5.4): each operation.
 use Rattle.std.specs.Prelude.{◌≡◌, ◌<◌, ◌≤◌, ◌++◌, ◌∷◌, ◌+◌, ℕ, zero, suc, ℤ, pos, ◌-ℤ◌, Bool, true, nat_lt, List, [], All, filter, Option, Some, None, IsSomeAnd, Ok, Err}
-use Rattle.param_sets.specs.declared.sps.Sps.{Sps}
-use Rattle.slice_header.specs.declared.dec_ref_pic_marking.MemoryManagementControlOperation.{MemoryManagementControlOperation}
-use Rattle.slice_header.specs.declared.dec_ref_pic_marking.MemoryManagementControlOperation.TheVariants.{FreeShortTerm, FreeLongTerm, AssignLongTerm, LimitLongTerm, FreeAll, CurrentLongTerm}
+use Rattle.set_types.specs.declared.sps.Sps.{Sps}
+use Rattle.header_types.specs.declared.dec_ref_pic_marking.MemoryManagementControlOperation.{MemoryManagementControlOperation}
+use Rattle.header_types.specs.declared.dec_ref_pic_marking.MemoryManagementControlOperation.TheVariants.{FreeShortTerm, FreeLongTerm, AssignLongTerm, LimitLongTerm, FreeAll, CurrentLongTerm}
 use Rattle.ref_marking.specs.declared.fault.MarkFault.TheVariants.{BadMarking}
-use Rattle.ref_marking.specs.declared.frames.Frame.{Frame}
-use Rattle.ref_marking.specs.declared.frames.Term.{Term}
-use Rattle.ref_marking.specs.declared.frames.Term.TheVariants.{ShortTerm, LongTerm}
-use Rattle.ref_marking.specs.MarkedFrames.{Marked, no_frames, without_idx, as_long_term}
-use Rattle.ref_marking.specs.PicNums.{pic_num, long_term_pic_num, curr_pic_num}
+use Rattle.pictures.specs.declared.frames.Frame.{Frame}
+use Rattle.pictures.specs.declared.frames.Term.{Term}
+use Rattle.pictures.specs.declared.frames.Term.TheVariants.{ShortTerm, LongTerm}
+use Rattle.pictures.specs.MarkedFrames.{Marked, no_frames, without_idx, as_long_term}
+use Rattle.pictures.specs.PicNums.{pic_num, long_term_pic_num, curr_pic_num}
 use Rattle.ref_marking.specs.Steps.{Step, Stays, Then, Place, IsFirst, Frees}
 
 -- picNumX (8-39)

@@ -1,10 +1,10 @@
 -- Sliding window decoded reference picture marking process (ITU-T H.264, 8.2.5.3).
 use Rattle.std.specs.Prelude.{◌≡◌, ℕ, ℤ, ◌≤ℤ◌, ◌==◌, List, length, All, Some, IfSome, MatchBool}
-use Rattle.param_sets.specs.declared.sps.Sps.{Sps}
+use Rattle.set_types.specs.declared.sps.Sps.{Sps}
 use Rattle.ref_marking.specs.declared.fault.MarkFault.TheVariants.{NoShortTerm}
-use Rattle.ref_marking.specs.declared.frames.Frame.{Frame}
-use Rattle.ref_marking.specs.MarkedFrames.{most_frames}
-use Rattle.ref_marking.specs.PicNums.{pic_num}
+use Rattle.pictures.specs.declared.frames.Frame.{Frame}
+use Rattle.pictures.specs.MarkedFrames.{most_frames}
+use Rattle.pictures.specs.PicNums.{pic_num}
 use Rattle.ref_marking.specs.Steps.{Step, Stays, Frees}
 
 -- a short-term frame, and none has a smaller FrameNumWrap, which is PicNum

@@ -1,8 +1,8 @@
 -- Steps of marking: how a set of frames and the set after it belong together, or the fault (ITU-T H.264, 8.2.5).
 use Rattle.std.specs.Prelude.{◌≡◌, ◌++◌, ◌∷◌, ◌⊎◌, List, All, Result, Ok, Err}
 use Rattle.ref_marking.specs.declared.fault.MarkFault.{MarkFault}
-use Rattle.ref_marking.specs.declared.frames.Frame.{Frame}
-use Rattle.ref_marking.specs.MarkedFrames.{Marked}
+use Rattle.pictures.specs.declared.frames.Frame.{Frame}
+use Rattle.pictures.specs.MarkedFrames.{Marked}
 
 -- a relation between a set and what becomes of it
 abbrev pub Step : Type 1

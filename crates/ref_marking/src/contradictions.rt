@@ -2,10 +2,10 @@
 
 ghost use Rattle.std.specs.Prelude.{◌≡◌};
 ghost use Rattle.std.specs.List.{list_any};
-ghost use Rattle.order_count.specs.Resetting.{is_five};
+ghost use Rattle.pictures.specs.Resetting.{is_five};
 ghost use Rattle.ref_marking.specs.Marking.{repeats, is_four, is_six, names_frame, contradict, current_idx};
 
-use slice_header::MemoryManagementControlOperation as Operation;
+use header_types::MemoryManagementControlOperation as Operation;
 
 // Whether 4, 5 or 6 stands twice, or 5 stands with 1, 2 or 3.
 pub(crate) fn contradict(operations: &[Operation]) -> bool

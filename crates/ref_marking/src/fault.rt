@@ -15,3 +15,15 @@ pub enum MarkFault {
     #[error("more reference frames than max_num_ref_frames")]
     TooManyReferences = 3,
 }
+
+impl MarkFault {
+    ghost use Rattle.std.specs.Prelude.{◌≡◌};
+    ghost use Rattle.ref_marking.specs.FaultNumbers.{number_of};
+
+    /// The number, from 1 in the order above.
+    pub fn number(self) -> u8
+        ensures { result ≡ number_of self }
+    {
+        self as u8
+    }
+}

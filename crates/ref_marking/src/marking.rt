@@ -2,22 +2,21 @@
 
 ghost use Rattle.std.specs.Prelude.{◌≡◌, IsTrue, Result};
 ghost use Rattle.ref_marking.specs.declared.fault.MarkFault.{MarkFault};
-ghost use Rattle.ref_marking.specs.MarkedFrames.{Marked, with_term};
-ghost use Rattle.order_count.specs.PicOrderCnt.{are_in_range};
-ghost use Rattle.order_count.specs.Resetting.{counts_after_reset};
-ghost use Rattle.ref_marking.specs.declared.frames.Term.TheVariants.{ShortTerm};
+ghost use Rattle.pictures.specs.MarkedFrames.{Marked, with_term};
+ghost use Rattle.pictures.specs.PicOrderCnt.{are_in_range};
+ghost use Rattle.pictures.specs.Resetting.{counts_after_reset};
+ghost use Rattle.pictures.specs.declared.frames.Term.TheVariants.{ShortTerm};
 ghost use Rattle.ref_marking.specs.Marking.{current_frame, idr_marked, Joins, JoinsAs, MarksPicture};
 ghost use Rattle.ref_marking.specs.MarksAfter.{marks_after, adaptively_marked, joined, joined_as};
 
-use crate::au_id::AuId;
 use crate::contradictions::{contradict, current_idx};
 use crate::fault::MarkFault;
-use crate::frames::{Frame, Term};
-use crate::marked_frames::Marks;
-use crate::sliding_window::most_frames;
-use order_count::{Counts, after_reset, resets};
-use param_sets::Sps;
-use slice_header::{DecRefPicMarking, MemoryManagementControlOperation as Operation, SliceHeader};
+use crate::freeing::without_long_term;
+use crate::operations::{allowed, operate_all};
+use crate::sliding_window::{most_frames, slide_window};
+use header_types::{DecRefPicMarking, MemoryManagementControlOperation as Operation, SliceHeader};
+use pictures::{AuId, Counts, Frame, Marks, Term, after_reset, resets};
+use set_types::Sps;
 
 /// The frames that are marked after a picture: the set before it, its access unit's id, its sequence parameter set,
 /// its slice header, and its counts before resetting.
@@ -52,13 +51,17 @@ pub fn mark(
             long_term_reference_flag,
             ..
         } => Ok(mark_idr(*long_term_reference_flag, current)),
-        DecRefPicMarking::SlidingWindow => marks
-            .copy()
-            .slide_window(sps, header.frame_num)?
-            .join(sps, current),
-        DecRefPicMarking::Adaptive { operations } => marks
-            .copy()
-            .mark_adaptively(sps, header.frame_num, operations.as_slice(), current),
+        DecRefPicMarking::SlidingWindow => {
+            let marks = slide_window(marks.copy(), sps, header.frame_num)?;
+            join(marks, sps, current)
+        }
+        DecRefPicMarking::Adaptive { operations } => mark_adaptively(
+            marks.copy(),
+            sps,
+            header.frame_num,
+            operations.as_slice(),
+            current,
+        ),
     }
 }
 
@@ -92,58 +95,56 @@ fn mark_idr(long_term_reference_flag: bool, current: Frame) -> Marks
     marks
 }
 
-impl Marks {
-    // The current frame joins the others, where there is room for it.
-    #[tactic(auto, using(crate::proofs::StepLaws::joins), unfolding(crate::specs::MarksAfter::joined))]
-    fn join(mut self, sps: &Sps, current: Frame) -> Result<Marks, MarkFault>
-        ensures step { Joins sps.now current self result }
-        ensures exact { result ≡ joined sps.now current self }
-    {
-        if self.frames.len() >= most_frames(sps) {
-            return Err(MarkFault::TooManyReferences);
-        }
-        self.frames.push(current);
-        Ok(self)
+// The current frame joins the others, where there is room for it.
+#[tactic(auto, using(crate::proofs::StepLaws::joins), unfolding(crate::specs::MarksAfter::joined))]
+fn join(mut marks: Marks, sps: &Sps, current: Frame) -> Result<Marks, MarkFault>
+    ensures step { Joins sps.now current marks result }
+    ensures exact { result ≡ joined sps.now current marks }
+{
+    if marks.frames.len() >= most_frames(sps) {
+        return Err(MarkFault::TooManyReferences);
     }
+    marks.frames.push(current);
+    Ok(marks)
+}
 
-    // Adaptive memory control marking (8.2.5.4).
-    #[tactic(auto, unfolding(crate::specs::MarksAfter::adaptively_marked))]
-    fn mark_adaptively(
-        self,
-        sps: &Sps,
-        frame_num: u16,
-        operations: &[Operation],
-        current: Frame,
-    ) -> Result<Marks, MarkFault>
-        ensures { result ≡ adaptively_marked sps.now frame_num operations.now (with_term current) self }
-    {
-        if contradict(operations) {
-            return Err(MarkFault::BadMarking);
-        }
-        let marks = self.operate_all(sps, frame_num, operations)?;
-        marks.join_as(sps, current, current_idx(operations))
+// Adaptive memory control marking (8.2.5.4).
+#[tactic(auto, unfolding(crate::specs::MarksAfter::adaptively_marked))]
+fn mark_adaptively(
+    marks: Marks,
+    sps: &Sps,
+    frame_num: u16,
+    operations: &[Operation],
+    current: Frame,
+) -> Result<Marks, MarkFault>
+    ensures { result ≡ adaptively_marked sps.now frame_num operations.now (with_term current) marks }
+{
+    if contradict(operations) {
+        return Err(MarkFault::BadMarking);
     }
+    let marks = operate_all(marks, sps, frame_num, operations)?;
+    join_as(marks, sps, current, current_idx(operations))
+}
 
-    // The current frame joins the others: with an index as a long-term frame, and another frame that holds the index is
-    // freed (8.2.5.4.6).
-    #[tactic(auto, using(crate::proofs::StepLaws::joins_as), unfolding(crate::specs::MarksAfter::holder_freed))]
-    fn join_as(
-        self,
-        sps: &Sps,
-        current: Frame,
-        long_term_frame_idx: Option<u32>,
-    ) -> Result<Marks, MarkFault>
-        ensures step { JoinsAs long_term_frame_idx sps.now (with_term current) self result }
-        ensures exact { result ≡ joined_as long_term_frame_idx sps.now (with_term current) self }
-    {
-        let Some(idx) = long_term_frame_idx else {
-            return self.join(sps, current.with_term(Term::ShortTerm));
-        };
-        let long_term_frame_idx = self.allowed(idx)?;
-        let current = current.with_term(Term::LongTerm {
-            long_term_frame_idx,
-        });
-        self.without_long_term(long_term_frame_idx)
-            .join(sps, current)
-    }
+// The current frame joins the others: with an index as a long-term frame, and another frame that holds the index is
+// freed (8.2.5.4.6).
+#[tactic(auto, using(crate::proofs::StepLaws::joins_as), unfolding(crate::specs::MarksAfter::holder_freed))]
+fn join_as(
+    marks: Marks,
+    sps: &Sps,
+    current: Frame,
+    long_term_frame_idx: Option<u32>,
+) -> Result<Marks, MarkFault>
+    ensures step { JoinsAs long_term_frame_idx sps.now (with_term current) marks result }
+    ensures exact { result ≡ joined_as long_term_frame_idx sps.now (with_term current) marks }
+{
+    let Some(idx) = long_term_frame_idx else {
+        return join(marks, sps, current.with_term(Term::ShortTerm));
+    };
+    let long_term_frame_idx = allowed(&marks, idx)?;
+    let current = current.with_term(Term::LongTerm {
+        long_term_frame_idx,
+    });
+    let marks = without_long_term(marks, long_term_frame_idx);
+    join(marks, sps, current)
 }

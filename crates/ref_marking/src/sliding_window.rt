@@ -3,14 +3,15 @@
 ghost use Rattle.std.specs.Prelude.{◌≡◌, ◌≤◌, max, filter_map};
 ghost use Rattle.std.specs.Int.{int_min};
 ghost use Rattle.std.specs.List.{reduce};
-ghost use Rattle.ref_marking.specs.MarkedFrames.{most_frames};
-ghost use Rattle.ref_marking.specs.PicNums.{pic_num};
+ghost use Rattle.pictures.specs.MarkedFrames.{most_frames};
+ghost use Rattle.pictures.specs.PicNums.{pic_num};
 ghost use Rattle.ref_marking.specs.SlidingWindow.{SlidesWindow};
 ghost use Rattle.ref_marking.specs.MarksAfter.{window_slid};
 
 use crate::fault::MarkFault;
-use crate::marked_frames::Marks;
-use param_sets::Sps;
+use crate::freeing::{short_term_place, without};
+use pictures::Marks;
+use set_types::Sps;
 
 // How many frames may be marked.
 pub(crate) fn most_frames(sps: &Sps) -> usize
@@ -20,30 +21,27 @@ pub(crate) fn most_frames(sps: &Sps) -> usize
     usize::from(sps.max_num_ref_frames.get().max(1))
 }
 
-impl Marks {
-    // The least FrameNumWrap of a short-term frame.
-    fn least_frame_num_wrap(&self, sps: &Sps, frame_num: u16) -> Option<i64>
-        ensures { result ≡ reduce int_min (filter_map (pic_num sps.now frame_num) self.now.frames) }
-    {
-        self.frames()
-            .iter()
-            .filter_map(|frame| frame.pic_num(sps, frame_num))
-            .min()
-    }
+// The least FrameNumWrap of a short-term frame.
+fn least_frame_num_wrap(marks: &Marks, sps: &Sps, frame_num: u16) -> Option<i64>
+    ensures { result ≡ reduce int_min (filter_map (pic_num sps.now frame_num) marks.now.frames) }
+{
+    marks
+        .frames()
+        .iter()
+        .filter_map(|frame| frame.pic_num(sps, frame_num))
+        .min()
+}
 
-    // Frees the short-term frame of the least FrameNumWrap, where as many frames are marked as may be.
-    #[tactic(auto, using(crate::proofs::StepLaws::slides_window), unfolding(crate::specs::MarksAfter::window_slid))]
-    pub(crate) fn slide_window(self, sps: &Sps, frame_num: u16) -> Result<Marks, MarkFault>
-        ensures step { SlidesWindow sps.now frame_num self result }
-        ensures exact { result ≡ window_slid sps.now frame_num self }
-    {
-        if self.frames.len() != most_frames(sps) {
-            return Ok(self);
-        }
-        let least = self
-            .least_frame_num_wrap(sps, frame_num)
-            .ok_or(MarkFault::NoShortTerm)?;
-        let place = self.short_term_place(sps, frame_num, least);
-        self.without(place, MarkFault::NoShortTerm)
+// Frees the short-term frame of the least FrameNumWrap, where as many frames are marked as may be.
+#[tactic(auto, using(crate::proofs::StepLaws::slides_window), unfolding(crate::specs::MarksAfter::window_slid))]
+pub(crate) fn slide_window(marks: Marks, sps: &Sps, frame_num: u16) -> Result<Marks, MarkFault>
+    ensures step { SlidesWindow sps.now frame_num marks result }
+    ensures exact { result ≡ window_slid sps.now frame_num marks }
+{
+    if marks.frames.len() != most_frames(sps) {
+        return Ok(marks);
     }
+    let least = least_frame_num_wrap(&marks, sps, frame_num).ok_or(MarkFault::NoShortTerm)?;
+    let place = short_term_place(&marks, sps, frame_num, least);
+    without(marks, place, MarkFault::NoShortTerm)
 }

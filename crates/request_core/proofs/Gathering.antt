@@ -3,8 +3,9 @@ use Rattle.std.proofs.Common.{◌≡◌, ◌<◌, ◌≤◌, List, [], ◌∷◌
 use Rattle.std.specs.Prelude.{Result, if◌then◌else◌}
 use Rattle.std.proofs.lemmas.List.{map-append}
 use Rattle.std.proofs.lemmas.Bool.{le-leb, lt-leb, cases_lt}
-use Rattle.request_core.specs.declared.fault.ValidityFault.{ValidityFault}
-use Rattle.request_core.specs.Numbers.{number_of, lower, joined, gathered}
+use Rattle.outcomes.specs.declared.validity_fault.ValidityFault.{ValidityFault}
+use Rattle.outcomes.specs.Numbers.{number_of}
+use Rattle.request_core.specs.Numbers.{lower, joined, gathered}
 use Rattle.request_core.specs.Gathering.{behind}
 
 -- the first is kept, or the second

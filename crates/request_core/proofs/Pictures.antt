@@ -1,12 +1,12 @@
 -- What a picture leads to where nothing stands in its way.
 use Rattle.std.proofs.Common.{◌≡◌, ℕ, List, map, Ok, ap, ◌∙◌}
 use Rattle.std.specs.Prelude.{Result}
-use Rattle.param_sets.specs.Reading.{◌>>=◌}
-use Rattle.order_count.specs.declared.counts.Counts.{Counts}
+use Rattle.base_types.specs.Chains.{◌>>=◌}
+use Rattle.pictures.specs.declared.counts.Counts.{Counts}
 use Rattle.order_count.specs.Counting.{counts_of}
-use Rattle.ref_marking.specs.MarkedFrames.{Marked}
+use Rattle.pictures.specs.MarkedFrames.{Marked}
 use Rattle.ref_marking.specs.MarksAfter.{marks_after}
-use Rattle.request_core.specs.declared.fault.ValidityFault.{ValidityFault}
+use Rattle.outcomes.specs.declared.validity_fault.ValidityFault.{ValidityFault}
 use Rattle.request_core.specs.declared.stop.Stop.{Stop}
 use Rattle.request_core.specs.declared.stop.Stop.TheVariants.{Fault, Memory}
 use Rattle.request_core.specs.Answers.{Ends}
@@ -35,7 +35,7 @@ stopped : {Y Z : Type 0} (end : Stop) (says : Result Y ValidityFault) (f : Y →
 stopped (Fault fault) says f is = ap (λ answer. answer >>= f) is
 stopped Memory says f is = record {}
 
--- and so does what ends the rest behind a part that is done
+-- and so does what ends the rest after a part that is done
 passed : {Y Z : Type 0} (end : Stop) (says : Result Y ValidityFault) (x : Y) (f : Y → Result Z ValidityFault)
     → says ≡ Ok x → Ends end (f x) → Ends end (says >>= f)
 passed (Fault fault) says x f is stops = ap (λ answer. answer >>= f) is ∙ stops

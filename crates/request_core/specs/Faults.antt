@@ -4,20 +4,20 @@ use Rattle.std.specs.Bool.{beq}
 use Rattle.std.specs.Ordering.{int_eq}
 use Rattle.std.specs.List.{list_any}
 use lib.Pointwise.{pointwise}
-use Rattle.param_sets.specs.declared.sps.Sps.{Sps}
-use Rattle.slice_header.specs.declared.slice_headers.SliceHeader.{SliceHeader}
-use Rattle.slice_header.specs.declared.dec_ref_pic_marking.DecRefPicMarking.{DecRefPicMarking}
-use Rattle.slice_header.specs.declared.dec_ref_pic_marking.DecRefPicMarking.TheVariants.{Idr, SlidingWindow, Adaptive}
-use Rattle.slice_header.specs.declared.dec_ref_pic_marking.MemoryManagementControlOperation.{MemoryManagementControlOperation}
-use Rattle.slice_header.specs.declared.dec_ref_pic_marking.MemoryManagementControlOperation.TheVariants.{FreeShortTerm, FreeLongTerm, AssignLongTerm, LimitLongTerm, FreeAll, CurrentLongTerm}
-use Rattle.order_count.specs.Pictures.{is_idr, is_reference}
-use Rattle.order_count.specs.FrameNumbers.{max_frame_num}
-use Rattle.ref_marking.specs.declared.frames.Frame.{Frame}
-use Rattle.ref_marking.specs.declared.frames.Term.{Term}
-use Rattle.ref_marking.specs.declared.frames.Term.TheVariants.{ShortTerm}
-use Rattle.request_core.specs.declared.fault.ValidityFault.{ValidityFault}
-use Rattle.request_core.specs.declared.fault.ValidityFault.TheVariants.{Redundant, SliceOrder, SliceMismatch, NoIdr, SpsChange, IdrFrameNum, FrameNumGap, FrameNumRepeat}
-use Rattle.param_sets.specs.SameSets.{same_sps}
+use Rattle.set_types.specs.declared.sps.Sps.{Sps}
+use Rattle.header_types.specs.declared.slice_headers.SliceHeader.{SliceHeader}
+use Rattle.header_types.specs.declared.dec_ref_pic_marking.DecRefPicMarking.{DecRefPicMarking}
+use Rattle.header_types.specs.declared.dec_ref_pic_marking.DecRefPicMarking.TheVariants.{Idr, SlidingWindow, Adaptive}
+use Rattle.header_types.specs.declared.dec_ref_pic_marking.MemoryManagementControlOperation.{MemoryManagementControlOperation}
+use Rattle.header_types.specs.declared.dec_ref_pic_marking.MemoryManagementControlOperation.TheVariants.{FreeShortTerm, FreeLongTerm, AssignLongTerm, LimitLongTerm, FreeAll, CurrentLongTerm}
+use Rattle.header_types.specs.Pictures.{is_idr, is_reference}
+use Rattle.set_types.specs.FrameNumbers.{max_frame_num}
+use Rattle.pictures.specs.declared.frames.Frame.{Frame}
+use Rattle.pictures.specs.declared.frames.Term.{Term}
+use Rattle.pictures.specs.declared.frames.Term.TheVariants.{ShortTerm}
+use Rattle.outcomes.specs.declared.validity_fault.ValidityFault.{ValidityFault}
+use Rattle.outcomes.specs.declared.validity_fault.ValidityFault.TheVariants.{Redundant, SliceOrder, SliceMismatch, NoIdr, SpsChange, IdrFrameNum, FrameNumGap, FrameNumRepeat}
+use Rattle.set_types.specs.SameSets.{same_sps}
 use Rattle.request_core.specs.States.{FoldState}
 use Rattle.request_core.specs.Slices.{SliceRead}
 
@@ -106,7 +106,7 @@ repeats state header =
     header.frame_num == state.prev_ref_frame_num
     || list_any (is_short_term header.frame_num) state.marks.frames
 
--- the picture behind those before it
+-- the picture after those before it
 abbrev pub picture_rows : FoldState → Sps → SliceHeader → List Row
 picture_rows state sps header =
     (NoIdr, not (is_idr header) && is_none state.active)

@@ -1,27 +1,27 @@
 -- The fold over a stream (ITU-T H.264, 8.2): one step of it, and all.
 use Rattle.std.specs.Prelude.{ℕ, ◌||◌, List, [], ◌∷◌, map, filter, Option, None, Some, Result, Ok, Err, if◌then◌else◌, ⊤}
 use Rattle.annexb.specs.NalUnit.{is_slice}
-use Rattle.param_sets.specs.Reading.{◌>>=◌}
+use Rattle.base_types.specs.Chains.{◌>>=◌}
 use Rattle.access_unit.specs.Sets.{sets_of}
-use Rattle.order_count.specs.declared.counts.Counts.{Counts}
+use Rattle.pictures.specs.declared.counts.Counts.{Counts}
 use Rattle.order_count.specs.declared.fault.OrderRange as counting
 use Rattle.order_count.specs.Anchors.{anchor_after_of}
 use Rattle.order_count.specs.Counting.{counts_of}
-use Rattle.order_count.specs.Pictures.{is_idr, is_reference}
-use Rattle.order_count.specs.PicOrderCnt.{pic_order_cnt}
-use Rattle.order_count.specs.Resetting.{has_operation_five, counts_after_reset}
+use Rattle.header_types.specs.Pictures.{is_idr, is_reference}
+use Rattle.pictures.specs.PicOrderCnt.{pic_order_cnt}
+use Rattle.pictures.specs.Resetting.{has_operation_five, counts_after_reset}
 use Rattle.ref_marking.specs.declared.fault.MarkFault.{MarkFault}
 use Rattle.ref_marking.specs.declared.fault.MarkFault.TheVariants as marking
-use Rattle.ref_marking.specs.MarkedFrames.{Marked}
+use Rattle.pictures.specs.MarkedFrames.{Marked}
 use Rattle.ref_marking.specs.MarksAfter.{marks_after}
 use Rattle.ref_lists.specs.declared.fault.ListFault.{ListFault}
 use Rattle.ref_lists.specs.declared.fault.ListFault.TheVariants as listing
 use Rattle.ref_lists.specs.ReferenceLists.{lists_of}
-use Rattle.request_core.specs.declared.fault.ValidityFault.{ValidityFault}
-use Rattle.request_core.specs.declared.fault.ValidityFault.TheVariants.{MissingPps, OrderRange, OrderTie, NoReference, BadModification, BadMarking, TooManyReferences}
-use Rattle.request_core.specs.declared.outcome.Plan.{Plan}
-use Rattle.request_core.specs.declared.outcome.Outcome.{Outcome}
-use Rattle.request_core.specs.declared.outcome.Outcome.TheVariants as outcomes
+use Rattle.outcomes.specs.declared.validity_fault.ValidityFault.{ValidityFault}
+use Rattle.outcomes.specs.declared.validity_fault.ValidityFault.TheVariants.{MissingPps, OrderRange, OrderTie, NoReference, BadModification, BadMarking, TooManyReferences}
+use Rattle.outcomes.specs.declared.outcome.Plan.{Plan}
+use Rattle.outcomes.specs.declared.outcome.Outcome.{Outcome}
+use Rattle.outcomes.specs.declared.outcome.Outcome.TheVariants as outcomes
 use Rattle.request_core.specs.ParameterSets.{put_all}
 use Rattle.request_core.specs.States.{FoldState, no_units}
 use Rattle.request_core.specs.Numbers.{gathered}
@@ -53,7 +53,7 @@ with_lists slice (Err fault) = Err (list_fault fault)
 abbrev pub listed : Marked → Counts → SliceRead → Result ListedSlice ValidityFault
 listed marks counts slice = with_lists slice (lists_of marks slice.sps slice.header counts)
 
--- the frames that are marked behind the picture, or the fault of its marking
+-- the frames that are marked after the picture, or the fault of its marking
 abbrev pub marked : Result Marked MarkFault → Result Marked ValidityFault
 marked (Ok marks) = Ok marks
 marked (Err marking.TooManyReferences) = Err TooManyReferences
@@ -65,7 +65,7 @@ next_ref_frame_num state slice =
     if is_reference slice.header then (if has_operation_five slice.header then 0 else slice.header.frame_num)
     else state.prev_ref_frame_num
 
--- the state behind a picture
+-- the state after a picture
 abbrev pub state_after : FoldState → SliceRead → Counts → Marked → FoldState
 state_after state slice counts marks = record {
   tables = state.tables;
@@ -84,7 +84,7 @@ plan_of state id first counts slices = record {
   begins_period = is_idr first.header || has_operation_five first.header;
 }
 
--- what a picture leads to whose slices agree: the state behind it and its plan, or the first fault
+-- what a picture leads to whose slices agree: the state after it and its plan, or the first fault
 unfoldable pub picture_behind : FoldState → ℕ → SliceRead → List SliceRead → Result (FoldState × Plan) ValidityFault
 picture_behind state id first slices =
     passes (first_shown (picture_rows state first.sps first.header)) >>= λ passed.
@@ -113,11 +113,11 @@ abbrev pub outcome_of : FoldState → Result (FoldState × Plan) ValidityFault �
 outcome_of state (Ok planned) = (planned.0, outcomes.Plan planned.1)
 outcome_of state (Err fault) = (state, outcomes.Fault fault)
 
--- one step: the state behind a unit, and what becomes of the unit
+-- one step: the state after a unit, and what becomes of the unit
 unfoldable pub fold_step : FoldState → ℕ → List (List ℕ) → FoldState × Outcome
 fold_step state id unit = outcome_of (with_sets state unit) (planned (with_sets state unit) id unit)
 
--- the outcomes of the units behind a state, each with its id
+-- the outcomes of the units after a state, each with its id
 abbrev pub outcomes_from : FoldState → List (ℕ × List (List ℕ)) → List Outcome
 outcomes_from state [] = []
 outcomes_from state (unit ∷ units) =

@@ -1,6 +1,6 @@
--- What slices give, one behind the other.
+-- What slices give, one after the other.
 use Rattle.std.specs.Prelude.{List, [], ◌∷◌, ◌++◌, Option, None, Some, Result, Ok, Err}
-use Rattle.request_core.specs.declared.fault.ValidityFault.{ValidityFault}
+use Rattle.outcomes.specs.declared.validity_fault.ValidityFault.{ValidityFault}
 use Rattle.request_core.specs.Numbers.{lower}
 
 -- what was found: the items, unless there was a fault

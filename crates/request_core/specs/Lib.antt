@@ -1,6 +1,5 @@
 pub mod ParameterSets
 pub mod States
-pub mod Names
 pub mod Numbers
 pub mod Slices
 pub mod Faults
@@ -8,4 +7,3 @@ pub mod Requests
 pub mod Fold
 pub mod Answers
 pub mod Gathering
-pub mod OutputOrder

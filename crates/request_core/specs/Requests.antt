@@ -1,8 +1,8 @@
 -- The requests of a picture (Linux media documentation, stateless codec controls for H.264 in slice-based mode).
 use Rattle.std.specs.Prelude.{ℕ, Bool, true, false, List, [], ◌∷◌, ◌++◌, Option, option_map}
 use Rattle.annexb.specs.ByteStream.{start_code}
-use Rattle.order_count.specs.declared.counts.Counts.{Counts}
-use Rattle.ref_marking.specs.declared.frames.Frame.{Frame}
+use Rattle.pictures.specs.declared.counts.Counts.{Counts}
+use Rattle.pictures.specs.declared.frames.Frame.{Frame}
 use Rattle.h264_controls.specs.declared.controls.Controls.{Controls}
 use Rattle.h264_controls.specs.declared.request.Request.{Request}
 use Rattle.h264_controls.specs.SpsControl.{sps_control}

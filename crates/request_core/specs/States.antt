@@ -1,9 +1,9 @@
 -- What the fold over a stream keeps of the units before (ITU-T H.264, 7.4.1.2.1, 7.4.3, 8.2.1 and 8.2.5).
 use Rattle.std.specs.Prelude.{ℕ, Option, None}
-use Rattle.param_sets.specs.declared.sps.Sps.{Sps}
+use Rattle.set_types.specs.declared.sps.Sps.{Sps}
 use Rattle.order_count.specs.declared.anchors.Anchor.{Anchor}
 use Rattle.order_count.specs.Anchors.{no_pictures}
-use Rattle.ref_marking.specs.MarkedFrames.{Marked, no_frames}
+use Rattle.pictures.specs.MarkedFrames.{Marked, no_frames}
 use Rattle.request_core.specs.ParameterSets.{ParameterSets, no_sets}
 
 -- the parameter sets, the set of the last IDR picture, what counting keeps, PrevRefFrameNum, and the marked frames

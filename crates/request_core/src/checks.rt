@@ -2,17 +2,17 @@
 
 ghost use Rattle.std.specs.Prelude.{◌≡◌, ◌==◌, ◌∷◌, ◌&&◌, Bool, not, IsTrue, ◌↔◌, map};
 ghost use Rattle.std.specs.List.{list_any};
-ghost use Rattle.order_count.specs.FrameNumbers.{max_frame_num};
+ghost use Rattle.set_types.specs.FrameNumbers.{max_frame_num};
 ghost use lib.Pointwise.{pointwise};
-ghost use Rattle.param_sets.specs.SameSets.{same_sps};
+ghost use Rattle.set_types.specs.SameSets.{same_sps};
 ghost use Rattle.request_core.specs.Faults.{first_shown, is_redundant, rises_from, same_operation, same_marking, same_picture, slice_rows, is_active, is_none, is_short_term, follows, repeats, picture_rows};
 
-use crate::fault::ValidityFault;
 use crate::slices::Slice;
 use crate::state::State;
-use param_sets::Sps;
-use ref_marking::{Frame, Term};
-use slice_header::{DecRefPicMarking, MemoryManagementControlOperation, SliceHeader};
+use header_types::{DecRefPicMarking, MemoryManagementControlOperation, SliceHeader};
+use outcomes::ValidityFault;
+use pictures::{Frame, Term};
+use set_types::Sps;
 
 /// The first fault that the slices show by themselves.
 pub(crate) fn slice_fault(first: &Slice, others: &[Slice]) -> Option<ValidityFault>
@@ -120,7 +120,7 @@ fn same_operations(
     a == b
 }
 
-/// The first fault that the picture shows behind those before it.
+/// The first fault that the picture shows after those before it.
 pub(crate) fn picture_fault(state: &State, sps: &Sps, header: &SliceHeader) -> Option<ValidityFault>
     ensures { result ≡ first_shown (picture_rows state.now sps.now header.now) }
 {

@@ -1,13 +1,14 @@
 //! What the slices of a unit give: all that they have, or the least of their faults.
 
 ghost use Rattle.std.specs.Prelude.{◌≡◌, [], OnOk, IfOk, Ok, Result};
-ghost use Rattle.request_core.specs.declared.fault.ValidityFault.{ValidityFault};
-ghost use Rattle.request_core.specs.Numbers.{number_of, lower, gathered};
+ghost use Rattle.outcomes.specs.declared.validity_fault.ValidityFault.{ValidityFault};
+ghost use Rattle.outcomes.specs.Numbers.{number_of};
+ghost use Rattle.request_core.specs.Numbers.{lower, gathered};
 ghost use Rattle.request_core.specs.Answers.{Answers, AnswersAs};
 ghost use Rattle.request_core.specs.Gathering.{behind, lower_behind};
 
-use crate::fault::ValidityFault;
 use crate::stop::Stop;
+use outcomes::ValidityFault;
 use std::alloc::{AllocError, Global};
 use std::marker::Model;
 
@@ -20,7 +21,7 @@ pub(crate) struct Gathered<T> {
 
 impl<T> Model for Gathered<T> {
     ghost use Rattle.std.specs.Prelude.{Result, List};
-    ghost use Rattle.request_core.specs.declared.fault.ValidityFault.{ValidityFault};
+    ghost use Rattle.outcomes.specs.declared.validity_fault.ValidityFault.{ValidityFault};
     ghost use Rattle.request_core.specs.Gathering.{found};
 
     ghost Value = { Result (List T) ValidityFault };

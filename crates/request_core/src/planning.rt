@@ -3,28 +3,29 @@
 ghost use Rattle.std.specs.Prelude.{◌≡◌, ◌∷◌, ◌++◌, map, Ok, Err, Bool, List, IfOk, IsTrue, not, false, length, ◌≤◌, option_map};
 ghost use Rattle.h264_controls.specs.PredWeightsControl.{pred_weights_control};
 ghost use Rattle.order_count.specs.Counting.{counts_of};
-ghost use Rattle.order_count.specs.PicOrderCnt.{are_in_range};
-ghost use Rattle.order_count.specs.Resetting.{counts_after_reset};
+ghost use Rattle.pictures.specs.PicOrderCnt.{are_in_range};
+ghost use Rattle.pictures.specs.Resetting.{counts_after_reset};
 ghost use Rattle.ref_marking.specs.MarksAfter.{marks_after};
 ghost use Rattle.request_core.specs.Numbers.{gathered};
 ghost use Rattle.request_core.specs.Requests.{controls_of, request_of, requests_of};
 ghost use Rattle.request_core.specs.Fold.{counted, listed, marked};
 ghost use Rattle.request_core.specs.Answers.{Answers, AnswersAs};
 
-use crate::fault::ValidityFault;
 use crate::gathered::Gathered;
-use crate::request::Requests;
 use crate::slices::Slice;
 use crate::state::State;
 use crate::stop::Stop;
+use base_types::Shared;
 use h264_controls::{
     Controls, Request, V4l2CtrlH264DecodeParams, V4l2CtrlH264PredWeights, V4l2CtrlH264SliceParams,
 };
-use order_count::{Counts, count};
-use param_sets::{Shared, Sps};
-use ref_lists::{List, ListFault, lists};
-use ref_marking::{AuId, MarkFault, Marks, mark};
-use slice_header::SliceHeader;
+use header_types::SliceHeader;
+use order_count::count;
+use outcomes::{Requests, ValidityFault};
+use pictures::{AuId, Counts, List, Marks};
+use ref_lists::{ListFault, lists};
+use ref_marking::{MarkFault, mark};
+use set_types::Sps;
 use std::alloc::{AllocError, Global};
 use std::marker::Model;
 
@@ -56,7 +57,7 @@ pub(crate) fn count_picture(state: &State, slice: &Slice) -> Result<Counts, Stop
     }
 }
 
-/// The frames that are marked behind the picture.
+/// The frames that are marked after the picture.
 pub(crate) fn mark_picture(
     state: &State,
     id: AuId,

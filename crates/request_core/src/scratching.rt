@@ -3,12 +3,12 @@
 ghost use Rattle.std.specs.Prelude.{◌≡◌, IfOk};
 ghost use Rattle.request_core.specs.Fold.{outcomes_of, outcomes_from};
 
-use crate::outcome::Outcome;
 use crate::state::State;
 use crate::stepping::step;
 use crate::steps::Steps;
 use access_unit::Unit;
-use ref_marking::AuId;
+use outcomes::Outcome;
+use pictures::AuId;
 use std::alloc::{AllocError, Global};
 
 /// What becomes of each unit of a stream, in order: the plain fold that other ways are compared with.

@@ -5,8 +5,9 @@ ghost use Rattle.h264_controls.specs.PpsControl.{pps_control};
 ghost use Rattle.h264_controls.specs.ScalingMatrixControl.{scaling_matrix_control};
 ghost use Rattle.h264_controls.specs.SpsControl.{sps_control};
 
+use base_types::Shared;
 use h264_controls::{V4l2CtrlH264Pps, V4l2CtrlH264ScalingMatrix, V4l2CtrlH264Sps};
-use param_sets::{Pps, Shared, Sps};
+use set_types::{Pps, Sps};
 use std::alloc::{AllocError, Global};
 use std::marker::Model;
 

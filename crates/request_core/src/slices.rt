@@ -5,14 +5,17 @@ ghost use Rattle.request_core.specs.Numbers.{joined, gathered, lower};
 ghost use Rattle.request_core.specs.Slices.{slice_at, header_fault};
 ghost use Rattle.request_core.specs.Answers.{Answers, AnswersAs, StopsAt};
 
-use crate::fault::ValidityFault;
 use crate::gathered::Gathered;
 use crate::set_controls::{SetControls, copied};
 use crate::stop::Stop;
 use crate::tables::Tables;
 use access_unit::SharedNal;
-use param_sets::{Shared, Sps};
-use slice_header::{HeaderFault, SliceHeader, peek, read};
+use base_types::Shared;
+use header_types::SliceHeader;
+use outcomes::ValidityFault;
+use set_types::Sps;
+use slice_front::{HeaderFault, peek};
+use slice_header::read;
 use std::alloc::Global;
 use std::marker::Model;
 

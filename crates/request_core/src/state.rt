@@ -5,9 +5,10 @@ ghost use Rattle.request_core.specs.States.{no_units};
 
 use crate::set_controls::SetControls;
 use crate::tables::Tables;
+use base_types::Shared;
 use order_count::Anchor;
-use param_sets::{Shared, Sps};
-use ref_marking::Marks;
+use pictures::Marks;
+use set_types::Sps;
 use std::alloc::{AllocError, Global};
 use std::marker::Model;
 

@@ -1,21 +1,19 @@
 //! One step of the fold over a stream.
 
 ghost use Rattle.std.specs.Prelude.{◌≡◌, ◌<◌, ◌∷◌, ◌++◌, ◌+◌, ◌^◌, List, Result, Ok, Some, None, IsTrue, IfOk, OnOk, OnErr, if◌then◌else◌};
-ghost use Rattle.request_core.specs.declared.fault.ValidityFault.{ValidityFault};
-ghost use Rattle.request_core.specs.declared.outcome.Plan.{Plan as PlanValue};
+ghost use Rattle.outcomes.specs.declared.validity_fault.ValidityFault.{ValidityFault};
+ghost use Rattle.outcomes.specs.declared.outcome.Plan.{Plan as PlanValue};
 ghost use Rattle.request_core.specs.States.{FoldState};
 ghost use Rattle.request_core.specs.ParameterSets.{put_all};
 ghost use Rattle.order_count.specs.Counting.{counts_of};
-ghost use Rattle.order_count.specs.Pictures.{is_idr};
-ghost use Rattle.order_count.specs.PicOrderCnt.{are_in_range};
-ghost use Rattle.order_count.specs.Resetting.{counts_after_reset};
+ghost use Rattle.header_types.specs.Pictures.{is_idr};
+ghost use Rattle.pictures.specs.PicOrderCnt.{are_in_range};
+ghost use Rattle.pictures.specs.Resetting.{counts_after_reset};
 ghost use Rattle.request_core.specs.Faults.{first_shown, slice_rows, picture_rows};
 ghost use Rattle.request_core.specs.Fold.{passes, picture_behind, picture_of, planned, with_sets, outcome_of, fold_step, state_after, plan_of, next_ref_frame_num};
 ghost use Rattle.request_core.specs.Answers.{AnswersAs};
 
 use crate::checks::{picture_fault, slice_fault};
-use crate::fault::ValidityFault;
-use crate::outcome::{Outcome, Plan};
 use crate::planning::{Listed, count_picture, list_picture, mark_picture, requests_of};
 use crate::set_controls::copied;
 use crate::slices::{Slice, read_slices};
@@ -24,13 +22,15 @@ use crate::steps::Steps;
 use crate::stop::Stop;
 use crate::tables::Tables;
 use access_unit::{ParameterSet, Unit};
-use order_count::{Counts, after_reset, anchor_after, resets};
-use param_sets::{Shared, Sps};
-use ref_marking::{AuId, Marks};
+use base_types::Shared;
+use order_count::anchor_after;
+use outcomes::{Outcome, Plan, ValidityFault};
+use pictures::{AuId, Counts, Marks, after_reset, resets};
+use set_types::Sps;
 use std::alloc::{AllocError, Global};
 
 #[tactic(auto, unfolding(crate::specs::Fold::fold_step))]
-/// One step of the fold: the state behind the unit, and what becomes of the unit.
+/// One step of the fold: the state after the unit, and what becomes of the unit.
 ///
 /// It counts one step where it answers. Where memory runs out nothing is changed, and nothing counted.
 pub fn step(
@@ -173,7 +173,7 @@ fn make_plan(
     })
 }
 
-/// Ends the planning at the first fault that the picture shows behind those before it.
+/// Ends the planning at the first fault that the picture shows after those before it.
 fn follow(state: &State, first: &Slice) -> Result<(), Stop>
     ensures { AnswersAs (λ passed. record {}) result (passes (first_shown (picture_rows state.now first.now.sps first.now.header))) }
 {
@@ -190,7 +190,7 @@ fn pass(fault: Option<ValidityFault>) -> Result<(), Stop>
     }
 }
 
-/// The state behind a picture.
+/// The state after a picture.
 fn state_after(
     state: &State,
     slice: &Slice,
@@ -210,7 +210,7 @@ fn state_after(
     })
 }
 
-/// The set of the last IDR picture behind this one.
+/// The set of the last IDR picture after this one.
 fn next_active(state: &State, slice: &Slice) -> Result<Option<Shared<Sps>>, AllocError>
     ensures { IfOk result (λ active. active ≡ (if is_idr slice.now.header then Some slice.now.sps else state.now.active)) }
 {

@@ -3,7 +3,7 @@
 ghost use Rattle.std.specs.Prelude.{◌≡◌};
 ghost use Rattle.request_core.specs.declared.stop.Stop.TheVariants.{Memory};
 
-use crate::fault::ValidityFault;
+use outcomes::ValidityFault;
 use std::alloc::{AllocError, AllocFailed};
 
 /// What ends the planning of a unit.

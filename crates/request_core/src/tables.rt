@@ -4,7 +4,8 @@ ghost use Rattle.std.specs.Prelude.{◌≡◌, ◌<◌, None, Some, IfOk, OnOk, 
 ghost use Rattle.request_core.specs.ParameterSets.{no_sets, put, put_all, sps_under, pps_under};
 
 use access_unit::ParameterSet;
-use param_sets::{Pps, Shared, Sps};
+use base_types::Shared;
+use set_types::{Pps, Sps};
 use std::alloc::{AllocError, Global};
 use std::marker::Model;
 

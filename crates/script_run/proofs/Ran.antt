@@ -20,7 +20,7 @@ module _ (files : Files) where
       (answers.0, rw (same path.now) at answers.1, answers.2)
   Answers-same others same old (command.Unit number) lines new answers = answers
 
-  -- a command behind others
+  -- a command after others
   pub Runs-push : (from : Machine) (commands : List Command) (lines : List ℕ) (between : Machine)
       → Runs files from commands lines between
       → (it : Command) (more : List ℕ) (to : Machine) → Answers files between it more to
@@ -33,7 +33,7 @@ module _ (files : Files) where
       let same = ap (λ (l : List ℕ). l ++ more) runs.5 ∙ append_assoc runs.0 runs.1 more in
       (runs.0, runs.1 ++ more, runs.2, runs.3, rest, same)
 
-  -- what answers a command is written behind what answers those before it
+  -- what answers a command is written after what answers those before it
   pub WritesRun-push : (from : Machine) (commands : List Command) (between : Machine) (a b c : Option (List ℕ))
       → WritesRun files from commands between a b
       → (it : Command) (more : List ℕ) (to : Machine) → Answers files between it more to → Appends b c more

@@ -1,6 +1,6 @@
 -- The lines that answer the commands of a script (docs/OUTPUT.md).
 use Rattle.std.specs.Prelude.{ℕ, ◌++◌, List, codes, decimal, Result, Ok, Err, Option, Some, None}
-use Rattle.request_core.specs.declared.outcome.Outcome.{Outcome}
+use Rattle.outcomes.specs.declared.outcome.Outcome.{Outcome}
 use Rattle.edit_engine.specs.declared.receipts.Receipt.{Receipt}
 use Rattle.edit_engine.specs.declared.refusals.EditRefused.{EditRefused}
 use Rattle.edit_engine.specs.Names.{name_of}

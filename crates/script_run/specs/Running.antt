@@ -19,16 +19,16 @@ use Rattle.edit_script.specs.declared.commands.Command.{Command}
 use Rattle.edit_script.specs.declared.commands.Command.TheVariants as command
 use Rattle.access_unit.specs.declared.room.Refusal.{Refusal}
 
--- behind the unit of this id, or first where there is none
+-- after the unit of this id, or first where there is none
 abbrev pub behind : Option ℕ → Place
 behind (Some id) = After id
 behind None = First
 
--- behind the last unit
+-- after the last unit
 abbrev pub end_of : Stream → Place
 end_of stream = behind (last_of stream).id
 
--- the units that are left are inserted behind the last one, each by an edit, of so many in all: to the end, or to the
+-- the units that are left are inserted after the last one, each by an edit, of so many in all: to the end, or to the
 -- first edit that is refused
 abbrev pub InsertsAll : ℕ → Machine → List (List (List ℕ)) → List ℕ → Machine → Type 0
 InsertsAll count old [] lines new = (lines ≡ loaded_line count) × (new ≡ old)

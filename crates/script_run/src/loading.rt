@@ -17,7 +17,7 @@ use std::alloc::{AllocError, Global};
 use std::thread::Threads;
 use unit_lines::RefusalLine;
 
-/// Inserts the units of the file of this name behind the last one, each by an edit, and gives the line that says how
+/// Inserts the units of the file of this name after the last one, each by an edit, and gives the line that says how
 /// many; or why the file's stream is refused, or why an edit is, which ends the loading.
 pub fn load<'a, S: Source>(
     threads: &(impl Threads + Sync),
@@ -44,7 +44,7 @@ pub fn load<'a, S: Source>(
     }
 }
 
-/// Inserts the units behind the last one, and gives the line that says how many, or why one is refused.
+/// Inserts the units after the last one, and gives the line that says how many, or why one is refused.
 fn insert_all(alloc: Global, units: Vec<Unit>, session: &mut Session) -> Result<String, AllocError>
     ensures { IfOk result (λ lines.
         InsertsAll (length units.items) session.old units.items (string_bytes lines) session.new) }
@@ -58,7 +58,7 @@ fn insert_all(alloc: Global, units: Vec<Unit>, session: &mut Session) -> Result<
     LoadedLine(count).to_string(alloc)
 }
 
-/// Inserts a unit behind the last one.
+/// Inserts a unit after the last one.
 fn insert_last(alloc: Global, unit: &Unit, session: &mut Session) -> Result<Receipt, EditRefused>
     ensures { AnswersEdit session.old (Insert (end_of session.old.register.stream) (joined unit.now))
         result session.new }
@@ -67,7 +67,7 @@ fn insert_last(alloc: Global, unit: &Unit, session: &mut Session) -> Result<Rece
     session.edit(Edit::Insert(place, text_of(alloc, unit.nals())?))
 }
 
-/// The place behind the last unit.
+/// The place after the last unit.
 fn end_of(session: &Session) -> Place
     ensures { result ≡ end_of session.now.register.stream }
 {

@@ -1,5 +1,2 @@
-pub mod Structures
-pub mod Extensions
-pub mod Lengths
-pub mod Fronts
+pub mod Refusals
 pub mod HeaderLaws

@@ -1,9 +1,4 @@
-pub mod Structures
-pub mod CodeFaults
 pub mod HeaderAnswer
-pub mod HeaderRows
-pub mod SliceTypes
-pub mod FrontSyntax
 pub mod RefPicListModificationSyntax
 pub mod PredWeightTableSyntax
 pub mod DecRefPicMarkingSyntax

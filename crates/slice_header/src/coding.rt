@@ -1,15 +1,15 @@
-//! The fields behind the marking: entropy coding, quantisation and deblocking.
+//! The fields after the marking: entropy coding, quantisation and deblocking.
 
 ghost use Rattle.std.specs.Prelude.{◌≡◌, ◌≤◌, ◌+◌};
-ghost use Rattle.param_sets.specs.Answer.{Reads};
+ghost use Rattle.syntax_tables.specs.Answer.{Reads};
 ghost use Rattle.slice_header.specs.SliceHeaderSyntax.{coding_table, deblocking_table};
-ghost use Rattle.slice_header.specs.Structures.{table_at};
+ghost use Rattle.syntax_tables.specs.Structures.{table_at};
 
-use crate::fault::HeaderFault;
-use crate::fields::{se, ue};
-use crate::slice_types::SliceType;
 use expgolomb::Bits;
-use param_sets::Pps;
+use header_types::SliceType;
+use set_types::Pps;
+use slice_front::HeaderFault;
+use slice_front::fields::{se, ue};
 
 /// cabac_init_idc and slice_qp_delta.
 #[derive(Clone, Copy)]
@@ -18,7 +18,7 @@ pub struct Coding {
     pub slice_qp_delta: i8,
 }
 
-#[tactic(auto, unfolding(crate::specs::SliceHeaderSyntax::coding_table, crate::specs::Structures::table_at, param_sets::specs::Reading::rows_at))]
+#[tactic(auto, unfolding(crate::specs::SliceHeaderSyntax::coding_table, syntax_tables::specs::Structures::table_at, syntax_tables::specs::Reading::rows_at))]
 pub fn coding_fields(
     bits: &mut Bits<'_>,
     slice_type: SliceType,
@@ -47,7 +47,7 @@ pub struct Deblocking {
     pub slice_beta_offset_div2: i8,
 }
 
-#[tactic(auto, unfolding(crate::specs::SliceHeaderSyntax::deblocking_table, crate::specs::Structures::table_at, param_sets::specs::Reading::rows_at))]
+#[tactic(auto, unfolding(crate::specs::SliceHeaderSyntax::deblocking_table, syntax_tables::specs::Structures::table_at, syntax_tables::specs::Reading::rows_at))]
 pub fn deblocking_fields(bits: &mut Bits<'_>, pps: &Pps) -> Result<Deblocking, HeaderFault>
     ensures exact { Reads (λ deblocking. deblocking) result bits.new (table_at (deblocking_table pps.now) bits.old) }
     ensures near { bits.new.before ≤ bits.old.before + 189 }

@@ -5,25 +5,22 @@ ghost use Rattle.annexb.specs.NalUnit.{nal_ref_idc, nal_unit_type};
 ghost use Rattle.slice_header.specs.HeaderAnswer.{Stores};
 ghost use Rattle.slice_header.specs.SliceHeaders.{syntax_of};
 ghost use Rattle.slice_header.specs.SliceHeaderSyntax.{weights_of, is_weighted, is_monochrome, header_from};
-ghost use Rattle.slice_header.specs.SliceTypes.{has_list, is_b};
-ghost use Rattle.slice_header.specs.Structures.{syntax_at};
+ghost use Rattle.header_types.specs.SliceTypes.{has_list, is_b};
+ghost use Rattle.syntax_tables.specs.Structures.{syntax_at};
 
 use crate::coding::{Coding, Deblocking, coding_fields, deblocking_fields};
-use crate::dec_ref_pic_marking::DecRefPicMarking;
-use crate::fault::HeaderFault;
-use crate::front::{HeaderFront, header_front};
 use crate::marking_syntax::dec_ref_pic_marking;
 use crate::modification_syntax::ref_pic_list_modification;
 use crate::picture_fields::{Numbers, OrderCounts, order_counts, picture_numbers};
-use crate::pred_weight_table::PredWeightTable;
 use crate::prediction::{ActiveCounts, Prediction, active_counts, prediction_fields};
-use crate::ref_pic_list_modification::RefPicListModifications;
-use crate::slice_headers::SliceHeader;
-use crate::slice_types::SliceType;
 use crate::weight_syntax::pred_weight_table;
 use annexb::Nal;
 use expgolomb::Bits;
-use param_sets::{ChromaFormat, Pps, Sps, WeightedBipred};
+use header_types::{
+    DecRefPicMarking, PredWeightTable, RefPicListModifications, SliceHeader, SliceType,
+};
+use set_types::{ChromaFormat, Pps, Sps, WeightedBipred};
+use slice_front::{HeaderFault, HeaderFront, header_front};
 use std::alloc::Global;
 
 /// The structures of a header, and the places around two of them.
@@ -46,7 +43,7 @@ pub struct HeaderFields {
 }
 
 /// Reads the structures of a unit's header.
-#[tactic(auto, unfolding(crate::specs::SliceHeaderSyntax::header_syntax, crate::specs::Structures::syntax_at))]
+#[tactic(auto, unfolding(crate::specs::SliceHeaderSyntax::header_syntax, syntax_tables::specs::Structures::syntax_at))]
 pub fn header_fields(
     alloc: Global,
     nal: &Nal<'_>,

@@ -1,36 +1,22 @@
 //! Slice headers of H.264 (ITU-T H.264, 7.3.3).
 //!
-//! A header is read from a slice's NAL unit and the parameter sets that it names, by the tables of syntax of
-//! `param_sets`. What the fields lead to, picture order counts, marking and lists, is left to the crates above.
+//! A header is read from a slice's NAL unit and the parameter sets that it names, by `syntax_tables`. It is a value of
+//! `header_types`; its front is that of `slice_front`. What the fields lead to is left to the crates above.
 #![tactic(auto)]
 
 mod coding;
-mod dec_ref_pic_marking;
-mod fault;
-mod fields;
-mod front;
 mod headers;
 mod marking_syntax;
 mod modification_syntax;
 mod picture_fields;
-mod pred_weight_table;
 mod prediction;
 mod reading;
-mod ref_pic_list_modification;
-mod slice_headers;
-mod slice_types;
 mod weight_syntax;
 
-pub use dec_ref_pic_marking::{
+pub use header_types::{
     DecRefPicMarking, MemoryManagementControlOperation, MemoryManagementControlOperations,
+    PredWeight, PredWeightTable, PredWeights, RefPicListModification, RefPicListModifications,
+    SliceHeader, SliceType,
 };
-pub use fault::HeaderFault;
-pub use front::{HeaderFront, peek, slice_type};
-pub use pred_weight_table::{PredWeight, PredWeightTable, PredWeights};
 pub use reading::read;
-pub use ref_pic_list_modification::{RefPicListModification, RefPicListModifications};
-pub use slice_headers::SliceHeader;
-pub use slice_types::SliceType;
-
-#[cfg(test)]
-mod tests;
+pub use slice_front::{HeaderFault, HeaderFront, peek, slice_type};

@@ -1,18 +1,19 @@
 //! Reads the header of a unit.
 
 ghost use Rattle.std.specs.Prelude.{◌≡◌, ◌⊎◌, IfOk, IfErr, Ok, Err, IsTrue, ◌↔◌};
-ghost use Rattle.param_sets.specs.Sets.{behind_first};
-ghost use Rattle.slice_header.specs.SliceHeaders.{IsSliceHeader, HeaderHasFault, Answers, header_at, read_value, syntax_of};
-ghost use Rattle.slice_header.specs.Structures.{syntax_at};
-ghost use Rattle.slice_header.specs.declared.fault.HeaderFault.{HeaderFault};
-ghost use Rattle.slice_header.specs.declared.slice_headers.SliceHeader.{SliceHeader};
+ghost use Rattle.syntax_tables.specs.Payloads.{behind_first};
+ghost use Rattle.slice_header.specs.SliceHeaders.{IsSliceHeader, HeaderHasFault, Answers, header_at, syntax_of};
+ghost use Rattle.slice_front.specs.Fronts.{read_value};
+ghost use Rattle.syntax_tables.specs.Structures.{syntax_at};
+ghost use Rattle.slice_front.specs.declared.fault.HeaderFault.{HeaderFault};
+ghost use Rattle.header_types.specs.declared.slice_headers.SliceHeader.{SliceHeader};
 
-use crate::fault::HeaderFault;
-use crate::fields::behind_first;
 use crate::headers::{header_fields, header_from};
-use crate::slice_headers::SliceHeader;
 use annexb::{Nal, payload, payload_front};
-use param_sets::{Pps, Sps};
+use header_types::SliceHeader;
+use set_types::{Pps, Sps};
+use slice_front::HeaderFault;
+use slice_front::fields::behind_first;
 use std::alloc::Global;
 
 // As many bytes as most headers take.

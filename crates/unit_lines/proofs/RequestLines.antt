@@ -16,7 +16,7 @@ request_lines-push id slice (first ∷ requests) request =
     ap (λ text. request_text id slice first ++ text) (rw next at rest) ∙ sym (append_assoc (request_text id slice first) (request_lines id (slice + 1) requests)
     (request_text id (slice + length (first ∷ requests)) request))
 
--- the one behind the first few
+-- the one after the first few
 pub request_lines-more : (id i : ℕ) (requests : List Request) (request : Request) → i < length requests
     → request ≡ get_or requests i request
     → request_lines id 0 (take (i + 1) requests) ≡ request_lines id 0 (take i requests) ++ request_text id i request

@@ -7,7 +7,7 @@ use Rattle.h264_controls.specs.declared.request.Request.{Request}
 use Rattle.h264_controls.specs.declared.v4l2_ctrl_h264_decode_params.V4l2H264DpbEntry.{V4l2H264DpbEntry}
 use Rattle.h264_controls.specs.DecodeParamsForm.{dpb_entry_flags}
 use Rattle.h264_controls.specs.SliceParamsForm.{slice_type_number}
-use Rattle.request_core.specs.declared.outcome.Plan.{Plan}
+use Rattle.outcomes.specs.declared.outcome.Plan.{Plan}
 use Rattle.unit_lines.specs.declared.lines.UnitLine.{UnitLine}
 use Rattle.unit_lines.specs.declared.lines.RequestLine.{RequestLine}
 

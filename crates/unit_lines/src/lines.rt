@@ -5,9 +5,8 @@ ghost use Rattle.unit_lines.specs.Lines.{entry_text, list_text, place_text, plan
 ghost use Rattle.unit_lines.specs.UnitLines.{fault_line, unit_lines};
 
 use h264_controls::{Request, V4l2H264DpbEntry};
-use order_count::Counts;
-use ref_marking::AuId;
-use request_core::{Outcome, Plan, ValidityFault};
+use outcomes::{Outcome, Plan, ValidityFault};
+use pictures::{AuId, Counts};
 use std::fmt;
 use std::fmt::{Display, Formatter, Write};
 

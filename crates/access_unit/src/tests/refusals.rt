@@ -47,7 +47,7 @@ fn refuses_each_by_its_number(rt: HostRuntime) -> Result<(), Fail> {
         &[&IDR, &[0x41, 0x42, 0x21]],
         &[&[0x65, 0xC0, 0x80]],
         &[&[0x05, 0x88, 0x84, 0x80]],
-        // A slice that is no reference; a set behind a slice; no slice; a second picture.
+        // A slice that is no reference; a set after a slice; no slice; a second picture.
         &[&P, &[0x01, 0x42, 0x21]],
         &[&IDR, &SPS],
         &[&SPS, &PPS],
@@ -96,12 +96,12 @@ fn refuses_by_number(rt: HostRuntime) -> Result<(), Fail> {
 #[test]
 fn refuses_by_the_least_of_the_first(rt: HostRuntime) -> Result<(), Fail> {
     let refusals: [(&[&[u8]], u8); 8] = [
-        // A refused type with the forbidden bit, and one behind a slice.
+        // A refused type with the forbidden bit, and one after a slice.
         (&[&[0xEE, 0x40]], 2),
         (&[&IDR, &[14, 1]], 2),
         // The forbidden bit of a set that is cut.
         (&[&[0xE7, 0x42]], 3),
-        // A set that is cut behind a slice.
+        // A set that is cut after a slice.
         (&[&IDR, &[0x67, 0x42]], 4),
         // A P slice of an IDR picture that isn't a reference.
         (&[&[0x05, 0x9A, 0x23]], 8),

@@ -4,7 +4,7 @@ use crate::preparing::prepare;
 use crate::{Edit, EditRefused, Place};
 use access_unit::{Unit, read_shared};
 use bytes::Bytes;
-use ref_marking::AuId;
+use pictures::AuId;
 use std::alloc::{AllocError, Global};
 use std::process::Abort;
 use std::test::Fail;

@@ -1,7 +1,7 @@
 use super::{A, P1, P2, empty_session, insert, insert_after};
 use crate::{Command, Config, Edit, EditRefused, Place, Reply, Runner, Session, run};
 use bytes::Bytes;
-use ref_marking::AuId;
+use pictures::AuId;
 use std::alloc::AllocError;
 use std::process::Abort;
 

@@ -2,8 +2,8 @@ use super::{A, P1, empty_session, insert, insert_after, receipt};
 use crate::{
     Command, Config, Edit, EditRefused, NoSuchUnit, Place, Receipt, Reply, Runner, UnitReport, run,
 };
-use ref_marking::AuId;
-use request_core::{Outcome, ValidityFault};
+use outcomes::{Outcome, ValidityFault};
+use pictures::AuId;
 use std::alloc::AllocError;
 use std::test::Fail;
 

@@ -3,8 +3,9 @@
 use super::{A, P1, joined};
 use access_unit::read_stream;
 use h264_controls::digest_form;
-use ref_marking::AuId;
-use request_core::{Outcome, scratch};
+use outcomes::Outcome;
+use pictures::AuId;
+use request_core::scratch;
 use std::process::Abort;
 use std::test::Fail;
 use std::thread::Threads;

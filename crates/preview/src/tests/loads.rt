@@ -99,7 +99,7 @@ fn refuses_streams(rt: HostRuntime) -> Result<(), Fail> {
     Ok(())
 }
 
-/// 65,536 units behind one that is there are too many.
+/// 65,536 units after one that is there are too many.
 #[test]
 fn refuses_more_units_than_there_is_room_for(rt: HostRuntime) -> Result<(), Fail> {
     let mut stream = Vec::with_capacity(rt.alloc(), 65_536 * P1.len())?;
@@ -112,7 +112,7 @@ fn refuses_more_units_than_there_is_room_for(rt: HostRuntime) -> Result<(), Fail
     Ok(())
 }
 
-/// A file that can't be read ends the run behind the lines before it; `-` is the name of a file.
+/// A file that can't be read ends the run after the lines before it; `-` is the name of a file.
 #[test]
 fn ends_at_a_file_that_is_not_there(rt: HostRuntime) -> Result<(), Fail> {
     let script = "unit 1\nload -\nload no-such-file\nunit 1\n";

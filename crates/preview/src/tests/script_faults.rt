@@ -81,7 +81,7 @@ fn finds_the_first_wrong_line(rt: HostRuntime) -> Result<(), Fail> {
     ];
     for line in wrong {
         is_wrong_at(&rt, line.as_bytes(), 1)?;
-        // Behind right lines, and before another wrong one.
+        // After right lines, and before another wrong one.
         let script = texts(
             rt.alloc(),
             &["\n# comment\n", INSERT_A, line, "\nunit 1\nwrong\n"],

@@ -4,7 +4,7 @@ use super::{A, End, LINES_OF_A, P1, ShortWriter};
 use bytes::Bytes;
 use console_io::{InputFault, Source, Status};
 use edit_engine::{Config, Edit, Place, Session};
-use request_core::Outcome;
+use outcomes::Outcome;
 use script_run::{Options, script_on};
 use std::alloc::{AllocError, Global};
 use std::process::Abort;
@@ -15,7 +15,7 @@ use std::thread::Threads;
 pub(crate) const INSERT_A: &str =
     "insert first 00 00 01 6742000ADA79 000001 68CE3880 000001 65888480\n";
 
-/// A, and the pictures with frame_num 1 and 2 behind it.
+/// A, and the pictures with frame_num 1 and 2 after it.
 pub(crate) const INSERT_THREE: &str =
     "insert first 000001 6742000ada79 000001 68ce3880 000001 65888480\n\
 insert after 1 00 00 01 41 9A 23\n\
@@ -24,7 +24,7 @@ insert after 2 00 00 01 41 9A 43\n";
 /// What the edits of these three answer.
 pub(crate) const THREE: &str = "edit 1 id 1\nedit 2 id 2\nedit 3 id 3\n";
 
-/// Unit 3 behind the unit 4.
+/// Unit 3 after the unit 4.
 const LINES_OF_3: &str = "unit 3 position 2 counts 4 4 requests 1\n\
 request 3.0 ts 3000 bits 23 type 0 frame 2 dpb 4000:1:3 l0 0 l1 - hold 0\n";
 
@@ -85,7 +85,7 @@ pub(crate) fn answers(
     Ok(())
 }
 
-/// The texts, one behind the other.
+/// The texts, one after the other.
 pub(crate) fn texts(alloc: Global, parts: &[&str]) -> Result<String, AllocError> {
     let mut text = String::new(alloc);
     for part in parts {
@@ -214,7 +214,7 @@ fn tells_faults_of_units(rt: HostRuntime) -> Result<(), Fail> {
     Ok(())
 }
 
-/// A P picture that is shown behind the B picture after it moves up where that is deleted.
+/// A P picture that is shown after the B picture after it moves up where that is deleted.
 #[test]
 fn positions_follow_a_deletion(rt: HostRuntime) -> Result<(), Fail> {
     let request = "request 2.0 ts 2000 bits 27 type 0 frame 1 dpb 1000:0:3 l0 0 l1 - hold 0\n";

@@ -1,4 +1,4 @@
--- Behind the zeros stand a start code and the NAL unit, and then the rest.
+-- After the zeros stand a start code and the NAL unit, and then the rest.
 use Rattle.std.proofs.Common.{drop, ◌∙◌, ap}
 use Rattle.access_unit.proofs.Pieces.{text_is, coded_is, rest_is, IsCoded-next}
 use Rattle.access_unit.proofs.cuts.cut_next.Goals as goal

@@ -1,4 +1,4 @@
--- The first entries are behind the form.
+-- The first entries are after the form.
 use Rattle.std.proofs.Common.{◌≡◌, ◌+◌, ◌*◌, ◌≤◌, ◌++◌, take, vec_len}
 use Rattle.std.specs.Vec.{vec_capacity}
 use Rattle.std.specs.List.{flat_map}

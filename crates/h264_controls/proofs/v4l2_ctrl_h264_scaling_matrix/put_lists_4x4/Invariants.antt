@@ -1,4 +1,4 @@
--- The first lists are behind the form.
+-- The first lists are after the form.
 use Rattle.std.proofs.Common.{◌≡◌, ◌+◌, ◌*◌, ◌≤◌, ◌++◌, take, vec_len}
 use Rattle.std.specs.Vec.{vec_capacity}
 use Rattle.h264_controls.specs.ScalingMatrixForm.{lists_form}

@@ -1,6 +1,6 @@
 use Rattle.std.proofs.Common.{◌≡◌, ℤ, ap, ◌∙◌, arith}
 use Rattle.std.proofs.lemmas.Int.{ints}
-use Rattle.order_count.specs.declared.counts.Counts.{Counts}
+use Rattle.pictures.specs.declared.counts.Counts.{Counts}
 use Rattle.order_count.specs.TypeOne.{type_one}
 use Rattle.order_count.proofs.type_one.type_one.Goals as goal
 

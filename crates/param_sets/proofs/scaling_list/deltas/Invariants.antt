@@ -1,6 +1,7 @@
 use Rattle.std.proofs.Common.{◌≡◌, ◌-◌, List, [], ◌∷◌, ◌++◌, replicate, length, Some}
-use Rattle.param_sets.specs.Reading.{rows_at}
-use Rattle.param_sets.specs.Scaling.{Deltas, take_list, delta_row, next_scale}
+use Rattle.syntax_tables.specs.Reading.{rows_at}
+use Rattle.set_types.specs.ScaleSteps.{Deltas, next_scale}
+use Rattle.param_sets.specs.Scaling.{take_list, delta_row}
 use Rattle.param_sets.proofs.scaling_list.deltas.Given as goal
 
 -- the deltas so far, then the rest of the rows, are what all rows give

@@ -3,12 +3,12 @@ use Rattle.std.proofs.Common.{take as front, set}
 use Rattle.std.proofs.lemmas.Result.{err_from_is_err_and}
 use Rattle.std.proofs.lemmas.List.{take_more_set, take_all}
 use Rattle.expgolomb.specs.Bits.{Place}
-use Rattle.param_sets.specs.Answer.{flag_value}
-use Rattle.param_sets.specs.Reading.{field_at, rows_at}
-use Rattle.param_sets.specs.Rows.{flag_of}
+use Rattle.syntax_tables.specs.Answer.{flag_value}
+use Rattle.syntax_tables.specs.Reading.{field_at, rows_at}
+use Rattle.syntax_tables.specs.Rows.{flag_of}
 use Rattle.param_sets.specs.SpsSyntax.{take, flag_row, constraint_rows}
-use Rattle.param_sets.specs.declared.sps.Sps.{Sps}
-use Rattle.param_sets.proofs.Loops.{repeat_step, repeat_stop, rows_none}
+use Rattle.set_types.specs.declared.sps.Sps.{Sps}
+use Rattle.syntax_tables.proofs.Loops.{repeat_step, repeat_stop, rows_none}
 use Rattle.param_sets.proofs.seq_parameter_set.constraint_set_flags.Goals as goal
 
 -- a set with these flags
@@ -35,14 +35,14 @@ loop-i-preserved c =
     let flags = c.loop-i.flags in
     let i = c.loop-i.i in (
       omega (arith, length-set flags i c.in_ok-flags.field-0, c.loop-i.invariant.0),
-      λ s. c.loop-i.invariant.1 s ∙ more s (front i flags) (front (i + 1) (set flags i c.in_ok-flags.field-0)) c.in_ok-flags.field-0 (6 - (i + 1)) (6 - i) c.loop-i.bits c.flag.new.bits (omega arith) c.in_ok-flags.ensures (take_more_set flags i c.in_ok-flags.field-0 (omega (arith, c.loop-i.invariant.0))),
+      λ s. c.loop-i.invariant.1 s ∙ more s (front i flags) (front (i + 1) (set flags i c.in_ok-flags.field-0)) c.in_ok-flags.field-0 (6 - (i + 1)) (6 - i) c.loop-i.bits c.flag.new.bits (omega arith) c.in_ok-flags.ensures.exact (take_more_set flags i c.in_ok-flags.field-0 (omega (arith, c.loop-i.invariant.0))),
     )
 
 pub returns-in_err-flags : goal.returns-in_err-flags
 unfolding constraint_rows
 returns-in_err-flags c s =
     let p = err_from_is_err_and c.from_residual.result c.from_residual.ensures.1 in
-    rw (p.1, p.2) (c.loop-i.invariant.1 s ∙ repeat_stop take flag_row (6 - (c.loop-i.i + 1)) (6 - c.loop-i.i) (with_flags s (front c.loop-i.i c.loop-i.flags)) c.loop-i.bits c.in_err-flags.field-0.0 (omega arith) refl c.in_err-flags.ensures)
+    rw (p.1, p.2) (c.loop-i.invariant.1 s ∙ repeat_stop take flag_row (6 - (c.loop-i.i + 1)) (6 - c.loop-i.i) (with_flags s (front c.loop-i.i c.loop-i.flags)) c.loop-i.bits c.in_err-flags.field-0.0 (omega arith) refl c.in_err-flags.ensures.exact)
 
 pub returns : goal.returns
 unfolding constraint_rows

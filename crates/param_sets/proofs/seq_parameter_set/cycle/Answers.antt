@@ -5,11 +5,11 @@ use mir.Val.{SFits}
 use mir.Syntax.{w32}
 use Rattle.std.proofs.lemmas.Result.{err_from_is_err_and}
 use Rattle.expgolomb.specs.Bits.{Place}
-use Rattle.param_sets.specs.Reading.{field_at, rows_at}
+use Rattle.syntax_tables.specs.Reading.{field_at, rows_at}
 use Rattle.param_sets.specs.SpsSyntax.{take, has_offset, with_offsets, IsCycleOf, offset_row, offset_rows}
 use Rattle.param_sets.specs.declared.fault.SetFault.{SetFault}
-use Rattle.param_sets.specs.declared.sps.Sps.{Sps}
-use Rattle.param_sets.proofs.Loops.{repeat_step, repeat_stop, repeat_absent}
+use Rattle.set_types.specs.declared.sps.Sps.{Sps}
+use Rattle.syntax_tables.proofs.Loops.{repeat_step, repeat_stop, repeat_absent}
 use Rattle.param_sets.proofs.Refusals.{refused}
 use Rattle.param_sets.proofs.seq_parameter_set.cycle.Goals as goal
 
@@ -37,7 +37,7 @@ returns-in_err-offset c s cycle =
     let p = err_from_is_err_and c.from_residual.result c.from_residual.ensures.1 in
     let w = c.loop-i.invariant in
     let most : c.args.length ≤ 255 = omega arith in
-    let read = w.whole s cycle ∙ none s c.args.length c.loop-i._i c.loop-i.offsets c.in_err-offset.field-0.0 c.loop-i.bits cycle w.so_far c.loop-i-test.true most c.in_err-offset.ensures in
+    let read = w.whole s cycle ∙ none s c.args.length c.loop-i._i c.loop-i.offsets c.in_err-offset.field-0.0 c.loop-i.bits cycle w.so_far c.loop-i-test.true most c.in_err-offset.ensures.exact in
     rw (p.1, p.2) (refused c.in_err-offset.field-0.0 (rows_at take offset_rows (with_offsets s []) c.args.bits.now) read)
 
 pub loop-i-preserved : goal.loop-i-preserved
@@ -48,7 +48,7 @@ loop-i-preserved c =
     let pushed = rw (to_z-of_z w32 c.in_ok-offset.offset fits) at c.in_ok-push.ensures.pushed in
     record {
       so_far = omega (arith, ap length pushed, length-append c.loop-i.offsets (c.in_ok-offset.offset ∷ []), w.so_far);
-      whole = λ s cycle. w.whole s cycle ∙ more s c.args.length c.loop-i._i c.loop-i.offsets c.push.new.self c.in_ok-offset.offset c.loop-i.bits c.se_any.new.bits cycle w.so_far c.loop-i-test.true most pushed c.in_ok-offset.ensures;
+      whole = λ s cycle. w.whole s cycle ∙ more s c.args.length c.loop-i._i c.loop-i.offsets c.push.new.self c.in_ok-offset.offset c.loop-i.bits c.se_any.new.bits cycle w.so_far c.loop-i-test.true most pushed c.in_ok-offset.ensures.exact;
     }
 
 pub returns : goal.returns

@@ -1,12 +1,12 @@
 use Rattle.std.proofs.Common.{◌≡◌, Ok, Bool, true, false}
 use Rattle.expgolomb.specs.Bits.{Place}
 use Rattle.param_sets.specs.declared.fault.SetFault.TheVariants.{Cut}
-use Rattle.param_sets.specs.Answer.{flag_value}
-use Rattle.param_sets.specs.Grammar.{Fixed}
-use Rattle.param_sets.specs.Ranges.{any}
-use Rattle.param_sets.specs.Reading.{value_at, in_range}
+use Rattle.syntax_tables.specs.Answer.{flag_value}
+use Rattle.syntax_tables.specs.Grammar.{Fixed}
+use Rattle.syntax_tables.specs.Ranges.{any}
+use Rattle.syntax_tables.specs.Reading.{value_at, in_range}
 use Rattle.param_sets.specs.SpsSyntax.{frames_only}
-use Rattle.param_sets.proofs.Fields.{narrow_ok}
+use Rattle.syntax_tables.proofs.FieldLaws.{narrow_ok}
 use Rattle.param_sets.proofs.seq_parameter_set.frame_mbs_only_flag.Goals as goal
 
 -- what a flag of this value is worth
@@ -15,10 +15,10 @@ flag_only p b q is = narrow_ok (Fixed 1) Cut Cut frames_only p (flag_value b) q 
 
 pub returns-then-branch : goal.returns-then-branch
 returns-then-branch c =
-    let read = rw c.if-branch.true at c.in_ok-flag.ensures in
+    let read = rw c.if-branch.true at c.in_ok-flag.ensures.exact in
     flag_only c.args.bits.now true c.flag.new.bits read
 
 pub returns-else-branch : goal.returns-else-branch
 returns-else-branch c =
-    let read = rw c.if-branch.false at c.in_ok-flag.ensures in
+    let read = rw c.if-branch.false at c.in_ok-flag.ensures.exact in
     flag_only c.args.bits.now false c.flag.new.bits read

@@ -1,6 +1,6 @@
 use Rattle.std.proofs.Common.{◌+◌, append_assoc, arith, take, drop, take_all, sym}
 use Rattle.console_io.specs.Chunks.{waiting_of}
-use Rattle.unit_lines.specs.UnitLines.{units_text}
+use Rattle.plan_stream.specs.StreamText.{units_text}
 use Rattle.console_io.proofs.Chunked.{adds-behind, adds-front, adds-more, front-of_fault, front-wider}
 use Rattle.plan_stream.proofs.UnitTexts.{units_text-more, units_text-split}
 use Rattle.plan_stream.proofs.plan.print_lines.Goals as goal

@@ -1,6 +1,6 @@
 use Rattle.std.proofs.Common.{take}
 use Rattle.console_io.specs.Chunks.{Adds}
-use Rattle.unit_lines.specs.UnitLines.{units_text}
+use Rattle.plan_stream.specs.StreamText.{units_text}
 use Rattle.plan_stream.proofs.plan.print_lines.Given as goal
 
 abbrev pub invariant-loop-place : goal.invariant-loop-place

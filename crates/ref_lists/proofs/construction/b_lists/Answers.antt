@@ -4,7 +4,7 @@ use Rattle.std.proofs.lemmas.Result.{err_from_is_err_and}
 use Rattle.ref_lists.specs.declared.initial_lists.ListOrder.TheVariants.{BelowFirst}
 use Rattle.ref_lists.proofs.Places.{IsDistinct-initial_list, IsDistinct-exchanged}
 use Rattle.ref_lists.proofs.SliceLists.{bad_0, bad_1, final_0, final_1, both-Err, both-Ok-Err, both-Ok, lists_of-tie, lists_of-b_none, lists_of-b}
-use Rattle.order_count.specs.PicOrderCnt.{pic_order_cnt}
+use Rattle.pictures.specs.PicOrderCnt.{pic_order_cnt}
 use Rattle.ref_lists.proofs.construction.b_lists.Goals as goal
 
 pub returns-then-has_repeat : goal.returns-then-has_repeat

@@ -3,13 +3,14 @@ use Rattle.std.proofs.Common.{not, refl}
 use Rattle.std.specs.Prelude.{◌==◌}
 use Rattle.std.proofs.lemmas.Result.{err_from_is_err_and}
 use Rattle.annexb.specs.NalUnit.{nal_ref_idc, nal_unit_type}
-use Rattle.slice_header.specs.SliceTypes.{has_list, is_b}
+use Rattle.header_types.specs.SliceTypes.{has_list, is_b}
 use Rattle.slice_header.specs.SliceHeaders.{syntax_of}
 use Rattle.slice_header.specs.SliceHeaderSyntax.{header_syntax, max_frame_num, weights_of}
 use Rattle.slice_header.specs.RefPicListModificationSyntax.{modification_syntax}
 use Rattle.slice_header.specs.DecRefPicMarkingSyntax.{marking_syntax}
-use Rattle.slice_header.specs.Structures.{syntax_at}
-use Rattle.slice_header.proofs.Structures.{refuses_is, refuses_all, followed_by_at}
+use Rattle.syntax_tables.specs.Structures.{syntax_at}
+use Rattle.slice_header.proofs.Refusals.{refuses_is, refuses_all}
+use Rattle.syntax_tables.proofs.Structures.{followed_by_at}
 use Rattle.slice_header.proofs.headers.header_fields.Goals as goal
 
 pub returns-in_err-front : goal.returns-in_err-front

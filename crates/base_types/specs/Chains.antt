@@ -1,0 +1,8 @@
+-- Results one after the other.
+use Rattle.std.specs.Prelude.{Result, Ok, Err}
+
+-- what follows from a value; an error stays
+infixl 10 ◌>>=◌
+abbrev pub ◌>>=◌ : {A B E : Type 0} → Result A E → (A → Result B E) → Result B E
+(Ok x) >>= f = f x
+(Err e) >>= f = Err e

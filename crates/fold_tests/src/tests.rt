@@ -1,0 +1,2 @@
+mod fold;
+mod shown_order;

@@ -1,0 +1,2 @@
+pub mod SliceTypes
+pub mod Pictures

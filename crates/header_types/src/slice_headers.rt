@@ -1,0 +1,64 @@
+//! The header of a slice (7.3.3, 7.4.3).
+
+ghost use Rattle.std.specs.Prelude.{◌≡◌, ◌==◌, ◌↔◌, false};
+
+use crate::dec_ref_pic_marking::DecRefPicMarking;
+use crate::pred_weight_table::PredWeightTable;
+use crate::ref_pic_list_modification::RefPicListModifications;
+use crate::slice_types::SliceType;
+use base_types::AtMost;
+
+/// A slice header, each field under its name in the standard, with those of the unit's first byte.
+///
+/// What the header doesn't send has its inferred value: 0, no commands, no table; an absent active count is the
+/// picture parameter set's where the list exists.
+#[derive(Debug, Drop)]
+pub struct SliceHeader {
+    pub nal_ref_idc: u8,
+    /// 5 for a slice of an IDR picture, else 1.
+    pub nal_unit_type: u8,
+    pub first_mb_in_slice: u32,
+    pub slice_type: SliceType,
+    pub pic_parameter_set_id: u8,
+    pub frame_num: u16,
+    pub idr_pic_id: u16,
+    pub pic_order_cnt_lsb: u16,
+    pub delta_pic_order_cnt_bottom: i32,
+    pub delta_pic_order_cnt0: i32,
+    pub delta_pic_order_cnt1: i32,
+    pub redundant_pic_cnt: u8,
+    pub direct_spatial_mv_pred_flag: bool,
+    pub num_ref_idx_l0_active_minus1: AtMost<31>,
+    pub num_ref_idx_l1_active_minus1: AtMost<31>,
+    pub ref_pic_list_modification_l0: RefPicListModifications,
+    pub ref_pic_list_modification_l1: RefPicListModifications,
+    pub pred_weight_table: Option<PredWeightTable>,
+    pub dec_ref_pic_marking: DecRefPicMarking,
+    pub cabac_init_idc: u8,
+    pub slice_qp_delta: i8,
+    pub disable_deblocking_filter_idc: u8,
+    pub slice_alpha_c0_offset_div2: i8,
+    pub slice_beta_offset_div2: i8,
+    /// The place after the header in the payload, in bits, with the unit's first byte.
+    pub header_bit_size: u32,
+    /// The size of dec_ref_pic_marking in bits.
+    pub dec_ref_pic_marking_bit_size: u32,
+    /// The size in bits of pic_order_cnt_lsb and of the deltas of the picture order count.
+    pub pic_order_cnt_bit_size: u32,
+}
+
+impl SliceHeader {
+    /// Whether the slice belongs to an IDR picture.
+    pub fn is_idr(&self) -> bool
+        ensures { result ≡ (self.now.nal_unit_type == 5) }
+    {
+        self.nal_unit_type == 5
+    }
+
+    /// Whether the picture becomes a reference.
+    pub fn is_reference(&self) -> bool
+        ensures { (result ≡ false) ↔ (self.now.nal_ref_idc ≡ 0) }
+    {
+        self.nal_ref_idc != 0
+    }
+}

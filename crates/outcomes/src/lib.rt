@@ -1,0 +1,12 @@
+//! What becomes of a unit of a stream: the requests of its slices, or the fault that keeps it from being decoded.
+//!
+//! The fold of `request_core` makes outcomes; output order, keys and the lines that are printed are made of them.
+#![tactic(auto)]
+
+mod outcome;
+mod requests;
+mod validity_fault;
+
+pub use outcome::{Outcome, Plan};
+pub use requests::Requests;
+pub use validity_fault::ValidityFault;

@@ -1,0 +1,4 @@
+pub mod KeyPlaces
+pub mod Keys
+pub mod Placed
+pub mod Ranks

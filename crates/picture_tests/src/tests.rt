@@ -1,0 +1,4 @@
+mod controls;
+mod counts;
+mod lists;
+mod marking;

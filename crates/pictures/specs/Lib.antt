@@ -1,0 +1,4 @@
+pub mod PicOrderCnt
+pub mod Resetting
+pub mod MarkedFrames
+pub mod PicNums

@@ -1,0 +1,16 @@
+use Rattle.std.proofs.Common.{◌∙◌, ap, rules, to_z-of_z, SFits, w64}
+use Rattle.ref_marking.specs.declared.fault.MarkFault.TheVariants.{BadMarking}
+use Rattle.ref_marking.specs.MarksAfter.{short_term_freed, without_at}
+use Rattle.ref_marking.proofs.Places.{short_term_left}
+use Rattle.ref_marking.proofs.StepLaws.{frees_short_term}
+use Rattle.ref_marking.proofs.operations.free_short_term.Goals as goal
+
+pub returns-clause-exact : goal.returns-clause-exact
+unfolding short_term_freed
+returns-clause-exact c =
+    let fits : SFits w64 c.pic_num_x-number.result = search rules in
+    let place = simp to_z-of_z at c.short_term_place-place.ensures in
+    c.without.ensures ∙ (ap (without_at BadMarking c.args.marks) place ∙ short_term_left BadMarking c.args.marks c.args.sps.now c.args.frame_num _ _ c.pic_num_x-number.ensures)
+
+pub returns-clause-step : goal.returns-clause-step
+returns-clause-step c = frees_short_term c.args.sps.now c.args.frame_num c.args.difference_of_pic_nums_minus1 c.args.marks _ (returns-clause-exact c)

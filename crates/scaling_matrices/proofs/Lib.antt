@@ -1,0 +1,3 @@
+pub mod FallBack
+pub mod StandardTables
+pub mod ScalingEntries

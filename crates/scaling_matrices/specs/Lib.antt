@@ -1,0 +1,4 @@
+pub mod DefaultScalingLists
+pub mod FallBack
+pub mod InverseScan
+pub mod ScalingMatrix

@@ -1,0 +1,33 @@
+-- The first fields of a unit's slice header, which are read without parameter sets (ITU-T H.264, 7.3.3).
+use Rattle.std.specs.Prelude.{ℕ, List, Option, Some, None, Result, Ok, Err}
+use Rattle.expgolomb.specs.Bits.{Place}
+use Rattle.annexb.specs.EmulationPrevention.{payload_of}
+use Rattle.syntax_tables.specs.Ranges.{any}
+use Rattle.syntax_tables.specs.Payloads.{behind_first}
+use Rattle.slice_front.specs.declared.fault.HeaderFault.{HeaderFault}
+use Rattle.slice_front.specs.declared.front.HeaderFront.{HeaderFront}
+use Rattle.header_types.specs.declared.slice_types.SliceType.{SliceType}
+use Rattle.slice_front.specs.FrontSyntax.{front_table, type_table}
+use Rattle.syntax_tables.specs.Structures.{table_at}
+
+-- the bits of a unit after its first byte, without emulation prevention
+abbrev pub unit_bits : List ℕ → Place
+unit_bits unit = behind_first (payload_of unit)
+
+-- what was read, without the place after it
+abbrev pub read_value : {A E : Type 0} → Result (A × Place) E → Result A E
+read_value (Ok x) = Ok x.0
+read_value (Err e) = Err e
+
+-- the first three fields as a function of the unit; first_mb_in_slice has any value
+unfoldable pub front_at : List ℕ → Result HeaderFront HeaderFault
+front_at unit = read_value (table_at (front_table any) (unit_bits unit))
+
+-- the type of a slice whose first two fields can be read, whatever follows
+abbrev pub type_of : Result (HeaderFront × Place) HeaderFault → Option SliceType
+type_of (Ok x) = Some x.0.slice_type
+type_of (Err e) = None
+
+-- the same as a function of the unit
+unfoldable pub slice_type_at : List ℕ → Option SliceType
+slice_type_at unit = type_of (table_at (type_table any) (unit_bits unit))

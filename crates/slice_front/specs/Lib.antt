@@ -1,0 +1,5 @@
+pub mod CodeFaults
+pub mod HeaderRows
+pub mod FrontSyntax
+pub mod Fronts
+pub mod FaultNumbers

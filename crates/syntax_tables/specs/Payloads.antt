@@ -1,0 +1,7 @@
+-- The bits of a unit's payload that its syntax describes.
+use Rattle.std.specs.Prelude.{ℕ, List}
+use Rattle.expgolomb.specs.Bits.{Place, start, skip}
+
+-- the bits after a payload's first byte
+abbrev pub behind_first : List ℕ → Place
+behind_first payload = skip 8 (start payload)

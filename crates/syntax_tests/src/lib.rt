@@ -1,0 +1,6 @@
+//! Tests of the syntax: parameter sets and slice headers, field by field. They call public functions alone, so the crates
+//! that read are proved once.
+#![tactic(auto)]
+
+#[cfg(test)]
+mod tests;

@@ -14,7 +14,10 @@ ghost use Rattle.plan_stream.specs.Streams.{numbered_from};
 ghost use Rattle.plan_stream.specs.StreamText.{stream_text, units_text};
 
 use access_unit::{MOST_UNITS, ReadFault, Refusal, Unit, read_units};
-use console_io::{Chunks, PrintFault, Status, say_input_fault, say_out_of_memory, say_print_fault, whole_input, write_bytes};
+use console_io::{
+    Chunks, PrintFault, Status, say_input_fault, say_out_of_memory, say_print_fault, whole_input,
+    write_bytes,
+};
 use outcomes::Outcome;
 use pictures::AuId;
 use std::alloc::{AllocError, Global};

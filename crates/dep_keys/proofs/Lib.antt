@@ -1,0 +1,4 @@
+pub mod SameEntries
+pub mod Indexing
+pub mod Building
+pub mod Kept

@@ -53,11 +53,11 @@ module _ {W : Type 0} where
   at_added keys n tree e = at_back keys ((n, tree) ∷ []) n e ∙ ap (λ b. cond b (Some tree) None) (eq-eqb n n refl)
 
   -- a live number has a tree
-  tree_of_live : (o : Option (Tree W)) → IsSome o → (tree : Tree W) × (o ≡ Some tree)
+  pub tree_of_live : (o : Option (Tree W)) → IsSome o → (tree : Tree W) × (o ≡ Some tree)
   tree_of_live None live = cc
   tree_of_live (Some tree) live = (tree, refl)
 
-  some_live : (o : Option (Tree W)) (tree : Tree W) → o ≡ Some tree → IsSome o
+  pub some_live : (o : Option (Tree W)) (tree : Tree W) → o ≡ Some tree → IsSome o
   some_live o tree e = ap is_some e
 
   live_stays : (keys more : KeyMap W) → Extends keys more → (entry : Option ℕ) → IsLive keys entry → IsLive more entry

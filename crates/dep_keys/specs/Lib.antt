@@ -6,3 +6,5 @@ pub mod Placed
 pub mod Indexed
 pub mod Built
 pub mod Interning
+pub mod Sweeping
+pub mod Marks

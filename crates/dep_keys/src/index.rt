@@ -55,6 +55,14 @@ impl Index {
         Ok(())
     }
 
+    /// The fingerprint at a place.
+    pub(crate) fn fingerprint(&self, place: usize) -> [u8; 32]
+        requires { place < length self.now }
+        ensures { result ≡ at self.now place }
+    {
+        self.fingerprints[place]
+    }
+
     /// The last place of a fingerprint.
     pub(crate) fn newest(&self, fingerprint: &[u8; 32]) -> Option<usize>
         ensures { IsLast self.now (length self.now) fingerprint.now result }

@@ -1,15 +1,17 @@
 //! Keys under numbers.
 
-ghost use Rattle.std.specs.Prelude.{◌≡◌, ◌↔◌, ℕ, [], ◌∷◌, ◌++◌, length, ◌==◌, Some, None, IsTrue, IsSome, IfOk, OnErr, MatchOption};
+ghost use Rattle.std.specs.Prelude.{◌≡◌, ◌↔◌, ℕ, [], ◌∷◌, ◌++◌, length, ◌==◌, Some, None, IsTrue, IsSome, IfOk, OnOk, OnErr, MatchOption};
 ghost use Rattle.dep_keys.specs.KeyMaps.{tree_at, tree_of, AreLive, IsNodeOf, IsOneToOne};
 ghost use Rattle.dep_keys.specs.Interning.{IsInterned};
+ghost use Rattle.dep_keys.specs.Sweeping.{IsSwept};
 
 use crate::fingerprint::{Fingerprint, Sha256Fingerprint};
 use crate::index::Index;
 use crate::key_id::KeyId;
+use crate::marks::needed;
 use crate::node::Node;
 use crate::numbers::Numbers;
-use crate::slots::{add, find};
+use crate::slots::{add, find, index_of, keep_marked};
 use crate::work::Work;
 use std::alloc::{AllocError, Global};
 use std::marker::Model;
@@ -20,6 +22,7 @@ use std::marker::Model;
 /// as one node, which names the keys of its entries by their numbers. Clauses see the live numbers with their trees.
 #[derive(Debug, Drop)]
 pub struct Keys<W, F: Fingerprint<W>> {
+    alloc: Global,
     slots: Vec<(KeyId, Node<W>)>,
     numbers: Numbers,
     index: Index,
@@ -56,6 +59,7 @@ impl<W: Work + Drop, F: Fingerprint<W>> Keys<W, F> {
         ensures { result ≡ [] }
     {
         Keys {
+            alloc,
             slots: Vec::new(alloc),
             numbers: Numbers::new(alloc),
             index: Index::new(alloc),
@@ -115,5 +119,19 @@ impl<W: Work + Drop, F: Fingerprint<W>> Keys<W, F> {
                 Ok(key)
             }
         }
+    }
+
+    /// Keeps the keys of the roots that are live and of all below them. The numbers of the others may be given again.
+    pub fn sweep(&mut self, roots: &[KeyId]) -> Result<(), AllocError>
+        ensures ok { OnOk result (IsSwept self.old roots.now self.new) }
+        ensures one { IsOneToOne self.new }
+        ensures err { OnErr result (self.new ≡ self.old) }
+    {
+        let marks = needed(self.alloc, &self.slots, self.numbers.room(), roots)?;
+        let index = index_of::<W, F>(self.alloc, &self.slots, &self.index, &marks)?;
+        self.numbers.keep(&marks)?;
+        self.index = index;
+        keep_marked(&mut self.slots, &marks);
+        Ok(())
     }
 }

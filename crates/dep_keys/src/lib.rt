@@ -5,6 +5,7 @@ mod fingerprint;
 mod index;
 mod key_id;
 mod keys;
+mod marks;
 mod node;
 mod numbers;
 mod slots;

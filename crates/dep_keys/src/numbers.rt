@@ -1,8 +1,11 @@
 //! The numbers of live keys.
 
-ghost use Rattle.std.specs.Prelude.{◌≡◌, List, ℕ, ◌≤◌, [], ◌∷◌, ◌++◌, length, IfOk, OnErr};
+ghost use Rattle.std.specs.Prelude.{◌≡◌, List, ℕ, ◌≤◌, [], ◌∷◌, ◌++◌, length, slice_index, ◌<◌, IfOk, OnOk, OnErr};
+ghost use Rattle.std.specs.List.{filter};
+ghost use Rattle.dep_keys.specs.Marks.{is_marked};
 ghost use Rattle.dep_keys.specs.Placed.{ArePlaced, IsPlace, IsUnused};
 
+use crate::marks::is_marked;
 use std::alloc::{AllocError, Global};
 use std::marker::Model;
 
@@ -73,6 +76,25 @@ impl Numbers {
             let _ = self.spare.push(number);
         }
     }
+
+    /// A number above each live one.
+    pub(crate) fn room(&self) -> usize
+        ensures { (i : ℕ) → i < length self.now → slice_index self.now i < result }
+    {
+        self.places.len()
+    }
+
+    /// Keeps the numbers that are marked; the others are live no more.
+    pub(crate) fn keep(&mut self, marks: &[bool]) -> Result<(), AllocError>
+        ensures ok { OnOk result (self.new ≡ filter (is_marked marks.now) self.old) }
+        ensures err { OnErr result (self.new ≡ self.old) }
+    {
+        self.spare.reserve(self.live.len())?;
+        spare_others(&self.live, marks, &mut self.spare);
+        keep_marked(&mut self.live, marks);
+        place_all(&self.live, &mut self.places);
+        Ok(())
+    }
 }
 
 /// Where a number stands among the live ones.
@@ -100,4 +122,31 @@ fn unused(live: &[usize], places: &[usize], spare: &mut Vec<usize>) -> usize
         }
     }
     places.len()
+}
+
+/// Adds the numbers that are not marked to the spare ones.
+fn spare_others(live: &[usize], marks: &[bool], spare: &mut Vec<usize>) {
+    for number in live {
+        if !is_marked(marks, *number) {
+            let _ = spare.push(*number);
+        }
+    }
+}
+
+/// Keeps the numbers that are marked.
+fn keep_marked(live: &mut Vec<usize>, marks: &[bool])
+    ensures { live.new.items ≡ filter (is_marked marks.now) live.old.items }
+{
+    live.retain(|number| is_marked(marks, *number));
+}
+
+/// Writes the place of each number.
+fn place_all(live: &[usize], places: &mut [usize])
+    requires below { (i : ℕ) → i < length live.now → slice_index live.now i < length places.old }
+    requires apart { (i : ℕ) (j : ℕ) → i < j → j < length live.now → slice_index live.now i ≡ slice_index live.now j → ⊥ }
+    ensures { ArePlaced live.now places.new }
+{
+    for (place, number) in live.iter().enumerate() {
+        places[*number] = place;
+    }
 }

@@ -1,16 +1,12 @@
 -- What holds of a map that is built of slots.
 use Rattle.std.proofs.Common.{◌≡◌, refl, ap, sym, ◌∙◌, ℕ, zero, suc, ◌+◌, ◌==◌, List, [], ◌∷◌, ◌++◌, length, Bool, true, false, cond, Option, None, Some, IsSome, is_some, arith, subst, inl, inr, ◌⊎◌, add-zero, length-append}
-use Rattle.std.proofs.lemmas.Bool.{eqb-true, eq-eqb}
+use Rattle.std.proofs.lemmas.Bool.{eqb-true, eq-eqb, cases_Bool}
 use Rattle.dep_keys.specs.Trees.{Tree}
 use Rattle.dep_keys.specs.Trees.Tree.{With}
-use Rattle.dep_keys.specs.KeyMaps.{KeyMap, tree_at, named, entered, tree_from, tree_of, IsLive, AreLive, IsOneToOne, IsNodeOf}
+use Rattle.dep_keys.specs.KeyMaps.{KeyMap, tree_at, named, entered, tree_from, tree_of, IsLive, AreLive, IsOneToOne, IsNodeOf, Extends, NumbersDiffer, IsKeyMap}
 use Rattle.dep_keys.specs.Built.{Slot, grown, grown_by, IsNext, AreNext, StandsAt}
 
 module _ {W : Type 0} where
-  -- the second map has each pair of the first
-  abbrev pub Extends : KeyMap W → KeyMap W → Type 0
-  Extends keys more = (number : ℕ) (tree : Tree W) → tree_at keys number ≡ Some tree → tree_at more number ≡ Some tree
-
   cond_front : (b : Bool) (first : Tree W) (x y : Option (Tree W)) (tree : Tree W)
       → (x ≡ Some tree → y ≡ Some tree) → cond b (Some first) x ≡ Some tree → cond b (Some first) y ≡ Some tree
   cond_front true first x y tree f e = e
@@ -149,6 +145,31 @@ module _ {W : Type 0} where
   pub none_one : IsOneToOne {W = W} []
   none_one a b tree e f = cc
 
+  absent_head : (b : Bool) (first : Tree W) (o : Option (Tree W)) → cond b (Some first) o ≡ None → (b ≡ false) × (o ≡ None)
+  absent_head true first o e = cc
+  absent_head false first o e = (refl, e)
+
+  absent_last : (n number : ℕ) (tree : Tree W) → (number == n) ≡ false → tree_at ((n, tree) ∷ []) number ≡ None
+  absent_last n number tree e = elim (cases_Bool (n == number)) [
+    | inl same ↦ absurd (cc (sym e ∙ eq-eqb number n (sym (eqb-true n number same))))
+    | inr other ↦ ap (λ b. cond b (Some tree) None) other
+  ]
+
+  one_number_more : (keys : KeyMap W) (n : ℕ) (tree : Tree W) → NumbersDiffer keys → tree_at keys n ≡ None → NumbersDiffer (keys ++ (n, tree) ∷ [])
+  one_number_more [] n tree differ none = (refl, tt)
+  one_number_more (pair ∷ keys) n tree differ none =
+      let parts : ((pair.0 == n) ≡ false) × (tree_at keys n ≡ None) = absent_head (pair.0 == n) pair.1 (tree_at keys n) none in
+      (at_back keys ((n, tree) ∷ []) pair.0 differ.0 ∙ absent_last n pair.0 tree parts.0, one_number_more keys n tree differ.1 parts.1)
+
+  numbers_differ : (keys : KeyMap W) (slots : List (Slot W)) → NumbersDiffer keys → AreNext keys slots → NumbersDiffer (grown_by keys slots)
+  numbers_differ keys [] differ next = differ
+  numbers_differ keys (slot ∷ slots) differ next =
+      numbers_differ (grown keys slot) slots (one_number_more keys slot.0 (tree_of keys slot.1) differ next.0.unused) next.1
+
+  -- each number stands once, and has a tree of its own
+  pub grown_map : (slots : List (Slot W)) → AreNext [] slots → IsKeyMap (grown_by [] slots)
+  grown_map slots next = record { numbers = numbers_differ [] slots tt next; trees = grown_one [] slots none_one next }
+
   -- a slot of a map
   abbrev pub IsRow : KeyMap W → Slot W → Type 0
   IsRow keys slot = IsNodeOf keys slot.0 slot.1
@@ -205,3 +226,8 @@ module _ {W : Type 0} where
   grown_length keys [] = sym (add-zero (length keys))
   grown_length keys (slot ∷ slots) =
       grown_length (grown keys slot) slots ∙ omega (arith, length-append keys ((slot.0, tree_of keys slot.1) ∷ []))
+
+  -- each pair stays where a slot is added
+  pub snoc_extends : (slots : List (Slot W)) (slot : Slot W) → Extends (grown_by [] slots) (grown_by [] (slots ++ slot ∷ []))
+  snoc_extends slots slot =
+      rw (grown_snoc [] slots slot) (at_front (grown_by [] slots) ((slot.0, tree_of (grown_by [] slots) slot.1) ∷ []))

@@ -3,12 +3,12 @@ use Rattle.std.proofs.Common.{◌≡◌, refl, ap, sym, ◌∙◌, ℕ, zero, su
 use Rattle.std.proofs.lemmas.List.{length-map}
 use Rattle.dep_keys.specs.Trees.{Tree}
 use Rattle.dep_keys.specs.Nodes.{NodeOf}
-use Rattle.dep_keys.specs.KeyMaps.{tree_at, tree_of, AreLive, IsNew, IsOneToOne, IsNodeOf}
+use Rattle.dep_keys.specs.KeyMaps.{tree_at, tree_of, AreLive, IsNew, IsOneToOne, IsNodeOf, IsKeyMap}
 use Rattle.dep_keys.specs.Placed.{IsPlace, IsUnused}
 use Rattle.dep_keys.specs.Indexed.{at}
 use Rattle.dep_keys.specs.Interning.{IsInterned}
 use Rattle.dep_keys.specs.Built.{Slot, grown_by, IsNext, StandsAt, AreKept, IsNoneFrom, IsFound}
-use Rattle.dep_keys.proofs.Building.{slot_row, row_slot, IsRow, tree_same, grown_one, none_one, grown_snoc, next_snoc, at_added}
+use Rattle.dep_keys.proofs.Building.{slot_row, row_slot, IsRow, tree_same, grown_one, none_one, grown_map, grown_snoc, next_snoc, at_added}
 
 module _ {W : Type 0} where
   number_at : (slots : List (Slot W)) (place : ℕ) (slot : Slot W) → StandsAt slots place slot
@@ -65,6 +65,10 @@ module _ {W : Type 0} (digest : NodeOf W → List ℕ) (slots : List (Slot W)) (
   -- no tree is under two numbers
   pub kept_one : IsOneToOne (grown_by [] slots)
   kept_one = grown_one [] slots none_one kept.built
+
+  -- each number stands once, and has a tree of its own
+  pub kept_map : IsKeyMap (grown_by [] slots)
+  kept_map = grown_map slots kept.built
 
   -- a number that was found has the node's tree
   pub interned_found : (fingerprint : List ℕ) (node : NodeOf W) (number : ℕ) → IsFound slots fingerprints fingerprint node (Some number)

@@ -57,6 +57,20 @@ module _ {W : Type 0} where
   abbrev pub IsNew : KeyMap W → Tree W → Type 0
   IsNew keys tree = (number : ℕ) → tree_at keys number ≡ Some tree → ⊥
 
+  -- the second map has each pair of the first
+  abbrev pub Extends : KeyMap W → KeyMap W → Type 0
+  Extends keys more = (number : ℕ) (tree : Tree W) → tree_at keys number ≡ Some tree → tree_at more number ≡ Some tree
+
+  -- no number stands twice
+  abbrev pub NumbersDiffer : KeyMap W → Type 0
+  NumbersDiffer [] = Unit {0}
+  NumbersDiffer (pair ∷ pairs) = (tree_at pairs pair.0 ≡ None) × NumbersDiffer pairs
+
   -- no tree is under two numbers
   abbrev pub IsOneToOne : KeyMap W → Type 0
   IsOneToOne keys = (a b : ℕ) (tree : Tree W) → tree_at keys a ≡ Some tree → tree_at keys b ≡ Some tree → a ≡ b
+
+  -- each number stands once, and has a tree of its own
+  pub record IsKeyMap (keys : KeyMap W) : Type 0 where
+    pub numbers : NumbersDiffer keys
+    pub trees : IsOneToOne keys

@@ -1,7 +1,7 @@
 //! Keys under numbers.
 
 ghost use Rattle.std.specs.Prelude.{◌≡◌, ◌↔◌, ℕ, [], ◌∷◌, ◌++◌, length, ◌==◌, Some, None, IsTrue, IsSome, IfOk, OnOk, OnErr, MatchOption};
-ghost use Rattle.dep_keys.specs.KeyMaps.{tree_at, tree_of, AreLive, IsNodeOf, IsOneToOne};
+ghost use Rattle.dep_keys.specs.KeyMaps.{tree_at, tree_of, AreLive, Extends, IsKeyMap, IsNodeOf};
 ghost use Rattle.dep_keys.specs.Interning.{IsInterned};
 ghost use Rattle.dep_keys.specs.Sweeping.{IsSwept};
 
@@ -98,11 +98,26 @@ impl<W: Work + Drop, F: Fingerprint<W>> Keys<W, F> {
         }
     }
 
+    /// Whether each of the entries names a live key or nothing.
+    pub fn are_live(&self, entries: &[Option<KeyId>]) -> bool
+        ensures { IsTrue result ↔ AreLive self.now entries.now }
+    {
+        for entry in entries {
+            if let Some(key) = entry
+                && !self.is_live(*key)
+            {
+                return false;
+            }
+        }
+        true
+    }
+
     /// The number of a node's key, which is a new one where the key has none yet.
     pub fn intern(&mut self, node: Node<W>) -> Result<KeyId, AllocError>
         requires { AreLive self.old node.entries }
+        ensures stay { Extends self.old self.new }
         ensures ok { IfOk result (λ key. IsInterned self.old (tree_of self.old node) key self.new) }
-        ensures one { IsOneToOne self.new }
+        ensures map { IsKeyMap self.new }
         ensures err { OnErr result (self.new ≡ self.old) }
     {
         let fingerprint = self.fingerprint.of(&node)?;
@@ -124,7 +139,7 @@ impl<W: Work + Drop, F: Fingerprint<W>> Keys<W, F> {
     /// Keeps the keys of the roots that are live and of all below them. The numbers of the others may be given again.
     pub fn sweep(&mut self, roots: &[KeyId]) -> Result<(), AllocError>
         ensures ok { OnOk result (IsSwept self.old roots.now self.new) }
-        ensures one { IsOneToOne self.new }
+        ensures map { IsKeyMap self.new }
         ensures err { OnErr result (self.new ≡ self.old) }
     {
         let marks = needed(self.alloc, &self.slots, self.numbers.room(), roots)?;

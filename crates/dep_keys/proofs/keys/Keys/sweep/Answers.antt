@@ -1,21 +1,21 @@
-use Rattle.dep_keys.proofs.Kept.{kept_one}
+use Rattle.dep_keys.proofs.Kept.{kept_map}
 use Rattle.dep_keys.proofs.Swept.{swept, swept_kept}
 use Rattle.dep_keys.proofs.keys.Keys.sweep.Goals as goal
 
-pub returns-in_err-marks-clause-one : goal.returns-in_err-marks-clause-one
-returns-in_err-marks-clause-one g c =
-    rw (← c.self.view_is) (kept_one g.F.Fingerprint.digest c.self.inside.slots.items c.self.inside.numbers c.self.inside.index c.self.invariant)
+pub returns-in_err-marks-clause-map : goal.returns-in_err-marks-clause-map
+returns-in_err-marks-clause-map g c =
+    rw (← c.self.view_is) (kept_map g.F.Fingerprint.digest c.self.inside.slots.items c.self.inside.numbers c.self.inside.index c.self.invariant)
 
 pub index_of-requires : goal.index_of-requires
 index_of-requires g c = rw c.deref-2.ensures.value c.self.invariant.indexed
 
-pub returns-in_err-index-clause-one : goal.returns-in_err-index-clause-one
-returns-in_err-index-clause-one g c =
-    rw (← c.self.view_is) (kept_one g.F.Fingerprint.digest c.self.inside.slots.items c.self.inside.numbers c.self.inside.index c.self.invariant)
+pub returns-in_err-index-clause-map : goal.returns-in_err-index-clause-map
+returns-in_err-index-clause-map g c =
+    rw (← c.self.view_is) (kept_map g.F.Fingerprint.digest c.self.inside.slots.items c.self.inside.numbers c.self.inside.index c.self.invariant)
 
-pub returns-in_err-keep-clause-one : goal.returns-in_err-keep-clause-one
-returns-in_err-keep-clause-one g c =
-    kept_one g.F.Fingerprint.digest c.self.inside.slots.items c.self.inside.numbers c.self.inside.index c.self.invariant
+pub returns-in_err-keep-clause-map : goal.returns-in_err-keep-clause-map
+returns-in_err-keep-clause-map g c =
+    kept_map g.F.Fingerprint.digest c.self.inside.slots.items c.self.inside.numbers c.self.inside.index c.self.invariant
 
 pub invariant_of-self-2 : goal.invariant_of-self-2
 invariant_of-self-2 g c =
@@ -39,9 +39,9 @@ returns-clause-ok g c =
     (swept g.F.Fingerprint.digest c.self.inside.slots.items c.self.inside.numbers c.self.inside.index c.self.invariant
     c.room.result c.room.ensures c.args.roots.now)
 
-pub returns-clause-one : goal.returns-clause-one
-returns-clause-one g c =
+pub returns-clause-map : goal.returns-clause-map
+returns-clause-map g c =
     rw (c.keep_marked.ensures, c.deref-5.ensures.value, c.in_ok-marks.ensures, c.deref.ensures.value)
-    (kept_one g.F.Fingerprint.digest _ _ _
+    (kept_map g.F.Fingerprint.digest _ _ _
     (swept_kept g.F.Fingerprint.digest c.self.inside.slots.items c.self.inside.numbers c.self.inside.index c.self.invariant
     c.room.result c.room.ensures c.args.roots.now))

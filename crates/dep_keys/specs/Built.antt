@@ -36,14 +36,16 @@ module _ {W : Type 0} where
   -- no slot from a place on that has the fingerprint has the node
   abbrev pub IsNoneFrom : List (Slot W) → List (List ℕ) → List ℕ → NodeOf W → ℕ → Type 0
   IsNoneFrom slots fingerprints fingerprint node from =
-      (place : ℕ) (slot : Slot W) → from ≤ place → StandsAt slots place slot → at fingerprints place ≡ fingerprint
-      → slot.1 ≡ node → ⊥
+      (place : ℕ) (slot : Slot W) → from ≤ place → StandsAt slots place slot
+      → at fingerprints place ≡ fingerprint → slot.1 ≡ node → ⊥
 
   -- a number whose slot has the node, or nothing where no slot that has the fingerprint has it
   abbrev pub IsFound : List (Slot W) → List (List ℕ) → List ℕ → NodeOf W → Option ℕ → Type 0
-  IsFound slots fingerprints fingerprint node None = IsNoneFrom slots fingerprints fingerprint node 0
+  IsFound slots fingerprints fingerprint node None =
+      IsNoneFrom slots fingerprints fingerprint node 0
   IsFound slots fingerprints fingerprint node (Some number) =
-      (place : ℕ) × (slot : Slot W) × StandsAt slots place slot × (slot.0 ≡ number) × (slot.1 ≡ node)
+      (place : ℕ) × (slot : Slot W)
+      × StandsAt slots place slot × (slot.0 ≡ number) × (slot.1 ≡ node)
 
   -- what is left to look at where a search has come to a candidate
   pub record IsSearched (slots : List (Slot W)) (fingerprints : List (List ℕ)) (fingerprint : List ℕ)

@@ -16,9 +16,11 @@ IsLast fingerprints end fingerprint (Some place) =
     × ((i : ℕ) → place < i → i < end → at fingerprints i ≡ fingerprint → ⊥)
 
 -- what is stored for the fingerprints: the last place of each, and for each place the one before it of its fingerprint
-pub record AreIndexed (fingerprints : List (List ℕ)) (newest : BTreeMap (List ℕ) ℕ) (older : List (Option ℕ)) : Type 0 where
+pub record AreIndexed (fingerprints : List (List ℕ)) (newest : BTreeMap (List ℕ) ℕ)
+    (older : List (Option ℕ)) : Type 0 where
   pub last : (fingerprint : List ℕ)
-      → IsLast fingerprints (length fingerprints) fingerprint (get (slice_cmp nat_cmp) newest fingerprint)
+      → IsLast fingerprints (length fingerprints) fingerprint
+      (get (slice_cmp nat_cmp) newest fingerprint)
   pub before : (place : ℕ) → place < length fingerprints
       → IsLast fingerprints place (at fingerprints place) (slice_index_or older place None)
   pub len : length older ≡ length fingerprints

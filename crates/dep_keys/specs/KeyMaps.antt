@@ -59,7 +59,9 @@ module _ {W : Type 0} where
 
   -- the second map has each pair of the first
   abbrev pub Extends : KeyMap W → KeyMap W → Type 0
-  Extends keys more = (number : ℕ) (tree : Tree W) → tree_at keys number ≡ Some tree → tree_at more number ≡ Some tree
+  Extends keys more =
+      (number : ℕ) (tree : Tree W) → tree_at keys number ≡ Some tree
+      → tree_at more number ≡ Some tree
 
   -- no number stands twice
   abbrev pub NumbersDiffer : KeyMap W → Type 0
@@ -68,7 +70,9 @@ module _ {W : Type 0} where
 
   -- no tree is under two numbers
   abbrev pub IsOneToOne : KeyMap W → Type 0
-  IsOneToOne keys = (a b : ℕ) (tree : Tree W) → tree_at keys a ≡ Some tree → tree_at keys b ≡ Some tree → a ≡ b
+  IsOneToOne keys =
+      (a b : ℕ) (tree : Tree W) → tree_at keys a ≡ Some tree → tree_at keys b ≡ Some tree
+      → a ≡ b
 
   -- each number stands once, and has a tree of its own
   pub record IsKeyMap (keys : KeyMap W) : Type 0 where

@@ -22,8 +22,8 @@ module _ {W : Type 0} where
 
   -- the pairs of the roots and of all that is below them are left, in their order, and no others
   pub record IsSwept (old : KeyMap W) (roots : List ℕ) (new : KeyMap W) : Type 0 where
-    pub kept : (number : ℕ) (tree : Tree W) → tree_at old number ≡ Some tree → IsNeeded old roots tree
-        → tree_at new number ≡ Some tree
+    pub kept : (number : ℕ) (tree : Tree W) → tree_at old number ≡ Some tree
+        → IsNeeded old roots tree → tree_at new number ≡ Some tree
     pub only : (number : ℕ) (tree : Tree W) → tree_at new number ≡ Some tree
         → (tree_at old number ≡ Some tree) × IsNeeded old roots tree
     pub pairs : (keep : ℕ → Bool) × (new ≡ filter (λ pair. keep pair.0) old)

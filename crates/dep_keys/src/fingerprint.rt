@@ -41,7 +41,8 @@ impl<W: Work> Fingerprint<W> for Sha256Fingerprint {
 
 /// Adds the bytes of an entry to a hasher.
 fn feed_entry(hasher: &mut Sha256, entry: Option<KeyId>)
-    ensures { (before : List ℕ) → Holds256 hasher.old before → Holds256 hasher.new (before ++ entry_bytes entry) }
+    ensures { (before : List ℕ) → Holds256 hasher.old before
+        → Holds256 hasher.new (before ++ entry_bytes entry) }
 {
     match entry {
         None => hasher.update([0]),

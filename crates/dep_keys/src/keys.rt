@@ -90,7 +90,8 @@ impl<W: Work + Drop, F: Fingerprint<W>> Keys<W, F> {
 
     /// The node of a live key.
     pub fn node(&self, key: KeyId) -> Option<&Node<W>>
-        ensures { MatchOption result (tree_at self.now key ≡ None) (λ node. IsNodeOf self.now key node.now) }
+        ensures { MatchOption result (tree_at self.now key ≡ None)
+            (λ node. IsNodeOf self.now key node.now) }
     {
         match self.numbers.place(key.number() as usize) {
             Some(place) => Some(&self.slots[place].1),

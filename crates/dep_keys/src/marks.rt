@@ -14,7 +14,8 @@ pub(crate) fn needed<W>(
     room: usize,
     roots: &[KeyId],
 ) -> Result<Vec<bool>, AllocError>
-    ensures { IfOk result (λ marks. marks.items ≡ all_passed_on (all_marked (replicate room false) roots.now) slots.now) }
+    ensures { IfOk result (λ marks. marks.items
+        ≡ all_passed_on (all_marked (replicate room false) roots.now) slots.now) }
 {
     let mut marks = vec![in alloc; false; room]?;
     for root in roots {

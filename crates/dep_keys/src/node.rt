@@ -43,7 +43,7 @@ impl<W> Node<W> {
     pub fn entries(&self) -> &[Option<KeyId>]
         ensures { result.now ≡ self.now.entries }
     {
-        &self.entries
+        self.entries.as_slice()
     }
 }
 

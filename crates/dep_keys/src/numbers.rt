@@ -70,7 +70,8 @@ impl Numbers {
 
     /// Takes the number back that was given last.
     pub(crate) fn take_back(&mut self)
-        ensures { (before : List ℕ) (number : ℕ) → self.old ≡ before ++ number ∷ [] → self.new ≡ before }
+        ensures { (before : List ℕ) (number : ℕ) → self.old ≡ before ++ number ∷ []
+            → self.new ≡ before }
     {
         if let Some(number) = self.live.pop() {
             let _ = self.spare.push(number);
@@ -143,7 +144,8 @@ fn keep_marked(live: &mut Vec<usize>, marks: &[bool])
 /// Writes the place of each number.
 fn place_all(live: &[usize], places: &mut [usize])
     requires below { (i : ℕ) → i < length live.now → slice_index live.now i < length places.old }
-    requires apart { (i : ℕ) (j : ℕ) → i < j → j < length live.now → slice_index live.now i ≡ slice_index live.now j → ⊥ }
+    requires apart { (i : ℕ) (j : ℕ) → i < j → j < length live.now
+        → slice_index live.now i ≡ slice_index live.now j → ⊥ }
     ensures { ArePlaced live.now places.new }
 {
     for (place, number) in live.iter().enumerate() {

@@ -48,7 +48,8 @@ pub(crate) fn add<W: Drop>(
     ensures slots { IfOk result (λ key. slots.new.items ≡ slots.old.items ++ (key, node) ∷ []) }
     ensures numbers { IfOk result (λ key. numbers.new ≡ numbers.old ++ key ∷ []) }
     ensures index { IfOk result (λ _. index.new ≡ index.old ++ fingerprint ∷ []) }
-    ensures err { OnErr result ((slots.new.items ≡ slots.old.items) × (numbers.new ≡ numbers.old) × (index.new ≡ index.old)) }
+    ensures err { OnErr result ((slots.new.items ≡ slots.old.items)
+        × (numbers.new ≡ numbers.old) × (index.new ≡ index.old)) }
 {
     slots.reserve(1)?;
     let number = numbers.give()?;
@@ -69,7 +70,8 @@ pub(crate) fn index_of<W, F: Fingerprint<W>>(
     marks: &[bool],
 ) -> Result<Index, AllocError>
     requires { index.now ≡ map (λ slot. F.digest slot.1) slots.now }
-    ensures { IfOk result (λ left. left ≡ map (λ slot. F.digest slot.1) (filter (λ slot. is_marked marks.now slot.0) slots.now)) }
+    ensures { IfOk result (λ left. left
+        ≡ map (λ slot. F.digest slot.1) (filter (λ slot. is_marked marks.now slot.0) slots.now)) }
 {
     let mut left = Index::new(alloc);
     for (place, slot) in slots.iter().enumerate() {

@@ -17,5 +17,6 @@ pub trait Work {
     /// Adds the bytes of this work to a hasher. Different work may have the same bytes: then it shares a fingerprint,
     /// which costs time alone.
     fn feed(&self, hasher: &mut Sha256)
-        ensures { (message : List ℕ) → Holds256 hasher.old message → Holds256 hasher.new (message ++ bytes self.now) };
+        ensures { (message : List ℕ) → Holds256 hasher.old message
+            → Holds256 hasher.new (message ++ bytes self.now) };
 }

@@ -21,3 +21,6 @@ pub use key_id::KeyId;
 pub use keys::Keys;
 pub use node::Node;
 pub use work::Work;
+
+#[cfg(test)]
+mod tests;

@@ -1,0 +1,13 @@
+use Rattle.dep_keys.specs.Marks.{is_marked}
+use Rattle.dep_keys.proofs.Placing.{left_below, left_apart}
+use Rattle.dep_keys.proofs.numbers.Numbers.keep.Goals as goal
+
+pub place_all-requires-clause-below : goal.place_all-requires-clause-below
+place_all-requires-clause-below c =
+    rw (c.deref-2.ensures.value, c.deref_mut.ensures.value, c.keep_marked.ensures)
+    (left_below (is_marked c.args.marks.now) c.self.inside.live.items c.self.inside.places.items c.self.invariant)
+
+pub place_all-requires-clause-apart : goal.place_all-requires-clause-apart
+place_all-requires-clause-apart c =
+    rw (c.deref-2.ensures.value, c.keep_marked.ensures)
+    (left_apart (is_marked c.args.marks.now) c.self.inside.live.items c.self.inside.places.items c.self.invariant)

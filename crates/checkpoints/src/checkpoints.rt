@@ -24,7 +24,7 @@ pub struct Checkpoint<'a, S> {
 /// States stored along a stream. Place p is the one past the first p units; place 0 is always stored.
 ///
 /// A look-up takes time that grows with the logarithm of the number of states. To put a state at a new place or to cut
-/// moves the places and the states after it, to shift the places alone: 2,000 states of 1 KB are moved in some 0.2 ms. To
+/// moves the places and the states after it, to shift the places alone. To
 /// put one in the place of another moves none.
 #[derive(Debug, Drop)]
 pub struct Checkpoints<S> {

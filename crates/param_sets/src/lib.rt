@@ -6,6 +6,7 @@
 #![tactic(auto)]
 
 mod fault;
+pub mod laws;
 mod pic_parameter_set;
 mod scaling_list;
 mod seq_parameter_set;

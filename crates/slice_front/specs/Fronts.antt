@@ -7,12 +7,22 @@ use Rattle.syntax_tables.specs.Payloads.{behind_first}
 use Rattle.slice_front.specs.declared.fault.HeaderFault.{HeaderFault}
 use Rattle.slice_front.specs.declared.front.HeaderFront.{HeaderFront}
 use Rattle.header_types.specs.declared.slice_types.SliceType.{SliceType}
-use Rattle.slice_front.specs.FrontSyntax.{front_table, type_table}
-use Rattle.syntax_tables.specs.Structures.{table_at}
+use Rattle.slice_front.specs.FrontSyntax.{front_table, no_front, take_front, type_table}
+use Rattle.syntax_tables.specs.Grammar.{HasFault}
+use Rattle.syntax_tables.specs.Structures.{HasTable, table_at}
 
 -- the bits of a unit after its first byte, without emulation prevention
 abbrev pub unit_bits : List ℕ → Place
 unit_bits unit = behind_first (payload_of unit)
+
+-- the unit's slice header begins with these fields; first_mb_in_slice has any value
+pub record IsFront (unit : List ℕ) (front : HeaderFront) : Type 0 where
+  pub behind : Place
+  pub fields : HasTable (front_table any) (unit_bits unit) front behind
+
+-- the first of these fields that shows a fault shows this one
+abbrev pub FrontHasFault : List ℕ → HeaderFault → Type 0
+FrontHasFault unit fault = HasFault take_front (front_table any).rows no_front (unit_bits unit) fault
 
 -- what was read, without the place after it
 abbrev pub read_value : {A E : Type 0} → Result (A × Place) E → Result A E

@@ -1,13 +1,13 @@
 //! The front of a slice header, which is read without parameter sets.
 
-ghost use Rattle.std.specs.Prelude.{◌≡◌, ◌≤◌, ◌+◌};
+ghost use Rattle.std.specs.Prelude.{◌≡◌, ◌≤◌, ◌+◌, IfErr, IfOk};
 ghost use Rattle.std.specs.Result.{result_ok};
 ghost use Rattle.syntax_tables.specs.Ranges.{any, at_most};
 ghost use Rattle.syntax_tables.specs.Answer.{Reads};
 ghost use Rattle.syntax_tables.specs.Payloads.{behind_first};
 ghost use Rattle.slice_front.specs.FrontSyntax.{front_table, type_table};
 ghost use Rattle.header_types.specs.SliceTypes.{slice_type_of};
-ghost use Rattle.slice_front.specs.Fronts.{front_at, slice_type_at, read_value, type_of};
+ghost use Rattle.slice_front.specs.Fronts.{FrontHasFault, IsFront, front_at, slice_type_at, read_value, type_of};
 ghost use Rattle.syntax_tables.specs.Structures.{table_at};
 
 use crate::fault::HeaderFault;
@@ -30,7 +30,10 @@ const FRONT_LEN: usize = 25;
 /// Reads the first fields of a slice header, whatever follows, and without testing that first_mb_in_slice lies in the
 /// picture.
 pub fn peek(nal: &Nal<'_>) -> Result<HeaderFront, HeaderFault>
-    ensures { result ≡ front_at nal.now }
+    ensures exact { result ≡ front_at nal.now }
+    // What is read is what the unit has, and a refusal is that of the first field that shows one.
+    ensures found { IfOk result (λ front. IsFront nal.now front) }
+    ensures shown { IfErr result (λ fault. FrontHasFault nal.now fault) }
 {
     let mut front = [0; FRONT_LEN];
     let len = payload_front(nal, &mut front);

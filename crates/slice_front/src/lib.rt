@@ -7,6 +7,7 @@
 mod fault;
 pub mod fields;
 mod front;
+pub mod laws;
 
 pub use fault::HeaderFault;
 pub use front::{HeaderFront, header_front, peek, slice_type};

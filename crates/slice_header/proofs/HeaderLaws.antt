@@ -4,7 +4,6 @@ use Rattle.std.specs.List.{AllByRecursion}
 use Rattle.std.proofs.lemmas.Bool.{cases_lt}
 use Rattle.std.proofs.lemmas.List.{take_all}
 use Rattle.expgolomb.specs.Bits.{Place, bits_of}
-use Rattle.expgolomb.proofs.ExpGolomb.{ok_is}
 use Rattle.set_types.specs.declared.sps.Sps.{Sps}
 use Rattle.set_types.specs.declared.pps.Pps.{Pps}
 use Rattle.syntax_tables.specs.Payloads.{behind_first}
@@ -23,6 +22,7 @@ use Rattle.slice_header.specs.PredWeightTableSyntax.{denominator_table, luma_tab
 use Rattle.slice_header.specs.DecRefPicMarkingSyntax.{marking_table, operation_table, operations_syntax, operations_if, marking_behind, marking_syntax}
 use Rattle.syntax_tables.specs.Structures.{Syntax, syntax_at}
 use Rattle.syntax_tables.proofs.Extensions.{CutIs, AllCutsAre, followed_by_cuts, counted_cuts, ended_cuts, behind_extended, syntax_extended}
+use Rattle.slice_front.proofs.FrontLaws.{with_place, fault_is}
 use Rattle.slice_front.proofs.Fronts.{front_missing, behind_first-front}
 use Rattle.syntax_tables.proofs.Structures.{syntax_found, syntax_only, syntax_fault, fault_syntax}
 
@@ -163,15 +163,6 @@ answers_whole syntax cuts n payload some (Err Value) is all = front_says syntax 
 answers_whole syntax cuts n payload some (Err Cut) is all =
     ap (λ bytes. read_value (syntax_at syntax (behind_first bytes))) (sym (take_all n payload (all refl))) ∙ is
 
--- a value that was read with its place
-with_place : {A : Type 0} (r : Result (A × Place) HeaderFault) (x : A) → read_value r ≡ Ok x → (q : Place) × (r ≡ Ok (x, q))
-with_place (Ok y) x is = (y.1, ap (λ z. Ok (z, y.1)) (ok_is y.0 x is))
-with_place (Err e) x is = cc
-
-fault_is : {A : Type 0} (r : Result (A × Place) HeaderFault) (e : HeaderFault) → read_value r ≡ Err e → r ≡ Err e
-fault_is (Ok y) e is = cc
-fault_is (Err d) e is = ap Err (cc)
-
 -- the laws of the answer
 module _ (unit : List ℕ) (sps : Sps) (pps : Pps) where
   pub header_found : (answer : Result SliceHeader HeaderFault) → Answers answer (header_at unit sps pps) → IfOk answer (λ header. IsSliceHeader unit sps pps header)
@@ -197,3 +188,19 @@ module _ (unit : List ℕ) (sps : Sps) (pps : Pps) where
   unfolding header_at
   header_refused answer is fault has =
       subst (Answers answer) (ap read_value (fault_syntax (syntax_of unit sps pps) (unit_bits unit) fault has)) is
+
+  -- the header that the unit has is what reading gives
+  pub header_has : (header : SliceHeader) → IsSliceHeader unit sps pps header → header_at unit sps pps ≡ Ok header
+  unfolding header_at
+  header_has header has =
+      ap read_value (syntax_only (syntax_of unit sps pps) (unit_bits unit) header has.behind has.fields)
+
+  -- the fault that it shows first is what reading ends with
+  pub header_shows : (fault : HeaderFault) → HeaderHasFault unit sps pps fault → header_at unit sps pps ≡ Err fault
+  unfolding header_at
+  header_shows fault has = ap read_value (fault_syntax (syntax_of unit sps pps) (unit_bits unit) fault has)
+
+  -- and the fault that reading ends with is shown
+  pub header_shown : (fault : HeaderFault) → header_at unit sps pps ≡ Err fault → HeaderHasFault unit sps pps fault
+  unfolding header_at
+  header_shown fault is = syntax_fault (syntax_of unit sps pps) (unit_bits unit) fault (fault_is _ fault is)

@@ -1,21 +1,15 @@
 -- The slice header of a unit, or what the unit shows instead.
-use Rattle.std.specs.Prelude.{◌≡◌, ℕ, List, Option, Some, None, Result, Ok, Err}
+use Rattle.std.specs.Prelude.{◌≡◌, ℕ, List, Result, Ok, Err}
 use Rattle.expgolomb.specs.Bits.{Place}
 use Rattle.annexb.specs.NalUnit.{nal_ref_idc, nal_unit_type}
-use Rattle.annexb.specs.EmulationPrevention.{payload_of}
 use Rattle.set_types.specs.declared.sps.Sps.{Sps}
 use Rattle.set_types.specs.declared.pps.Pps.{Pps}
-use Rattle.syntax_tables.specs.Ranges.{any}
-use Rattle.syntax_tables.specs.Payloads.{behind_first}
 use Rattle.slice_front.specs.declared.fault.HeaderFault.{HeaderFault}
-use Rattle.slice_front.specs.declared.front.HeaderFront.{HeaderFront}
 use Rattle.header_types.specs.declared.slice_headers.SliceHeader.{SliceHeader}
-use Rattle.header_types.specs.declared.slice_types.SliceType.{SliceType}
 use Rattle.slice_header.specs.HeaderAnswer.{Refuses}
 use Rattle.slice_front.specs.Fronts.{unit_bits, read_value}
-use Rattle.slice_front.specs.FrontSyntax.{front_table, type_table}
 use Rattle.slice_header.specs.SliceHeaderSyntax.{header_syntax}
-use Rattle.syntax_tables.specs.Structures.{Syntax, HasSyntax, SyntaxHasFault, table_at, syntax_at}
+use Rattle.syntax_tables.specs.Structures.{Syntax, HasSyntax, SyntaxHasFault, syntax_at}
 
 -- the syntax of the unit's header
 abbrev pub syntax_of : List ℕ → Sps → Pps → Syntax SliceHeader HeaderFault

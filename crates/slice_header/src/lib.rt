@@ -6,6 +6,7 @@
 
 mod coding;
 mod headers;
+pub mod laws;
 mod marking_syntax;
 mod modification_syntax;
 mod picture_fields;

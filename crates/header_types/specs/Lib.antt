@@ -1,2 +1,3 @@
 pub mod SliceTypes
 pub mod Pictures
+pub mod Operations

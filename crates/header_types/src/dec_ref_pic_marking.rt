@@ -1,6 +1,7 @@
 //! What becomes of the reference frames once the picture is decoded (7.3.3.3, 7.4.3.3).
 
-ghost use Rattle.std.specs.Prelude.{◌≡◌, List, [], ◌∷◌, ◌++◌, OnOk, OnErr};
+ghost use Rattle.std.specs.Prelude.{◌≡◌, ◌↔◌, ◌<◌, ◌≤◌, List, [], ◌∷◌, ◌++◌, IsTrue, length, OnOk, OnErr};
+ghost use Rattle.header_types.specs.Operations.{most_operations};
 ghost use Rattle.header_types.specs.declared.dec_ref_pic_marking.MemoryManagementControlOperation.{MemoryManagementControlOperation};
 
 use smallvec::SmallVec;
@@ -45,7 +46,10 @@ impl Default for MemoryManagementControlOperation {
     }
 }
 
-/// The operations of a picture, in their order: at most 64.
+/// How many operations a picture has at most (this program's own limit).
+pub const MOST_OPERATIONS: u8 = 64;
+
+/// The operations of a picture, in their order: at most `MOST_OPERATIONS`.
 #[derive(Debug, Drop)]
 pub struct MemoryManagementControlOperations {
     operations: SmallVec<MemoryManagementControlOperation, 4>,
@@ -55,6 +59,8 @@ impl Model for MemoryManagementControlOperations {
     ghost Value = { List MemoryManagementControlOperation };
 
     ghost view = { λ list. list.operations.items };
+
+    ghost invariant = { λ list. length list.operations.items ≤ most_operations };
 }
 
 impl MemoryManagementControlOperations {
@@ -67,8 +73,16 @@ impl MemoryManagementControlOperations {
         }
     }
 
-    /// One operation more, after the others.
+    /// Whether there is no room for one more.
+    pub fn is_full(&self) -> bool
+        ensures { IsTrue result ↔ (length self.now ≡ most_operations) }
+    {
+        self.operations.len() == usize::from(MOST_OPERATIONS)
+    }
+
+    /// One operation more, after the others; there is room for it.
     pub fn push(&mut self, operation: MemoryManagementControlOperation) -> Result<(), AllocError>
+        requires { length self.old < most_operations }
         ensures ok { OnOk result (self.new ≡ self.old ++ operation ∷ []) }
         ensures err { OnErr result (self.new ≡ self.old) }
     {
@@ -78,7 +92,8 @@ impl MemoryManagementControlOperations {
 
     /// The operations, in their order.
     pub fn as_slice(&self) -> &[MemoryManagementControlOperation]
-        ensures { result.now ≡ self.now }
+        ensures items { result.now ≡ self.now }
+        ensures bound { length result.now ≤ most_operations }
     {
         self.operations.as_slice()
     }

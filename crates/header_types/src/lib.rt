@@ -11,7 +11,8 @@ mod slice_headers;
 mod slice_types;
 
 pub use dec_ref_pic_marking::{
-    DecRefPicMarking, MemoryManagementControlOperation, MemoryManagementControlOperations,
+    DecRefPicMarking, MOST_OPERATIONS, MemoryManagementControlOperation,
+    MemoryManagementControlOperations,
 };
 pub use pred_weight_table::{PredWeight, PredWeightTable, PredWeights};
 pub use ref_pic_list_modification::{RefPicListModification, RefPicListModifications};

@@ -6,6 +6,7 @@ use Rattle.header_types.specs.declared.dec_ref_pic_marking.DecRefPicMarking.{Dec
 use Rattle.header_types.specs.declared.dec_ref_pic_marking.DecRefPicMarking.TheVariants.{Idr, SlidingWindow, Adaptive}
 use Rattle.header_types.specs.declared.dec_ref_pic_marking.MemoryManagementControlOperation.{MemoryManagementControlOperation}
 use Rattle.header_types.specs.declared.dec_ref_pic_marking.MemoryManagementControlOperation.TheVariants.{FreeShortTerm, FreeLongTerm, AssignLongTerm, LimitLongTerm, FreeAll, CurrentLongTerm}
+use Rattle.header_types.specs.Operations.{most_operations}
 use Rattle.slice_header.specs.declared.marking_syntax.MarkingFlags.{MarkingFlags}
 use Rattle.syntax_tables.specs.Rows.{always, flag_of}
 use Rattle.slice_front.specs.HeaderRows.{u, ue_of, ue_any}
@@ -110,9 +111,9 @@ operation_table has_room = record {
   absent = None;
 }
 
--- at most 64 operations
+-- at most 64 operations, and the end
 unfoldable pub operations_syntax : Syntax (List MemoryManagementControlOperation) HeaderFault
-operations_syntax = ended operation_table 64 []
+operations_syntax = ended operation_table most_operations []
 
 -- what the flags of a picture that isn't IDR say
 abbrev pub operations_if : Bool → Syntax DecRefPicMarking HeaderFault

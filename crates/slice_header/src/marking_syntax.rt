@@ -10,14 +10,12 @@ ghost use Rattle.syntax_tables.specs.Structures.{table_at, syntax_at};
 
 use expgolomb::Bits;
 use header_types::{
-    DecRefPicMarking, MemoryManagementControlOperation, MemoryManagementControlOperations,
+    DecRefPicMarking, MOST_OPERATIONS, MemoryManagementControlOperation,
+    MemoryManagementControlOperations,
 };
 use slice_front::HeaderFault;
 use slice_front::fields::{flag, ue_any};
 use std::alloc::Global;
-
-// As many operations as are read (this program's own limit).
-const MOST_OPERATIONS: u8 = 64;
 
 /// The flags of dec_ref_pic_marking().
 #[derive(Clone, Copy)]

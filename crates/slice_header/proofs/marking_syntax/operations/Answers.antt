@@ -1,5 +1,5 @@
 -- Operation by operation, up to the end.
-use Rattle.std.proofs.Common.{refl, ◌≡◌, ◌+◌, ◌-◌, suc, ap, sym, ◌∙◌, arith}
+use Rattle.std.proofs.Common.{refl, ◌≡◌, ◌+◌, ◌-◌, suc, [], ◌∷◌, length, length-append, ap, sym, ◌∙◌, arith}
 use Rattle.std.proofs.lemmas.Result.{err_from_is_err_and}
 use Rattle.slice_header.specs.DecRefPicMarkingSyntax.{operation_table, operations_syntax}
 use Rattle.syntax_tables.specs.Structures.{syntax_at, ended}
@@ -27,6 +27,10 @@ loop-preserved c =
           c.loop.invariant.so_far
           ∙ (ended_step operation_table (64 - c.loop.counter) c.loop.operations c.loop.bits (64 - (c.loop.counter + 1)) c.in-Some.operation c.operation.new.bits more (rw c.in-Some.is at c.in_ok-operation.ensures.exact)
           ∙ ap (λ items. syntax_at (ended operation_table (64 - (c.loop.counter + 1)) items) c.operation.new.bits) (sym c.in_ok-push-in-Some.ensures.ok));
+      few =
+          let longer : length c.push.new.self ≡ length c.loop.operations + 1 =
+          ap length c.in_ok-push-in-Some.ensures.ok ∙ length-append c.loop.operations (c.in-Some.operation ∷ []) in
+          omega (arith, c.loop.invariant.few, longer);
       near = omega (arith, c.in_ok-operation.ensures.near);
     }
 
@@ -44,4 +48,4 @@ returns-clause-exact c =
 
 pub loop-init : goal.loop-init
 unfolding operations_syntax
-loop-init c = record { so_far = rw c.new-operations.ensures refl; near = omega arith }
+loop-init c = record { so_far = rw c.new-operations.ensures refl; few = rw c.new-operations.ensures (omega arith); near = omega arith }

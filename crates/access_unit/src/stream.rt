@@ -110,8 +110,13 @@ fn read_parts(
         .collect(rt, alloc)
 }
 
-/// The access units that were read; or that memory is wanted for one of them, or the first refusal.
-fn gather(alloc: Global, answers: Vec<Result<Unit, Refused>>) -> Result<Vec<Unit>, StreamRefused>
+/// What a stream is read as, by what each of its access units is read as, in order: all units; that memory is wanted,
+/// where it is for any of them; or else the first refusal. `read_stream` reads the access units in threads and ends by
+/// this.
+pub fn gather(
+    alloc: Global,
+    answers: Vec<Result<Unit, Refused>>,
+) -> Result<Vec<Unit>, StreamRefused>
     ensures answer { IsGathered answers.items result }
     ensures memory { IsTrue (list_any wants_memory answers.items)
         → IsErrOf result StreamRefused.Memory }

@@ -16,7 +16,7 @@ abs_frame_num frame_num_offset sps header =
 abbrev pub total : List ℤ → ℤ
 total offsets = fold ◌+ℤ◌ (pos 0) offsets
 
--- The first part of expectedPicOrderCnt (8-8 to 8-10): ExpectedDeltaPerPicOrderCntCycle for each whole cycle before
+-- The first part of expectedPicOrderCnt (8-8, 8-9): ExpectedDeltaPerPicOrderCntCycle for each whole cycle before
 -- the frame, and the offsets of its own cycle up to it.
 abbrev pub expected : List ℤ → (abs_frame_num : ℕ) → ℤ
 expected offsets zero = pos 0

@@ -51,7 +51,7 @@ fn abs_frame_num(frame_num_offset: u32, sps: &Sps, header: &SliceHeader) -> u64
     }
 }
 
-// The whole cycles before a frame, and its own cycle up to it (8-8 to 8-10).
+// The whole cycles before a frame, and its own cycle up to it (8-8, 8-9).
 fn expected(offsets: &[i32], abs_frame_num: u64) -> i128
     requires few { length offsets.now ≤ 255 }
     requires small { abs_frame_num < 2 ^ 33 }

@@ -1,6 +1,6 @@
 //! The units that the frames of the decoded picture buffer were decoded from.
 
-ghost use Rattle.std.specs.Prelude.{◌≡◌, slice_get, map, IfOk};
+ghost use Rattle.std.specs.Prelude.{◌≡◌, ◌↔◌, slice_get, map, IfOk, IsTrue};
 ghost use Rattle.h264_controls.specs.References.{references};
 
 use header_types::SliceHeader;
@@ -23,14 +23,19 @@ impl Model for References {
 }
 
 impl References {
+    /// These units.
+    pub fn new(ids: Vec<AuId>) -> References
+        ensures { result ≡ ids.items }
+    {
+        References { ids }
+    }
+
     /// Those of a slice with this header, before the marking of its picture.
     pub fn of(alloc: Global, marks: &Marks, header: &SliceHeader) -> Result<References, AllocError>
         ensures { IfOk result (λ units. units ≡ references marks.now.frames header.now) }
     {
         if header.is_idr() {
-            Ok(References {
-                ids: Vec::new(alloc),
-            })
+            Ok(References::new(Vec::new(alloc)))
         } else {
             units_of(alloc, marks.frames())
         }
@@ -41,6 +46,13 @@ impl References {
         ensures { result.now ≡ self.now }
     {
         self.ids.as_slice()
+    }
+
+    /// Whether both have the same units in the same order.
+    pub fn is_same(&self, other: &References) -> bool
+        ensures { IsTrue result ↔ (self.now ≡ other.now) }
+    {
+        self.as_slice() == other.as_slice()
     }
 
     /// The unit of the entry at an index, if it holds a frame.
@@ -59,5 +71,5 @@ fn units_of(alloc: Global, frames: &[Frame]) -> Result<References, AllocError>
     for frame in frames {
         ids.push(frame.id)?;
     }
-    Ok(References { ids })
+    Ok(References::new(ids))
 }

@@ -6,9 +6,10 @@
 
 mod checks;
 mod gathered;
+mod places;
 mod planning;
 mod scratching;
-mod set_controls;
+mod sets;
 mod slices;
 mod state;
 mod stepping;

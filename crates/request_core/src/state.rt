@@ -3,7 +3,6 @@
 ghost use Rattle.std.specs.Prelude.{◌≡◌, IfOk};
 ghost use Rattle.request_core.specs.States.{no_units};
 
-use crate::set_controls::SetControls;
 use crate::tables::Tables;
 use base_types::Shared;
 use order_count::Anchor;
@@ -22,8 +21,6 @@ pub struct State {
     /// PrevRefFrameNum (7.4.3).
     pub(crate) prev_ref_frame_num: u16,
     pub(crate) marks: Marks,
-    /// The sets of the last picture, whose controls the next one may share. No outcome depends on it.
-    pub(crate) last: Option<SetControls>,
 }
 
 impl Model for State {
@@ -45,7 +42,6 @@ impl State {
             anchor: Anchor::new(),
             prev_ref_frame_num: 0,
             marks: Marks::new(),
-            last: None,
         })
     }
 }

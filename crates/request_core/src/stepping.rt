@@ -15,7 +15,6 @@ ghost use Rattle.request_core.specs.Answers.{AnswersAs};
 
 use crate::checks::{picture_fault, slice_fault};
 use crate::planning::{Listed, count_picture, list_picture, mark_picture, requests_of};
-use crate::set_controls::copied;
 use crate::slices::{Slice, read_slices};
 use crate::state::State;
 use crate::steps::Steps;
@@ -77,7 +76,6 @@ fn with_sets(alloc: Global, state: &State, unit: &Unit) -> Result<State, AllocEr
         anchor: state.anchor,
         prev_ref_frame_num: state.prev_ref_frame_num,
         marks: state.marks.copy(),
-        last: copied(&state.last)?,
     })
 }
 
@@ -94,9 +92,19 @@ fn tables_with(
     }
     let mut after = tables.copy(alloc)?;
     for set in sets {
-        after.put(set)?;
+        after.put(alloc, set)?;
     }
-    Ok(Shared::new(alloc, after)?)
+    Ok(Shared::new(alloc, paired(alloc, after, sets)?)?)
+}
+
+/// The tables, in which the picture parameter sets among these sets are paired to what they name.
+fn paired(alloc: Global, mut tables: Tables, sets: &[ParameterSet]) -> Result<Tables, AllocError>
+    ensures { IfOk result (λ after. after ≡ tables) }
+{
+    for set in sets {
+        tables.pair(alloc, set)?;
+    }
+    Ok(tables)
 }
 
 /// The set of the last IDR picture, shared.
@@ -113,7 +121,7 @@ fn shared_active(state: &State) -> Result<Option<Shared<Sps>>, AllocError>
 fn plan(alloc: Global, state: &State, id: AuId, unit: &Unit) -> Result<(State, Plan), Stop>
     ensures { AnswersAs (λ planned. planned) result (planned state.now id unit.now) }
 {
-    let slices = read_slices(alloc, &state.tables, &state.last, unit.slices())?;
+    let slices = read_slices(alloc, &state.tables, unit.slices())?;
     plan_picture(alloc, state, id, slices.as_slice())
 }
 
@@ -206,7 +214,6 @@ fn state_after(
         anchor: anchor_after(&state.anchor, slice.sps(), &slice.header, counts),
         prev_ref_frame_num: next_ref_frame_num(state, slice),
         marks,
-        last: Some(slice.sets.copy()?),
     })
 }
 

@@ -6,6 +6,7 @@
 
 mod checks;
 mod gathered;
+pub mod laws;
 mod places;
 mod planning;
 mod scratching;

@@ -1,6 +1,6 @@
 //! The places of the tables: a parameter set, with the controls that it decides.
 
-ghost use Rattle.std.specs.Prelude.{◌≡◌, IfOk};
+ghost use Rattle.std.specs.Prelude.{◌≡◌, ◌↔◌, IfOk, IsTrue};
 ghost use Rattle.h264_controls.specs.SpsControl.{sps_control};
 
 use crate::sets::Sets;
@@ -9,6 +9,13 @@ use h264_controls::V4l2CtrlH264Sps;
 use set_types::{Pps, Sps};
 use std::alloc::{AllocError, Global};
 use std::marker::Model;
+
+/// A parameter set in its place.
+pub(crate) trait Place {
+    /// Whether both places have the same set.
+    fn is_same(&self, other: &Self) -> bool
+        ensures { IsTrue result ↔ (self.now ≡ other.now) };
+}
 
 /// A sequence parameter set with its control.
 #[derive(Debug, Drop)]
@@ -52,6 +59,12 @@ impl SpsPlace {
         ensures { result.now ≡ sps_control self.now }
     {
         &self.control
+    }
+}
+
+impl Place for SpsPlace {
+    fn is_same(&self, other: &SpsPlace) -> bool {
+        self.set.is_same(&other.set)
     }
 }
 
@@ -113,5 +126,11 @@ impl PpsPlace {
     /// The sets that it was paired to.
     pub(crate) fn sets(&self) -> &Option<Sets> {
         &self.sets
+    }
+}
+
+impl Place for PpsPlace {
+    fn is_same(&self, other: &PpsPlace) -> bool {
+        self.set.is_same(&other.set)
     }
 }

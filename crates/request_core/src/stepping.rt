@@ -72,7 +72,7 @@ fn with_sets(alloc: Global, state: &State, unit: &Unit) -> Result<State, AllocEr
 {
     Ok(State {
         tables: tables_with(alloc, &state.tables, unit.sets())?,
-        active: shared_active(state)?,
+        active: state.active()?,
         anchor: state.anchor,
         prev_ref_frame_num: state.prev_ref_frame_num,
         marks: state.marks.copy(),
@@ -105,16 +105,6 @@ fn paired(alloc: Global, mut tables: Tables, sets: &[ParameterSet]) -> Result<Ta
         tables.pair(alloc, set)?;
     }
     Ok(tables)
-}
-
-/// The set of the last IDR picture, shared.
-fn shared_active(state: &State) -> Result<Option<Shared<Sps>>, AllocError>
-    ensures { IfOk result (λ active. active ≡ state.now.active) }
-{
-    match &state.active {
-        Some(active) => Ok(Some(active.clone()?)),
-        None => Ok(None),
-    }
 }
 
 /// What the unit leads to in a state in which its sets are put.
@@ -224,7 +214,7 @@ fn next_active(state: &State, slice: &Slice) -> Result<Option<Shared<Sps>>, Allo
     if slice.header.is_idr() {
         Ok(Some(slice.sps().clone()?))
     } else {
-        shared_active(state)
+        state.active()
     }
 }
 

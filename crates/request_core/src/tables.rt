@@ -3,7 +3,7 @@
 ghost use Rattle.std.specs.Prelude.{◌≡◌, ◌<◌, ◌↔◌, None, Some, IfOk, IsTrue, OnOk, length, option_map, replicate, set};
 ghost use Rattle.request_core.specs.ParameterSets.{no_sets, put, put_all, sps_under, pps_under};
 
-use crate::places::{PpsPlace, SpsPlace};
+use crate::places::{Place, PpsPlace, SpsPlace};
 use access_unit::ParameterSet;
 use base_types::Shared;
 use set_types::{Pps, Sps};
@@ -100,6 +100,13 @@ impl Tables {
         Ok(())
     }
 
+    /// Whether both have the same sets under the same ids.
+    pub(crate) fn is_same(&self, other: &Tables) -> bool
+        ensures { IsTrue result ↔ (self.now ≡ other.now) }
+    {
+        same_places(&self.sps, &other.sps) && same_places(&self.pps, &other.pps)
+    }
+
     /// The sequence parameter set under an id.
     pub(crate) fn sps(&self, id: u8) -> Option<&Shared<SpsPlace>>
         requires { id < 32 }
@@ -133,6 +140,32 @@ fn has_pps(place: Option<&Shared<PpsPlace>>, set: &Pps) -> bool
     match place {
         Some(place) => place.set().is_same(set),
         None => false,
+    }
+}
+
+/// Whether as many places have the same sets.
+fn same_places<T: Place>(a: &[Option<Shared<T>>], b: &[Option<Shared<T>>]) -> bool
+    ensures { IsTrue result ↔ (a.now ≡ b.now) }
+{
+    if a.len() != b.len() {
+        return false;
+    }
+    for (place, other) in a.iter().zip(b) {
+        if !same_place(place, other) {
+            return false;
+        }
+    }
+    true
+}
+
+/// Whether both places have the same set, or none.
+fn same_place<T: Place>(a: &Option<Shared<T>>, b: &Option<Shared<T>>) -> bool
+    ensures { IsTrue result ↔ (a.now ≡ b.now) }
+{
+    match (a, b) {
+        (Some(a), Some(b)) => a.is_same(b),
+        (None, None) => true,
+        _ => false,
     }
 }
 

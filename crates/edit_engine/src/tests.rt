@@ -191,12 +191,12 @@ fn deletes_and_repairs(rt: HostRuntime) {
     let [request] = plan.requests.as_slice() else {
         panic!(rt; "one slice has one request");
     };
-    let picture = &request.controls.decode_params;
+    let picture = &request.controls().decode_params;
     assert_eq!(rt; (request.timestamp, picture.frame_num), (3000, 2));
     let [entry] = picture.dpb.as_slice() else {
         panic!(rt; "one frame is marked");
     };
-    assert_eq!(rt; (entry.reference_ts, entry.pic_num), (4000, 1));
+    assert_eq!(rt; (request.reference_ts(0), entry.pic_num), (Some(4000), 1));
     assert!(rt; !entry.flags.long_term);
     assert_eq!(rt;
         session.last(),

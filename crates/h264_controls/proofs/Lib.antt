@@ -1,3 +1,4 @@
 mod Padding
 mod Filled
 mod Weights
+mod Same

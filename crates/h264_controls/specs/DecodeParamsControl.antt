@@ -1,6 +1,6 @@
 -- The control of a picture (struct v4l2_ctrl_h264_decode_params, struct v4l2_h264_dpb_entry; ITU-T H.264, 7.4.3 and
 -- 8.2.4.1).
-use Rattle.std.specs.Prelude.{ℕ, ◌*◌, Bool, true, false, List, [], map, ℤ, pos, if◌then◌else◌}
+use Rattle.std.specs.Prelude.{ℕ, Bool, true, false, List, [], map, ℤ, pos, if◌then◌else◌}
 use Rattle.std.specs.Int.{w32, cast_unsigned}
 use Rattle.set_types.specs.declared.sps.Sps.{Sps}
 use Rattle.header_types.specs.declared.slice_headers.SliceHeader.{SliceHeader}
@@ -13,10 +13,6 @@ use Rattle.pictures.specs.PicNums.{frame_num_wrap}
 use Rattle.h264_controls.specs.declared.v4l2_ctrl_h264_decode_params.V4l2CtrlH264DecodeParams.{V4l2CtrlH264DecodeParams}
 use Rattle.h264_controls.specs.declared.v4l2_ctrl_h264_decode_params.V4l2H264DpbEntry.{V4l2H264DpbEntry}
 use Rattle.h264_controls.specs.declared.v4l2_ctrl_h264_decode_params.V4l2H264FieldReference.TheVariants.{Frame as frame_reference}
-
--- the timestamp of a unit, in nanoseconds
-abbrev pub timestamp : ℕ → ℕ
-timestamp id = 1000 * id
 
 -- PicNum of a short-term frame, LongTermPicNum of a long-term one
 abbrev pub number_in : ℤ → Term → ℤ
@@ -35,7 +31,6 @@ is_long_term (LongTerm idx) = true
 -- a marked frame, as a picture of this frame_num sees it; PicNum as its low 32 bits
 abbrev pub dpb_entry : Sps → ℕ → Frame → V4l2H264DpbEntry
 dpb_entry sps frame_num frame = record {
-  reference_ts = timestamp frame.id;
   pic_num = cast_unsigned w32 (number_in (frame_num_wrap sps frame_num frame.frame_num) frame.term);
   frame_num = frame_num_in frame.frame_num frame.term;
   fields = frame_reference;
@@ -51,7 +46,7 @@ dpb frames sps header = if is_idr header then [] else map (dpb_entry sps header.
 -- what the header says of the picture, its counts, and the marked frames before it; there is one slice group
 abbrev pub decode_params_control : List Frame → Sps → SliceHeader → Counts → V4l2CtrlH264DecodeParams
 decode_params_control frames sps header counts = record {
-  dpb = record { items = dpb frames sps header };
+  dpb = dpb frames sps header;
   nal_ref_idc = header.nal_ref_idc;
   frame_num = header.frame_num;
   top_field_order_cnt = counts.top;

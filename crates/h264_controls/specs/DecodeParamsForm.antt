@@ -23,7 +23,7 @@ dpb_entry_flags flags = flag 1 flags.valid + flag 2 flags.active + flag 4 flags.
 abbrev pub decode_flags : DecodeFlags → ℕ
 decode_flags flags = flag 1 flags.idr_pic
 
--- the members of an entry in order, without its timestamp
+-- the members of an entry in order; its timestamp is no part of the form
 unfoldable pub dpb_entry_form : V4l2H264DpbEntry → List ℕ
 dpb_entry_form entry =
     u32 entry.pic_num
@@ -40,7 +40,7 @@ dpb_form entries = padded 304 (flat_map dpb_entry_form entries)
 -- its members in order
 unfoldable pub decode_params_form : V4l2CtrlH264DecodeParams → List ℕ
 decode_params_form params =
-    dpb_form params.dpb.items
+    dpb_form params.dpb
     ++ u16 params.nal_ref_idc
     ++ u16 params.frame_num
     ++ s32 params.top_field_order_cnt

@@ -12,3 +12,5 @@ pub mod PredWeightsControl
 pub mod ScalingMatrixControl
 pub mod SliceParamsControl
 pub mod SpsControl
+pub mod SetControls
+pub mod References

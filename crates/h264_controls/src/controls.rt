@@ -1,26 +1,23 @@
 //! The controls of a request.
 
-ghost use Rattle.std.specs.Prelude.{◌≡◌, IfOk};
+ghost use Rattle.std.specs.Prelude.{◌≡◌, ◌↔◌, IfOk, IsTrue};
 
+use crate::set_controls::SetControls;
 use crate::v4l2_ctrl_h264_decode_params::V4l2CtrlH264DecodeParams;
-use crate::v4l2_ctrl_h264_pps::V4l2CtrlH264Pps;
 use crate::v4l2_ctrl_h264_pred_weights::V4l2CtrlH264PredWeights;
-use crate::v4l2_ctrl_h264_scaling_matrix::V4l2CtrlH264ScalingMatrix;
 use crate::v4l2_ctrl_h264_slice_params::V4l2CtrlH264SliceParams;
-use crate::v4l2_ctrl_h264_sps::V4l2CtrlH264Sps;
 use base_types::Shared;
 use std::alloc::AllocError;
 
-/// The six controls of a slice. What is large is shared.
+/// The six controls of a slice. All but slice_params is shared.
 #[derive(Debug, Drop)]
 pub struct Controls {
-    pub sps: Shared<V4l2CtrlH264Sps>,
-    pub pps: V4l2CtrlH264Pps,
-    pub scaling_matrix: Shared<V4l2CtrlH264ScalingMatrix>,
+    /// The three that the parameter sets decide.
+    pub sets: Shared<SetControls>,
     /// Only where the slice header has a weight table.
     pub pred_weights: Option<Shared<V4l2CtrlH264PredWeights>>,
     pub slice_params: V4l2CtrlH264SliceParams,
-    pub decode_params: V4l2CtrlH264DecodeParams,
+    pub decode_params: Shared<V4l2CtrlH264DecodeParams>,
 }
 
 impl Controls {
@@ -29,13 +26,21 @@ impl Controls {
         ensures { IfOk result (λ copy. copy ≡ self.now) }
     {
         Ok(Controls {
-            sps: self.sps.clone()?,
-            pps: self.pps,
-            scaling_matrix: self.scaling_matrix.clone()?,
+            sets: self.sets.clone()?,
             pred_weights: copied(&self.pred_weights)?,
-            slice_params: self.slice_params.copy(),
-            decode_params: self.decode_params.copy(),
+            slice_params: self.slice_params.copy()?,
+            decode_params: self.decode_params.clone()?,
         })
+    }
+
+    /// Whether all controls are the same.
+    pub fn is_same(&self, other: &Controls) -> bool
+        ensures { IsTrue result ↔ (self.now ≡ other.now) }
+    {
+        self.slice_params.is_same(&other.slice_params)
+            && self.decode_params.is_same(&other.decode_params)
+            && same_weights(&self.pred_weights, &other.pred_weights)
+            && self.sets.is_same(&other.sets)
     }
 }
 
@@ -48,5 +53,19 @@ fn copied(
     match pred_weights {
         Some(weights) => Ok(Some(weights.clone()?)),
         None => Ok(None),
+    }
+}
+
+// Whether both have the same weights, or both none.
+fn same_weights(
+    a: &Option<Shared<V4l2CtrlH264PredWeights>>,
+    b: &Option<Shared<V4l2CtrlH264PredWeights>>,
+) -> bool
+    ensures { IsTrue result ↔ (a.now ≡ b.now) }
+{
+    match (a, b) {
+        (Some(a), Some(b)) => a.is_same(b),
+        (None, None) => true,
+        _ => false,
     }
 }

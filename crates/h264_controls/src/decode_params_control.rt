@@ -1,29 +1,32 @@
 //! The control of a picture: what its header says of it, and the frames that were marked before it.
 
-ghost use Rattle.std.specs.Prelude.{◌≡◌, ◌≤◌, length, map};
+ghost use Rattle.std.specs.Prelude.{◌≡◌, ◌≤◌, length, map, IfOk};
 ghost use Rattle.pictures.specs.PicNums.{frame_num_wrap};
 ghost use Rattle.h264_controls.specs.DecodeParamsControl.{decode_params_control, dpb, dpb_entry, frame_num_in, number_in};
 
+use crate::dpb::Dpb;
 use crate::v4l2_ctrl_h264_decode_params::{
     DecodeFlags, DpbEntryFlags, V4l2CtrlH264DecodeParams, V4l2H264DpbEntry, V4l2H264FieldReference,
 };
-use arrayvec::ArrayVec;
 use header_types::SliceHeader;
 use pictures::{Counts, Frame, Marks, Term, frame_num_wrap};
 use set_types::Sps;
+use std::alloc::{AllocError, Global};
 
 impl V4l2CtrlH264DecodeParams {
     /// The control of a slice with this header, of a picture with these counts, before its marking.
     pub fn of(
+        alloc: Global,
         marks: &Marks,
         sps: &Sps,
         header: &SliceHeader,
         counts: Counts,
-    ) -> V4l2CtrlH264DecodeParams
-        ensures { result ≡ decode_params_control marks.now.frames sps.now header.now counts }
+    ) -> Result<V4l2CtrlH264DecodeParams, AllocError>
+        ensures { IfOk result (λ control. control
+            ≡ decode_params_control marks.now.frames sps.now header.now counts) }
     {
-        V4l2CtrlH264DecodeParams {
-            dpb: dpb(marks, sps, header),
+        Ok(V4l2CtrlH264DecodeParams {
+            dpb: dpb(alloc, marks, sps, header)?,
             nal_ref_idc: u16::from(header.nal_ref_idc),
             frame_num: header.frame_num,
             top_field_order_cnt: counts.top,
@@ -39,31 +42,36 @@ impl V4l2CtrlH264DecodeParams {
             flags: DecodeFlags {
                 idr_pic: header.is_idr(),
             },
-        }
+        })
     }
 }
 
 /// The marked frames, in decode order; none at an IDR picture.
-fn dpb(marks: &Marks, sps: &Sps, header: &SliceHeader) -> ArrayVec<V4l2H264DpbEntry, 16>
-    ensures { result.items ≡ dpb marks.now.frames sps.now header.now }
+fn dpb(alloc: Global, marks: &Marks, sps: &Sps, header: &SliceHeader) -> Result<Dpb, AllocError>
+    ensures { IfOk result (λ entries. entries ≡ dpb marks.now.frames sps.now header.now) }
 {
     if header.is_idr() {
-        ArrayVec::new()
+        Dpb::with_capacity(alloc, 0)
     } else {
-        dpb_entries(sps, header.frame_num, marks.frames())
+        dpb_entries(alloc, sps, header.frame_num, marks.frames())
     }
 }
 
 /// Marked frames, as a picture of this frame_num sees them.
-fn dpb_entries(sps: &Sps, frame_num: u16, frames: &[Frame]) -> ArrayVec<V4l2H264DpbEntry, 16>
+fn dpb_entries(
+    alloc: Global,
+    sps: &Sps,
+    frame_num: u16,
+    frames: &[Frame],
+) -> Result<Dpb, AllocError>
     requires { length frames.now ≤ 16 }
-    ensures { result.items ≡ map (dpb_entry sps.now frame_num) frames.now }
+    ensures { IfOk result (λ entries. entries ≡ map (dpb_entry sps.now frame_num) frames.now) }
 {
-    let mut entries = ArrayVec::new();
+    let mut dpb = Dpb::with_capacity(alloc, frames.len())?;
     for frame in frames {
-        entries.push(dpb_entry(sps, frame_num, frame));
+        dpb.push(dpb_entry(sps, frame_num, frame))?;
     }
-    entries
+    Ok(dpb)
 }
 
 /// A marked frame, as a picture of this frame_num sees it.
@@ -71,7 +79,6 @@ fn dpb_entry(sps: &Sps, frame_num: u16, frame: &Frame) -> V4l2H264DpbEntry
     ensures { result ≡ dpb_entry sps.now frame_num frame.now }
 {
     V4l2H264DpbEntry {
-        reference_ts: frame.id.timestamp(),
         pic_num: pic_num(sps, frame_num, frame).cast_unsigned(),
         frame_num: frame_num_of(frame),
         fields: V4l2H264FieldReference::Frame,

@@ -1,18 +1,23 @@
 //! The controls of a stateless H.264 decoder, as the media documentation of the Linux kernel has them.
 //!
 //! A control is a struct under its Linux name, with the members that Linux gives it and a function `of` that fills it
-//! from the parsed sets, the slice header, the lists and the state before the picture's marking. A `Request` has the six
-//! controls of a slice and the slice's bytes. `digest_form` writes controls as the bytes of which a picture's digest is
-//! made.
+//! from the parsed sets, the slice header, the lists and the state before the picture's marking. A `Work` has the six
+//! controls of a slice and the slice's bytes; a `Request` shares it, and says when it stands and which units its
+//! references are. `digest_form` writes controls as the bytes of which a picture's digest is made.
 #![tactic(auto)]
 
 mod controls;
 mod decode_params_control;
 mod digest;
+mod dpb;
+mod laws;
 mod pps_control;
 mod pred_weights_control;
+mod ref_pic_list;
+mod references;
 mod request;
 mod scaling_matrix_control;
+mod set_controls;
 mod slice_params_control;
 mod sps_control;
 mod v4l2_ctrl_h264_decode_params;
@@ -22,10 +27,16 @@ mod v4l2_ctrl_h264_scaling_matrix;
 mod v4l2_ctrl_h264_slice_params;
 mod v4l2_ctrl_h264_sps;
 mod words;
+mod work;
 
 pub use controls::Controls;
-pub use digest::digest_form;
+pub use digest::{digest_form, sets_form, slice_form};
+pub use dpb::Dpb;
+pub use laws::digest_in_two_parts;
+pub use ref_pic_list::RefPicList;
+pub use references::References;
 pub use request::Request;
+pub use set_controls::SetControls;
 pub use v4l2_ctrl_h264_decode_params::{
     DecodeFlags, DpbEntryFlags, V4l2CtrlH264DecodeParams, V4l2H264DpbEntry, V4l2H264FieldReference,
 };
@@ -34,3 +45,4 @@ pub use v4l2_ctrl_h264_pred_weights::{V4l2CtrlH264PredWeights, V4l2H264WeightFac
 pub use v4l2_ctrl_h264_scaling_matrix::V4l2CtrlH264ScalingMatrix;
 pub use v4l2_ctrl_h264_slice_params::{SliceFlags, V4l2CtrlH264SliceParams};
 pub use v4l2_ctrl_h264_sps::{SpsFlags, V4l2CtrlH264Sps};
+pub use work::Work;

@@ -1,18 +1,26 @@
 //! The control of a slice.
 
-ghost use Rattle.std.specs.Prelude.{◌≡◌};
+ghost use Rattle.std.specs.Prelude.{◌≡◌, IfOk};
 ghost use Rattle.h264_controls.specs.SliceParamsControl.{slice_params_control};
 
+use crate::ref_pic_list::RefPicList;
 use crate::v4l2_ctrl_h264_slice_params::{SliceFlags, V4l2CtrlH264SliceParams};
 use header_types::SliceHeader;
 use pictures::List;
+use std::alloc::{AllocError, Global};
 
 impl V4l2CtrlH264SliceParams {
     /// The control of the slice with this header and these lists.
-    pub fn of(header: &SliceHeader, list_0: &List, list_1: &List) -> V4l2CtrlH264SliceParams
-        ensures { result ≡ slice_params_control header.now list_0.now list_1.now }
+    pub fn of(
+        alloc: Global,
+        header: &SliceHeader,
+        list_0: &List,
+        list_1: &List,
+    ) -> Result<V4l2CtrlH264SliceParams, AllocError>
+        ensures { IfOk result (λ control. control
+            ≡ slice_params_control header.now list_0.now list_1.now) }
     {
-        V4l2CtrlH264SliceParams {
+        Ok(V4l2CtrlH264SliceParams {
             header_bit_size: header.header_bit_size,
             first_mb_in_slice: header.first_mb_in_slice,
             slice_type: header.slice_type,
@@ -26,12 +34,12 @@ impl V4l2CtrlH264SliceParams {
             slice_beta_offset_div2: header.slice_beta_offset_div2,
             num_ref_idx_l0_active_minus1: header.num_ref_idx_l0_active_minus1.get(),
             num_ref_idx_l1_active_minus1: header.num_ref_idx_l1_active_minus1.get(),
-            ref_pic_list0: list_0.copy(),
-            ref_pic_list1: list_1.copy(),
+            ref_pic_list0: RefPicList::of(alloc, list_0)?,
+            ref_pic_list1: RefPicList::of(alloc, list_1)?,
             flags: SliceFlags {
                 direct_spatial_mv_pred: header.direct_spatial_mv_pred_flag,
                 sp_for_switch: false,
             },
-        }
+        })
     }
 }

@@ -1,18 +1,18 @@
 //! V4L2_CID_STATELESS_H264_DECODE_PARAMS.
 
-ghost use Rattle.std.specs.Prelude.{◌≡◌, ◌+◌, ◌*◌, ◌≤◌, ◌++◌, length, vec_len};
+ghost use Rattle.std.specs.Prelude.{◌≡◌, ◌↔◌, ◌+◌, ◌*◌, ◌≤◌, ◌++◌, length, vec_len, IsTrue};
 ghost use Rattle.std.specs.Vec.{vec_capacity};
 ghost use Rattle.std.specs.List.{flat_map};
 ghost use Rattle.h264_controls.specs.DecodeParamsForm.{decode_flags, decode_params_form, dpb_entry_flags, dpb_entry_form, dpb_form, field_reference_number};
 
+use crate::dpb::Dpb;
 use crate::words::{flag, put, put_s32, put_u16, put_u32, put_zeros};
-use arrayvec::ArrayVec;
 
 /// struct v4l2_ctrl_h264_decode_params: what the header says of the picture, and the decoded picture buffer.
 #[derive(Debug, Drop)]
 pub struct V4l2CtrlH264DecodeParams {
     /// The frames that were marked before the picture's own marking, in decode order; none at an IDR picture.
-    pub dpb: ArrayVec<V4l2H264DpbEntry, 16>,
+    pub dpb: Dpb,
     /// nal_ref_idc of the slice.
     pub nal_ref_idc: u16,
     pub frame_num: u16,
@@ -34,11 +34,10 @@ pub struct V4l2CtrlH264DecodeParams {
     pub flags: DecodeFlags,
 }
 
-/// struct v4l2_h264_dpb_entry: a frame of the decoded picture buffer.
+/// struct v4l2_h264_dpb_entry: a frame of the decoded picture buffer, without reference_ts, which depends on the
+/// stream.
 #[derive(Clone, Copy, Debug, PartialEq, Eq, Default)]
 pub struct V4l2H264DpbEntry {
-    /// The timestamp of the frame's unit, in nanoseconds. It is no part of the digest form.
-    pub reference_ts: u64,
     /// PicNum as its low 32 bits; LongTermPicNum of a long-term frame.
     pub pic_num: u32,
     /// FrameNum; LongTermFrameIdx of a long-term frame.
@@ -96,7 +95,7 @@ impl DecodeFlags {
 }
 
 impl V4l2H264DpbEntry {
-    /// Its digest form, which is without the timestamp, goes after the form.
+    /// Its digest form goes after the form.
     #[tactic(auto, unfolding(crate::specs::DecodeParamsForm::dpb_entry_form))]
     fn put(&self, form: &mut Vec<u8>)
         requires { vec_len form.old + 19 ≤ vec_capacity form.old }
@@ -114,28 +113,14 @@ impl V4l2H264DpbEntry {
 }
 
 impl V4l2CtrlH264DecodeParams {
-    /// The same control.
-    pub fn copy(&self) -> V4l2CtrlH264DecodeParams
-        ensures { result ≡ self.now }
+    /// Whether all members are the same.
+    pub fn is_same(&self, other: &V4l2CtrlH264DecodeParams) -> bool
+        ensures { IsTrue result ↔ (self.now ≡ other.now) }
     {
-        let mut dpb = ArrayVec::new();
-        let _ = dpb.try_extend_from_slice(self.dpb.as_slice());
-        V4l2CtrlH264DecodeParams {
-            dpb,
-            nal_ref_idc: self.nal_ref_idc,
-            frame_num: self.frame_num,
-            top_field_order_cnt: self.top_field_order_cnt,
-            bottom_field_order_cnt: self.bottom_field_order_cnt,
-            idr_pic_id: self.idr_pic_id,
-            pic_order_cnt_lsb: self.pic_order_cnt_lsb,
-            delta_pic_order_cnt_bottom: self.delta_pic_order_cnt_bottom,
-            delta_pic_order_cnt0: self.delta_pic_order_cnt0,
-            delta_pic_order_cnt1: self.delta_pic_order_cnt1,
-            dec_ref_pic_marking_bit_size: self.dec_ref_pic_marking_bit_size,
-            pic_order_cnt_bit_size: self.pic_order_cnt_bit_size,
-            slice_group_change_cycle: self.slice_group_change_cycle,
-            flags: self.flags,
-        }
+        same_numbers(self, other)
+            && same_counts(self, other)
+            && same_sizes(self, other)
+            && self.dpb.is_same(&other.dpb)
     }
 
     /// Its digest form goes after the form.
@@ -163,6 +148,53 @@ impl V4l2CtrlH264DecodeParams {
     }
 }
 
+/// Whether the picture has the same numbers.
+fn same_numbers(a: &V4l2CtrlH264DecodeParams, b: &V4l2CtrlH264DecodeParams) -> bool
+    ensures { IsTrue result ↔ (
+        (a.now.frame_num ≡ b.now.frame_num)
+        × (a.now.pic_order_cnt_lsb ≡ b.now.pic_order_cnt_lsb)
+        × (a.now.nal_ref_idc ≡ b.now.nal_ref_idc)
+        × (a.now.idr_pic_id ≡ b.now.idr_pic_id)
+        × (a.now.flags ≡ b.now.flags)
+        ) }
+{
+    a.frame_num == b.frame_num
+        && a.pic_order_cnt_lsb == b.pic_order_cnt_lsb
+        && a.nal_ref_idc == b.nal_ref_idc
+        && a.idr_pic_id == b.idr_pic_id
+        && a.flags == b.flags
+}
+
+/// Whether the picture is counted alike.
+fn same_counts(a: &V4l2CtrlH264DecodeParams, b: &V4l2CtrlH264DecodeParams) -> bool
+    ensures { IsTrue result ↔ (
+        (a.now.top_field_order_cnt ≡ b.now.top_field_order_cnt)
+        × (a.now.bottom_field_order_cnt ≡ b.now.bottom_field_order_cnt)
+        × (a.now.delta_pic_order_cnt_bottom ≡ b.now.delta_pic_order_cnt_bottom)
+        × (a.now.delta_pic_order_cnt0 ≡ b.now.delta_pic_order_cnt0)
+        × (a.now.delta_pic_order_cnt1 ≡ b.now.delta_pic_order_cnt1)
+        ) }
+{
+    a.top_field_order_cnt == b.top_field_order_cnt
+        && a.bottom_field_order_cnt == b.bottom_field_order_cnt
+        && a.delta_pic_order_cnt_bottom == b.delta_pic_order_cnt_bottom
+        && a.delta_pic_order_cnt0 == b.delta_pic_order_cnt0
+        && a.delta_pic_order_cnt1 == b.delta_pic_order_cnt1
+}
+
+/// Whether the parts of the header have the same sizes.
+fn same_sizes(a: &V4l2CtrlH264DecodeParams, b: &V4l2CtrlH264DecodeParams) -> bool
+    ensures { IsTrue result ↔ (
+        (a.now.dec_ref_pic_marking_bit_size ≡ b.now.dec_ref_pic_marking_bit_size)
+        × (a.now.pic_order_cnt_bit_size ≡ b.now.pic_order_cnt_bit_size)
+        × (a.now.slice_group_change_cycle ≡ b.now.slice_group_change_cycle)
+        ) }
+{
+    a.dec_ref_pic_marking_bit_size == b.dec_ref_pic_marking_bit_size
+        && a.pic_order_cnt_bit_size == b.pic_order_cnt_bit_size
+        && a.slice_group_change_cycle == b.slice_group_change_cycle
+}
+
 fn field_reference_number(fields: V4l2H264FieldReference) -> u8
     ensures { result ≡ field_reference_number fields }
 {
@@ -170,9 +202,9 @@ fn field_reference_number(fields: V4l2H264FieldReference) -> u8
 }
 
 // The decoded picture buffer, and zeros up to 16 frames.
-fn put_dpb(form: &mut Vec<u8>, dpb: &ArrayVec<V4l2H264DpbEntry, 16>)
+fn put_dpb(form: &mut Vec<u8>, dpb: &Dpb)
     requires { vec_len form.old + 304 ≤ vec_capacity form.old }
-    ensures items { form.new.items ≡ form.old.items ++ dpb_form dpb.now.items }
+    ensures items { form.new.items ≡ form.old.items ++ dpb_form dpb.now }
     ensures len { vec_len form.new ≡ vec_len form.old + 304 }
     ensures capacity { vec_capacity form.old ≤ vec_capacity form.new }
 {

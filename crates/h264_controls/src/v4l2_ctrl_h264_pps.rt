@@ -1,6 +1,6 @@
 //! V4L2_CID_STATELESS_H264_PPS.
 
-ghost use Rattle.std.specs.Prelude.{◌≡◌, ◌+◌, ◌≤◌, ◌++◌, vec_len};
+ghost use Rattle.std.specs.Prelude.{◌≡◌, ◌↔◌, ◌+◌, ◌≤◌, ◌++◌, vec_len, IsTrue};
 ghost use Rattle.std.specs.Vec.{vec_capacity};
 ghost use Rattle.h264_controls.specs.PpsForm.{pps_flags, pps_form, weighted_bipred_number};
 
@@ -39,6 +39,13 @@ pub struct PpsFlags {
 }
 
 impl PpsFlags {
+    /// Whether all flags are the same.
+    fn is_same(self, other: PpsFlags) -> bool
+        ensures { IsTrue result ↔ (self ≡ other) }
+    {
+        self == other
+    }
+
     /// The flags as Linux numbers them.
     pub fn number(self) -> u16
         ensures { result ≡ pps_flags self }
@@ -55,6 +62,16 @@ impl PpsFlags {
 }
 
 impl V4l2CtrlH264Pps {
+    /// Whether all members are the same.
+    pub fn is_same(&self, other: &V4l2CtrlH264Pps) -> bool
+        ensures { IsTrue result ↔ (self.now ≡ other.now) }
+    {
+        same_ids(self, other)
+            && same_defaults(self, other)
+            && same_quantisation(self, other)
+            && self.flags.is_same(other.flags)
+    }
+
     #[tactic(auto, unfolding(crate::specs::PpsForm::pps_form))]
     /// Its digest form goes after the form.
     pub(crate) fn put(&self, form: &mut Vec<u8>)
@@ -78,6 +95,47 @@ impl V4l2CtrlH264Pps {
         put(form, &members);
         put_u16(form, self.flags.number());
     }
+}
+
+/// Whether ids and slice groups agree.
+fn same_ids(a: &V4l2CtrlH264Pps, b: &V4l2CtrlH264Pps) -> bool
+    ensures { IsTrue result ↔ (
+        (a.now.pic_parameter_set_id ≡ b.now.pic_parameter_set_id)
+        × (a.now.seq_parameter_set_id ≡ b.now.seq_parameter_set_id)
+        × (a.now.num_slice_groups_minus1 ≡ b.now.num_slice_groups_minus1)
+        ) }
+{
+    a.pic_parameter_set_id == b.pic_parameter_set_id
+        && a.seq_parameter_set_id == b.seq_parameter_set_id
+        && a.num_slice_groups_minus1 == b.num_slice_groups_minus1
+}
+
+/// Whether pictures are predicted alike.
+fn same_defaults(a: &V4l2CtrlH264Pps, b: &V4l2CtrlH264Pps) -> bool
+    ensures { IsTrue result ↔ (
+        (a.now.num_ref_idx_l0_default_active_minus1 ≡ b.now.num_ref_idx_l0_default_active_minus1)
+        × (a.now.num_ref_idx_l1_default_active_minus1 ≡ b.now.num_ref_idx_l1_default_active_minus1)
+        × (a.now.weighted_bipred_idc ≡ b.now.weighted_bipred_idc)
+        ) }
+{
+    a.num_ref_idx_l0_default_active_minus1 == b.num_ref_idx_l0_default_active_minus1
+        && a.num_ref_idx_l1_default_active_minus1 == b.num_ref_idx_l1_default_active_minus1
+        && a.weighted_bipred_idc == b.weighted_bipred_idc
+}
+
+/// Whether slices start from the same quantisation.
+fn same_quantisation(a: &V4l2CtrlH264Pps, b: &V4l2CtrlH264Pps) -> bool
+    ensures { IsTrue result ↔ (
+        (a.now.pic_init_qp_minus26 ≡ b.now.pic_init_qp_minus26)
+        × (a.now.pic_init_qs_minus26 ≡ b.now.pic_init_qs_minus26)
+        × (a.now.chroma_qp_index_offset ≡ b.now.chroma_qp_index_offset)
+        × (a.now.second_chroma_qp_index_offset ≡ b.now.second_chroma_qp_index_offset)
+        ) }
+{
+    a.pic_init_qp_minus26 == b.pic_init_qp_minus26
+        && a.pic_init_qs_minus26 == b.pic_init_qs_minus26
+        && a.chroma_qp_index_offset == b.chroma_qp_index_offset
+        && a.second_chroma_qp_index_offset == b.second_chroma_qp_index_offset
 }
 
 fn weighted_bipred_number(weighted_bipred_idc: WeightedBipred) -> u8

@@ -1,6 +1,6 @@
 //! V4L2_CID_STATELESS_H264_PRED_WEIGHTS.
 
-ghost use Rattle.std.specs.Prelude.{◌≡◌, ◌+◌, ◌*◌, ◌≤◌, ◌++◌, length, vec_len};
+ghost use Rattle.std.specs.Prelude.{◌≡◌, ◌↔◌, ◌+◌, ◌*◌, ◌≤◌, ◌++◌, length, vec_len, IsTrue};
 ghost use Rattle.std.specs.Vec.{vec_capacity};
 ghost use Rattle.std.specs.List.{flat_map};
 ghost use Rattle.h264_controls.specs.PredWeightsForm.{pairs_form, weight_factors_form, pred_weights_form};
@@ -20,7 +20,7 @@ pub struct V4l2CtrlH264PredWeights {
 /// struct v4l2_h264_weight_factors: the weights and offsets of a list.
 ///
 /// All is 0 past the active entries, and where there is no such list; chroma where there is none.
-#[derive(Debug, Drop)]
+#[derive(Debug, PartialEq, Eq, Drop)]
 pub struct V4l2H264WeightFactors {
     pub luma_weight: [i16; 32],
     pub luma_offset: [i16; 32],
@@ -30,6 +30,15 @@ pub struct V4l2H264WeightFactors {
 }
 
 impl V4l2CtrlH264PredWeights {
+    /// Whether all members are the same.
+    pub fn is_same(&self, other: &V4l2CtrlH264PredWeights) -> bool
+        ensures { IsTrue result ↔ (self.now ≡ other.now) }
+    {
+        self.luma_log2_weight_denom == other.luma_log2_weight_denom
+            && self.chroma_log2_weight_denom == other.chroma_log2_weight_denom
+            && same_factors(&self.weight_factors, &other.weight_factors)
+    }
+
     /// Its digest form goes after the form.
     #[tactic(auto, unfolding(crate::specs::PredWeightsForm::pred_weights_form))]
     pub(crate) fn put(&self, form: &mut Vec<u8>)
@@ -58,6 +67,12 @@ impl V4l2H264WeightFactors {
         put_pairs(form, &self.chroma_weight);
         put_pairs(form, &self.chroma_offset);
     }
+}
+
+fn same_factors(a: &[V4l2H264WeightFactors; 2], b: &[V4l2H264WeightFactors; 2]) -> bool
+    ensures { IsTrue result ↔ (a.now ≡ b.now) }
+{
+    a == b
 }
 
 fn put_lists(form: &mut Vec<u8>, lists: &[V4l2H264WeightFactors])

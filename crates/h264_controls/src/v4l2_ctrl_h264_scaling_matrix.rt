@@ -1,6 +1,6 @@
 //! V4L2_CID_STATELESS_H264_SCALING_MATRIX.
 
-ghost use Rattle.std.specs.Prelude.{◌≡◌, ◌+◌, ◌*◌, ◌≤◌, ◌++◌, length, vec_len};
+ghost use Rattle.std.specs.Prelude.{◌≡◌, ◌↔◌, ◌+◌, ◌*◌, ◌≤◌, ◌++◌, length, vec_len, IsTrue};
 ghost use Rattle.std.specs.Vec.{vec_capacity};
 ghost use Rattle.h264_controls.specs.ScalingMatrixForm.{lists_form, scaling_matrix_form};
 
@@ -18,6 +18,14 @@ pub struct V4l2CtrlH264ScalingMatrix {
 }
 
 impl V4l2CtrlH264ScalingMatrix {
+    /// Whether all lists are the same.
+    pub fn is_same(&self, other: &V4l2CtrlH264ScalingMatrix) -> bool
+        ensures { IsTrue result ↔ (self.now ≡ other.now) }
+    {
+        same_lists_4x4(&self.scaling_list_4x4, &other.scaling_list_4x4)
+            && same_lists_8x8(&self.scaling_list_8x8, &other.scaling_list_8x8)
+    }
+
     /// Its digest form goes after the form.
     #[tactic(auto, unfolding(crate::specs::ScalingMatrixForm::scaling_matrix_form))]
     pub(crate) fn put(&self, form: &mut Vec<u8>)
@@ -29,6 +37,18 @@ impl V4l2CtrlH264ScalingMatrix {
         put_lists_4x4(form, &self.scaling_list_4x4);
         put_lists_8x8(form, &self.scaling_list_8x8);
     }
+}
+
+fn same_lists_4x4(a: &[[u8; 16]; 6], b: &[[u8; 16]; 6]) -> bool
+    ensures { IsTrue result ↔ (a.now ≡ b.now) }
+{
+    a == b
+}
+
+fn same_lists_8x8(a: &[[u8; 64]; 6], b: &[[u8; 64]; 6]) -> bool
+    ensures { IsTrue result ↔ (a.now ≡ b.now) }
+{
+    a == b
 }
 
 fn put_lists_4x4(form: &mut Vec<u8>, lists: &[[u8; 16]])

@@ -1,13 +1,14 @@
 //! V4L2_CID_STATELESS_H264_SLICE_PARAMS.
 
-ghost use Rattle.std.specs.Prelude.{◌≡◌, ◌+◌, ◌*◌, ◌≤◌, ◌++◌, length, vec_len};
+ghost use Rattle.std.specs.Prelude.{◌≡◌, ◌↔◌, ◌+◌, ◌*◌, ◌≤◌, ◌++◌, length, vec_len, IfOk, IsTrue};
 ghost use Rattle.std.specs.Vec.{vec_capacity};
 ghost use Rattle.std.specs.List.{flat_map};
 ghost use Rattle.h264_controls.specs.SliceParamsForm.{list_form, reference_form, slice_flags, slice_params_form, slice_type_number};
 
+use crate::ref_pic_list::RefPicList;
 use crate::words::{flag, put, put_u32, put_zeros};
 use header_types::SliceType;
-use pictures::List;
+use std::alloc::AllocError;
 
 /// struct v4l2_ctrl_h264_slice_params: what the slice header says of the slice, and its lists.
 #[derive(Debug, Drop)]
@@ -29,10 +30,10 @@ pub struct V4l2CtrlH264SliceParams {
     pub slice_beta_offset_div2: i8,
     pub num_ref_idx_l0_active_minus1: u8,
     pub num_ref_idx_l1_active_minus1: u8,
-    /// The active entries of list 0: each the index of a frame of the decoded picture buffer, or missing.
-    pub ref_pic_list0: List,
+    /// The active entries of list 0: each the index of an entry of the decoded picture buffer, or missing.
+    pub ref_pic_list0: RefPicList,
     /// The active entries of list 1.
-    pub ref_pic_list1: List,
+    pub ref_pic_list1: RefPicList,
     pub flags: SliceFlags,
 }
 
@@ -55,10 +56,10 @@ impl SliceFlags {
 
 impl V4l2CtrlH264SliceParams {
     /// The same control.
-    pub fn copy(&self) -> V4l2CtrlH264SliceParams
-        ensures { result ≡ self.now }
+    pub fn copy(&self) -> Result<V4l2CtrlH264SliceParams, AllocError>
+        ensures { IfOk result (λ copy. copy ≡ self.now) }
     {
-        V4l2CtrlH264SliceParams {
+        Ok(V4l2CtrlH264SliceParams {
             header_bit_size: self.header_bit_size,
             first_mb_in_slice: self.first_mb_in_slice,
             slice_type: self.slice_type,
@@ -72,10 +73,22 @@ impl V4l2CtrlH264SliceParams {
             slice_beta_offset_div2: self.slice_beta_offset_div2,
             num_ref_idx_l0_active_minus1: self.num_ref_idx_l0_active_minus1,
             num_ref_idx_l1_active_minus1: self.num_ref_idx_l1_active_minus1,
-            ref_pic_list0: self.ref_pic_list0.copy(),
-            ref_pic_list1: self.ref_pic_list1.copy(),
+            ref_pic_list0: self.ref_pic_list0.copy()?,
+            ref_pic_list1: self.ref_pic_list1.copy()?,
             flags: self.flags,
-        }
+        })
+    }
+
+    /// Whether all members are the same.
+    pub fn is_same(&self, other: &V4l2CtrlH264SliceParams) -> bool
+        ensures { IsTrue result ↔ (self.now ≡ other.now) }
+    {
+        same_place(self, other)
+            && same_coding(self, other)
+            && same_deblocking(self, other)
+            && same_counts(self, other)
+            && self.ref_pic_list0.is_same(&other.ref_pic_list0)
+            && self.ref_pic_list1.is_same(&other.ref_pic_list1)
     }
 
     /// Its digest form goes after the form.
@@ -108,6 +121,62 @@ impl V4l2CtrlH264SliceParams {
     }
 }
 
+/// Whether size, place and type agree.
+fn same_place(a: &V4l2CtrlH264SliceParams, b: &V4l2CtrlH264SliceParams) -> bool
+    ensures { IsTrue result ↔ (
+        (a.now.header_bit_size ≡ b.now.header_bit_size)
+        × (a.now.first_mb_in_slice ≡ b.now.first_mb_in_slice)
+        × (a.now.slice_type ≡ b.now.slice_type)
+        × (a.now.colour_plane_id ≡ b.now.colour_plane_id)
+        × (a.now.redundant_pic_cnt ≡ b.now.redundant_pic_cnt)
+        ) }
+{
+    a.header_bit_size == b.header_bit_size
+        && a.first_mb_in_slice == b.first_mb_in_slice
+        && a.slice_type == b.slice_type
+        && a.colour_plane_id == b.colour_plane_id
+        && a.redundant_pic_cnt == b.redundant_pic_cnt
+}
+
+/// Whether coding starts alike.
+fn same_coding(a: &V4l2CtrlH264SliceParams, b: &V4l2CtrlH264SliceParams) -> bool
+    ensures { IsTrue result ↔ (
+        (a.now.cabac_init_idc ≡ b.now.cabac_init_idc)
+        × (a.now.slice_qp_delta ≡ b.now.slice_qp_delta)
+        × (a.now.slice_qs_delta ≡ b.now.slice_qs_delta)
+        ) }
+{
+    a.cabac_init_idc == b.cabac_init_idc
+        && a.slice_qp_delta == b.slice_qp_delta
+        && a.slice_qs_delta == b.slice_qs_delta
+}
+
+/// Whether edges are filtered alike.
+fn same_deblocking(a: &V4l2CtrlH264SliceParams, b: &V4l2CtrlH264SliceParams) -> bool
+    ensures { IsTrue result ↔ (
+        (a.now.disable_deblocking_filter_idc ≡ b.now.disable_deblocking_filter_idc)
+        × (a.now.slice_alpha_c0_offset_div2 ≡ b.now.slice_alpha_c0_offset_div2)
+        × (a.now.slice_beta_offset_div2 ≡ b.now.slice_beta_offset_div2)
+        ) }
+{
+    a.disable_deblocking_filter_idc == b.disable_deblocking_filter_idc
+        && a.slice_alpha_c0_offset_div2 == b.slice_alpha_c0_offset_div2
+        && a.slice_beta_offset_div2 == b.slice_beta_offset_div2
+}
+
+/// Whether as many entries are active, and the flags agree.
+fn same_counts(a: &V4l2CtrlH264SliceParams, b: &V4l2CtrlH264SliceParams) -> bool
+    ensures { IsTrue result ↔ (
+        (a.now.num_ref_idx_l0_active_minus1 ≡ b.now.num_ref_idx_l0_active_minus1)
+        × (a.now.num_ref_idx_l1_active_minus1 ≡ b.now.num_ref_idx_l1_active_minus1)
+        × (a.now.flags ≡ b.now.flags)
+        ) }
+{
+    a.num_ref_idx_l0_active_minus1 == b.num_ref_idx_l0_active_minus1
+        && a.num_ref_idx_l1_active_minus1 == b.num_ref_idx_l1_active_minus1
+        && a.flags == b.flags
+}
+
 fn slice_type_number(slice_type: SliceType) -> u8
     ensures { result ≡ slice_type_number slice_type }
 {
@@ -115,7 +184,7 @@ fn slice_type_number(slice_type: SliceType) -> u8
 }
 
 // A list, and zeros up to 32 entries.
-fn put_list(form: &mut Vec<u8>, list: &List)
+fn put_list(form: &mut Vec<u8>, list: &RefPicList)
     requires { vec_len form.old + 64 ≤ vec_capacity form.old }
     ensures items { form.new.items ≡ form.old.items ++ list_form list.now }
     ensures len { vec_len form.new ≡ vec_len form.old + 64 }

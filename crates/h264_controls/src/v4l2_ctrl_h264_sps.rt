@@ -1,6 +1,6 @@
 //! V4L2_CID_STATELESS_H264_SPS.
 
-ghost use Rattle.std.specs.Prelude.{◌≡◌, ◌+◌, ◌≤◌, ◌++◌, vec_len};
+ghost use Rattle.std.specs.Prelude.{◌≡◌, ◌↔◌, ◌+◌, ◌≤◌, ◌++◌, vec_len, IsTrue};
 ghost use Rattle.std.specs.Vec.{vec_capacity};
 ghost use Rattle.h264_controls.specs.SpsForm.{chroma_format_number, constraint_set_number, pic_order_cnt_type_number, sps_flags, sps_form};
 
@@ -48,6 +48,13 @@ pub struct SpsFlags {
 }
 
 impl SpsFlags {
+    /// Whether all flags are the same.
+    fn is_same(self, other: SpsFlags) -> bool
+        ensures { IsTrue result ↔ (self ≡ other) }
+    {
+        self == other
+    }
+
     /// The flags as Linux numbers them.
     pub fn number(self) -> u32
         ensures { result ≡ sps_flags self }
@@ -64,6 +71,18 @@ impl SpsFlags {
 }
 
 impl V4l2CtrlH264Sps {
+    /// Whether all members are the same.
+    pub fn is_same(&self, other: &V4l2CtrlH264Sps) -> bool
+        ensures { IsTrue result ↔ (self.now ≡ other.now) }
+    {
+        same_profile(self, other)
+            && same_samples(self, other)
+            && same_counting(self, other)
+            && same_frames(self, other)
+            && same_cycle(self, other)
+            && self.flags.is_same(other.flags)
+    }
+
     /// Its digest form goes after the form.
     #[tactic(auto, unfolding(crate::specs::SpsForm::sps_form))]
     pub(crate) fn put(&self, form: &mut Vec<u8>)
@@ -94,6 +113,75 @@ impl V4l2CtrlH264Sps {
         put_u16(form, self.pic_height_in_map_units_minus1);
         put_u32(form, self.flags.number());
     }
+}
+
+/// Whether id, profile and level agree.
+fn same_profile(a: &V4l2CtrlH264Sps, b: &V4l2CtrlH264Sps) -> bool
+    ensures { IsTrue result ↔ (
+        (a.now.profile_idc ≡ b.now.profile_idc)
+        × (a.now.level_idc ≡ b.now.level_idc)
+        × (a.now.seq_parameter_set_id ≡ b.now.seq_parameter_set_id)
+        × (a.now.constraint_set_flags ≡ b.now.constraint_set_flags)
+        ) }
+{
+    a.profile_idc == b.profile_idc
+        && a.level_idc == b.level_idc
+        && a.seq_parameter_set_id == b.seq_parameter_set_id
+        && a.constraint_set_flags == b.constraint_set_flags
+}
+
+/// Whether samples are alike.
+fn same_samples(a: &V4l2CtrlH264Sps, b: &V4l2CtrlH264Sps) -> bool
+    ensures { IsTrue result ↔ (
+        (a.now.bit_depth_luma_minus8 ≡ b.now.bit_depth_luma_minus8)
+        × (a.now.bit_depth_chroma_minus8 ≡ b.now.bit_depth_chroma_minus8)
+        × (a.now.chroma_format_idc ≡ b.now.chroma_format_idc)
+        ) }
+{
+    a.bit_depth_luma_minus8 == b.bit_depth_luma_minus8
+        && a.bit_depth_chroma_minus8 == b.bit_depth_chroma_minus8
+        && a.chroma_format_idc == b.chroma_format_idc
+}
+
+/// Whether frame numbers and picture order counts are counted alike.
+fn same_counting(a: &V4l2CtrlH264Sps, b: &V4l2CtrlH264Sps) -> bool
+    ensures { IsTrue result ↔ (
+        (a.now.log2_max_frame_num_minus4 ≡ b.now.log2_max_frame_num_minus4)
+        × (a.now.pic_order_cnt_type ≡ b.now.pic_order_cnt_type)
+        × (a.now.log2_max_pic_order_cnt_lsb_minus4 ≡ b.now.log2_max_pic_order_cnt_lsb_minus4)
+        ) }
+{
+    a.log2_max_frame_num_minus4 == b.log2_max_frame_num_minus4
+        && a.pic_order_cnt_type == b.pic_order_cnt_type
+        && a.log2_max_pic_order_cnt_lsb_minus4 == b.log2_max_pic_order_cnt_lsb_minus4
+}
+
+/// Whether frames are as large and as many are kept.
+fn same_frames(a: &V4l2CtrlH264Sps, b: &V4l2CtrlH264Sps) -> bool
+    ensures { IsTrue result ↔ (
+        (a.now.max_num_ref_frames ≡ b.now.max_num_ref_frames)
+        × (a.now.pic_width_in_mbs_minus1 ≡ b.now.pic_width_in_mbs_minus1)
+        × (a.now.pic_height_in_map_units_minus1 ≡ b.now.pic_height_in_map_units_minus1)
+        ) }
+{
+    a.max_num_ref_frames == b.max_num_ref_frames
+        && a.pic_width_in_mbs_minus1 == b.pic_width_in_mbs_minus1
+        && a.pic_height_in_map_units_minus1 == b.pic_height_in_map_units_minus1
+}
+
+/// Whether the cycles of offsets agree.
+fn same_cycle(a: &V4l2CtrlH264Sps, b: &V4l2CtrlH264Sps) -> bool
+    ensures { IsTrue result ↔ (
+        (a.now.num_ref_frames_in_pic_order_cnt_cycle ≡ b.now.num_ref_frames_in_pic_order_cnt_cycle)
+        × (a.now.offset_for_non_ref_pic ≡ b.now.offset_for_non_ref_pic)
+        × (a.now.offset_for_top_to_bottom_field ≡ b.now.offset_for_top_to_bottom_field)
+        × (a.now.offset_for_ref_frame ≡ b.now.offset_for_ref_frame)
+        ) }
+{
+    a.num_ref_frames_in_pic_order_cnt_cycle == b.num_ref_frames_in_pic_order_cnt_cycle
+        && a.offset_for_non_ref_pic == b.offset_for_non_ref_pic
+        && a.offset_for_top_to_bottom_field == b.offset_for_top_to_bottom_field
+        && a.offset_for_ref_frame == b.offset_for_ref_frame
 }
 
 fn constraint_set_number(flags: &[bool; 6]) -> u8

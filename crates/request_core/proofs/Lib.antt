@@ -1,3 +1,4 @@
 pub mod Gathering
 mod Requested
 mod Pictures
+pub mod Agreement

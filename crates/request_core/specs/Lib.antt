@@ -7,3 +7,4 @@ pub mod Requests
 pub mod Fold
 pub mod Answers
 pub mod Gathering
+pub mod Agreement

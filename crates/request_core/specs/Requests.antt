@@ -5,12 +5,12 @@ use Rattle.pictures.specs.declared.counts.Counts.{Counts}
 use Rattle.pictures.specs.declared.frames.Frame.{Frame}
 use Rattle.h264_controls.specs.declared.controls.Controls.{Controls}
 use Rattle.h264_controls.specs.declared.request.Request.{Request}
-use Rattle.h264_controls.specs.SpsControl.{sps_control}
-use Rattle.h264_controls.specs.PpsControl.{pps_control}
-use Rattle.h264_controls.specs.ScalingMatrixControl.{scaling_matrix_control}
+use Rattle.h264_controls.specs.declared.work.Work.{Work}
+use Rattle.h264_controls.specs.SetControls.{set_controls}
 use Rattle.h264_controls.specs.PredWeightsControl.{pred_weights_control}
 use Rattle.h264_controls.specs.SliceParamsControl.{slice_params_control}
-use Rattle.h264_controls.specs.DecodeParamsControl.{decode_params_control, timestamp}
+use Rattle.h264_controls.specs.DecodeParamsControl.{decode_params_control}
+use Rattle.h264_controls.specs.References.{references, timestamp}
 use Rattle.request_core.specs.Slices.{SliceRead}
 
 -- a slice with its reference lists
@@ -22,20 +22,25 @@ pub record ListedSlice : Type 0 where
 -- the controls of a slice, filled before the marking of its picture, which has these counts
 abbrev pub controls_of : List Frame → Counts → ListedSlice → Controls
 controls_of frames counts listed = record {
-  sps = sps_control listed.slice.sps;
-  pps = pps_control listed.slice.sps listed.slice.pps;
-  scaling_matrix = scaling_matrix_control listed.slice.sps listed.slice.pps;
+  sets = set_controls listed.slice.sps listed.slice.pps;
   pred_weights = option_map (pred_weights_control listed.slice.sps) listed.slice.header.pred_weight_table;
   slice_params = slice_params_control listed.slice.header listed.list_0 listed.list_1;
   decode_params = decode_params_control frames listed.slice.sps listed.slice.header counts;
 }
 
+-- the work of a slice
+abbrev pub work_of : List Frame → Counts → ListedSlice → Work
+work_of frames counts listed = record {
+  controls = controls_of frames counts listed;
+  bytes = start_code ++ listed.slice.nal;
+}
+
 -- the request of a slice; hold says that more slices follow
 abbrev pub request_of : List Frame → Counts → ℕ → ListedSlice → Bool → Request
 request_of frames counts id listed hold = record {
-  controls = controls_of frames counts listed;
-  bytes = start_code ++ listed.slice.nal;
+  work = work_of frames counts listed;
   timestamp = timestamp id;
+  references = references frames listed.slice.header;
   hold = hold;
 }
 

@@ -6,9 +6,11 @@
 
 mod checks;
 mod gathered;
+pub mod laws;
+mod places;
 mod planning;
 mod scratching;
-mod set_controls;
+mod sets;
 mod slices;
 mod state;
 mod stepping;

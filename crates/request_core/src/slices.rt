@@ -6,7 +6,7 @@ ghost use Rattle.request_core.specs.Slices.{slice_at, header_fault};
 ghost use Rattle.request_core.specs.Answers.{Answers, AnswersAs, StopsAt};
 
 use crate::gathered::Gathered;
-use crate::set_controls::{SetControls, copied};
+use crate::sets::Sets;
 use crate::stop::Stop;
 use crate::tables::Tables;
 use access_unit::SharedNal;
@@ -23,7 +23,7 @@ use std::marker::Model;
 #[derive(Debug, Drop)]
 pub(crate) struct Slice {
     pub(crate) nal: SharedNal,
-    pub(crate) sets: SetControls,
+    pub(crate) sets: Sets,
     pub(crate) header: SliceHeader,
 }
 
@@ -44,18 +44,16 @@ impl Slice {
     }
 }
 
-/// The slices of these NAL units, or the least fault that any shows. What their sets decide is shared with the last
-/// ones, where they are the same.
+/// The slices of these NAL units, or the least fault that any shows.
 pub(crate) fn read_slices(
     alloc: Global,
     tables: &Tables,
-    last: &Option<SetControls>,
     nals: &[SharedNal],
 ) -> Result<Vec<Slice>, Stop>
     ensures { AnswersAs (λ slices. slices.items) result (gathered (map (slice_at tables.now) nals.now)) }
 {
     let mut slices = Gathered::with_capacity(alloc, nals.len())?;
-    let mut last = copied(last)?;
+    let mut last = None;
     for nal in nals {
         let slice = read_slice(alloc, tables, &last, nal);
         if let Ok(slice) = &slice {
@@ -71,7 +69,7 @@ pub(crate) fn read_slices(
 fn read_slice(
     alloc: Global,
     tables: &Tables,
-    last: &Option<SetControls>,
+    last: &Option<Sets>,
     nal: &SharedNal,
 ) -> Result<Slice, Stop>
     ensures { Answers result (slice_at tables.now nal.now) }
@@ -84,13 +82,13 @@ fn read_slice(
     let Some(pps) = tables.pps(front.pic_parameter_set_id) else {
         return Err(Stop::Fault(ValidityFault::MissingPps));
     };
-    let Some(sps) = tables.sps(pps.seq_parameter_set_id.get()) else {
+    let Some(sps) = tables.sps(pps.set().seq_parameter_set_id.get()) else {
         return Err(Stop::Fault(ValidityFault::MissingSps));
     };
-    match read(alloc, &unit, sps, pps) {
+    match read(alloc, &unit, sps.set(), pps.set()) {
         Ok(header) => Ok(Slice {
             nal: nal.clone()?,
-            sets: SetControls::of(alloc, last, sps, pps)?,
+            sets: Sets::of(alloc, last, sps, pps)?,
             header,
         }),
         Err(fault) => Err(stop(fault)),

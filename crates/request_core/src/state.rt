@@ -1,9 +1,8 @@
 //! What the fold keeps of the units before.
 
-ghost use Rattle.std.specs.Prelude.{◌≡◌, IfOk};
+ghost use Rattle.std.specs.Prelude.{◌≡◌, ◌↔◌, IfOk, IsTrue};
 ghost use Rattle.request_core.specs.States.{no_units};
 
-use crate::set_controls::SetControls;
 use crate::tables::Tables;
 use base_types::Shared;
 use order_count::Anchor;
@@ -22,8 +21,6 @@ pub struct State {
     /// PrevRefFrameNum (7.4.3).
     pub(crate) prev_ref_frame_num: u16,
     pub(crate) marks: Marks,
-    /// The sets of the last picture, whose controls the next one may share. No outcome depends on it.
-    pub(crate) last: Option<SetControls>,
 }
 
 impl Model for State {
@@ -45,7 +42,62 @@ impl State {
             anchor: Anchor::new(),
             prev_ref_frame_num: 0,
             marks: Marks::new(),
-            last: None,
         })
+    }
+
+    /// The same state; it shares what is large.
+    pub fn copy(&self) -> Result<State, AllocError>
+        ensures { IfOk result (λ copy. copy ≡ self.now) }
+    {
+        Ok(State {
+            tables: self.tables.clone()?,
+            active: self.active()?,
+            anchor: self.anchor,
+            prev_ref_frame_num: self.prev_ref_frame_num,
+            marks: self.marks.copy(),
+        })
+    }
+
+    /// Whether both are the same: the sets in the tables by their contents, the marked frames with their ids, in decode
+    /// order.
+    pub fn is_same(&self, other: &State) -> bool
+        ensures { IsTrue result ↔ (self.now ≡ other.now) }
+    {
+        self.prev_ref_frame_num == other.prev_ref_frame_num
+            && self.marks.is_same(&other.marks)
+            && same_anchor(self.anchor, other.anchor)
+            && same_active(&self.active, &other.active)
+            && self.tables.is_same(&other.tables)
+    }
+
+    /// The set of the last IDR picture, shared.
+    pub(crate) fn active(&self) -> Result<Option<Shared<Sps>>, AllocError>
+        ensures { IfOk result (λ active. active ≡ self.now.active) }
+    {
+        match &self.active {
+            Some(active) => Ok(Some(active.clone()?)),
+            None => Ok(None),
+        }
+    }
+}
+
+/// Whether counting goes on alike.
+fn same_anchor(a: Anchor, b: Anchor) -> bool
+    ensures { IsTrue result ↔ (a ≡ b) }
+{
+    a.prev_pic_order_cnt_msb == b.prev_pic_order_cnt_msb
+        && a.prev_pic_order_cnt_lsb == b.prev_pic_order_cnt_lsb
+        && a.prev_frame_num_offset == b.prev_frame_num_offset
+        && a.prev_frame_num == b.prev_frame_num
+}
+
+/// Whether both have the same set, or none.
+fn same_active(a: &Option<Shared<Sps>>, b: &Option<Shared<Sps>>) -> bool
+    ensures { IsTrue result ↔ (a.now ≡ b.now) }
+{
+    match (a, b) {
+        (Some(a), Some(b)) => a.is_same(b),
+        (None, None) => true,
+        _ => false,
     }
 }

@@ -15,7 +15,6 @@ ghost use Rattle.request_core.specs.Answers.{AnswersAs};
 
 use crate::checks::{picture_fault, slice_fault};
 use crate::planning::{Listed, count_picture, list_picture, mark_picture, requests_of};
-use crate::set_controls::copied;
 use crate::slices::{Slice, read_slices};
 use crate::state::State;
 use crate::steps::Steps;
@@ -73,11 +72,10 @@ fn with_sets(alloc: Global, state: &State, unit: &Unit) -> Result<State, AllocEr
 {
     Ok(State {
         tables: tables_with(alloc, &state.tables, unit.sets())?,
-        active: shared_active(state)?,
+        active: state.active()?,
         anchor: state.anchor,
         prev_ref_frame_num: state.prev_ref_frame_num,
         marks: state.marks.copy(),
-        last: copied(&state.last)?,
     })
 }
 
@@ -94,26 +92,26 @@ fn tables_with(
     }
     let mut after = tables.copy(alloc)?;
     for set in sets {
-        after.put(set)?;
+        after.put(alloc, set)?;
     }
-    Ok(Shared::new(alloc, after)?)
+    Ok(Shared::new(alloc, paired(alloc, after, sets)?)?)
 }
 
-/// The set of the last IDR picture, shared.
-fn shared_active(state: &State) -> Result<Option<Shared<Sps>>, AllocError>
-    ensures { IfOk result (λ active. active ≡ state.now.active) }
+/// The tables, in which the picture parameter sets among these sets are paired to what they name.
+fn paired(alloc: Global, mut tables: Tables, sets: &[ParameterSet]) -> Result<Tables, AllocError>
+    ensures { IfOk result (λ after. after ≡ tables) }
 {
-    match &state.active {
-        Some(active) => Ok(Some(active.clone()?)),
-        None => Ok(None),
+    for set in sets {
+        tables.pair(alloc, set)?;
     }
+    Ok(tables)
 }
 
 /// What the unit leads to in a state in which its sets are put.
 fn plan(alloc: Global, state: &State, id: AuId, unit: &Unit) -> Result<(State, Plan), Stop>
     ensures { AnswersAs (λ planned. planned) result (planned state.now id unit.now) }
 {
-    let slices = read_slices(alloc, &state.tables, &state.last, unit.slices())?;
+    let slices = read_slices(alloc, &state.tables, unit.slices())?;
     plan_picture(alloc, state, id, slices.as_slice())
 }
 
@@ -206,7 +204,6 @@ fn state_after(
         anchor: anchor_after(&state.anchor, slice.sps(), &slice.header, counts),
         prev_ref_frame_num: next_ref_frame_num(state, slice),
         marks,
-        last: Some(slice.sets.copy()?),
     })
 }
 
@@ -217,7 +214,7 @@ fn next_active(state: &State, slice: &Slice) -> Result<Option<Shared<Sps>>, Allo
     if slice.header.is_idr() {
         Ok(Some(slice.sps().clone()?))
     } else {
-        shared_active(state)
+        state.active()
     }
 }
 

@@ -1,8 +1,9 @@
 //! The parameter sets that a stream has sent (7.4.1.2.1).
 
-ghost use Rattle.std.specs.Prelude.{◌≡◌, ◌<◌, None, Some, IfOk, OnOk, length, option_map, replicate, set};
+ghost use Rattle.std.specs.Prelude.{◌≡◌, ◌<◌, ◌↔◌, None, Some, IfOk, IsTrue, OnOk, length, option_map, replicate, set};
 ghost use Rattle.request_core.specs.ParameterSets.{no_sets, put, put_all, sps_under, pps_under};
 
+use crate::places::{Place, PpsPlace, SpsPlace};
 use access_unit::ParameterSet;
 use base_types::Shared;
 use set_types::{Pps, Sps};
@@ -15,11 +16,11 @@ const MOST_SPS: usize = 32;
 /// How many ids picture parameter sets have.
 const MOST_PPS: usize = 256;
 
-/// The set that was sent last under each id.
+/// The set that was sent last under each id, with the controls that it decides.
 #[derive(Debug, Drop)]
 pub(crate) struct Tables {
-    sps: Vec<Option<Shared<Sps>>>,
-    pps: Vec<Option<Shared<Pps>>>,
+    sps: Vec<Option<Shared<SpsPlace>>>,
+    pps: Vec<Option<Shared<PpsPlace>>>,
 }
 
 impl Model for Tables {
@@ -55,25 +56,59 @@ impl Tables {
     }
 
     #[tactic(auto, unfolding(crate::specs::ParameterSets::put))]
-    /// Puts a set into the place of its id.
-    pub(crate) fn put(&mut self, set: &ParameterSet) -> Result<(), AllocError>
+    /// Puts a set into the place of its id. A place that has the same set already stays as it is.
+    pub(crate) fn put(&mut self, alloc: Global, set: &ParameterSet) -> Result<(), AllocError>
         ensures { OnOk result (self.new ≡ put self.old set.now) }
     {
         match set {
             ParameterSet::Sps(sps) => {
-                let id = usize::from(sps.seq_parameter_set_id.get());
-                put_in(&mut self.sps, id, sps.clone()?);
+                let id = sps.seq_parameter_set_id.get();
+                if !has_sps(self.sps(id), sps) {
+                    let place = Shared::new(alloc, SpsPlace::new(alloc, sps)?)?;
+                    put_in(&mut self.sps, usize::from(id), place);
+                }
             }
             ParameterSet::Pps(pps) => {
-                let id = usize::from(pps.pic_parameter_set_id);
-                put_in(&mut self.pps, id, pps.clone()?);
+                let id = pps.pic_parameter_set_id;
+                if !has_pps(self.pps(id), pps) {
+                    let place = Shared::new(alloc, PpsPlace::new(pps)?)?;
+                    put_in(&mut self.pps, usize::from(id), place);
+                }
             }
         }
         Ok(())
     }
 
+    /// Pairs a picture parameter set that was put to the sequence parameter set that it names, where that was sent.
+    pub(crate) fn pair(&mut self, alloc: Global, set: &ParameterSet) -> Result<(), AllocError>
+        ensures { OnOk result (self.new ≡ self.old) }
+    {
+        let ParameterSet::Pps(set) = set else {
+            return Ok(());
+        };
+        let id = set.pic_parameter_set_id;
+        let Some(pps) = self.pps(id) else {
+            return Ok(());
+        };
+        let Some(sps) = self.sps(pps.set().seq_parameter_set_id.get()) else {
+            return Ok(());
+        };
+        if !pps.is_paired(sps) {
+            let place = Shared::new(alloc, PpsPlace::paired(alloc, pps.set(), sps)?)?;
+            put_in(&mut self.pps, usize::from(id), place);
+        }
+        Ok(())
+    }
+
+    /// Whether both have the same sets under the same ids.
+    pub(crate) fn is_same(&self, other: &Tables) -> bool
+        ensures { IsTrue result ↔ (self.now ≡ other.now) }
+    {
+        same_places(&self.sps, &other.sps) && same_places(&self.pps, &other.pps)
+    }
+
     /// The sequence parameter set under an id.
-    pub(crate) fn sps(&self, id: u8) -> Option<&Shared<Sps>>
+    pub(crate) fn sps(&self, id: u8) -> Option<&Shared<SpsPlace>>
         requires { id < 32 }
         ensures { option_map (λ set. set.now) result ≡ sps_under self.now id }
     {
@@ -81,10 +116,56 @@ impl Tables {
     }
 
     /// The picture parameter set under an id.
-    pub(crate) fn pps(&self, id: u8) -> Option<&Shared<Pps>>
+    pub(crate) fn pps(&self, id: u8) -> Option<&Shared<PpsPlace>>
         ensures { option_map (λ set. set.now) result ≡ pps_under self.now id }
     {
         self.pps[usize::from(id)].as_ref()
+    }
+}
+
+/// Whether the place has this set.
+fn has_sps(place: Option<&Shared<SpsPlace>>, set: &Sps) -> bool
+    ensures { IsTrue result ↔ (option_map (λ place. place.now) place.entry ≡ Some set.now) }
+{
+    match place {
+        Some(place) => place.set().is_same(set),
+        None => false,
+    }
+}
+
+/// Whether the place has this set.
+fn has_pps(place: Option<&Shared<PpsPlace>>, set: &Pps) -> bool
+    ensures { IsTrue result ↔ (option_map (λ place. place.now) place.entry ≡ Some set.now) }
+{
+    match place {
+        Some(place) => place.set().is_same(set),
+        None => false,
+    }
+}
+
+/// Whether as many places have the same sets.
+fn same_places<T: Place>(a: &[Option<Shared<T>>], b: &[Option<Shared<T>>]) -> bool
+    ensures { IsTrue result ↔ (a.now ≡ b.now) }
+{
+    if a.len() != b.len() {
+        return false;
+    }
+    for (place, other) in a.iter().zip(b) {
+        if !same_place(place, other) {
+            return false;
+        }
+    }
+    true
+}
+
+/// Whether both places have the same set, or none.
+fn same_place<T: Place>(a: &Option<Shared<T>>, b: &Option<Shared<T>>) -> bool
+    ensures { IsTrue result ↔ (a.now ≡ b.now) }
+{
+    match (a, b) {
+        (Some(a), Some(b)) => a.is_same(b),
+        (None, None) => true,
+        _ => false,
     }
 }
 

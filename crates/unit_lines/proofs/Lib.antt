@@ -1,1 +1,2 @@
 pub mod RequestLines
+pub mod DpbTexts

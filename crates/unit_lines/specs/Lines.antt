@@ -1,10 +1,11 @@
 -- The lines of a valid unit (docs/OUTPUT.md).
 use Rattle.std.specs.Prelude.{ℕ, ◌+◌, ◌++◌, length, List, [], ◌∷◌, Option, Some, None, codes, decimal, if◌then◌else◌}
 use Rattle.std.specs.Fmt.{signed_decimal}
-use Rattle.std.specs.List.{join_by}
+use Rattle.std.specs.List.{join_by, zip}
 use Rattle.std.specs.Int.{w32, cast_signed}
 use Rattle.h264_controls.specs.declared.request.Request.{Request}
 use Rattle.h264_controls.specs.declared.v4l2_ctrl_h264_decode_params.V4l2H264DpbEntry.{V4l2H264DpbEntry}
+use Rattle.h264_controls.specs.References.{timestamp}
 use Rattle.h264_controls.specs.DecodeParamsForm.{dpb_entry_flags}
 use Rattle.h264_controls.specs.SliceParamsForm.{slice_type_number}
 use Rattle.outcomes.specs.declared.outcome.Plan.{Plan}
@@ -17,10 +18,14 @@ unit_line line = codes "unit " ++ (decimal line.id ++ (codes " position " ++ (de
     ++ (codes " counts " ++ (signed_decimal line.counts.top ++ (codes " " ++ (signed_decimal line.counts.bottom
     ++ (codes " requests " ++ (decimal line.requests ++ codes "\n")))))))))
 
--- timestamp, number and flags of an entry
-abbrev pub entry_text : V4l2H264DpbEntry → List ℕ
-entry_text entry = decimal entry.reference_ts ++ (codes ":" ++ (signed_decimal (cast_signed w32 entry.pic_num)
+-- an entry, with the unit of its frame: timestamp, number and flags
+abbrev pub entry_text : ℕ × V4l2H264DpbEntry → List ℕ
+entry_text (unit, entry) = decimal (timestamp unit) ++ (codes ":" ++ (signed_decimal (cast_signed w32 entry.pic_num)
     ++ (codes ":" ++ decimal (dpb_entry_flags entry.flags))))
+
+-- an entry after another
+abbrev pub next_text : ℕ × V4l2H264DpbEntry → List ℕ
+next_text entry = codes "," ++ entry_text entry
 
 -- a place, or x for a missing entry
 abbrev pub place_text : Option ℕ → List ℕ
@@ -36,12 +41,12 @@ list_text text (x ∷ xs) = join_by text (codes ",") (x ∷ xs)
 abbrev pub request_text : ℕ → ℕ → Request → List ℕ
 request_text id slice request =
     codes "request " ++ (decimal id ++ (codes "." ++ (decimal slice
-    ++ (codes " ts " ++ (decimal request.timestamp ++ (codes " bits " ++ (decimal request.controls.slice_params.header_bit_size
-    ++ (codes " type " ++ (decimal (slice_type_number request.controls.slice_params.slice_type)
-    ++ (codes " frame " ++ (decimal request.controls.decode_params.frame_num
-    ++ (codes " dpb " ++ (list_text entry_text request.controls.decode_params.dpb.items
-    ++ (codes " l0 " ++ (list_text place_text request.controls.slice_params.ref_pic_list0
-    ++ (codes " l1 " ++ (list_text place_text request.controls.slice_params.ref_pic_list1
+    ++ (codes " ts " ++ (decimal request.timestamp ++ (codes " bits " ++ (decimal request.work.controls.slice_params.header_bit_size
+    ++ (codes " type " ++ (decimal (slice_type_number request.work.controls.slice_params.slice_type)
+    ++ (codes " frame " ++ (decimal request.work.controls.decode_params.frame_num
+    ++ (codes " dpb " ++ (list_text entry_text (zip request.references request.work.controls.decode_params.dpb)
+    ++ (codes " l0 " ++ (list_text place_text request.work.controls.slice_params.ref_pic_list0
+    ++ (codes " l1 " ++ (list_text place_text request.work.controls.slice_params.ref_pic_list1
     ++ (codes " hold " ++ (decimal (if request.hold then 1 else 0) ++ codes "\n")))))))))))))))))))
 
 -- the line of a request

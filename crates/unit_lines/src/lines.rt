@@ -1,7 +1,8 @@
 //! The lines of a unit (docs/OUTPUT.md).
 
 ghost use Rattle.std.specs.Prelude.{Some};
-ghost use Rattle.unit_lines.specs.Lines.{entry_text, list_text, place_text, plan_lines, request_line, unit_line};
+ghost use Rattle.std.specs.List.{flat_map, zip};
+ghost use Rattle.unit_lines.specs.Lines.{entry_text, list_text, next_text, place_text, plan_lines, request_line, unit_line};
 ghost use Rattle.unit_lines.specs.UnitLines.{fault_line, unit_lines};
 
 use h264_controls::{Request, V4l2H264DpbEntry};
@@ -111,11 +112,14 @@ impl<'a> Display for RequestLine<'a> {
 
     fn fmt<W: Write>(&self, f: &mut Formatter<W>) -> fmt::Result {
         let (id, slice, request) = (self.id.number(), self.slice, self.request);
-        let params = &request.controls.slice_params;
-        let picture = &request.controls.decode_params;
+        let controls = request.controls();
+        let (params, picture) = (&controls.slice_params, &controls.decode_params);
         let (timestamp, bits) = (request.timestamp, params.header_bit_size);
         let (slice_type, frame_num) = (params.slice_type as u8, picture.frame_num);
-        let dpb = Dpb(picture.dpb.as_slice());
+        let dpb = Dpb {
+            units: request.references.as_slice(),
+            entries: picture.dpb.as_slice(),
+        };
         let l0 = List(params.ref_pic_list0.entries());
         let l1 = List(params.ref_pic_list1.entries());
         let hold = request.hold as u8;
@@ -125,40 +129,55 @@ impl<'a> Display for RequestLine<'a> {
     }
 }
 
-/// The entries of a decoded picture buffer.
+/// The entries of a decoded picture buffer, each with the unit of its frame.
 #[derive(Drop)]
-struct Dpb<'a>(&'a [V4l2H264DpbEntry]);
+struct Dpb<'a> {
+    units: &'a [AuId],
+    entries: &'a [V4l2H264DpbEntry],
+}
 
 impl<'a> Display for Dpb<'a> {
-    ghost output = { λ dpb. Some (list_text entry_text dpb.0.now) };
+    ghost output = { λ dpb. Some (list_text entry_text (zip dpb.units.now dpb.entries.now)) };
 
     fn fmt<W: Write>(&self, f: &mut Formatter<W>) -> fmt::Result {
-        let Some((first, others)) = self.0.split_first() else {
+        let Some((unit, units)) = self.units.split_first() else {
             return write!(f, "-");
         };
-        write!(f, "{}", Entry(*first))?;
-        for entry in others {
-            write!(f, ",{}", Entry(*entry))?;
+        let Some((entry, entries)) = self.entries.split_first() else {
+            return write!(f, "-");
+        };
+        write!(f, "{}{}", Entry(*unit, *entry), More { units, entries })
+    }
+}
+
+/// The entries after the first.
+#[derive(Drop)]
+struct More<'a> {
+    units: &'a [AuId],
+    entries: &'a [V4l2H264DpbEntry],
+}
+
+impl<'a> Display for More<'a> {
+    ghost output = { λ more. Some (flat_map next_text (zip more.units.now more.entries.now)) };
+
+    fn fmt<W: Write>(&self, f: &mut Formatter<W>) -> fmt::Result {
+        for (unit, entry) in self.units.iter().zip(self.entries) {
+            write!(f, ",{}", Entry(*unit, *entry))?;
         }
         Ok(())
     }
 }
 
-/// An entry of a decoded picture buffer.
+/// An entry of a decoded picture buffer, with the unit of its frame.
 #[derive(Drop)]
-struct Entry(V4l2H264DpbEntry);
+struct Entry(AuId, V4l2H264DpbEntry);
 
 impl Display for Entry {
-    ghost output = { λ entry. Some (entry_text entry.0) };
+    ghost output = { λ entry. Some (entry_text (entry.0, entry.1)) };
 
     fn fmt<W: Write>(&self, f: &mut Formatter<W>) -> fmt::Result {
-        let V4l2H264DpbEntry {
-            reference_ts,
-            pic_num,
-            flags,
-            ..
-        } = self.0;
-        let (pic_num, flags) = (pic_num.cast_signed(), flags.number());
+        let (reference_ts, pic_num) = (self.0.timestamp(), self.1.pic_num.cast_signed());
+        let flags = self.1.flags.number();
         write!(f, "{reference_ts}:{pic_num}:{flags}")
     }
 }

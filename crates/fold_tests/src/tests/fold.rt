@@ -83,12 +83,14 @@ fn plans_an_idr_picture(rt: HostRuntime) -> Result<(), Fail> {
     let [request] = plan.requests.as_slice() else {
         panic!(rt; "one slice has one request");
     };
-    assert_eq!(rt; request.bytes.as_slice(), A.split_at(16).1);
-    let slice = &request.controls.slice_params;
+    assert_eq!(rt; request.bytes().as_slice(), A.split_at(16).1);
+    let slice = &request.controls().slice_params;
     assert_eq!(rt; (request.timestamp, slice.header_bit_size), (1000, 25));
     assert_eq!(rt; slice.slice_type, SliceType::I);
     assert!(rt; slice.ref_pic_list0.entries().is_empty());
-    assert!(rt; request.controls.decode_params.dpb.is_empty());
+    let dpb = request.controls().decode_params.dpb.as_slice();
+    assert!(rt; dpb.is_empty());
+    assert_eq!(rt; request.reference(0), None);
     assert!(rt; !request.hold);
     Ok(())
 }
@@ -103,12 +105,12 @@ fn plans_a_picture_that_refers(rt: HostRuntime) -> Result<(), Fail> {
         panic!(rt; "one slice has one request");
     };
     assert_eq!(rt; (plan.counts.top, plan.counts.bottom), (2, 2));
-    let [entry] = request.controls.decode_params.dpb.as_slice() else {
+    let [entry] = request.controls().decode_params.dpb.as_slice() else {
         panic!(rt; "one frame is marked");
     };
-    assert_eq!(rt; (entry.reference_ts, entry.pic_num), (1000, 0));
+    assert_eq!(rt; (request.reference_ts(0), entry.pic_num), (Some(1000), 0));
     assert!(rt; !entry.flags.long_term);
-    let list = request.controls.slice_params.ref_pic_list0.entries();
+    let list = request.controls().slice_params.ref_pic_list0.entries();
     assert_eq!(rt; list, [Some(0)].as_slice());
     Ok(())
 }

@@ -10,13 +10,32 @@ use self::distinct::distinct_controls;
 use self::plain::{idr_controls, p_controls};
 use base_types::Shared;
 use bytes::Bytes;
-use h264_controls::{Controls, Request, digest_form};
+use h264_controls::{Controls, References, Request, Work, digest_form, sets_form, slice_form};
+use pictures::AuId;
 use std::alloc::{AllocError, Global};
 use std::process::Abort;
 use std::test::Fail;
 
 fn shared<T: Drop>(alloc: Global, value: T) -> Result<Shared<T>, AllocError> {
     Ok(Shared::new(alloc, value)?)
+}
+
+/// The request of a slice of which more follow, whose references are the units 3 and 9.
+fn request(
+    alloc: Global,
+    controls: Controls,
+    bytes: Bytes,
+    timestamp: u64,
+) -> Result<Request, AllocError> {
+    let mut ids = Vec::new(alloc);
+    ids.push(AuId::new(3))?;
+    ids.push(AuId::new(9))?;
+    Ok(Request {
+        work: shared(alloc, Work { controls, bytes })?,
+        timestamp,
+        references: shared(alloc, References::new(ids))?,
+        hold: true,
+    })
 }
 
 /// How many times, and the bytes.
@@ -212,23 +231,37 @@ fn form_has_2040_bytes_or_2812(rt: HostRuntime) -> Result<(), Fail> {
 
 #[test]
 fn copies(rt: HostRuntime) -> Result<(), Fail> {
-    let request = Request {
-        controls: distinct_controls(rt.alloc())?,
-        bytes: Bytes::copy_from_slice(rt.alloc(), &[0, 0, 1, 0x41, 0x9A, 0x23])?,
-        timestamp: 2000,
-        hold: true,
-    };
+    let bytes = Bytes::copy_from_slice(rt.alloc(), &[0, 0, 1, 0x41, 0x9A, 0x23])?;
+    let request = request(rt.alloc(), distinct_controls(rt.alloc())?, bytes, 2000)?;
     let copy = request.copy()?;
-    assert_form(&rt, &copy.controls, &DISTINCT)?;
-    assert_eq!(rt;
-        copy.controls.decode_params.dpb,
-        request.controls.decode_params.dpb
-    );
-    assert_eq!(rt;
-        copy.bytes.as_slice(),
-        [0, 0, 1, 0x41, 0x9A, 0x23].as_slice()
-    );
-    assert_eq!(rt; copy.timestamp, 2000);
-    assert_eq!(rt; copy.hold, true);
+    assert_form(&rt, copy.controls(), &DISTINCT)?;
+    assert!(rt; copy.work.is_same(&request.work));
+    assert_eq!(rt; copy.bytes().len(), 6);
+    assert_eq!(rt; (copy.timestamp, copy.hold), (2000, true));
+    assert_eq!(rt; copy.reference_ts(1), Some(9000));
+    assert_eq!(rt; copy.reference(2), None);
     assert_form(&rt, &idr_controls(rt.alloc())?.copy()?, &IDR)
+}
+
+#[test]
+fn work_that_differs(rt: HostRuntime) -> Result<(), Fail> {
+    let idr = idr_controls(rt.alloc())?;
+    assert!(rt; idr.is_same(&idr_controls(rt.alloc())?));
+    assert!(rt; !idr.is_same(&p_controls(rt.alloc())?));
+    let distinct = distinct_controls(rt.alloc())?;
+    assert!(rt; distinct.is_same(&distinct_controls(rt.alloc())?));
+    assert!(rt; !distinct.is_same(&idr));
+    Ok(())
+}
+
+#[test]
+fn form_in_two_parts(rt: HostRuntime) -> Result<(), Fail> {
+    let controls = distinct_controls(rt.alloc())?;
+    let (mut whole, mut parts) = (Vec::new(rt.alloc()), Vec::new(rt.alloc()));
+    digest_form(&controls, &mut whole)?;
+    sets_form(&controls.sets, &mut parts)?;
+    assert_eq!(rt; parts.len(), 1540);
+    slice_form(&controls, &mut parts)?;
+    assert_eq!(rt; parts, whole);
+    Ok(())
 }

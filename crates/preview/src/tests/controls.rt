@@ -50,7 +50,7 @@ fn has_form(
         panic!(rt; "the last picture of {text:?} has several slices");
     };
     let mut form = Vec::new(rt.alloc());
-    digest_form(&request.controls, &mut form)?;
+    digest_form(request.controls(), &mut form)?;
     assert_eq!(rt; form.len(), size, "size of the form for {text:?}");
     for (place, bytes) in rows {
         for (got, wanted) in form.iter().skip(*place).zip(*bytes) {

@@ -61,14 +61,19 @@ fn refers_to(rt: &impl Abort, outcome: &Outcome, dpb: &[(u64, i32, bool)], list:
     let [request] = plan(rt, outcome).requests.as_slice() else {
         panic!(rt; "one slice has one request");
     };
-    let entries = request.controls.decode_params.dpb.as_slice();
+    let entries = request.controls().decode_params.dpb.as_slice();
     assert_eq!(rt; entries.len(), dpb.len());
-    for (entry, (reference_ts, pic_num, is_long_term)) in entries.iter().zip(dpb) {
-        assert_eq!(rt; entry.reference_ts, *reference_ts);
+    for (index, (reference_ts, _, _)) in dpb.iter().enumerate() {
+        assert_eq!(rt; request.reference_ts(index as u8), Some(*reference_ts));
+    }
+    for (entry, (_, pic_num, is_long_term)) in entries.iter().zip(dpb) {
         assert_eq!(rt; entry.pic_num.cast_signed(), *pic_num);
         assert_eq!(rt; entry.flags.long_term, *is_long_term);
     }
-    assert_eq!(rt; request.controls.slice_params.ref_pic_list0.entries(), list);
+    assert_eq!(rt;
+        request.controls().slice_params.ref_pic_list0.entries(),
+        list
+    );
 }
 
 #[test]

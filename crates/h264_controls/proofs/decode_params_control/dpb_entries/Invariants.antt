@@ -3,4 +3,4 @@ use Rattle.h264_controls.specs.DecodeParamsControl.{dpb_entry}
 use Rattle.h264_controls.proofs.decode_params_control.dpb_entries.Given as goal
 
 abbrev pub invariant-loop-frame : goal.invariant-loop-frame
-invariant-loop-frame l = l.entries.items ≡ map (dpb_entry l.sps l.frame_num) (take l.frame-index l.frames)
+invariant-loop-frame l = l.dpb ≡ map (dpb_entry l.sps l.frame_num) (take l.frame-index l.frames)

@@ -2,16 +2,16 @@
 
 use super::lists::p_list;
 use super::shared;
-use arrayvec::ArrayVec;
 use base_types::AtMost;
 use h264_controls::{
-    Controls, DecodeFlags, DpbEntryFlags, PpsFlags, SliceFlags, SpsFlags, V4l2CtrlH264DecodeParams,
-    V4l2CtrlH264Pps, V4l2CtrlH264PredWeights, V4l2CtrlH264ScalingMatrix, V4l2CtrlH264SliceParams,
-    V4l2CtrlH264Sps, V4l2H264DpbEntry, V4l2H264FieldReference, V4l2H264WeightFactors,
+    Controls, DecodeFlags, Dpb, DpbEntryFlags, PpsFlags, RefPicList, SetControls, SliceFlags,
+    SpsFlags, V4l2CtrlH264DecodeParams, V4l2CtrlH264Pps, V4l2CtrlH264PredWeights,
+    V4l2CtrlH264ScalingMatrix, V4l2CtrlH264SliceParams, V4l2CtrlH264Sps, V4l2H264DpbEntry,
+    V4l2H264FieldReference, V4l2H264WeightFactors,
 };
 use header_types::SliceType;
 use set_types::{ChromaFormat, PicOrderCntType, WeightedBipred};
-use std::alloc::Global;
+use std::alloc::{AllocError, Global};
 use std::test::Fail;
 
 fn sps() -> V4l2CtrlH264Sps {
@@ -124,8 +124,8 @@ fn slice_params(alloc: Global) -> Result<V4l2CtrlH264SliceParams, Fail> {
         slice_beta_offset_div2: 8,
         num_ref_idx_l0_active_minus1: 9,
         num_ref_idx_l1_active_minus1: 10,
-        ref_pic_list0: p_list(alloc, 2, AtMost::new(2))?,
-        ref_pic_list1: p_list(alloc, 1, AtMost::new(0))?,
+        ref_pic_list0: RefPicList::of(alloc, &p_list(alloc, 2, AtMost::new(2))?)?,
+        ref_pic_list1: RefPicList::of(alloc, &p_list(alloc, 1, AtMost::new(0))?)?,
         flags: SliceFlags {
             direct_spatial_mv_pred: true,
             sp_for_switch: false,
@@ -133,9 +133,8 @@ fn slice_params(alloc: Global) -> Result<V4l2CtrlH264SliceParams, Fail> {
     })
 }
 
-fn dpb() -> ArrayVec<V4l2H264DpbEntry, 16> {
+fn dpb(alloc: Global) -> Result<Dpb, AllocError> {
     let short_term = V4l2H264DpbEntry {
-        reference_ts: 0x7777_7777_7777,
         pic_num: 0xFFFF_FFFD,
         frame_num: 0x0D0E,
         fields: V4l2H264FieldReference::Frame,
@@ -148,7 +147,6 @@ fn dpb() -> ArrayVec<V4l2H264DpbEntry, 16> {
         },
     };
     let long_term = V4l2H264DpbEntry {
-        reference_ts: 0x8888_8888_8888,
         pic_num: 7,
         frame_num: 15,
         fields: V4l2H264FieldReference::BottomField,
@@ -160,15 +158,15 @@ fn dpb() -> ArrayVec<V4l2H264DpbEntry, 16> {
             long_term: true,
         },
     };
-    let mut dpb = ArrayVec::new();
-    let _ = dpb.try_push(short_term);
-    let _ = dpb.try_push(long_term);
-    dpb
+    let mut dpb = Dpb::with_capacity(alloc, 2)?;
+    dpb.push(short_term)?;
+    dpb.push(long_term)?;
+    Ok(dpb)
 }
 
-fn decode_params() -> V4l2CtrlH264DecodeParams {
-    V4l2CtrlH264DecodeParams {
-        dpb: dpb(),
+fn decode_params(alloc: Global) -> Result<V4l2CtrlH264DecodeParams, AllocError> {
+    Ok(V4l2CtrlH264DecodeParams {
+        dpb: dpb(alloc)?,
         nal_ref_idc: 2,
         frame_num: 0x1112,
         top_field_order_cnt: 19,
@@ -182,16 +180,19 @@ fn decode_params() -> V4l2CtrlH264DecodeParams {
         pic_order_cnt_bit_size: 29,
         slice_group_change_cycle: 30,
         flags: DecodeFlags { idr_pic: true },
-    }
+    })
 }
 
 pub(super) fn distinct_controls(alloc: Global) -> Result<Controls, Fail> {
-    Ok(Controls {
+    let sets = SetControls {
         sps: shared(alloc, sps())?,
         pps: pps(),
-        scaling_matrix: shared(alloc, scaling_matrix())?,
+        scaling_matrix: scaling_matrix(),
+    };
+    Ok(Controls {
+        sets: shared(alloc, sets)?,
         pred_weights: Some(shared(alloc, pred_weights())?),
         slice_params: slice_params(alloc)?,
-        decode_params: decode_params(),
+        decode_params: shared(alloc, decode_params(alloc)?)?,
     })
 }

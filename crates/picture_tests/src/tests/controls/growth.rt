@@ -2,9 +2,9 @@
 
 use super::distinct::pred_weights;
 use super::plain::idr_controls;
-use super::shared;
+use super::{request, shared};
 use bytes::Bytes;
-use h264_controls::{Controls, Request, digest_form};
+use h264_controls::{Controls, digest_form};
 use std::alloc::{AllocError, Global};
 
 /// The controls of a picture, with weights.
@@ -41,14 +41,11 @@ fn refused_growth_of_a_copy(rt: HostRuntime) {
     let Ok(bytes) = Bytes::copy_from_slice(rt.alloc(), &[0, 0, 1, 0x41]) else {
         return;
     };
-    let request = Request {
-        controls,
-        bytes,
-        timestamp: 7,
-        hold: false,
+    let Ok(request) = request(rt.alloc(), controls, bytes, 7) else {
+        return;
     };
     if let Ok(copy) = request.copy() {
         assert_eq!(rt; copy.timestamp, 7);
-        assert_eq!(rt; copy.bytes.len(), 4);
+        assert_eq!(rt; copy.bytes().len(), 4);
     }
 }

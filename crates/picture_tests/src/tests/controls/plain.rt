@@ -2,12 +2,11 @@
 
 use super::lists::p_list;
 use super::shared;
-use arrayvec::ArrayVec;
 use base_types::AtMost;
 use h264_controls::{
-    Controls, DecodeFlags, DpbEntryFlags, PpsFlags, SliceFlags, SpsFlags, V4l2CtrlH264DecodeParams,
-    V4l2CtrlH264Pps, V4l2CtrlH264ScalingMatrix, V4l2CtrlH264SliceParams, V4l2CtrlH264Sps,
-    V4l2H264DpbEntry, V4l2H264FieldReference,
+    Controls, DecodeFlags, Dpb, DpbEntryFlags, PpsFlags, RefPicList, SetControls, SliceFlags,
+    SpsFlags, V4l2CtrlH264DecodeParams, V4l2CtrlH264Pps, V4l2CtrlH264ScalingMatrix,
+    V4l2CtrlH264SliceParams, V4l2CtrlH264Sps, V4l2H264DpbEntry, V4l2H264FieldReference,
 };
 use header_types::SliceType;
 use pictures::List;
@@ -74,8 +73,13 @@ fn pps() -> V4l2CtrlH264Pps {
 }
 
 /// A slice with this size of its header and this type and list 0.
-fn slice_params(bits: u32, slice_type: SliceType, list_0: List) -> V4l2CtrlH264SliceParams {
-    V4l2CtrlH264SliceParams {
+fn slice_params(
+    alloc: Global,
+    bits: u32,
+    slice_type: SliceType,
+    list_0: &List,
+) -> Result<V4l2CtrlH264SliceParams, AllocError> {
+    Ok(V4l2CtrlH264SliceParams {
         header_bit_size: bits,
         first_mb_in_slice: 0,
         slice_type,
@@ -89,19 +93,19 @@ fn slice_params(bits: u32, slice_type: SliceType, list_0: List) -> V4l2CtrlH264S
         slice_beta_offset_div2: 0,
         num_ref_idx_l0_active_minus1: 0,
         num_ref_idx_l1_active_minus1: 0,
-        ref_pic_list0: list_0,
-        ref_pic_list1: List::new(),
+        ref_pic_list0: RefPicList::of(alloc, list_0)?,
+        ref_pic_list1: RefPicList::of(alloc, &List::new())?,
         flags: SliceFlags {
             direct_spatial_mv_pred: false,
             sp_for_switch: false,
         },
-    }
+    })
 }
 
 /// The picture 65 88 84 80.
-fn idr_picture() -> V4l2CtrlH264DecodeParams {
-    V4l2CtrlH264DecodeParams {
-        dpb: ArrayVec::new(),
+fn idr_picture(alloc: Global) -> Result<V4l2CtrlH264DecodeParams, AllocError> {
+    Ok(V4l2CtrlH264DecodeParams {
+        dpb: Dpb::with_capacity(alloc, 1)?,
         nal_ref_idc: 3,
         frame_num: 0,
         top_field_order_cnt: 0,
@@ -115,14 +119,13 @@ fn idr_picture() -> V4l2CtrlH264DecodeParams {
         pic_order_cnt_bit_size: 0,
         slice_group_change_cycle: 0,
         flags: DecodeFlags { idr_pic: true },
-    }
+    })
 }
 
 /// The picture 41 9A 23 after that one.
-fn p_picture() -> V4l2CtrlH264DecodeParams {
-    let mut params = idr_picture();
+fn p_picture(alloc: Global) -> Result<V4l2CtrlH264DecodeParams, AllocError> {
+    let mut params = idr_picture(alloc)?;
     let entry = V4l2H264DpbEntry {
-        reference_ts: 1000,
         pic_num: 0,
         frame_num: 0,
         fields: V4l2H264FieldReference::Frame,
@@ -134,14 +137,14 @@ fn p_picture() -> V4l2CtrlH264DecodeParams {
             long_term: false,
         },
     };
-    let _ = params.dpb.try_push(entry);
+    params.dpb.push(entry)?;
     params.nal_ref_idc = 2;
     params.frame_num = 1;
     params.top_field_order_cnt = 2;
     params.bottom_field_order_cnt = 2;
     params.dec_ref_pic_marking_bit_size = 1;
     params.flags = DecodeFlags { idr_pic: false };
-    params
+    Ok(params)
 }
 
 /// Flat lists, and no weights.
@@ -154,25 +157,28 @@ fn controls(
         scaling_list_4x4: [[16; 16]; 6],
         scaling_list_8x8: [[16; 64]; 6],
     };
-    Ok(Controls {
+    let sets = SetControls {
         sps: shared(alloc, sps())?,
         pps: pps(),
-        scaling_matrix: shared(alloc, flat)?,
+        scaling_matrix: flat,
+    };
+    Ok(Controls {
+        sets: shared(alloc, sets)?,
         pred_weights: None,
         slice_params,
-        decode_params,
+        decode_params: shared(alloc, decode_params)?,
     })
 }
 
 /// The controls of an IDR picture of one slice.
 pub(super) fn idr_controls(alloc: Global) -> Result<Controls, AllocError> {
-    let slice_params = slice_params(25, SliceType::I, List::new());
-    controls(alloc, slice_params, idr_picture())
+    let slice_params = slice_params(alloc, 25, SliceType::I, &List::new())?;
+    controls(alloc, slice_params, idr_picture(alloc)?)
 }
 
 /// The controls of a P picture of one slice after it.
 pub(super) fn p_controls(alloc: Global) -> Result<Controls, Fail> {
     let list_0 = p_list(alloc, 1, AtMost::new(0))?;
-    let slice_params = slice_params(23, SliceType::P, list_0);
-    Ok(controls(alloc, slice_params, p_picture())?)
+    let slice_params = slice_params(alloc, 23, SliceType::P, &list_0)?;
+    Ok(controls(alloc, slice_params, p_picture(alloc)?)?)
 }

@@ -1,0 +1,75 @@
+//! The units that the frames of the decoded picture buffer were decoded from.
+
+ghost use Rattle.std.specs.Prelude.{◌≡◌, ◌↔◌, slice_get, map, IfOk, IsTrue};
+ghost use Rattle.h264_controls.specs.References.{references};
+
+use header_types::SliceHeader;
+use pictures::{AuId, Frame, Marks};
+use std::alloc::{AllocError, Global};
+use std::marker::Model;
+
+/// The units of the frames of the decoded picture buffer, in the order of its entries.
+#[derive(Debug, Drop)]
+pub struct References {
+    ids: Vec<AuId>,
+}
+
+impl Model for References {
+    ghost use Rattle.std.specs.Prelude.{ℕ, List};
+
+    ghost Value = { List ℕ };
+
+    ghost view = { λ references. references.ids.items };
+}
+
+impl References {
+    /// These units.
+    pub fn new(ids: Vec<AuId>) -> References
+        ensures { result ≡ ids.items }
+    {
+        References { ids }
+    }
+
+    /// Those of a slice with this header, before the marking of its picture.
+    pub fn of(alloc: Global, marks: &Marks, header: &SliceHeader) -> Result<References, AllocError>
+        ensures { IfOk result (λ units. units ≡ references marks.now.frames header.now) }
+    {
+        if header.is_idr() {
+            Ok(References::new(Vec::new(alloc)))
+        } else {
+            units_of(alloc, marks.frames())
+        }
+    }
+
+    /// The units, in the order of the entries.
+    pub fn as_slice(&self) -> &[AuId]
+        ensures { result.now ≡ self.now }
+    {
+        self.ids.as_slice()
+    }
+
+    /// Whether both have the same units in the same order.
+    pub fn is_same(&self, other: &References) -> bool
+        ensures { IsTrue result ↔ (self.now ≡ other.now) }
+    {
+        self.as_slice() == other.as_slice()
+    }
+
+    /// The unit of the entry at an index, if it holds a frame.
+    pub fn get(&self, index: u8) -> Option<AuId>
+        ensures { result ≡ slice_get self.now index }
+    {
+        self.ids.get(usize::from(index)).copied()
+    }
+}
+
+/// The units of the frames.
+fn units_of(alloc: Global, frames: &[Frame]) -> Result<References, AllocError>
+    ensures { IfOk result (λ units. units ≡ map (λ frame. frame.id) frames.now) }
+{
+    let mut ids = Vec::with_capacity(alloc, frames.len())?;
+    for frame in frames {
+        ids.push(frame.id)?;
+    }
+    Ok(References::new(ids))
+}

@@ -1,9 +1,16 @@
 -- What is said on standard error (docs/OUTPUT.md).
-use Rattle.std.specs.Prelude.{◌++◌, List, [], ℕ, codes}
+use Rattle.std.specs.Prelude.{◌≡◌, ◌++◌, List, [], ℕ, codes, Option, Result, MatchResult}
+use Rattle.std.specs.Io.KnownBytes.{Appends}
+use Rattle.console_io.specs.Chunks.{AppendsFront}
 use Rattle.console_io.specs.declared.chunks.PrintFault.{PrintFault}
 use Rattle.console_io.specs.declared.chunks.PrintFault.TheVariants as print
 use Rattle.console_io.specs.declared.input.InputFault.{InputFault}
 use Rattle.console_io.specs.declared.input.InputFault.TheVariants as input
+
+-- what became of a message: all of it was written, or a front of it where its writer takes no more
+abbrev pub Tells : {T : Type 0} → Result T PrintFault → Option (List ℕ) → Option (List ℕ) → List ℕ → Type 0
+Tells told old new message = MatchResult told (λ _. Appends old new message)
+    (λ fault. (fault ≡ print.Unwritten) × AppendsFront old new message)
 
 -- that memory is wanted
 abbrev pub out_of_memory : List ℕ

@@ -1,36 +1,36 @@
 //! What a stream or a script is read from.
 
-ghost use Rattle.std.specs.Prelude.{◌≡◌, IfOk, IfSome, codes};
+ghost use Rattle.std.specs.Prelude.{◌≡◌, IfOk, IfSome, IsErr, codes, false};
 ghost use Rattle.std.specs.Str.{bytes_eq};
-ghost use Rattle.console_io.specs.Inputs.{input_fault, is_standard, remaining_of};
+ghost use Rattle.console_io.specs.Inputs.{input_fault, is_standard, remaining_of, text_named};
 
 use crate::source::Directory;
 use std::alloc::Global;
-use std::fs::File;
 use std::io;
 use std::io::{ErrorKind, Read};
-use std::rt::Stdin;
 
-/// What FILE names, of a standard input and files of these types.
+/// What a name stands for: a standard input or a file of these types.
 #[derive(Drop)]
 pub enum Input<S, F> {
     StandardInput(S),
     File(F),
-    /// A file that can't be opened: each read fails so.
-    Unopened(ErrorKind),
 }
 
 /// The standard input for `-`, else the file of that name.
-pub fn open_input(rt: &HostRuntime, name: &str) -> Input<Stdin, File>
-    ensures { is_standard result ≡ bytes_eq name.now (codes "-") }
+pub fn open_input<D: Directory, S: Read + Drop>(
+    directory: &D,
+    standard: S,
+    name: &str,
+) -> Result<Input<S, D::File>, InputFault>
+    ensures standard { IfOk result (λ input. is_standard input ≡ bytes_eq name.now (codes "-")) }
+    ensures gives { IfOk result (λ input. remaining_of S.remaining D.File.remaining input
+        ≡ text_named (D.bytes directory.now) (S.remaining standard) name.now) }
+    ensures opened { IsErr result → bytes_eq name.now (codes "-") ≡ false }
 {
     if name == "-" {
-        return Input::StandardInput(rt.stdin());
+        return Ok(Input::StandardInput(standard));
     }
-    match rt.open(name) {
-        Ok(file) => Input::File(file),
-        Err(kind) => Input::Unopened(kind),
-    }
+    Ok(Input::File(directory.open(name)?))
 }
 
 impl<S: Read, F: Read> Read for Input<S, F> {
@@ -40,7 +40,6 @@ impl<S: Read, F: Read> Read for Input<S, F> {
         match self {
             Input::StandardInput(stdin) => stdin.read(buf),
             Input::File(file) => file.read(buf),
-            Input::Unopened(kind) => Err(io::Error::from(*kind)),
         }
     }
 }

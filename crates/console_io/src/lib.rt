@@ -16,4 +16,4 @@ pub use messages::{
     say_input_fault, say_line, say_not_text, say_out_of_memory, say_print_fault, say_unread,
 };
 pub use source::{Directory, Files, Source};
-pub use status::Status;
+pub use status::{Ended, Status};

@@ -1,9 +1,7 @@
 //! What is said on standard error. It takes no memory, and where it can't be written nothing more is said.
 
-ghost use Rattle.std.specs.Prelude.{OnOk, codes};
-ghost use Rattle.std.specs.Io.KnownBytes.{Appends};
-ghost use Rattle.console_io.specs.Chunks.{AppendsFront};
-ghost use Rattle.console_io.specs.Messages.{input_fault_text, line_text, not_text, out_of_memory, print_fault_text, unread_text};
+ghost use Rattle.std.specs.Prelude.{codes};
+ghost use Rattle.console_io.specs.Messages.{Tells, input_fault_text, line_text, not_text, out_of_memory, print_fault_text, unread_text};
 
 use crate::chunks::{PrintFault, write_bytes};
 use crate::input::InputFault;
@@ -11,8 +9,7 @@ use std::io::Write;
 
 /// Says that memory is wanted.
 pub fn say_out_of_memory<E: Write>(errors: &mut E) -> Result<(), PrintFault>
-    ensures ok { OnOk result (Appends (E.contents errors.old) (E.contents errors.new) out_of_memory) }
-    ensures written { AppendsFront (E.contents errors.old) (E.contents errors.new) out_of_memory }
+    ensures { Tells result (E.contents errors.old) (E.contents errors.new) out_of_memory }
 {
     write_bytes(errors, b"out of memory\n")
 }
@@ -23,9 +20,7 @@ pub fn say_input_fault<E: Write>(
     name: &str,
     errors: &mut E,
 ) -> Result<(), PrintFault>
-    ensures ok { OnOk result
-        (Appends (E.contents errors.old) (E.contents errors.new) (input_fault_text name.now fault)) }
-    ensures written { AppendsFront (E.contents errors.old) (E.contents errors.new)
+    ensures { Tells result (E.contents errors.old) (E.contents errors.new)
         (input_fault_text name.now fault) }
 {
     match fault {
@@ -36,10 +31,7 @@ pub fn say_input_fault<E: Write>(
 
 /// Says why a text isn't printed. A writer that takes no more is known to who reads it.
 pub fn say_print_fault<E: Write>(fault: PrintFault, errors: &mut E) -> Result<(), PrintFault>
-    ensures ok { OnOk result
-        (Appends (E.contents errors.old) (E.contents errors.new) (print_fault_text fault)) }
-    ensures written { AppendsFront (E.contents errors.old) (E.contents errors.new)
-        (print_fault_text fault) }
+    ensures { Tells result (E.contents errors.old) (E.contents errors.new) (print_fault_text fault) }
 {
     match fault {
         PrintFault::Memory => say_out_of_memory(errors),
@@ -49,19 +41,14 @@ pub fn say_print_fault<E: Write>(fault: PrintFault, errors: &mut E) -> Result<()
 
 /// Says that the input of this name can't be read.
 pub fn say_unread<E: Write>(name: &str, errors: &mut E) -> Result<(), PrintFault>
-    ensures ok { OnOk result
-        (Appends (E.contents errors.old) (E.contents errors.new) (unread_text name.now)) }
-    ensures written { AppendsFront (E.contents errors.old) (E.contents errors.new)
-        (unread_text name.now) }
+    ensures { Tells result (E.contents errors.old) (E.contents errors.new) (unread_text name.now) }
 {
     say_line(b"cannot read ", name.as_bytes(), errors)
 }
 
 /// Says a line that ends with this word.
 pub fn say_line<E: Write>(front: &[u8], word: &[u8], errors: &mut E) -> Result<(), PrintFault>
-    ensures ok { OnOk result
-        (Appends (E.contents errors.old) (E.contents errors.new) (line_text front.now word.now)) }
-    ensures written { AppendsFront (E.contents errors.old) (E.contents errors.new)
+    ensures { Tells result (E.contents errors.old) (E.contents errors.new)
         (line_text front.now word.now) }
 {
     write_bytes(errors, front)?;
@@ -71,8 +58,7 @@ pub fn say_line<E: Write>(front: &[u8], word: &[u8], errors: &mut E) -> Result<(
 
 /// Says that a word of the command line isn't UTF-8.
 pub fn say_not_text<E: Write>(errors: &mut E) -> Result<(), PrintFault>
-    ensures ok { OnOk result (Appends (E.contents errors.old) (E.contents errors.new) not_text) }
-    ensures written { AppendsFront (E.contents errors.old) (E.contents errors.new) not_text }
+    ensures { Tells result (E.contents errors.old) (E.contents errors.new) not_text }
 {
     write_bytes(
         errors,

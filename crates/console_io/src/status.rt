@@ -1,9 +1,10 @@
 //! How a run ends.
 
-ghost use Rattle.std.specs.Prelude.{◌≡◌};
+ghost use Rattle.std.specs.Prelude.{◌≡◌, IsOk};
 ghost use Rattle.std.specs.Process.{exit_status};
 ghost use Rattle.console_io.specs.Status.{number_of};
 
+use crate::chunks::PrintFault;
 use std::process::ExitCode;
 
 /// How a run of the program ends.
@@ -23,5 +24,46 @@ impl Status {
         ensures { exit_status result ≡ number_of self }
     {
         ExitCode::from(self as u8)
+    }
+}
+
+/// How a run ended, and what became of what it tells.
+#[derive(Clone, Copy, Debug, PartialEq, Eq)]
+pub struct Ended {
+    pub status: Status,
+    /// Whether all that is told on standard error was written.
+    pub told: Result<(), PrintFault>,
+}
+
+impl Ended {
+    /// All is done, and nothing is told.
+    pub fn done() -> Ended
+        ensures status { result.status ≡ Status.Success }
+        ensures told { IsOk result.told }
+    {
+        Ended {
+            status: Status::Success,
+            told: Ok(()),
+        }
+    }
+
+    /// It failed, which was told so far.
+    pub fn failed(told: Result<(), PrintFault>) -> Ended
+        ensures { result ≡ record { status = Status.Failure; told = told } }
+    {
+        Ended {
+            status: Status::Failure,
+            told,
+        }
+    }
+
+    /// The command line is wrong, which was told so far.
+    pub fn mistaken(told: Result<(), PrintFault>) -> Ended
+        ensures { result ≡ record { status = Status.Usage; told = told } }
+    {
+        Ended {
+            status: Status::Usage,
+            told,
+        }
     }
 }

@@ -1,3 +1,4 @@
+pub mod Faults
 pub mod StreamText
 pub mod Plans
 pub mod Streams

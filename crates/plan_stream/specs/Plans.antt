@@ -7,6 +7,8 @@ use Rattle.unit_lines.specs.Refusals.{refusal_text}
 use Rattle.plan_stream.specs.Streams.{numbered_from}
 use Rattle.plan_stream.specs.StreamText.{stream_text}
 use Rattle.access_unit.specs.declared.room.Refusal.{Refusal}
+use Rattle.plan_stream.specs.declared.fault.PlanFault.{PlanFault}
+use Rattle.plan_stream.specs.declared.fault.PlanFault.TheVariants.{Unread, Refused, Memory, Unwritten}
 
 -- the text is a stream, and these are the lines of its units, whose ids are 1, 2, 3 and so on
 pub record IsPlanned (text : List ℕ) (lines : List ℕ) : Type 0 where
@@ -29,3 +31,12 @@ WritesPlan text old new = (lines : List ℕ) × IsPlanned text lines × Appends 
 abbrev pub WritesFront : List ℕ → Option (List ℕ) → Option (List ℕ) → Type 0
 WritesFront text old new =
     Keeps old new ⊎ ((lines : List ℕ) × (IsPlanned text lines ⊎ IsRefused text lines) × AppendsFront old new lines)
+
+-- what was written of a text whose plan ended by this fault: nothing where it wasn't read, the whole line of its
+-- refusal, or a front where memory is wanted or the writer takes no more
+abbrev pub EndsBy : List ℕ → PlanFault → Option (List ℕ) → Option (List ℕ) → Type 0
+EndsBy text Unread old new = Keeps old new
+EndsBy text (Refused refusal) old new =
+    IsStreamRefused text most_units refusal × Appends old new (refusal_text refusal)
+EndsBy text Memory old new = WritesFront text old new
+EndsBy text Unwritten old new = WritesFront text old new

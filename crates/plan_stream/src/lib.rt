@@ -5,6 +5,8 @@
 //! preview.
 #![tactic(auto)]
 
+mod fault;
 mod plan;
 
+pub use fault::PlanFault;
 pub use plan::plan_on;

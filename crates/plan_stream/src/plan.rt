@@ -1,23 +1,22 @@
 //! `preview plan`: a stream read, planned and printed.
 
-ghost use Rattle.std.specs.Prelude.{◌≡◌, ◌≤◌, ◌≢◌, ◌++◌, length, IfOk, IfSome, OnOk, vec_len};
+ghost use Rattle.std.specs.Prelude.{◌≡◌, ◌≤◌, ◌≢◌, ◌++◌, length, IfErr, IfOk, IfSome, OnOk, vec_len};
 ghost use Rattle.std.specs.Io.KnownBytes.{Appends, Keeps};
 ghost use Rattle.access_unit.specs.Rooms.{most_units};
 ghost use Rattle.request_core.specs.Fold.{outcomes_of};
 ghost use Rattle.output_order.specs.OutputOrder.{positions_of};
 ghost use Rattle.console_io.specs.Chunks.{Adds, AppendsFront, waiting_of};
-ghost use Rattle.console_io.specs.Messages.{input_fault_text, out_of_memory};
-ghost use Rattle.plan_stream.specs.Plans.{WritesFront, WritesPlan};
-ghost use Rattle.console_io.specs.declared.input.InputFault.{InputFault};
+ghost use Rattle.console_io.specs.Messages.{Tells};
+ghost use Rattle.plan_stream.specs.Faults.{plan_fault_text};
+ghost use Rattle.plan_stream.specs.Plans.{EndsBy, WritesPlan};
+ghost use Rattle.plan_stream.specs.declared.fault.PlanFault.{PlanFault};
 ghost use Rattle.unit_lines.specs.Refusals.{refusal_text};
 ghost use Rattle.plan_stream.specs.Streams.{numbered_from};
 ghost use Rattle.plan_stream.specs.StreamText.{stream_text, units_text};
 
+use crate::fault::{PlanFault, say_plan_fault};
 use access_unit::{MOST_UNITS, ReadFault, Refusal, Unit, read_units};
-use console_io::{
-    Chunks, PrintFault, Status, say_input_fault, say_out_of_memory, say_print_fault, whole_input,
-    write_bytes,
-};
+use console_io::{Chunks, Ended, PrintFault, Status, whole_input, write_bytes};
 use outcomes::Outcome;
 use pictures::AuId;
 use std::alloc::{AllocError, Global};
@@ -34,36 +33,57 @@ pub fn plan_on<R: Read, W: Write, E: Write>(
     reader: &mut R,
     writer: &mut W,
     errors: &mut E,
-) -> Status
-    ensures done { result ≡ Status.Success → Keeps (E.contents errors.old) (E.contents errors.new) }
+) -> Ended
+    ensures done { result.status ≡ Status.Success → Keeps (E.contents errors.old) (E.contents errors.new) }
     // What is written at success is the plain fold of the stream that was read.
-    ensures planned { result ≡ Status.Success → IfSome (R.remaining reader.old) (λ text.
+    ensures planned { result.status ≡ Status.Success → IfSome (R.remaining reader.old) (λ text.
         WritesPlan text (W.contents writer.old) (W.contents writer.new)) }
-    ensures written { IfSome (R.remaining reader.old) (λ text.
-        WritesFront text (W.contents writer.old) (W.contents writer.new)) }
-    ensures told { (fault : InputFault) × AppendsFront (E.contents errors.old)
-        (E.contents errors.new) (input_fault_text name.now fault) }
-    ensures usage { result ≢ Status.Usage }
+    // At a failure it is what the fault that is told leaves of it.
+    ensures ends { result.status ≡ Status.Failure → (fault : PlanFault)
+        × IfSome (R.remaining reader.old) (λ text.
+        EndsBy text fault (W.contents writer.old) (W.contents writer.new))
+        × Tells result.told (E.contents errors.old) (E.contents errors.new) (plan_fault_text name.now fault) }
+    ensures usage { result.status ≢ Status.Usage }
 {
-    let text = match whole_input(alloc, reader) {
-        Ok(text) => text,
-        Err(fault) => {
-            let _ = say_input_fault(fault, name, errors);
-            return Status::Failure;
-        }
-    };
-    match read_units(threads, alloc, text.as_slice(), MOST_UNITS) {
-        Ok(units) => plan_units(alloc, units, writer, errors),
+    match plan(threads, alloc, reader, writer) {
+        Ok(()) => Ended::done(),
+        Err(fault) => Ended::failed(say_plan_fault(fault, name, errors)),
+    }
+}
+
+/// Prints the plan of the stream that the reader gives, or its refusal.
+fn plan<R: Read, W: Write>(
+    threads: &(impl Threads + Sync),
+    alloc: Global,
+    reader: &mut R,
+    writer: &mut W,
+) -> Result<(), PlanFault>
+    ensures planned { OnOk result (IfSome (R.remaining reader.old) (λ text.
+        WritesPlan text (W.contents writer.old) (W.contents writer.new))) }
+    ensures ends { IfErr result (λ fault. IfSome (R.remaining reader.old) (λ text.
+        EndsBy text fault (W.contents writer.old) (W.contents writer.new))) }
+{
+    let text = whole_input(alloc, reader)?;
+    plan_text(threads, alloc, text.as_slice(), writer)
+}
+
+/// Prints the plan of the stream of this text, or its refusal.
+fn plan_text<W: Write>(
+    threads: &(impl Threads + Sync),
+    alloc: Global,
+    text: &[u8],
+    writer: &mut W,
+) -> Result<(), PlanFault>
+    ensures planned { OnOk result (WritesPlan text.now (W.contents writer.old) (W.contents writer.new)) }
+    ensures ends { IfErr result (λ fault. EndsBy text.now fault (W.contents writer.old) (W.contents writer.new)) }
+{
+    match read_units(threads, alloc, text, MOST_UNITS) {
+        Ok(units) => Ok(print_units(alloc, units, writer)?),
         Err(ReadFault::Refused(refusal)) => {
-            if let Err(fault) = print_refusal(alloc, refusal, writer) {
-                let _ = say_print_fault(fault, errors);
-            }
-            Status::Failure
+            print_refusal(alloc, refusal, writer)?;
+            Err(PlanFault::Refused(refusal))
         }
-        Err(ReadFault::Memory) => {
-            let _ = say_out_of_memory(errors);
-            Status::Failure
-        }
+        Err(ReadFault::Memory) => Err(PlanFault::Memory),
     }
 }
 
@@ -78,30 +98,6 @@ fn print_refusal<W: Write>(
 {
     let line = RefusalLine(refusal).to_string(alloc)?;
     write_bytes(writer, line.as_bytes())
-}
-
-/// Plans the units and prints their lines.
-fn plan_units<W: Write, E: Write>(
-    alloc: Global,
-    units: Vec<Unit>,
-    writer: &mut W,
-    errors: &mut E,
-) -> Status
-    requires { vec_len units ≤ most_units }
-    ensures done { result ≡ Status.Success → Keeps (E.contents errors.old) (E.contents errors.new) }
-    ensures planned { result ≡ Status.Success
-        → Appends (W.contents writer.old) (W.contents writer.new) (stream_text (numbered_from 1 units.items)) }
-    ensures written { AppendsFront (W.contents writer.old) (W.contents writer.new) (stream_text (numbered_from 1 units.items)) }
-    ensures told { AppendsFront (E.contents errors.old) (E.contents errors.new) out_of_memory }
-    ensures usage { result ≢ Status.Usage }
-{
-    match print_units(alloc, units, writer) {
-        Ok(()) => Status::Success,
-        Err(fault) => {
-            let _ = say_print_fault(fault, errors);
-            Status::Failure
-        }
-    }
 }
 
 /// Prints the lines of all units.

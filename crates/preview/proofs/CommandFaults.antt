@@ -6,7 +6,7 @@ use Rattle.clap.specs.declared.Error.{Error}
 use Rattle.clap.specs.declared.error.ErrorKind.{ErrorKind}
 use Rattle.clap.specs.declared.error.ErrorKind.TheVariants.{MissingSubcommand, OutOfMemory}
 use Rattle.clap.proofs.FaultLemmas.{first_fails}
-use Rattle.preview.specs.CommandLine.{HasOne, Wanted, faults_of, preview_app, wanted_in}
+use Rattle.preview.specs.CommandLine.{HasOne, IsRequest, Wanted, faults_of, preview_app, wanted_in}
 
 -- clap's statements on matches and errors are on this command
 pub preview-simple : is_simple_and_free preview_app ≡ true
@@ -24,3 +24,8 @@ clap-fails words e h = first_fails (fault_of preview_app words) _ _ h
 pub kind-among : (P : ErrorKind → Type 0) (kinds : Kinds) (e : Error) → HasKind kinds e → (P OutOfMemory → ⊥) → P (kind_of e) → HasOne P kinds
 kind-among P kinds e (inl memory) other p = absurd (other (subst P memory p))
 kind-among P kinds e (inr among) other p = (kind_of e, among, p)
+
+-- a request that a fault asks for is one of the kinds
+pub request-among : (kinds : Kinds) (e : Error) → HasKind kinds e → IsRequest (kind_of e) → HasOne IsRequest kinds
+request-among kinds e h request =
+    kind-among IsRequest kinds e h (λ none. elim none [ inl f ↦ cc | inr f ↦ cc ]) request

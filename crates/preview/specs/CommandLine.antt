@@ -46,10 +46,10 @@ abbrev pub run_app : App
 run_app = with_rule (with_rule (with_rule (new_app (codes "run")) (needed_rule (codes "SCRIPT")))
     workers_rule) cache_rule
 
--- `preview` with one of the two
+-- `preview` with one of the two, or with `--version`
 abbrev pub preview_app : App
 preview_app = with_subcommand (with_subcommand
-    (on_top (λ s. record s { subcommand_required = true }) (new_app (codes "preview")))
+    (on_top (λ s. record s { has_version = true; subcommand_required = true }) (new_app (codes "preview")))
     plan_app.top) run_app.top
 
 -- what is asked for: the plan of a file, or a run of a script with so much room
@@ -109,7 +109,3 @@ HasOne P kinds = (kind : ErrorKind) × IsAmong kind kinds × P kind
 -- the words are a wrong command line
 abbrev pub AreMistaken : List Text → Type 0
 AreMistaken words = HasOne IsMistake (faults_of words)
-
--- the words have no fault, or ask for help
-abbrev pub AreUnderstood : List Text → Type 0
-AreUnderstood words = (faults_of words ≡ []) ⊎ HasOne IsRequest (faults_of words)

@@ -1,24 +1,20 @@
 //! The command line.
 
-ghost use Rattle.std.specs.Prelude.{◌≡◌, ◌≢◌, IfOk, IsOkAnd, MatchResult, Some, false, map, option_map, string_bytes};
-ghost use Rattle.std.specs.IoError.{error_kind};
-ghost use Rattle.std.specs.declared.io.ErrorKind.TheVariants.{OutOfMemory};
-ghost use Rattle.std.specs.Io.KnownBytes.{Keeps};
-ghost use Rattle.clap.specs.Words.{FailsBy, app_of, found_of, kind_of, rows_of, rule_of, subcommand_rows_of};
-ghost use Rattle.preview.specs.CommandLine.{AreMistaken, AreUnderstood, IsMistake, IsRequest, faults_of, needed_rule, option_rule, plan_app, plan_in, preview_app};
+ghost use Rattle.std.specs.Prelude.{◌≡◌, IfOk, Some, false, map, option_map};
+ghost use Rattle.clap.specs.Words.{FailsBy, app_of, found_of, rows_of, rule_of, subcommand_rows_of};
+ghost use Rattle.preview.specs.CommandLine.{faults_of, needed_rule, option_rule, plan_app, plan_in, preview_app};
 ghost use Rattle.preview.specs.CommandLine.{run_app, run_in, wanted_from, wanted_in, wanted_of};
 
 use clap::builder::ValueParser;
 use clap::error::ErrorKind;
 use clap::{Arg, ArgMatches, Command, Error, value_parser};
-use console_io::{Files, Status, open_input, say_not_text, say_out_of_memory, write_bytes};
-use plan_stream::plan_on;
-use script_run::{MOST_CACHE, Options, script_on};
+use script_run::{MOST_CACHE, Options};
 use std::alloc::{AllocError, Global};
 use std::convert::AsStr;
-use std::io::Write;
-use std::thread::Threads;
 use std::{env, io};
+
+/// What `--version` prints after the program's name.
+const VERSION: &str = "0.1.0";
 
 /// What the command line asks for.
 #[derive(Clone, Copy, Debug)]
@@ -29,74 +25,10 @@ pub enum Asked<'a> {
     Run(Options<'a>),
 }
 
-/// Does what the process's words ask for, with these threads. Words that can't be read are a wrong command line.
-pub fn run<W: Write, E: Write>(
-    rt: &HostRuntime,
-    threads: &(impl Threads + Sync),
-    words: io::Result<Vec<String>>,
-    output: &mut W,
-    errors: &mut E,
-) -> Status
-    ensures done { result ≡ Status.Success → Keeps (E.contents errors.old) (E.contents errors.new) }
-    ensures usage { result ≡ Status.Usage → Keeps (W.contents output.old) (W.contents output.new) }
-    ensures wrong { result ≡ Status.Usage → MatchResult words
-        (λ words. AreMistaken (map string_bytes words.items))
-        (λ error. error_kind error ≢ OutOfMemory) }
-    ensures right { result ≡ Status.Success
-        → IsOkAnd words (λ words. AreUnderstood (map string_bytes words.items)) }
-{
-    match words {
-        Ok(words) => run_on(rt, threads, words.as_slice(), output, errors),
-        Err(error) if error.kind() == io::ErrorKind::OutOfMemory => {
-            let _ = say_out_of_memory(errors);
-            Status::Failure
-        }
-        Err(_) => {
-            let _ = say_not_text(errors);
-            Status::Usage
-        }
-    }
-}
-
 /// The process's words, the program's name first. Words that aren't UTF-8 are InvalidData.
 pub fn words(rt: &HostRuntime) -> io::Result<Vec<String>> {
     let words = env::args(rt)?.collect(rt.alloc())?;
     Ok(words)
-}
-
-/// Does what the words ask for, of which the first is the program's name.
-pub fn run_on<S: AsStr, W: Write, E: Write>(
-    rt: &HostRuntime,
-    threads: &(impl Threads + Sync),
-    words: &[S],
-    output: &mut W,
-    errors: &mut E,
-) -> Status
-    ensures done { result ≡ Status.Success → Keeps (E.contents errors.old) (E.contents errors.new) }
-    ensures usage { result ≡ Status.Usage → Keeps (W.contents output.old) (W.contents output.new) }
-    ensures wrong { result ≡ Status.Usage → AreMistaken (map S.text words.now) }
-    ensures right { result ≡ Status.Success → AreUnderstood (map S.text words.now) }
-{
-    let alloc = rt.alloc();
-    match parse(alloc, words) {
-        Ok(Asked::Plan { file }) => {
-            let mut input = open_input(rt, file);
-            plan_on(threads, alloc, file, &mut input, output, errors)
-        }
-        Ok(Asked::Run(options)) => {
-            let (mut script, mut files) = (open_input(rt, options.name), Files { directory: rt });
-            script_on(
-                threads,
-                alloc,
-                options,
-                &mut script,
-                &mut files,
-                output,
-                errors,
-            )
-        }
-        Err(error) => answer(alloc, &error, output, errors),
-    }
 }
 
 /// What the words ask for, or clap's answer to them.
@@ -149,6 +81,7 @@ fn preview_command<'a>(alloc: Global) -> Result<Command<'a>, AllocError>
 {
     Command::new(alloc, "preview")
         .about("Plans H.264 streams for stateless decoders, and keeps their plans under edits")
+        .version(VERSION)
         .bin_name("preview")?
         .subcommand_required(true)
         .subcommand(plan_command(alloc)?)?
@@ -212,37 +145,4 @@ fn number_option<'a>(
         .value_parser(parser)
         .default_value(usual)
         .help(help)
-}
-
-/// Prints clap's answer: help on the output, a mistake on `errors`.
-fn answer<W: Write, E: Write>(
-    alloc: Global,
-    error: &Error,
-    output: &mut W,
-    errors: &mut E,
-) -> Status
-    ensures memory { kind_of error.now ≡ ErrorKind.OutOfMemory → result ≡ Status.Failure }
-    ensures done { result ≡ Status.Success → IsRequest (kind_of error.now)
-        × Keeps (E.contents errors.old) (E.contents errors.new) }
-    ensures wrong { result ≡ Status.Usage → IsMistake (kind_of error.now)
-        × Keeps (W.contents output.old) (W.contents output.new) }
-{
-    if error.kind() == ErrorKind::OutOfMemory {
-        let _ = say_out_of_memory(errors);
-        return Status::Failure;
-    }
-    match error.to_string(alloc) {
-        Ok(text) if error.use_stderr() => {
-            let _ = write_bytes(errors, text.as_bytes());
-            Status::Usage
-        }
-        Ok(text) => match write_bytes(output, text.as_bytes()) {
-            Ok(()) => Status::Success,
-            Err(_) => Status::Failure,
-        },
-        Err(_) => {
-            let _ = say_out_of_memory(errors);
-            Status::Failure
-        }
-    }
 }

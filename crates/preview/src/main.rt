@@ -7,6 +7,7 @@
 #![tactic(auto)]
 
 mod command_line;
+mod program;
 #[cfg(test)]
 mod sample;
 #[cfg(test)]
@@ -17,5 +18,14 @@ use std::process::ExitCode;
 fn main(rt: HostRuntime) -> ExitCode {
     let (mut output, mut errors) = (rt.stdout(), rt.stderr());
     let words = command_line::words(&rt);
-    command_line::run(&rt, &rt, words, &mut output, &mut errors).exit_code()
+    let ended = program::run(
+        &rt,
+        rt.alloc(),
+        words,
+        &rt,
+        rt.stdin(),
+        &mut output,
+        &mut errors,
+    );
+    ended.status.exit_code()
 }

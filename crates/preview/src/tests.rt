@@ -3,11 +3,12 @@
 mod controls;
 mod examples;
 mod loads;
+mod programs;
 mod refused;
 mod script_faults;
 mod scripts;
 
-use crate::command_line::run_on;
+use crate::program::run_on;
 use crate::sample::{CLOCK, CLOCK_LINES};
 use console_io::Status;
 use plan_stream::plan_on;
@@ -55,7 +56,7 @@ fn plans(
     let text = joined(rt.alloc(), parts)?;
     let (mut output, mut errors) = (Vec::new(rt.alloc()), Vec::new(rt.alloc()));
     let mut reader = text.as_slice();
-    let ended = plan_on(rt, rt.alloc(), "-", &mut reader, &mut output, &mut errors);
+    let ended = plan_on(rt, rt.alloc(), "-", &mut reader, &mut output, &mut errors).status;
     let mut wanted = String::new(rt.alloc());
     for line in lines {
         wanted.push_str(*line)?;
@@ -162,7 +163,8 @@ fn refuses_more_units_than_65_536(rt: HostRuntime) -> Result<(), Fail> {
         &mut text.as_slice(),
         &mut output,
         &mut errors,
-    );
+    )
+    .status;
     assert_eq!(rt; status, Status::Failure);
     assert_eq!(rt; output.as_slice(), b"refused 17 StreamFull\n".as_slice());
     assert!(rt; errors.is_empty());
@@ -200,7 +202,8 @@ fn tells_of_a_reader_that_fails_midway(rt: HostRuntime) -> Result<(), Fail> {
             &mut reader,
             &mut output,
             &mut errors,
-        );
+        )
+        .status;
         assert_eq!(rt; status, Status::Failure);
         assert!(rt; output.is_empty());
         assert_eq!(rt; errors.as_slice(), b"cannot read a stream\n".as_slice());
@@ -272,7 +275,8 @@ fn plan_to(
         &mut text.as_slice(),
         &mut writer,
         &mut errors,
-    );
+    )
+    .status;
     assert!(rt; errors.is_empty(), "errors at {room}");
     let ShortWriter {
         got,
@@ -386,7 +390,17 @@ fn answers_command_lines(rt: HostRuntime) -> Result<(), Fail> {
     ];
     for (words, status, part) in answers {
         let (mut output, mut errors) = (Vec::new(rt.alloc()), Vec::new(rt.alloc()));
-        let ended = run_on(&rt, &rt, words, &mut output, &mut errors);
+        let standard: &[u8] = &[];
+        let ended = run_on(
+            &rt,
+            rt.alloc(),
+            words,
+            &rt,
+            standard,
+            &mut output,
+            &mut errors,
+        )
+        .status;
         assert_eq!(rt; ended, status, "status of {words:?}");
         let (said, other) = match status {
             Status::Success => (output, errors),

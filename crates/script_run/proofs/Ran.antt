@@ -1,14 +1,18 @@
 -- Runs a script's commands on, and what was written of a run that ends before they do.
-use Rattle.std.proofs.Common.{◌≡◌, ◌∙◌, ℕ, List, [], ◌∷◌, ◌++◌, length, Option, refl, ap, sym, append_assoc, append-nil}
+use Rattle.std.proofs.Common.{◌≡◌, ◌∙◌, ℕ, List, [], ◌∷◌, ◌++◌, Option, refl, ap, sym, inl, inr, append_assoc, append-nil}
 use Rattle.std.proofs.KnownBytes.{Appends-trans}
 use Rattle.std.specs.Io.KnownBytes.{Appends}
-use lib.Seq.{take-append_seam}
 use Rattle.edit_engine.specs.Machines.{Machine}
 use Rattle.console_io.specs.Chunks.{AppendsFront}
 use Rattle.edit_script.specs.declared.commands.Command.{Command}
 use Rattle.edit_script.specs.declared.commands.Command.TheVariants as command
-use Rattle.script_run.specs.Running.{Files, Answers, Runs, WritesRun, WritesRunFront}
-use Rattle.console_io.proofs.Chunked.{front-all, front-behind}
+use Rattle.console_io.specs.Inputs.{Files}
+use Rattle.script_run.specs.Running.{Answers, Runs, WritesRun}
+use Rattle.script_run.specs.RunFaults.{IsCommandFault}
+use Rattle.script_run.specs.Stops.{StopsAt}
+use Rattle.script_run.specs.declared.run_fault.RunFault.{RunFault}
+use Rattle.script_run.specs.declared.run_fault.RunFault.TheVariants.{Unwritten}
+use Rattle.console_io.proofs.Chunked.{front-behind}
 
 module _ (files : Files) where
   -- an answer by others that agree by name is one by these
@@ -42,31 +46,35 @@ module _ (files : Files) where
       let runs = Runs-push from commands ran.0 between ran.1 it more to answers in
       (ran.0 ++ more, runs, Appends-trans a b c ran.0 more ran.2 appends)
 
-  -- a front of what answers the commands before the rest
-  pub front-of_run : (from : Machine) (commands rest : List Command) (lines : List ℕ) (to : Machine)
-      (a b : Option (List ℕ)) → Runs files from commands lines to → AppendsFront a b lines
-      → WritesRunFront files from (commands ++ rest) a b
-  front-of_run from commands rest lines to a b runs front =
-      (length commands, lines, to, rw (take-append_seam commands rest) runs, front)
-
-  -- all that answers them was written, and nothing of the rest
-  pub front-before : (from : Machine) (commands rest : List Command) (to : Machine) (a b : Option (List ℕ))
-      → WritesRun files from commands to a b → WritesRunFront files from (commands ++ rest) a b
-  front-before from commands rest to a b ran =
-      front-of_run from commands rest ran.0 to a b ran.1 (front-all a b ran.0 ran.2)
-
-  -- nothing is left
-  pub front-whole : (from : Machine) (commands : List Command) (to : Machine) (a b : Option (List ℕ))
-      → WritesRun files from commands to a b → WritesRunFront files from commands a b
-  front-whole from commands to a b ran = rw (append-nil commands) at (front-before from commands [] to a b ran)
-
-  -- all that answers them was written, and a front of what answers the next one
-  pub front-within : (from : Machine) (commands rest : List Command) (between : Machine) (a b c : Option (List ℕ))
+  -- the commands before this one were answered, and it isn't
+  pub stops-before : (from : Machine) (commands : List Command) (between : Machine) (a b : Option (List ℕ))
       → WritesRun files from commands between a b
-      → (it : Command) (more : List ℕ) (to : Machine) → Answers files between it more to → AppendsFront b c more
-      → WritesRunFront files from (commands ++ it ∷ rest) a c
-  front-within from commands rest between a b c ran it more to answers got =
-      let runs = Runs-push from commands ran.0 between ran.1 it more to answers in
-      let behind = front-behind a b c ran.0 more ran.2 got in
-      let front = front-of_run from (commands ++ it ∷ []) rest (ran.0 ++ more) to a c runs behind in
-      rw (append_assoc commands (it ∷ []) rest) at front
+      → (all : List Command) (it : Command) (rest : List Command) → all ≡ commands ++ it ∷ rest
+      → (fault : RunFault) → IsCommandFault it fault → StopsAt files from all fault a b
+  stops-before from commands between a b ran all it rest are fault stopped = record {
+    before = commands;
+    command = it;
+    after = rest;
+    are = are;
+    between = between;
+    lines = ran.0;
+    ran = ran.1;
+    stops = inl (stopped, ran.2);
+  }
+
+  -- they were answered, and the writer takes a front of the answer of this one
+  pub stops-within : (from : Machine) (commands : List Command) (between : Machine) (a b c : Option (List ℕ))
+      → WritesRun files from commands between a b
+      → (all : List Command) (it : Command) (rest : List Command) → all ≡ commands ++ it ∷ rest
+      → (lines : List ℕ) (to : Machine) → Answers files between it lines to → AppendsFront b c lines
+      → (fault : RunFault) → fault ≡ Unwritten → StopsAt files from all fault a c
+  stops-within from commands between a b c ran all it rest are lines to answers got fault unwritten = record {
+    before = commands;
+    command = it;
+    after = rest;
+    are = are;
+    between = between;
+    lines = ran.0;
+    ran = ran.1;
+    stops = inr (unwritten, (lines, to, answers, front-behind a b c ran.0 lines ran.2 got));
+  }

@@ -1,32 +1,22 @@
--- What is said of a fault, and that it is said of a run that ends so.
-use Rattle.std.proofs.Common.{◌≡◌, ℕ, List, [], Option, Some, None, IfSome, refl, inl, inr}
+-- How a script that isn't read stops.
+use Rattle.std.proofs.Common.{ℕ, List, Option, refl, inl, inr}
+use Rattle.std.specs.Prelude.{Result, Ok, Err, IfErr, IsErrAnd}
+use Rattle.std.proofs.KnownBytes.{Keeps-refl}
 use Rattle.std.specs.Borrow.{Bor}
-use Rattle.console_io.specs.Chunks.{AppendsFront}
-use Rattle.console_io.specs.Messages.{input_fault_text}
-use Rattle.script_run.specs.Messages.{run_fault_text}
-use Rattle.script_run.specs.RunFaults.{IsRunFault, IsScriptFault}
+use Rattle.console_io.specs.Inputs.{Files}
 use Rattle.console_io.specs.declared.input.InputFault.{InputFault}
 use Rattle.console_io.specs.declared.input.InputFault.TheVariants as input
-use Rattle.script_run.specs.declared.run_fault.RunFault.{RunFault}
-use Rattle.script_run.specs.declared.run_fault.RunFault.TheVariants.{Unread, Memory}
+use Rattle.script_run.specs.RunFaults.{fault_of_input}
+use Rattle.script_run.specs.Stops.{StopsBy}
 
-module _ (a b : Option (List ℕ)) where
-  -- a fault of the run, of which a front is said
-  abbrev pub Told : List ℕ → List ℕ → Type 0
-  Told name text = (fault : RunFault) × IsRunFault name text fault × AppendsFront a b (run_fault_text fault)
+-- it can't be read, or there is no memory for it
+pub stops-unread : (files : Files) (name : Bor (List ℕ)) (text : List ℕ) (room : ℕ) (fault : InputFault) (a : Option (List ℕ))
+    → StopsBy files name.now text room (fault_of_input name fault) a a
+stops-unread files name text room input.Unread a = inl (name, refl, refl, Keeps-refl a)
+stops-unread files name text room input.Memory a = inr (inl (refl, Keeps-refl a))
 
-  -- the script isn't read
-  pub told-unread : (name : Bor (List ℕ)) (text : List ℕ) (fault : InputFault)
-      → AppendsFront a b (input_fault_text name.now fault) → Told name.now text
-  told-unread name text input.Unread front = (Unread name, inl (name, refl, refl), front)
-  told-unread name text input.Memory front = (Memory, inr (inl refl), front)
-
-  -- the script isn't run to its end
-  pub told-stopped : (name text bytes : List ℕ) (fault : RunFault) → IsScriptFault text fault → text ≡ bytes
-      → AppendsFront a b (run_fault_text fault) → Told name bytes
-  told-stopped name text bytes fault stopped same front = (fault, inr (rw same at stopped), front)
-
--- what holds of each holds of the one that is there
-pub some-all : {T : Type 0} (known : Option T) {P : T → Type 0} → ((value : T) → P value) → IfSome known P
-some-all None all = tt
-some-all (Some value) all = all value
+-- an error by `?` is what the error below is turned into
+pub err-all : {T E : Type 0} (result : Result T E) (from : E → Type 0) {P : E → Type 0} → IsErrAnd result from
+    → ((fault : E) → from fault → P fault) → IfErr result P
+err-all (Ok x) from is all = absurd is
+err-all (Err fault) from is all = all fault is

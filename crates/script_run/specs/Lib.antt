@@ -1,5 +1,6 @@
 pub mod Answers
 pub mod RunFaults
 pub mod Running
+pub mod Stops
 pub mod Messages
 pub mod Options

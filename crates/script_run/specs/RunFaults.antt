@@ -1,8 +1,6 @@
 -- What the fault of a part means for the run of a script.
-use Rattle.std.specs.Prelude.{◌≡◌, ℕ, List, ◌⊎◌, Any}
+use Rattle.std.specs.Prelude.{◌≡◌, ℕ, List, ◌⊎◌}
 use Rattle.std.specs.Borrow.{Bor}
-use Rattle.std.specs.List.{AllZip, filter}
-use Rattle.edit_script.specs.Scripts.{lines_of, is_read, HasFirstWrong, IsLine}
 use Rattle.console_io.specs.declared.chunks.PrintFault.{PrintFault}
 use Rattle.edit_script.specs.declared.commands.Command.{Command}
 use Rattle.edit_script.specs.declared.commands.Command.TheVariants as command
@@ -38,18 +36,3 @@ abbrev pub IsCommandFault : Command → RunFault → Type 0
 IsCommandFault (command.Edit edit) fault = fault ≡ Memory
 IsCommandFault (command.Load path) fault = IsLoadFault path fault
 IsCommandFault (command.Unit number) fault = fault ≡ Memory
-
--- why commands aren't run to their end: one of them isn't answered, or the writer takes no more
-abbrev pub AreStopped : List Command → RunFault → Type 0
-AreStopped commands fault = (fault ≡ Unwritten) ⊎ Any (λ command. IsCommandFault command fault) commands
-
--- why a script isn't run to its end: memory is wanted, this line is the first that is no command, or its commands are
--- stopped
-abbrev pub IsScriptFault : List ℕ → RunFault → Type 0
-IsScriptFault text fault =
-    (fault ≡ Memory) ⊎ ((number : ℕ) × HasFirstWrong (lines_of text) number × (fault ≡ Script number))
-    ⊎ ((commands : List Command) × AllZip IsLine (filter is_read (lines_of text)) commands × AreStopped commands fault)
-
--- why nothing or no more is run of the script of this name and text: it can't be read, or it isn't run to its end
-abbrev pub IsRunFault : List ℕ → List ℕ → RunFault → Type 0
-IsRunFault name text fault = ((lent : Bor (List ℕ)) × (lent.now ≡ name) × (fault ≡ Unread lent)) ⊎ IsScriptFault text fault

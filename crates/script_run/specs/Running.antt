@@ -1,6 +1,6 @@
 -- The run of a script's commands on a session, and what it writes (docs/OUTPUT.md).
-use Rattle.std.specs.Prelude.{◌≡◌, ℕ, ◌-◌, ◌≤◌, ◌++◌, List, [], ◌∷◌, length, take, Result, Ok, Err, Option, Some, None, IfSome, ◌⊎◌}
-use Rattle.std.specs.Io.KnownBytes.{Appends, Keeps}
+use Rattle.std.specs.Prelude.{◌≡◌, ℕ, ◌-◌, ◌≤◌, ◌++◌, List, [], ◌∷◌, length, Result, Ok, Err, Option, Some, None, IfSome, ◌⊎◌}
+use Rattle.std.specs.Io.KnownBytes.{Appends}
 use Rattle.std.specs.List.{AllZip, filter}
 use Rattle.annexb.specs.ByteStream.{joined}
 use Rattle.edit_engine.specs.declared.edits.Edit.TheVariants.{Insert}
@@ -11,7 +11,7 @@ use Rattle.edit_engine.specs.declared.refusals.EditRefused.{EditRefused}
 use Rattle.edit_engine.specs.Machines.{Machine, empty, AnswersEdit, last_of}
 use Rattle.edit_engine.specs.Streams.{Stream}
 use Rattle.script_run.specs.Answers.{edit_line, refused_line, loaded_line, number_lines}
-use Rattle.console_io.specs.Chunks.{AppendsFront}
+use Rattle.console_io.specs.Inputs.{Files}
 use Rattle.access_unit.specs.Rooms.{IsStream, IsStreamRefused, most_units}
 use Rattle.unit_lines.specs.Refusals.{refusal_text}
 use Rattle.edit_script.specs.Scripts.{lines_of, is_read, IsLine}
@@ -51,10 +51,6 @@ Loads old text lines new =
     ⊎ ((refusal : Refusal) × IsStreamRefused text (room_of old.register.stream) refusal
     × (lines ≡ refusal_text refusal) × (new ≡ old))
 
--- the bytes of a file by its name, where they are known
-abbrev pub Files : Type 0
-Files = List ℕ → Option (List ℕ)
-
 -- a command is answered by the lines, and leads from one state of the session to the other
 abbrev pub Answers : Files → Machine → Command → List ℕ → Machine → Type 0
 Answers files old (command.Edit edit) lines new =
@@ -74,12 +70,6 @@ Runs files from (command ∷ commands) lines to =
 abbrev pub WritesRun : Files → Machine → List Command → Machine → Option (List ℕ) → Option (List ℕ) → Type 0
 WritesRun files from commands to old new = (lines : List ℕ) × Runs files from commands lines to × Appends old new lines
 
--- a front of the lines that answer the first few of the commands was written
-abbrev pub WritesRunFront : Files → Machine → List Command → Option (List ℕ) → Option (List ℕ) → Type 0
-WritesRunFront files from commands old new =
-    (count : ℕ) × (lines : List ℕ) × (to : Machine) × Runs files from (take count commands) lines to
-    × AppendsFront old new lines
-
 -- the text is a script, and what answers its commands was written: they were run from the empty stream, for a cache
 -- of this room
 pub record WritesScript (files : Files) (text : List ℕ) (room : ℕ) (old new : Option (List ℕ)) : Type 0 where
@@ -87,10 +77,3 @@ pub record WritesScript (files : Files) (text : List ℕ) (room : ℕ) (old new 
   pub last : Machine
   pub read : AllZip IsLine (filter is_read (lines_of text)) commands
   pub answered : WritesRun files (empty room) commands last old new
-
--- nothing was written, or the text is a script and a front of what answers its first few commands was written
-abbrev pub WritesScriptFront : Files → List ℕ → ℕ → Option (List ℕ) → Option (List ℕ) → Type 0
-WritesScriptFront files text room old new =
-    Keeps old new
-    ⊎ ((commands : List Command) × AllZip IsLine (filter is_read (lines_of text)) commands
-    × WritesRunFront files (empty room) commands old new)

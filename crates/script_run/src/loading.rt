@@ -1,6 +1,6 @@
 //! `load`: the units of a file inserted one after the other.
 
-ghost use Rattle.std.specs.Prelude.{◌≡◌, ◌≢◌, ℕ, List, length, IfErr, IfOk, IfSome, string_bytes};
+ghost use Rattle.std.specs.Prelude.{◌≡◌, ℕ, List, length, IfErr, IfOk, IfSome, string_bytes};
 ghost use Rattle.annexb.specs.ByteStream.{joined};
 ghost use Rattle.edit_engine.specs.declared.edits.Edit.TheVariants.{Insert};
 ghost use Rattle.edit_engine.specs.Machines.{AnswersEdit};
@@ -30,7 +30,6 @@ pub fn load<'a, S: Source>(
         × Loads session.old text (string_bytes lines) session.new) }
     ensures kept { (name : List ℕ) → S.file source.new name ≡ S.file source.old name }
     ensures named { IfErr result (IsLoadFault path.entry) }
-    ensures fault { IfErr result (λ fault. (number : ℕ) → fault ≢ RunFault.Script number) }
 {
     let text = match source.whole_file(alloc, path) {
         Ok(text) => text,

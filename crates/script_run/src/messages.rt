@@ -1,9 +1,7 @@
 //! What is said on standard error of a script that isn't run to its end. It takes no memory, and where it can't be
 //! written nothing more is said.
 
-ghost use Rattle.std.specs.Prelude.{OnOk};
-ghost use Rattle.std.specs.Io.KnownBytes.{Appends};
-ghost use Rattle.console_io.specs.Chunks.{AppendsFront};
+ghost use Rattle.console_io.specs.Messages.{Tells};
 ghost use Rattle.script_run.specs.Messages.{run_fault_text, script_fault_text};
 
 use crate::run_fault::RunFault;
@@ -13,10 +11,7 @@ use std::io::Write;
 
 /// Says why a script isn't run to its end. A writer that takes no more is known to who reads it.
 pub fn say_run_fault<E: Write>(fault: RunFault<'_>, errors: &mut E) -> Result<(), PrintFault>
-    ensures ok { OnOk result
-        (Appends (E.contents errors.old) (E.contents errors.new) (run_fault_text fault.entry)) }
-    ensures written { AppendsFront (E.contents errors.old) (E.contents errors.new)
-        (run_fault_text fault.entry) }
+    ensures { Tells result (E.contents errors.old) (E.contents errors.new) (run_fault_text fault.entry) }
 {
     match fault {
         RunFault::Unread(name) => say_unread(name, errors),
@@ -28,10 +23,7 @@ pub fn say_run_fault<E: Write>(fault: RunFault<'_>, errors: &mut E) -> Result<()
 
 /// Says that the line of this number is no command.
 fn say_script_fault<E: Write>(number: usize, errors: &mut E) -> Result<(), PrintFault>
-    ensures ok { OnOk result
-        (Appends (E.contents errors.old) (E.contents errors.new) (script_fault_text number)) }
-    ensures written { AppendsFront (E.contents errors.old) (E.contents errors.new)
-        (script_fault_text number) }
+    ensures { Tells result (E.contents errors.old) (E.contents errors.new) (script_fault_text number) }
 {
     let mut digits = Buffer::new();
     say_line(

@@ -1,21 +1,21 @@
 //! `preview run`: a script read, run on a session and answered line by line.
 
-ghost use Rattle.std.specs.Prelude.{◌≡◌, ◌≢◌, ℕ, List, Err, IfErr, IfOk, IfSome, OnOk, string_bytes};
+ghost use Rattle.std.specs.Prelude.{◌≡◌, ◌≢◌, ℕ, List, IfErr, IfOk, IfSome, OnOk, string_bytes};
 ghost use Rattle.std.specs.Io.KnownBytes.{Keeps};
 ghost use Rattle.script_run.specs.Answers.{edit_line, number_lines};
-ghost use Rattle.console_io.specs.Chunks.{AppendsFront};
+ghost use Rattle.console_io.specs.Messages.{Tells};
 ghost use Rattle.script_run.specs.Messages.{run_fault_text};
-ghost use Rattle.script_run.specs.RunFaults.{AreStopped, IsCommandFault, IsRunFault, IsScriptFault};
+ghost use Rattle.script_run.specs.RunFaults.{IsCommandFault};
 ghost use Rattle.script_run.specs.declared.run_fault.RunFault.{RunFault};
-ghost use Rattle.script_run.specs.Running.{Answers, WritesRun, WritesRunFront, WritesScript, WritesScriptFront};
-ghost use Rattle.edit_script.specs.Scripts.{lines_of, HasFirstWrong};
+ghost use Rattle.script_run.specs.Running.{Answers, WritesRun, WritesScript};
+ghost use Rattle.script_run.specs.Stops.{StopsAt, StopsBy, StopsText};
 
 use crate::answers::{AcceptedLine, NoUnitLine, RefusedLine};
 use crate::loading::load;
 use crate::messages::say_run_fault;
 use crate::options::Options;
 use crate::run_fault::RunFault;
-use console_io::{Source, Status, say_input_fault, whole_input, write_bytes};
+use console_io::{Ended, Source, Status, whole_input, write_bytes};
 use edit_engine::{Config, EditRefused, Receipt, Session};
 use edit_script::{Command, id_of_number, read_script};
 use std::alloc::{AllocError, Global};
@@ -33,32 +33,29 @@ pub fn script_on<R: Read, S: Source, W: Write, E: Write>(
     source: &mut S,
     writer: &mut W,
     errors: &mut E,
-) -> Status
-    ensures done { result ≡ Status.Success → Keeps (E.contents errors.old) (E.contents errors.new) }
+) -> Ended
+    ensures done { result.status ≡ Status.Success → Keeps (E.contents errors.old) (E.contents errors.new) }
     // What is written at success is a run of the script that was read.
-    ensures answered { result ≡ Status.Success → IfSome (R.remaining reader.old) (λ text.
+    ensures answered { result.status ≡ Status.Success → IfSome (R.remaining reader.old) (λ text.
         WritesScript (S.file source.old) text options.entry.cache (W.contents writer.old) (W.contents writer.new)) }
-    ensures written { IfSome (R.remaining reader.old) (λ text.
-        WritesScriptFront (S.file source.old) text options.entry.cache
-        (W.contents writer.old) (W.contents writer.new)) }
-    ensures told { IfSome (R.remaining reader.old) (λ text. (fault : RunFault)
-        × IsRunFault options.entry.name.now text fault
-        × AppendsFront (E.contents errors.old) (E.contents errors.new) (run_fault_text fault)) }
-    ensures usage { result ≢ Status.Usage }
+    // At a failure it is what the fault that is told leaves of it.
+    ensures stops { result.status ≡ Status.Failure → (fault : RunFault)
+        × IfSome (R.remaining reader.old) (λ text.
+        StopsBy (S.file source.old) options.entry.name.now text options.entry.cache fault
+        (W.contents writer.old) (W.contents writer.new))
+        × Tells result.told (E.contents errors.old) (E.contents errors.new) (run_fault_text fault) }
+    ensures usage { result.status ≢ Status.Usage }
 {
     let text = match whole_input(alloc, reader) {
         Ok(text) => text,
         Err(fault) => {
-            let _ = say_input_fault(fault, options.name, errors);
-            return Status::Failure;
+            let fault = RunFault::of_input(fault, options.name);
+            return Ended::failed(say_run_fault(fault, errors));
         }
     };
     match run_text(threads, alloc, options, text.as_slice(), source, writer) {
-        Ok(()) => Status::Success,
-        Err(fault) => {
-            let _ = say_run_fault(fault, errors);
-            Status::Failure
-        }
+        Ok(()) => Ended::done(),
+        Err(fault) => Ended::failed(say_run_fault(fault, errors)),
     }
 }
 
@@ -74,11 +71,8 @@ fn run_text<'a, S: Source, W: Write>(
     ensures ok { OnOk result
         (WritesScript (S.file source.old) text.now options.entry.cache
         (W.contents writer.old) (W.contents writer.new)) }
-    ensures written { WritesScriptFront (S.file source.old) text.now options.entry.cache
-        (W.contents writer.old) (W.contents writer.new) }
-    ensures named { IfErr result (IsScriptFault text.now) }
-    ensures wrong { (number : ℕ) → result ≡ Err (RunFault.Script number)
-        → HasFirstWrong (lines_of text.now) number × Keeps (W.contents writer.old) (W.contents writer.new) }
+    ensures stops { IfErr result (λ fault. StopsText (S.file source.old) text.now options.entry.cache fault
+        (W.contents writer.old) (W.contents writer.new)) }
 {
     let commands = read_script(alloc, text)?;
     let cache = options.cache;
@@ -101,10 +95,8 @@ fn run_commands<'a, S: Source, W: Write>(
     ensures ok { OnOk result
         (WritesRun (S.file source.old) session.old commands.entry.items session.new
         (W.contents writer.old) (W.contents writer.new)) }
-    ensures written { WritesRunFront (S.file source.old) session.old commands.entry.items
-        (W.contents writer.old) (W.contents writer.new) }
-    ensures named { IfErr result (AreStopped commands.entry.items) }
-    ensures fault { IfErr result (λ fault. (number : ℕ) → fault ≢ RunFault.Script number) }
+    ensures stops { IfErr result (λ fault. StopsAt (S.file source.old) session.old commands.entry.items fault
+        (W.contents writer.old) (W.contents writer.new)) }
 {
     for command in commands {
         let lines = run_command(threads, alloc, command, session, source)?;
@@ -125,7 +117,6 @@ fn run_command<'a, S: Source>(
         Answers (S.file source.old) session.old command.entry (string_bytes lines) session.new) }
     ensures kept { (name : List ℕ) → S.file source.new name ≡ S.file source.old name }
     ensures named { IfErr result (IsCommandFault command.entry) }
-    ensures fault { IfErr result (λ fault. (number : ℕ) → fault ≢ RunFault.Script number) }
 {
     match command {
         Command::Edit(edit) => Ok(edit_answer(alloc, session.edit(edit))?),

@@ -2,7 +2,7 @@
 
 use super::scripts::TestFiles;
 use super::{A, P1};
-use crate::command_line::run_on;
+use crate::program::run_on;
 use console_io::Status;
 use plan_stream::plan_on;
 use script_run::{Options, script_on};
@@ -38,7 +38,7 @@ fn plans_or_wants_memory(
 ) {
     let (mut output, mut errors) = ([0u8; 512], [0u8; 64]);
     let (mut writer, mut teller) = (output.as_mut_slice(), errors.as_mut_slice());
-    let status = plan_on(rt, rt.alloc(), "-", &mut &*text, &mut writer, &mut teller);
+    let status = plan_on(rt, rt.alloc(), "-", &mut &*text, &mut writer, &mut teller).status;
     let (written, told) = (
         512usize.saturating_sub(writer.len()),
         64usize.saturating_sub(teller.len()),
@@ -69,13 +69,17 @@ fn refused_refusal(rt: HostRuntime) {
 fn refused_command_line(rt: HostRuntime) {
     let (mut output, mut errors) = ([0u8; 512], [0u8; 64]);
     let (mut writer, mut teller) = (output.as_mut_slice(), errors.as_mut_slice());
+    let standard: &[u8] = &[];
     let status = run_on(
         &rt,
-        &rt,
+        rt.alloc(),
         &["preview", "plan", "no/such.264"],
+        &rt,
+        standard,
         &mut writer,
         &mut teller,
-    );
+    )
+    .status;
     assert_eq!(rt; writer.len(), 512);
     let told = 64usize.saturating_sub(teller.len());
     let errors = errors.split_at(told).0;
@@ -108,7 +112,8 @@ fn refused_script(rt: HostRuntime) {
         &mut source,
         &mut writer,
         &mut teller,
-    );
+    )
+    .status;
     let (written, told) = (
         512usize.saturating_sub(writer.len()),
         64usize.saturating_sub(teller.len()),

@@ -124,7 +124,8 @@ fn tells_of_a_script_that_is_not_read(rt: HostRuntime) -> Result<(), Fail> {
             &mut source,
             &mut output,
             &mut errors,
-        );
+        )
+        .status;
         assert_eq!(rt; status, Status::Failure);
         assert!(rt; output.is_empty());
         assert_eq!(rt; errors.as_slice(), b"cannot read a script\n".as_slice());

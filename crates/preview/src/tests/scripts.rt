@@ -67,7 +67,8 @@ pub(crate) fn run_script(
         &mut source,
         &mut output,
         &mut errors,
-    );
+    )
+    .status;
     (status, output, errors)
 }
 
@@ -299,7 +300,8 @@ fn run_to(
         &mut source,
         &mut writer,
         &mut errors,
-    );
+    )
+    .status;
     assert!(rt; errors.is_empty(), "errors at {room}");
     let ShortWriter {
         got,

@@ -1,27 +1,25 @@
-use Rattle.std.proofs.Common.{◌++◌, codes}
+use Rattle.std.proofs.Common.{◌++◌, append_assoc, codes}
 use Rattle.std.proofs.KnownBytes.{Appends-trans}
-use Rattle.std.proofs.lemmas.Result.{on_ok_weaker}
-use Rattle.console_io.proofs.Chunked.{front-behind, front-either, front-wider}
+use Rattle.console_io.proofs.Chunked.{front-behind, front-wider}
+use Rattle.console_io.proofs.Telling.{tells-behind, tells-cut}
 use Rattle.console_io.proofs.messages.say_line.Goals as goal
 
-pub returns-clause-ok : goal.returns-clause-ok
-returns-clause-ok g c =
-    let behind = Appends-trans _ _ _ c.args.word.now (codes "\n") c.in_ok-write_bytes-2.ensures.ok in
-    on_ok_weaker c.write_bytes-3.result
-    (λ end. Appends-trans _ _ _ c.args.front.now (c.args.word.now ++ codes "\n") c.in_ok-write_bytes.ensures.ok (behind end))
-    c.write_bytes-3.ensures.ok
+pub returns-in_err-write_bytes : goal.returns-in_err-write_bytes
+returns-in_err-write_bytes g c =
+    let front = front-wider _ _ c.args.front.now (c.args.word.now ++ codes "\n") c.in_err-write_bytes.ensures.unwritten in
+    tells-cut c.from_residual.result c.in_err-write_bytes.field-0.0 _ _ _ c.from_residual.ensures.1
+    c.in_err-write_bytes.ensures.fault front
 
-pub returns-clause-written : goal.returns-clause-written
-returns-clause-written g c =
-    let end = front-either c.write_bytes-3.result _ _ (codes "\n") c.write_bytes-3.ensures.ok c.write_bytes-3.ensures.unwritten in
-    let rest = front-behind _ _ _ c.args.word.now (codes "\n") c.in_ok-write_bytes-2.ensures.ok end in
-    front-behind _ _ _ c.args.front.now (c.args.word.now ++ codes "\n") c.in_ok-write_bytes.ensures.ok rest
-
-pub returns-in_err-write_bytes-clause-written : goal.returns-in_err-write_bytes-clause-written
-returns-in_err-write_bytes-clause-written g c =
-    front-wider _ _ c.args.front.now (c.args.word.now ++ codes "\n") c.in_err-write_bytes.ensures.unwritten
-
-pub returns-in_err-write_bytes-2-clause-written : goal.returns-in_err-write_bytes-2-clause-written
-returns-in_err-write_bytes-2-clause-written g c =
+pub returns-in_err-write_bytes-2 : goal.returns-in_err-write_bytes-2
+returns-in_err-write_bytes-2 g c =
     let rest = front-wider _ _ c.args.word.now (codes "\n") c.in_err-write_bytes-2.ensures.unwritten in
-    front-behind _ _ _ c.args.front.now (c.args.word.now ++ codes "\n") c.in_ok-write_bytes.ensures.ok rest
+    let front = front-behind _ _ _ c.args.front.now (c.args.word.now ++ codes "\n") c.in_ok-write_bytes.ensures.ok rest in
+    tells-cut c.from_residual-in_err-write_bytes-2.result c.in_err-write_bytes-2.field-0.0 _ _ _
+    c.from_residual-in_err-write_bytes-2.ensures.1 c.in_err-write_bytes-2.ensures.fault front
+
+pub returns : goal.returns
+returns g c =
+    let before = Appends-trans _ _ _ c.args.front.now c.args.word.now c.in_ok-write_bytes.ensures.ok c.in_ok-write_bytes-2.ensures.ok in
+    let all = tells-behind c.write_bytes-3.result _ _ _ (c.args.front.now ++ c.args.word.now) (codes "\n") before
+    c.write_bytes-3.ensures.ok c.write_bytes-3.ensures.unwritten c.write_bytes-3.ensures.fault in
+    rw (append_assoc c.args.front.now c.args.word.now (codes "\n")) at all

@@ -1,7 +1,8 @@
-use Rattle.std.proofs.Common.{◌∙◌, ◌∷◌, [], append_assoc, append-nil, rules, string_bytes}
-use Rattle.std.proofs.lemmas.List.{nil_from_length}
+use Rattle.std.proofs.Common.{◌∙◌, ◌∷◌, [], ap, append_assoc, string_bytes}
 use Rattle.std.specs.Vec.Iter.{into_iter_items}
-use Rattle.script_run.proofs.Ran.{Answers-same, WritesRun-push, front-before, front-whole, front-within}
+use Rattle.script_run.specs.RunFaults.{fault_of_print}
+use Rattle.script_run.proofs.Ran.{Answers-same, WritesRun-push, stops-within}
+use Rattle.script_run.proofs.Told.{err-all}
 use Rattle.script_run.proofs.run.run_commands.Goals as goal
 
 pub loop-command-preserved : goal.loop-command-preserved
@@ -24,15 +25,8 @@ loop-command-preserved g c =
       left = rw (append_assoc before.yielded (command ∷ []) next, ← c.in-Some.ensures.steps.0) before.invariant.left;
     }
 
-pub returns-in_err-lines-clause-written : goal.returns-in_err-lines-clause-written
-returns-in_err-lines-clause-written g c =
-    let files = g.S.Source.file c.args.source.now in
-    let before = c.loop-command in
-    rw before.invariant.left (front-before files c.args.session.now before.yielded
-    (into_iter_items before.command-iterator) before.session _ _ before.invariant.ran)
-
-pub returns-in_err-write_bytes-clause-written : goal.returns-in_err-write_bytes-clause-written
-returns-in_err-write_bytes-clause-written g c =
+pub returns-in_err-write_bytes-clause-stops : goal.returns-in_err-write_bytes-clause-stops
+returns-in_err-write_bytes-clause-stops g c =
     let before = c.loop-command in
     let files = g.S.Source.file c.args.source.now in
     let command = c.in-Some.command in
@@ -42,13 +36,6 @@ returns-in_err-write_bytes-clause-written g c =
     later c.in_ok-lines.ensures.ok in
     let got = rw c.as_bytes.ensures.value at c.in_err-write_bytes.ensures.unwritten in
     let left = rw c.in-Some.ensures.steps.0 at before.invariant.left in
-    rw left (front-within files c.args.session.now before.yielded _ before.session _ _ _ before.invariant.ran command
-    lines later answers got)
-
-pub returns-clause-written : goal.returns-clause-written
-returns-clause-written g c =
-    let files = g.S.Source.file c.args.source.now in
-    let before = c.loop-command in
-    let none = nil_from_length (into_iter_items before.command-iterator) (search rules) in
-    let all = rw (none, append-nil before.yielded) at before.invariant.left in
-    rw all (front-whole files c.args.session.now before.yielded before.session _ _ before.invariant.ran)
+    err-all c.from_residual-in_err-write_bytes.result _ c.from_residual-in_err-write_bytes.ensures.1
+    (λ fault is. stops-within files c.args.session.now before.yielded before.session _ _ _ before.invariant.ran _ command
+    _ left lines later answers got fault (is ∙ ap fault_of_print c.in_err-write_bytes.ensures.fault))

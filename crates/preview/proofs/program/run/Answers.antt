@@ -1,4 +1,4 @@
-use Rattle.preview.proofs.command_line.run.Goals as goal
+use Rattle.preview.proofs.program.run.Goals as goal
 
 pub returns-in-Ok-clause-wrong : goal.returns-in-Ok-clause-wrong
 returns-in-Ok-clause-wrong g c wrong =
@@ -7,3 +7,7 @@ returns-in-Ok-clause-wrong g c wrong =
 pub returns-in-Ok-clause-right : goal.returns-in-Ok-clause-right
 returns-in-Ok-clause-right g c right =
     rw c.in-Ok.is (rw c.as_slice.ensures.value at (c.run_on.ensures.right right))
+
+pub returns-in-Ok-clause-fails : goal.returns-in-Ok-clause-fails
+returns-in-Ok-clause-fails g c failure =
+    rw c.in-Ok.is (rw c.as_slice.ensures.value at (c.run_on.ensures.fails failure))

@@ -1,0 +1,29 @@
+-- What became of a message: of one after another, and of one that is cut.
+use Rattle.std.proofs.Common.{◌≡◌, ℕ, List, ◌++◌, Option, ◌∙◌}
+use Rattle.std.proofs.KnownBytes.{Appends-trans}
+use Rattle.std.specs.Io.KnownBytes.{Appends}
+use Rattle.std.specs.Prelude.{Result, Ok, Err, IsErrAnd, IsOkUnless, OnErr, OnOk}
+use Rattle.console_io.specs.declared.chunks.PrintFault.{PrintFault}
+use Rattle.console_io.specs.declared.chunks.PrintFault.TheVariants.{Unwritten}
+use Rattle.console_io.specs.Chunks.{AppendsFront}
+use Rattle.console_io.specs.Messages.{Tells}
+use Rattle.console_io.proofs.Chunked.{front-all, front-behind}
+
+-- a front at least was written
+pub tells-front : {T : Type 0} (told : Result T PrintFault) (a b : Option (List ℕ)) (bytes : List ℕ)
+    → Tells told a b bytes → AppendsFront a b bytes
+tells-front (Ok x) a b bytes tells = front-all a b bytes tells
+tells-front (Err fault) a b bytes tells = tells.1
+
+-- after what is written
+pub tells-behind : {T : Type 0} (told : Result T PrintFault) (a b c : Option (List ℕ)) (bytes more : List ℕ)
+    → Appends a b bytes → OnOk told (Appends b c more) → OnErr told (AppendsFront b c more) → IsOkUnless told Unwritten
+    → Tells told a c (bytes ++ more)
+tells-behind (Ok x) a b c bytes more appends all front fault = Appends-trans a b c bytes more appends all
+tells-behind (Err it) a b c bytes more appends all front fault = (fault, front-behind a b c bytes more appends front)
+
+-- a message is cut
+pub tells-cut : {T : Type 0} (told : Result T PrintFault) (it : PrintFault) (a b : Option (List ℕ)) (bytes : List ℕ)
+    → IsErrAnd told (λ fault. fault ≡ it) → it ≡ Unwritten → AppendsFront a b bytes → Tells told a b bytes
+tells-cut (Ok x) it a b bytes is unwritten front = absurd is
+tells-cut (Err fault) it a b bytes is unwritten front = (is ∙ unwritten, front)

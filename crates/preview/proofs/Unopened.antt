@@ -1,0 +1,43 @@
+-- What is told where no file is opened for a name.
+use Rattle.std.proofs.Common.{ℕ, List, Option, Some, None, IfSome, inl}
+use Rattle.std.proofs.KnownBytes.{Keeps-refl}
+use Rattle.std.specs.Borrow.{Bor}
+use Rattle.std.specs.Prelude.{Result}
+use Rattle.console_io.specs.Inputs.{Files, text_named}
+use Rattle.console_io.specs.Messages.{Tells, input_fault_text}
+use Rattle.console_io.specs.declared.chunks.PrintFault.{PrintFault}
+use Rattle.console_io.specs.declared.input.InputFault.{InputFault}
+use Rattle.console_io.specs.declared.input.InputFault.TheVariants as input
+use Rattle.plan_stream.specs.declared.fault.PlanFault.TheVariants as fault
+use Rattle.script_run.specs.RunFaults.{fault_of_input}
+use Rattle.script_run.proofs.Told.{stops-unread}
+use Rattle.preview.specs.CommandLine.{plan, run}
+use Rattle.preview.specs.Programs.{FailsAt}
+
+-- what holds of each holds of the one that is there
+some-all : {T : Type 0} (known : Option T) {P : T → Type 0} → ((value : T) → P value) → IfSome known P
+some-all None all = tt
+some-all (Some value) all = all value
+
+module _ {T : Type 0} (files : Files) (standard : Option (List ℕ)) (told : Result T PrintFault) (old had has : Option (List ℕ)) where
+  -- of a plan
+  pub plan-unopened : (name : List ℕ) (it : InputFault) → Tells told had has (input_fault_text name it)
+      → FailsAt files standard (plan name) told old old had has
+  plan-unopened name input.Unread tells =
+      (fault.Unread, some-all (text_named files standard name) (λ text. Keeps-refl old), tells)
+  plan-unopened name input.Memory tells =
+      (fault.Memory, some-all (text_named files standard name) (λ text. inl (Keeps-refl old)), tells)
+
+  -- of a run
+  pub run-unopened : (name : Bor (List ℕ)) (room : ℕ) (it : InputFault) → Tells told had has (input_fault_text name.now it)
+      → FailsAt files standard (run name.now room) told old old had has
+  run-unopened name room input.Unread tells = (
+    fault_of_input name input.Unread,
+    some-all (text_named files standard name.now) (λ text. stops-unread files name text room input.Unread old),
+    tells,
+  )
+  run-unopened name room input.Memory tells = (
+    fault_of_input name input.Memory,
+    some-all (text_named files standard name.now) (λ text. stops-unread files name text room input.Memory old),
+    tells,
+  )

@@ -1,0 +1,57 @@
+-- What the program does with the words of a command line, on files and a standard input (docs/OUTPUT.md).
+use Rattle.std.specs.Prelude.{◌≡◌, ◌⊎◌, ℕ, List, [], Option, Some, IfSome, Result}
+use Rattle.std.specs.Io.KnownBytes.{Appends, Keeps}
+use Rattle.clap.specs.Words.{Text}
+use Rattle.console_io.specs.Chunks.{AppendsFront}
+use Rattle.console_io.specs.Inputs.{Files, text_named}
+use Rattle.console_io.specs.Messages.{Tells, out_of_memory}
+use Rattle.console_io.specs.declared.chunks.PrintFault.{PrintFault}
+use Rattle.plan_stream.specs.Faults.{plan_fault_text}
+use Rattle.plan_stream.specs.Plans.{EndsBy, WritesPlan}
+use Rattle.plan_stream.specs.declared.fault.PlanFault.{PlanFault}
+use Rattle.script_run.specs.Messages.{run_fault_text}
+use Rattle.script_run.specs.Running.{WritesScript}
+use Rattle.script_run.specs.Stops.{StopsBy}
+use Rattle.script_run.specs.declared.run_fault.RunFault.{RunFault}
+use Rattle.preview.specs.CommandLine.{HasOne, IsRequest, Wanted, faults_of, plan, run, wanted_in}
+
+-- what is asked for was done, of what its name stands for
+abbrev pub IsDone : Files → Option (List ℕ) → Wanted → Option (List ℕ) → Option (List ℕ) → Type 0
+IsDone files standard (plan name) old new =
+    IfSome (text_named files standard name) (λ text. WritesPlan text old new)
+IsDone files standard (run name room) old new =
+    IfSome (text_named files standard name) (λ text. WritesScript files text room old new)
+
+-- it ended by a fault, which was told
+abbrev pub FailsAt : {T : Type 0} → Files → Option (List ℕ) → Wanted → Result T PrintFault → Option (List ℕ) → Option (List ℕ) → Option (List ℕ) → Option (List ℕ) → Type 0
+FailsAt files standard (plan name) told old new had has =
+    (fault : PlanFault) × IfSome (text_named files standard name) (λ text. EndsBy text fault old new)
+    × Tells told had has (plan_fault_text name fault)
+FailsAt files standard (run name room) told old new had has =
+    (fault : RunFault) × IfSome (text_named files standard name) (λ text. StopsBy files name text room fault old new)
+    × Tells told had has (run_fault_text fault)
+
+-- memory was wanted for the words or for an answer to them: that was told, and nothing printed
+abbrev pub WantsMemory : {T : Type 0} → Result T PrintFault → Option (List ℕ) → Option (List ℕ) → Option (List ℕ) → Option (List ℕ) → Type 0
+WantsMemory told old new had has = Keeps old new × Tells told had has out_of_memory
+
+-- a text wasn't printed whole, and nothing was told
+abbrev pub WritesPart : Option (List ℕ) → Option (List ℕ) → Option (List ℕ) → Option (List ℕ) → Type 0
+WritesPart old new had has = ((text : List ℕ) × AppendsFront old new text) × Keeps had has
+
+-- the words ask for this, and have no fault
+abbrev pub AskFor : List Text → Wanted → Type 0
+AskFor words wanted = (wanted_in words ≡ Some wanted) × (faults_of words ≡ [])
+
+-- what the words ask for was done, or they ask for help or the version, and a text was printed
+abbrev pub Succeeds : Files → Option (List ℕ) → List Text → Option (List ℕ) → Option (List ℕ) → Type 0
+Succeeds files standard words old new =
+    ((wanted : Wanted) × AskFor words wanted × IsDone files standard wanted old new)
+    ⊎ (HasOne IsRequest (faults_of words) × ((text : List ℕ) × Appends old new text))
+
+-- what the words ask for failed, or memory was wanted, or help or the version wasn't printed whole
+abbrev pub Fails : {T : Type 0} → Files → Option (List ℕ) → List Text → Result T PrintFault → Option (List ℕ) → Option (List ℕ) → Option (List ℕ) → Option (List ℕ) → Type 0
+Fails files standard words told old new had has =
+    ((wanted : Wanted) × AskFor words wanted × FailsAt files standard wanted told old new had has)
+    ⊎ WantsMemory told old new had has
+    ⊎ (HasOne IsRequest (faults_of words) × WritesPart old new had has)

@@ -19,6 +19,3 @@ pub use emulation_prevention::{payload, payload_front};
 pub use fault::SplitFault;
 pub use laws::{one_cut, one_payload, one_reading, units_of_joined};
 pub use nal_unit::Nal;
-
-#[cfg(test)]
-mod tests;

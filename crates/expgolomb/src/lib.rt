@@ -10,6 +10,3 @@ mod word;
 
 pub use bits::Bits;
 pub use fault::CodeFault;
-
-#[cfg(test)]
-mod tests;

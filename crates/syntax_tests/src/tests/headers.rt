@@ -2,6 +2,7 @@ mod fields;
 mod tables;
 mod writer;
 
+use super::row_holds;
 use annexb::{Nal, split};
 use base_types::AtMost;
 use header_types::{
@@ -15,17 +16,15 @@ use std::alloc::Global;
 use std::process::Abort;
 use std::test::Fail;
 
+/// A front, and a slice type.
+type Front = (Result<HeaderFront, HeaderFault>, Option<SliceType>);
+
 /// The front of each unit of a text, and its type.
-fn fronts_are(
-    rt: &(impl Abort + AllocGlobal),
-    text: &[u8],
-    fronts: &[(Result<HeaderFront, HeaderFault>, Option<SliceType>)],
-) -> Result<(), Fail> {
+fn fronts_are(rt: &(impl Abort + AllocGlobal), text: &[u8], fronts: &[Front]) -> Result<(), Fail> {
     let nals = split(rt.alloc(), text)?;
-    assert_eq!(rt; nals.len(), fronts.len());
-    for (nal, (front, found)) in nals.iter().zip(fronts) {
-        assert_eq!(rt; peek(nal), *front, "in {:?}", nal.bytes());
-        assert_eq!(rt; slice_type(nal), *found, "in {:?}", nal.bytes());
+    assert!(rt; nals.len() == fronts.len());
+    for (row, (nal, front)) in nals.iter().zip(fronts).enumerate() {
+        row_holds(rt, row, (peek(nal), slice_type(nal)) == *front);
     }
     Ok(())
 }
@@ -136,7 +135,9 @@ fn small_pps(alloc: Global) -> Pps {
 }
 
 /// What is compared of a header: its type, frame_num and three sizes in bits.
-fn summary(header: &SliceHeader) -> (SliceType, u16, u32, u32, u32) {
+type Summary = (SliceType, u16, u32, u32, u32);
+
+fn summary(header: &SliceHeader) -> Summary {
     (
         header.slice_type,
         header.frame_num,
@@ -146,22 +147,26 @@ fn summary(header: &SliceHeader) -> (SliceType, u16, u32, u32, u32) {
     )
 }
 
+/// What is compared of the header of a unit.
+fn summary_of(alloc: Global, nal: &Nal<'_>, sps: &Sps, pps: &Pps) -> Result<Summary, HeaderFault> {
+    match read(alloc, nal, sps, pps) {
+        Ok(header) => Ok(summary(&header)),
+        Err(fault) => Err(fault),
+    }
+}
+
 /// The headers of the units of a text with these parameter sets.
 fn headers_are(
     rt: &(impl Abort + AllocGlobal),
     sps: &Sps,
     pps: &Pps,
     text: &[u8],
-    headers: &[Result<(SliceType, u16, u32, u32, u32), HeaderFault>],
+    headers: &[Result<Summary, HeaderFault>],
 ) -> Result<(), Fail> {
     let nals = split(rt.alloc(), text)?;
-    assert_eq!(rt; nals.len(), headers.len());
-    for (nal, header) in nals.iter().zip(headers) {
-        let found = match read(rt.alloc(), nal, sps, pps) {
-            Ok(found) => Ok(summary(&found)),
-            Err(fault) => Err(fault),
-        };
-        assert_eq!(rt; found, *header, "in {:?}", nal.bytes());
+    assert!(rt; nals.len() == headers.len());
+    for (row, (nal, header)) in nals.iter().zip(headers).enumerate() {
+        row_holds(rt, row, summary_of(rt.alloc(), nal, sps, pps) == *header);
     }
     Ok(())
 }
@@ -250,11 +255,11 @@ fn weights(rt: HostRuntime) -> Result<(), Fail> {
     let (sps, mut pps) = (small_sps(rt.alloc()), small_pps(rt.alloc()));
     pps.weighted_pred_flag = true;
     let header = header_of(&rt, &sps, &pps, &[0, 0, 1, 0x41, 0x9A, 0x26, 0x30])?;
-    assert_eq!(rt; summary(&header), (SliceType::P, 1, 27, 1, 0));
+    assert!(rt; summary(&header) == (SliceType::P, 1, 27, 1, 0));
     let Some(table) = &header.pred_weight_table else {
         panic!(&rt; "no table");
     };
-    assert_eq!(rt; table.luma_log2_weight_denom, 0);
+    assert!(rt; table.luma_log2_weight_denom == 0);
     assert!(rt; table.weights_l1.as_slice().is_empty());
     let one = PredWeight {
         luma_weight: 1,
@@ -264,7 +269,7 @@ fn weights(rt: HostRuntime) -> Result<(), Fail> {
         cr_weight: 1,
         cr_offset: 0,
     };
-    assert_eq!(rt; table.weights_l0.as_slice(), [one].as_slice());
+    assert!(rt; table.weights_l0.as_slice() == [one].as_slice());
     Ok(())
 }
 
@@ -275,8 +280,8 @@ fn commands_and_operations(rt: HostRuntime) -> Result<(), Fail> {
     // 010 1, 00111 010 and the end 1, and 1: a slice_qp_delta of 0.
     let text = [0, 0, 1, 0x41, 0x9A, 0x35, 0xB7, 0x24, 0x8A, 0xA7, 0x58];
     let header = header_of(&rt, &sps, &pps, &text)?;
-    assert_eq!(rt; summary(&header), (SliceType::P, 1, 61, 23, 0));
-    assert_eq!(rt; header.num_ref_idx_l0_active_minus1.get(), 1);
+    assert!(rt; summary(&header) == (SliceType::P, 1, 61, 23, 0));
+    assert!(rt; header.num_ref_idx_l0_active_minus1.get() == 1);
     let commands = [
         RefPicListModification::Subtract {
             abs_diff_pic_num_minus1: 2,
@@ -285,10 +290,7 @@ fn commands_and_operations(rt: HostRuntime) -> Result<(), Fail> {
             long_term_pic_num: 0,
         },
     ];
-    assert_eq!(rt;
-        header.ref_pic_list_modification_l0.as_slice(),
-        commands.as_slice()
-    );
+    assert!(rt; header.ref_pic_list_modification_l0.as_slice() == commands.as_slice());
     let DecRefPicMarking::Adaptive { operations } = &header.dec_ref_pic_marking else {
         panic!(&rt; "no operations");
     };
@@ -304,7 +306,7 @@ fn commands_and_operations(rt: HostRuntime) -> Result<(), Fail> {
             long_term_frame_idx: 1,
         },
     ];
-    assert_eq!(rt; operations.as_slice(), wanted.as_slice());
+    assert!(rt; operations.as_slice() == wanted.as_slice());
     Ok(())
 }
 
@@ -330,6 +332,17 @@ fn commands_that_cannot_be_read(rt: HostRuntime) -> Result<(), Fail> {
     )
 }
 
+/// The header of the first unit, or want of memory.
+fn is_long_header(alloc: Global, nals: &[Nal<'_>], sps: &Sps, pps: &Pps) -> bool {
+    match nals.first() {
+        Some(nal) => match summary_of(alloc, nal, sps, pps) {
+            Ok(summary) => summary == (SliceType::P, 1, 538, 514, 0),
+            Err(fault) => fault == HeaderFault::Memory,
+        },
+        None => false,
+    }
+}
+
 #[test]
 fn refused_growth_is_memory(rt: HostRuntime) {
     let (sps, pps) = (small_sps(rt.alloc()), small_pps(rt.alloc()));
@@ -341,11 +354,6 @@ fn refused_growth_is_memory(rt: HostRuntime) {
     }
     text[70] = 0xC0;
     if let Ok(nals) = split(rt.alloc(), &text) {
-        for nal in &nals {
-            match read(rt.alloc(), nal, &sps, &pps) {
-                Ok(header) => assert_eq!(&rt; summary(&header), (SliceType::P, 1, 538, 514, 0)),
-                Err(fault) => assert_eq!(&rt; fault, HeaderFault::Memory),
-            }
-        }
+        assert!(rt; is_long_header(rt.alloc(), &nals, &sps, &pps));
     }
 }

@@ -2,7 +2,7 @@
 
 use super::tables::{B, Header, IDR, LONG, P, SWITCHING};
 use super::writer::{Code, Writer};
-use super::{small_pps, small_sps};
+use super::{row_holds, small_pps, small_sps};
 use annexb::split;
 use base_types::AtMost;
 use set_types::{Pps, Sps, WeightedBipred};
@@ -58,13 +58,13 @@ fn header_bit_size(
     text: &[u8],
     sps: &Sps,
     pps: &Pps,
-) -> Result<Result<u32, HeaderFault>, Fail> {
+) -> Result<Result<usize, HeaderFault>, Fail> {
     let nals = split(rt.alloc(), text)?;
     let [nal] = nals.as_slice() else {
         panic!(rt; "more units than one");
     };
     match read(rt.alloc(), nal, sps, pps) {
-        Ok(header) => Ok(Ok(header.header_bit_size)),
+        Ok(header) => Ok(Ok(header.header_bit_size as usize)),
         Err(fault) => Ok(Err(fault)),
     }
 }
@@ -80,21 +80,14 @@ fn is_read(
     let (sps, pps) = sets(rt.alloc(), header, width);
     let (writer, start, end) = written(rt.alloc(), &sps, header, at, code)?;
     let text = writer.text(rt.alloc(), header.first, writer.count())?;
-    let size = writer.count().saturating_add(8) as u64;
-    match header_bit_size(rt, &text, &sps, &pps)? {
-        Ok(found) => assert_eq!(rt; u64::from(found), size, "{code:?} at {at} in {text:?}"),
-        Err(fault) => panic!(rt; "{fault} for {code:?} at {at} in {text:?}"),
-    }
+    let size = writer.count().saturating_add(8);
+    row_holds(rt, at, header_bit_size(rt, &text, &sps, &pps)? == Ok(size));
     let mut cuts = 0usize;
     for count in start..end {
         let text = writer.text(rt.alloc(), header.first, count)?;
         if count % 8 == 0 && text.last() != Some(&0) {
             let found = header_bit_size(rt, &text, &sps, &pps)?;
-            assert_eq!(rt;
-                found,
-                Err(HeaderFault::Cut),
-                "{code:?} at {at} in {text:?}"
-            );
+            row_holds(rt, at, found == Err(HeaderFault::Cut));
             cuts = cuts.saturating_add(1);
         }
     }
@@ -113,11 +106,7 @@ fn is_refused(
     let (writer, _, _) = written(rt.alloc(), &sps, header, at, code)?;
     let text = writer.text(rt.alloc(), header.first, writer.count())?;
     let found = header_bit_size(rt, &text, &sps, &pps)?;
-    assert_eq!(rt;
-        found,
-        Err(HeaderFault::Value),
-        "{code:?} at {at} in {text:?}"
-    );
+    row_holds(rt, at, found == Err(HeaderFault::Value));
     Ok(())
 }
 
@@ -138,7 +127,8 @@ fn has_field(
             is_refused(rt, header, at, *code, width)?;
         }
     }
-    assert!(rt; cuts > 0 || at == 0, "the code at {at} is never cut");
+    // The code is cut somewhere.
+    row_holds(rt, at, cuts > 0 || at == 0);
     Ok(())
 }
 

@@ -4,12 +4,12 @@ use super::*;
 fn reads_a_plain_picture_set(rt: HostRuntime) {
     // 1 1 0 0 1 1 1 0 00 1 1 1 0 0 0, and the stop bit.
     let pps = pps_of(&rt, &[0x68, 0xCE, 0x38, 0x80]);
-    assert_eq!(rt; pps.pic_parameter_set_id, 0);
-    assert_eq!(rt; pps.seq_parameter_set_id.get(), 0);
+    assert!(rt; pps.pic_parameter_set_id == 0);
+    assert!(rt; pps.seq_parameter_set_id.get() == 0);
     assert!(rt; !pps.entropy_coding_mode_flag);
     assert!(rt; !pps.weighted_pred_flag);
-    assert_eq!(rt; pps.weighted_bipred_idc, WeightedBipred::Default);
-    assert_eq!(rt; pps.second_chroma_qp_index_offset, 0);
+    assert!(rt; pps.weighted_bipred_idc == WeightedBipred::Default);
+    assert!(rt; pps.second_chroma_qp_index_offset == 0);
     assert!(rt; pps_of(&rt, &[0x68, 0xCF, 0x38, 0x80]).weighted_pred_flag);
 }
 
@@ -22,27 +22,27 @@ fn reads_the_ends_of_a_picture_set(rt: HostRuntime) {
             0x68, 0x00, 0x80, 0x02, 0x0E, 0x08, 0x01, 0x06, 0x03, 0xE8, 0x35, 0x0C, 0xF8, 0x31,
         ],
     );
-    assert_eq!(rt; pps.pic_parameter_set_id, 255);
-    assert_eq!(rt; pps.seq_parameter_set_id.get(), 31);
+    assert!(rt; pps.pic_parameter_set_id == 255);
+    assert!(rt; pps.seq_parameter_set_id.get() == 31);
     assert!(rt; pps.entropy_coding_mode_flag);
     assert!(rt; pps.bottom_field_pic_order_in_frame_present_flag);
-    assert_eq!(rt; pps.num_ref_idx_l0_default_active_minus1.get(), 31);
-    assert_eq!(rt; pps.num_ref_idx_l1_default_active_minus1.get(), 31);
-    assert_eq!(rt; pps.weighted_bipred_idc, WeightedBipred::Implicit);
-    assert_eq!(rt; pps.pic_init_qp_minus26, -62);
-    assert_eq!(rt; pps.pic_init_qs_minus26, -26);
-    assert_eq!(rt; pps.chroma_qp_index_offset, -12);
+    assert!(rt; pps.num_ref_idx_l0_default_active_minus1.get() == 31);
+    assert!(rt; pps.num_ref_idx_l1_default_active_minus1.get() == 31);
+    assert!(rt; pps.weighted_bipred_idc == WeightedBipred::Implicit);
+    assert!(rt; pps.pic_init_qp_minus26 == -62);
+    assert!(rt; pps.pic_init_qs_minus26 == -26);
+    assert!(rt; pps.chroma_qp_index_offset == -12);
     assert!(rt; pps.deblocking_filter_control_present_flag);
     assert!(rt; pps.constrained_intra_pred_flag);
     assert!(rt; pps.redundant_pic_cnt_present_flag);
     assert!(rt; pps.transform_8x8_mode_flag);
-    assert_eq!(rt; pps.second_chroma_qp_index_offset, 12);
+    assert!(rt; pps.second_chroma_qp_index_offset == 12);
     // The greatest offsets, the second one inferred.
     let pps = pps_of(&rt, &[0x68, 0xCE, 0x41, 0x90, 0x32, 0x0C, 0x08]);
-    assert_eq!(rt; pps.weighted_bipred_idc, WeightedBipred::Explicit);
-    assert_eq!(rt; pps.pic_init_qp_minus26, 25);
-    assert_eq!(rt; pps.pic_init_qs_minus26, 25);
-    assert_eq!(rt; pps.second_chroma_qp_index_offset, 12);
+    assert!(rt; pps.weighted_bipred_idc == WeightedBipred::Explicit);
+    assert!(rt; pps.pic_init_qp_minus26 == 25);
+    assert!(rt; pps.pic_init_qs_minus26 == 25);
+    assert!(rt; pps.second_chroma_qp_index_offset == 12);
 }
 
 #[test]
@@ -129,11 +129,8 @@ fn names_the_first_fault_of_a_pps(rt: HostRuntime) {
         ),
         (&[0x68, 0xCE, 0x38, 0x60], Cut),
     ];
-    for (payload, fault) in faults {
-        match read_pps(rt.alloc(), payload) {
-            Ok(_) => panic!(rt; "no {fault} in {payload:?}"),
-            Err(shown) => assert_eq!(rt; shown, fault, "in {payload:?}"),
-        }
+    for (row, (payload, fault)) in faults.into_iter().enumerate() {
+        row_holds(&rt, row, pps_fault(rt.alloc(), payload) == Some(fault));
     }
 }
 

@@ -4,17 +4,14 @@ use super::*;
 /// The list has these deltas.
 fn has_deltas(rt: &impl Abort, lists: &ScalingLists, j: usize, deltas: &[i8]) {
     match lists.as_slice().get(j) {
-        Some(Some(list)) => assert_eq!(rt; list.deltas(), deltas, "list {j}"),
-        _ => panic!(rt; "no list {j}"),
+        Some(Some(list)) => row_holds(rt, j, list.deltas() == deltas),
+        _ => row_holds(rt, j, false),
     }
 }
 
 /// The list is not sent.
 fn is_absent(rt: &impl Abort, lists: &ScalingLists, j: usize) {
-    match lists.as_slice().get(j) {
-        Some(None) => {}
-        _ => panic!(rt; "list {j}"),
-    }
+    row_holds(rt, j, matches!(lists.as_slice().get(j), Some(None)));
 }
 
 #[test]
@@ -24,17 +21,17 @@ fn refused_scaling_lists(rt: HostRuntime) {
         0x67, 0x64, 0x00, 0x0A, 0xAD, 0x84, 0x49, 0x02, 0xA1, 0x69, 0xE4,
     ];
     match read_sps(rt.alloc(), &payload) {
-        Err(fault) => assert_eq!(rt; fault, SetFault::Memory),
+        Err(fault) => assert!(rt; fault == SetFault::Memory),
         Ok(sps) => {
             assert!(rt; sps.seq_scaling_matrix_present_flag);
-            assert_eq!(rt; sps.scaling_lists.as_slice().len(), 8);
+            assert!(rt; sps.scaling_lists.as_slice().len() == 8);
             has_deltas(&rt, &sps.scaling_lists, 0, &[-8]);
             has_deltas(&rt, &sps.scaling_lists, 3, &[2, -10]);
             for j in [1, 2, 4, 5, 6, 7] {
                 is_absent(&rt, &sps.scaling_lists, j);
             }
-            assert_eq!(rt; sps.pic_order_cnt_type, PicOrderCntType::Two);
-            assert_eq!(rt; sps.max_num_ref_frames.get(), 1);
+            assert!(rt; sps.pic_order_cnt_type == PicOrderCntType::Two);
+            assert!(rt; sps.max_num_ref_frames.get() == 1);
         }
     }
 }
@@ -44,10 +41,10 @@ fn reads_the_lists_of_a_picture_set(rt: HostRuntime) {
     // Without 8x8 transforms six lists, the last by delta -8, and a second offset of 3.
     let pps = pps_of(&rt, &[0x68, 0xCE, 0x38, 0x41, 0x08, 0x9A]);
     assert!(rt; !pps.transform_8x8_mode_flag);
-    assert_eq!(rt; pps.scaling_lists.as_slice().len(), 6);
+    assert!(rt; pps.scaling_lists.as_slice().len() == 6);
     is_absent(&rt, &pps.scaling_lists, 4);
     has_deltas(&rt, &pps.scaling_lists, 5, &[-8]);
-    assert_eq!(rt; pps.second_chroma_qp_index_offset, 3);
+    assert!(rt; pps.second_chroma_qp_index_offset == 3);
     // With them eight, of which list 6 has 64 deltas of 1, and a second offset of -2.
     let mut payload = [0x49; 29];
     payload[..4].copy_from_slice(&[0x68, 0xCE, 0x38, 0xC0]);
@@ -62,11 +59,11 @@ fn reads_the_lists_of_a_picture_set(rt: HostRuntime) {
     payload[28] = 0x0B;
     let pps = pps_of(&rt, &payload);
     assert!(rt; pps.transform_8x8_mode_flag);
-    assert_eq!(rt; pps.scaling_lists.as_slice().len(), 8);
+    assert!(rt; pps.scaling_lists.as_slice().len() == 8);
     is_absent(&rt, &pps.scaling_lists, 5);
     has_deltas(&rt, &pps.scaling_lists, 6, &[1; 64]);
     is_absent(&rt, &pps.scaling_lists, 7);
-    assert_eq!(rt; pps.second_chroma_qp_index_offset, -2);
+    assert!(rt; pps.second_chroma_qp_index_offset == -2);
 }
 
 /// The plain sets, without lists.
@@ -145,10 +142,10 @@ fn resolves_lists_by_their_sets(rt: HostRuntime) {
             [INTRA_8X8, INTER_8X8],
         ),
     ];
-    for (sps, pps, lists_4x4, lists_8x8) in rows {
+    for (row, (sps, pps, lists_4x4, lists_8x8)) in rows.into_iter().enumerate() {
         let matrix = resolve_matrix(&sps_of(&rt, sps), &pps_of(&rt, pps));
-        assert_eq!(rt; matrix.lists_4x4, lists_4x4, "{sps:?} {pps:?}");
-        assert_eq!(rt; matrix.lists_8x8, lists_8x8, "{sps:?} {pps:?}");
+        let holds = matrix.lists_4x4 == lists_4x4 && matrix.lists_8x8 == lists_8x8;
+        row_holds(&rt, row, holds);
     }
 }
 
@@ -198,6 +195,6 @@ fn puts_entries_in_raster_order(rt: HostRuntime) {
     let lists_4x4 = [
         rising_4x4, rising_4x4, rising_4x4, INTER_4X4, INTER_4X4, INTER_4X4,
     ];
-    assert_eq!(rt; matrix.lists_4x4, lists_4x4);
-    assert_eq!(rt; matrix.lists_8x8, [rising_8x8, INTER_8X8]);
+    assert!(rt; matrix.lists_4x4 == lists_4x4);
+    assert!(rt; matrix.lists_8x8 == [rising_8x8, INTER_8X8]);
 }

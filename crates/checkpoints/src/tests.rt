@@ -55,12 +55,12 @@ fn shorten(states: &mut Checkpoints<u32>, low: usize, high: usize, by: usize)
 #[test]
 fn place_zero_is_there_from_the_start(rt: HostRuntime) -> Result<(), Fail> {
     let states = Checkpoints::new(rt.alloc(), 7u8)?;
-    assert_eq!(rt; states.len(), 1);
-    assert_eq!(rt; states.room(), 0);
-    assert_eq!(rt; states.before(usize::MAX).place, 0);
-    assert_eq!(rt; *states.before(0).state, 7);
-    assert_eq!(rt; states.last().place, 0);
-    assert_eq!(rt; states.get(0).copied(), Some(7));
+    assert!(rt; states.len() == 1);
+    assert!(rt; states.room() == 0);
+    assert!(rt; states.before(usize::MAX).place == 0);
+    assert!(rt; *states.before(0).state == 7);
+    assert!(rt; states.last().place == 0);
+    assert!(rt; states.get(0).copied() == Some(7));
     assert!(rt; states.after(0).is_none());
     Ok(())
 }
@@ -77,9 +77,9 @@ fn looks_before_and_after(rt: HostRuntime) -> Result<(), Fail> {
         (96, 96),
         (usize::MAX, 96),
     ] {
-        assert_eq!(rt; states.before(place).place, before);
+        assert!(rt; states.before(place).place == before);
     }
-    assert_eq!(rt; *states.before(95).state, 1064);
+    assert!(rt; *states.before(95).state == 1064);
     for (place, after) in [
         (0, Some(32)),
         (31, Some(32)),
@@ -87,12 +87,12 @@ fn looks_before_and_after(rt: HostRuntime) -> Result<(), Fail> {
         (95, Some(96)),
         (96, None),
     ] {
-        assert_eq!(rt; states.after(place).map(|next| next.place), after);
+        assert!(rt; states.after(place).map(|next| next.place) == after);
     }
-    assert_eq!(rt; states.after(40).map(|next| *next.state), Some(1064));
-    assert_eq!(rt; states.get(64).copied(), Some(1064));
-    assert_eq!(rt; states.get(63).copied(), None);
-    assert_eq!(rt; states.last().place, 96);
+    assert!(rt; states.after(40).map(|next| *next.state) == Some(1064));
+    assert!(rt; states.get(64).copied() == Some(1064));
+    assert!(rt; states.get(63).copied() == None);
+    assert!(rt; states.last().place == 96);
     Ok(())
 }
 
@@ -102,9 +102,9 @@ fn puts_in_order_and_in_place(rt: HostRuntime) -> Result<(), Fail> {
     put(&mut states, 64, 7)?;
     put(&mut states, 0, 8)?;
     put(&mut states, 65, 9)?;
-    assert_eq!(rt;
-        listed(rt.alloc(), &states)?.as_slice(),
-        [(0, 8), (32, 1032), (64, 7), (65, 9), (96, 1096)].as_slice()
+    assert!(rt;
+        listed(rt.alloc(), &states)?.as_slice()
+            == [(0, 8), (32, 1032), (64, 7), (65, 9), (96, 1096)].as_slice()
     );
     Ok(())
 }
@@ -114,16 +114,15 @@ fn room_is_for_new_places(rt: HostRuntime) -> Result<(), Fail> {
     let mut states = Checkpoints::new(rt.alloc(), 1000)?;
     states.reserve(3)?;
     states.reserve(2)?;
-    assert_eq!(rt; states.room(), 3);
+    assert!(rt; states.room() == 3);
     for place in [10, 10, 20, 0, 30, 40] {
         if states.room() > 0 {
             states.put(place, 1);
         }
     }
-    assert_eq!(rt; states.room(), 0);
-    assert_eq!(rt;
-        listed(rt.alloc(), &states)?.as_slice(),
-        [(0, 1), (10, 1), (20, 1), (30, 1)].as_slice()
+    assert!(rt; states.room() == 0);
+    assert!(rt;
+        listed(rt.alloc(), &states)?.as_slice() == [(0, 1), (10, 1), (20, 1), (30, 1)].as_slice()
     );
     Ok(())
 }
@@ -135,9 +134,9 @@ fn moves_up(rt: HostRuntime) -> Result<(), Fail> {
     lengthen(&mut states, 32, 1);
     lengthen(&mut states, 1000, 1);
     lengthen(&mut states, 102, 3);
-    assert_eq!(rt;
-        listed(rt.alloc(), &states)?.as_slice(),
-        [(0, 1000), (33, 1032), (70, 1064), (105, 1096)].as_slice()
+    assert!(rt;
+        listed(rt.alloc(), &states)?.as_slice()
+            == [(0, 1000), (33, 1032), (70, 1064), (105, 1096)].as_slice()
     );
     Ok(())
 }
@@ -147,16 +146,12 @@ fn moves_down_after_a_cut(rt: HostRuntime) -> Result<(), Fail> {
     let mut states = four_states(rt.alloc())?;
     // A stretch of 40 units past the first 20 becomes one of 9.
     shorten(&mut states, 20, 60, 31);
-    assert_eq!(rt;
-        listed(rt.alloc(), &states)?.as_slice(),
-        [(0, 1000), (33, 1064), (65, 1096)].as_slice()
+    assert!(rt;
+        listed(rt.alloc(), &states)?.as_slice() == [(0, 1000), (33, 1064), (65, 1096)].as_slice()
     );
     // All but one of the units before place 65 are gone.
     shorten(&mut states, 0, 65, 64);
-    assert_eq!(rt;
-        listed(rt.alloc(), &states)?.as_slice(),
-        [(0, 1000), (1, 1096)].as_slice()
-    );
+    assert!(rt; listed(rt.alloc(), &states)?.as_slice() == [(0, 1000), (1, 1096)].as_slice());
     Ok(())
 }
 
@@ -166,23 +161,19 @@ fn cuts_between_places(rt: HostRuntime) -> Result<(), Fail> {
     states.cut(32, 33);
     states.cut(64, 32);
     states.cut(96, usize::MAX);
-    assert_eq!(rt; states.len(), 4);
+    assert!(rt; states.len() == 4);
     states.cut(32, 96);
-    assert_eq!(rt;
-        listed(rt.alloc(), &states)?.as_slice(),
-        [(0, 1000), (32, 1032), (96, 1096)].as_slice()
+    assert!(rt;
+        listed(rt.alloc(), &states)?.as_slice() == [(0, 1000), (32, 1032), (96, 1096)].as_slice()
     );
     states.cut(0, usize::MAX);
-    assert_eq!(rt;
-        listed(rt.alloc(), &states)?.as_slice(),
-        [(0, 1000)].as_slice()
-    );
+    assert!(rt; listed(rt.alloc(), &states)?.as_slice() == [(0, 1000)].as_slice());
     Ok(())
 }
 
 #[test]
 fn a_change_between_ends(rt: HostRuntime) {
-    assert_eq!(rt; LengthChange::between(5, 9), LengthChange::Longer(4));
-    assert_eq!(rt; LengthChange::between(5, 5), LengthChange::Longer(0));
-    assert_eq!(rt; LengthChange::between(9, 5), LengthChange::Shorter(4));
+    assert!(rt; LengthChange::between(5, 9) == LengthChange::Longer(4));
+    assert!(rt; LengthChange::between(5, 5) == LengthChange::Longer(0));
+    assert!(rt; LengthChange::between(9, 5) == LengthChange::Shorter(4));
 }

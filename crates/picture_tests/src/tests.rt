@@ -2,3 +2,10 @@ mod controls;
 mod counts;
 mod lists;
 mod marking;
+
+use std::process::Abort;
+
+/// Asserts what a row of a table says.
+fn row_holds(rt: &impl Abort, row: usize, holds: bool) {
+    assert!(rt; holds, "row {row}");
+}

@@ -6,8 +6,8 @@ fn refused_growth_leaves_the_states(rt: HostRuntime) {
         return;
     };
     if states.reserve(2).is_err() {
-        assert_eq!(rt; states.room(), 0);
-        assert_eq!(rt; states.len(), 1);
+        assert!(rt; states.room() == 0);
+        assert!(rt; states.len() == 1);
         return;
     }
     for place in [64, 32] {
@@ -15,12 +15,12 @@ fn refused_growth_leaves_the_states(rt: HostRuntime) {
             states.put(place, 1);
         }
     }
-    assert_eq!(rt; states.len(), 3);
+    assert!(rt; states.len() == 3);
     let grew = states.reserve(100).is_ok();
-    assert_eq!(rt; states.room(), if grew { 100 } else { 0 });
-    assert_eq!(rt; states.len(), 3);
-    assert_eq!(rt; states.before(63).place, 32);
+    assert!(rt; states.room() == (if grew { 100 } else { 0 }));
+    assert!(rt; states.len() == 3);
+    assert!(rt; states.before(63).place == 32);
     states.cut(0, 64);
-    assert_eq!(rt; states.get(64).copied(), Some(1));
-    assert_eq!(rt; states.len(), 2);
+    assert!(rt; states.get(64).copied() == Some(1));
+    assert!(rt; states.len() == 2);
 }

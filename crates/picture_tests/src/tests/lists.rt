@@ -2,6 +2,7 @@
 
 mod rows;
 
+use super::row_holds;
 use base_types::AtMost;
 use header_types::{
     DecRefPicMarking, MemoryManagementControlOperation, MemoryManagementControlOperations,
@@ -131,29 +132,48 @@ fn marking(alloc: Global, index: Option<u32>) -> Result<DecRefPicMarking, AllocE
     Ok(DecRefPicMarking::Adaptive { operations })
 }
 
-/// The marks after one picture more.
-fn marked_behind(
-    alloc: Global,
-    sps: &Sps,
-    marks: &Marks,
-    picture: &Picture,
-) -> Result<Marks, Fail> {
+/// The header of a picture to be marked.
+fn picture_header(alloc: Global, picture: &Picture) -> Result<SliceHeader, AllocError> {
     let marking = marking(alloc, picture.2)?;
     let none_0 = RefPicListModifications::new(alloc);
     let none_1 = RefPicListModifications::new(alloc);
-    let header = header((picture.0, picture.1), none_0, none_1, marking);
-    let counts = count(&Anchor::new(), sps, &header)?;
-    let marks = mark(marks, AuId::new(1), sps, &header, counts)?;
-    Ok(marks)
+    Ok(header((picture.0, picture.1), none_0, none_1, marking))
+}
+
+/// The marks after a picture with this header.
+fn marked_by(sps: &Sps, marks: &Marks, header: &SliceHeader) -> Result<Marks, Fail> {
+    let counts = count(&Anchor::new(), sps, header)?;
+    Ok(mark(marks, AuId::new(1), sps, header, counts)?)
+}
+
+/// The marks after one picture more.
+fn marked_after(alloc: Global, sps: &Sps, marks: &Marks, picture: &Picture) -> Result<Marks, Fail> {
+    let header = picture_header(alloc, picture)?;
+    marked_by(sps, marks, &header)
 }
 
 /// The marks after these pictures.
 fn marked(alloc: Global, sps: &Sps, pictures: &[Picture]) -> Result<Marks, Fail> {
     let mut marks = Marks::new();
     for picture in pictures {
-        marks = marked_behind(alloc, sps, &marks, picture)?;
+        marks = marked_after(alloc, sps, &marks, picture)?;
     }
     Ok(marks)
+}
+
+/// The lists of a slice.
+fn lists_of(
+    alloc: Global,
+    sps: &Sps,
+    marks: &Marks,
+    slice: &Slice<'_>,
+) -> Result<Result<(List, List), ListFault>, AllocError> {
+    let header = header_of(alloc, slice)?;
+    let counts = Counts {
+        top: slice.pic_order_cnt,
+        bottom: slice.pic_order_cnt,
+    };
+    Ok(lists(marks, sps, &header, counts))
 }
 
 /// The lists of a slice after the pictures.
@@ -164,12 +184,19 @@ fn construct(
 ) -> Result<Result<(List, List), ListFault>, Fail> {
     let sps = read_sps(alloc, &SET)?;
     let marks = marked(alloc, &sps, pictures)?;
-    let header = header_of(alloc, slice)?;
-    let counts = Counts {
-        top: slice.pic_order_cnt,
-        bottom: slice.pic_order_cnt,
-    };
-    Ok(lists(&marks, &sps, &header, counts))
+    Ok(lists_of(alloc, &sps, &marks, slice)?)
+}
+
+/// Whether these are the entries of the lists.
+fn have_entries(
+    found: &Result<(List, List), ListFault>,
+    entries_0: &[Option<u8>],
+    entries_1: &[Option<u8>],
+) -> bool {
+    match found {
+        Ok((list_0, list_1)) => list_0.entries() == entries_0 && list_1.entries() == entries_1,
+        Err(_) => false,
+    }
 }
 
 /// Asserts that the slice has these lists.
@@ -180,13 +207,8 @@ fn assert_lists(
     entries_0: &[Option<u8>],
     entries_1: &[Option<u8>],
 ) -> Result<(), Fail> {
-    match construct(rt.alloc(), pictures, slice)? {
-        Ok((list_0, list_1)) => {
-            assert_eq!(rt; list_0.entries(), entries_0);
-            assert_eq!(rt; list_1.entries(), entries_1);
-        }
-        Err(fault) => panic!(rt; "{fault}"),
-    }
+    let found = construct(rt.alloc(), pictures, slice)?;
+    assert!(rt; have_entries(&found, entries_0, entries_1));
     Ok(())
 }
 
@@ -197,10 +219,7 @@ fn assert_fault(
     slice: &Slice<'_>,
     fault: ListFault,
 ) -> Result<(), Fail> {
-    match construct(rt.alloc(), pictures, slice)? {
-        Ok(_) => panic!(rt; "no fault"),
-        Err(shown) => assert_eq!(rt; shown, fault),
-    }
+    assert!(rt; construct(rt.alloc(), pictures, slice)?.err() == Some(fault));
     Ok(())
 }
 
@@ -276,18 +295,45 @@ fn bad_modification(rt: HostRuntime) -> Result<(), Fail> {
     )
 }
 
-#[test]
-fn copies_and_texts(rt: HostRuntime) -> Result<(), Fail> {
-    match construct(rt.alloc(), &THREE, &p_slice(2, 4, &[]))? {
-        Ok((list_0, list_1)) => {
-            assert_eq!(rt; list_0.copy(), list_0);
-            assert_eq!(rt; list_1, List::new());
-        }
-        Err(fault) => panic!(&rt; "{fault}"),
+/// Whether list 0 is its copy, and list 1 has no entries.
+fn are_copied(found: &Result<(List, List), ListFault>) -> bool {
+    match found {
+        Ok((list_0, list_1)) => list_0.copy() == *list_0 && *list_1 == List::new(),
+        Err(_) => false,
     }
-    assert_eq!(rt;
-        format!(in rt.alloc(); "{}", ListFault::OrderTie)?.as_str(),
-        "two pictures have one picture order count"
-    );
+}
+
+#[test]
+fn lists_are_copied(rt: HostRuntime) -> Result<(), Fail> {
+    let found = construct(rt.alloc(), &THREE, &p_slice(2, 4, &[]))?;
+    assert!(rt; are_copied(&found));
+    Ok(())
+}
+
+/// Each fault with its number and its text.
+const TOLD: [(ListFault, u8, &str); 3] = [
+    (
+        ListFault::OrderTie,
+        1,
+        "two pictures have one picture order count",
+    ),
+    (ListFault::NoReference, 2, "no reference picture"),
+    (
+        ListFault::BadModification,
+        3,
+        "a modification names no reference picture",
+    ),
+];
+
+#[test]
+fn tells_faults(rt: HostRuntime) -> Result<(), Fail> {
+    for (row, (fault, number, text)) in TOLD.iter().enumerate() {
+        let told = format!(in rt.alloc(); "{fault}")?;
+        row_holds(
+            &rt,
+            row,
+            fault.number() == *number && told.as_str() == *text,
+        );
+    }
     Ok(())
 }

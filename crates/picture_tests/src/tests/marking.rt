@@ -1,7 +1,9 @@
 //! Reference marking, by values worked out by hand from the standard (8.2.5).
 
 mod pairs;
+mod rows;
 
+use super::row_holds;
 use base_types::AtMost;
 use header_types::{
     DecRefPicMarking, MemoryManagementControlOperation as Operation,
@@ -11,6 +13,7 @@ use pictures::{AuId, Counts, Frame, Marks, Term, frame_num_wrap};
 use ref_marking::{MarkFault, mark};
 use set_types::{ChromaFormat, Offsets, PicOrderCntType, ScalingLists, Sps};
 use std::alloc::{AllocError, Global};
+use std::process::Abort;
 use std::test::Fail;
 
 // A set with MaxFrameNum 16.
@@ -42,9 +45,14 @@ fn sps(alloc: Global, max_num_ref_frames: AtMost<16>) -> Sps {
     }
 }
 
-fn header(alloc: Global, frame_num: u16, marking: DecRefPicMarking) -> SliceHeader {
+fn header(
+    alloc: Global,
+    frame_num: u16,
+    nal_ref_idc: u8,
+    marking: DecRefPicMarking,
+) -> SliceHeader {
     SliceHeader {
-        nal_ref_idc: 1,
+        nal_ref_idc,
         nal_unit_type: 1,
         first_mb_in_slice: 0,
         slice_type: SliceType::P,
@@ -74,57 +82,94 @@ fn header(alloc: Global, frame_num: u16, marking: DecRefPicMarking) -> SliceHead
     }
 }
 
-fn idr(long_term_reference_flag: bool) -> DecRefPicMarking {
-    DecRefPicMarking::Idr {
-        no_output_of_prior_pics_flag: false,
-        long_term_reference_flag,
+/// How a picture is marked.
+#[derive(Clone, Copy)]
+enum Marking<'a> {
+    /// As an IDR picture, with this long_term_reference_flag.
+    Idr(bool),
+    Window,
+    Adaptive(&'a [Operation]),
+    /// Not at all: nal_ref_idc is 0.
+    NoReference,
+}
+
+/// A picture: its frame_num, and how it is marked.
+type Picture<'a> = (u16, Marking<'a>);
+
+/// The frames that are marked: the numbers of their units, and the indices of long-term frames.
+type Frames<'a> = &'a [(u32, Option<u8>)];
+
+/// Pictures under the ids 1, 2 and so on, and what is marked after the last one.
+type Row<'a> = (&'a [Picture<'a>], Result<Frames<'a>, MarkFault>);
+
+fn dec_ref_pic_marking(
+    alloc: Global,
+    marking: &Marking<'_>,
+) -> Result<DecRefPicMarking, AllocError> {
+    match marking {
+        Marking::Idr(long_term_reference_flag) => Ok(DecRefPicMarking::Idr {
+            no_output_of_prior_pics_flag: false,
+            long_term_reference_flag: *long_term_reference_flag,
+        }),
+        Marking::Window | Marking::NoReference => Ok(DecRefPicMarking::SlidingWindow),
+        Marking::Adaptive(list) => adaptive(alloc, list),
     }
 }
 
-// The marks after a reference picture with counts 10 and 7.
+fn adaptive(alloc: Global, list: &[Operation]) -> Result<DecRefPicMarking, AllocError> {
+    let mut operations = MemoryManagementControlOperations::new(alloc);
+    for operation in list {
+        operations.push(*operation)?;
+    }
+    Ok(DecRefPicMarking::Adaptive { operations })
+}
+
+/// The marks after a picture with counts 10 and 7.
 #[tactic(auto, unfolding(pictures::specs::Resetting::counts_after_reset))]
 fn decode(marks: &Marks, id: u32, sps: &Sps, header: &SliceHeader) -> Result<Marks, MarkFault> {
     let counts = Counts { top: 10, bottom: 7 };
     mark(marks, AuId::new(id), sps, header, counts)
 }
 
-// The marks after a first picture, which is IDR.
-fn begin(alloc: Global, sps: &Sps, long_term_reference_flag: bool) -> Result<Marks, MarkFault> {
-    let header = header(alloc, 0, idr(long_term_reference_flag));
-    decode(&Marks::new(), 1, sps, &header)
+/// The header of a picture.
+fn header_of(alloc: Global, picture: &Picture<'_>) -> Result<SliceHeader, AllocError> {
+    let nal_ref_idc = u8::from(!matches!(picture.1, Marking::NoReference));
+    let marking = dec_ref_pic_marking(alloc, &picture.1)?;
+    Ok(header(alloc, picture.0, nal_ref_idc, marking))
 }
 
-// The marks after a picture with the sliding window.
-fn slide(
+/// The marks after one picture more.
+fn marked_after(
     alloc: Global,
     marks: &Marks,
     id: u32,
     sps: &Sps,
-    frame_num: u16,
-) -> Result<Marks, MarkFault> {
-    let header = header(alloc, frame_num, DecRefPicMarking::SlidingWindow);
-    decode(marks, id, sps, &header)
-}
-
-// The marks after a picture with these operations.
-fn adapt(
-    alloc: Global,
-    marks: &Marks,
-    id: u32,
-    sps: &Sps,
-    frame_num: u16,
-    list: &[Operation],
+    picture: &Picture<'_>,
 ) -> Result<Result<Marks, MarkFault>, AllocError> {
-    let mut operations = MemoryManagementControlOperations::new(alloc);
-    for operation in list {
-        operations.push(*operation)?;
-    }
-    let header = header(alloc, frame_num, DecRefPicMarking::Adaptive { operations });
+    let header = header_of(alloc, picture)?;
     Ok(decode(marks, id, sps, &header))
 }
 
-// Whether these frames are marked: the numbers of their units, and the indices of long-term frames.
-fn are_marked(marks: &Marks, expected: &[(u32, Option<u8>)]) -> bool {
+/// The marks after these pictures, or the first fault.
+fn marked(
+    alloc: Global,
+    sps: &Sps,
+    pictures: &[Picture<'_>],
+) -> Result<Result<Marks, MarkFault>, AllocError> {
+    let mut marked = Ok(Marks::new());
+    let mut id = 0u32;
+    for picture in pictures {
+        id = id.saturating_add(1);
+        marked = match marked {
+            Ok(marks) => marked_after(alloc, &marks, id, sps, picture)?,
+            fault => return Ok(fault),
+        };
+    }
+    Ok(marked)
+}
+
+/// Whether these frames are marked.
+fn are_marked(marks: &Marks, expected: Frames<'_>) -> bool {
     let frames = marks.frames();
     frames.len() == expected.len()
         && frames.iter().zip(expected).all(|(frame, (id, idx))| {
@@ -132,138 +177,61 @@ fn are_marked(marks: &Marks, expected: &[(u32, Option<u8>)]) -> bool {
         })
 }
 
-const NONE: Option<u8> = None;
-
-#[test]
-fn the_window_frees_the_least_frame_num_wrap(rt: HostRuntime) -> Result<(), Fail> {
-    // MaxFrameNum is 16, so at frame_num 1 the FrameNumWrap of 15 is -1.
-    let alloc = rt.alloc();
-    let sps = sps(alloc, AtMost::new(3));
-    let marks = begin(alloc, &sps, true)?;
-    let marks = slide(alloc, &marks, 2, &sps, 0)?;
-    let marks = slide(alloc, &marks, 3, &sps, 15)?;
-    assert!(rt; are_marked(&marks, &[(1, Some(0)), (2, NONE), (3, NONE)]));
-    let marks = slide(alloc, &marks, 4, &sps, 1)?;
-    assert!(rt; are_marked(&marks, &[(1, Some(0)), (2, NONE), (4, NONE)]));
-    Ok(())
-}
-
-#[test]
-fn a_full_window_needs_a_short_term_frame(rt: HostRuntime) -> Result<(), Fail> {
-    let alloc = rt.alloc();
-    let sps = sps(alloc, AtMost::new(1));
-    let marks = begin(alloc, &sps, true)?;
-    let slid = slide(alloc, &marks, 2, &sps, 1);
-    assert_eq!(rt; slid.err(), Some(MarkFault::NoShortTerm));
-    let too_many = adapt(alloc, &marks, 2, &sps, 1, &[])?;
-    assert_eq!(rt; too_many.err(), Some(MarkFault::TooManyReferences));
-    Ok(())
-}
-
-#[test]
-fn sixteen_frames(rt: HostRuntime) -> Result<(), Fail> {
-    let alloc = rt.alloc();
-    let mut sps = sps(alloc, AtMost::new(16));
-    // MaxFrameNum is 32.
-    sps.log2_max_frame_num_minus4 = AtMost::new(1);
-    let mut marks = begin(alloc, &sps, false)?;
-    for frame_num in 1..16 {
-        let id = u32::from(frame_num) + 1;
-        marks = slide(alloc, &marks, id, &sps, frame_num)?;
+/// Whether the answer is what the row says.
+fn is_as(marked: &Result<Marks, MarkFault>, expected: &Result<Frames<'_>, MarkFault>) -> bool {
+    match (marked, expected) {
+        (Ok(marks), Ok(frames)) => are_marked(marks, frames),
+        (Err(fault), Err(expected)) => *fault == *expected,
+        _ => false,
     }
-    assert_eq!(rt; marks.frames().len(), 16);
-    let too_many = adapt(alloc, &marks, 17, &sps, 16, &[])?;
-    assert_eq!(rt; too_many.err(), Some(MarkFault::TooManyReferences));
-    let marks = slide(alloc, &marks, 17, &sps, 16)?;
-    assert_eq!(rt; marks.frames().len(), 16);
-    assert_eq!(rt;
-        marks.frames().first().map(|frame| frame.id),
-        Some(AuId::new(2))
-    );
-    assert_eq!(rt;
-        marks.frames().last().map(|frame| frame.id),
-        Some(AuId::new(17))
-    );
-    Ok(())
 }
 
-#[test]
-fn a_picture_that_is_no_reference_leaves_the_marks(rt: HostRuntime) -> Result<(), Fail> {
-    let alloc = rt.alloc();
-    let sps = sps(alloc, AtMost::new(1));
-    let marks = begin(alloc, &sps, true)?;
-    let mut header = header(alloc, 1, DecRefPicMarking::SlidingWindow);
-    header.nal_ref_idc = 0;
-    let after = decode(&marks, 2, &sps, &header)?;
-    assert!(rt; after.is_same(&marks));
-    assert!(rt; marks.copy().is_same(&marks));
-    assert!(rt; !marks.is_same(&Marks::new()));
-    Ok(())
+fn row_is_right(alloc: Global, sps: &Sps, row: &Row<'_>) -> Result<bool, AllocError> {
+    let marked = marked(alloc, sps, row.0)?;
+    Ok(is_as(&marked, &row.1))
 }
 
-#[test]
-fn operation_1_frees_the_frame_of_a_pic_num(rt: HostRuntime) -> Result<(), Fail> {
-    let alloc = rt.alloc();
-    let sps = sps(alloc, AtMost::new(4));
-    let marks = begin(alloc, &sps, false)?;
-    let marks = slide(alloc, &marks, 2, &sps, 14)?;
-    let marks = slide(alloc, &marks, 3, &sps, 15)?;
-    // At frame_num 1 the PicNums are 0, -2 and -1: picNumX is 1 - (difference_of_pic_nums_minus1 + 1).
-    let free = |difference_of_pic_nums_minus1| Operation::FreeShortTerm {
-        difference_of_pic_nums_minus1,
-    };
-    let one = adapt(alloc, &marks, 4, &sps, 1, &[free(1)])??;
-    assert!(rt; are_marked(&one, &[(1, NONE), (2, NONE), (4, NONE)]));
-    let both = adapt(alloc, &marks, 4, &sps, 1, &[free(2), free(0)])??;
-    assert!(rt; are_marked(&both, &[(3, NONE), (4, NONE)]));
-    let none = adapt(alloc, &marks, 4, &sps, 1, &[free(3)])?;
-    assert_eq!(rt; none.err(), Some(MarkFault::BadMarking));
-    let twice = adapt(alloc, &marks, 4, &sps, 1, &[free(1), free(1)])?;
-    assert_eq!(rt; twice.err(), Some(MarkFault::BadMarking));
-    Ok(())
-}
-
-#[test]
-fn operations_2_to_4_on_long_term_frames(rt: HostRuntime) -> Result<(), Fail> {
-    let alloc = rt.alloc();
-    let sps = sps(alloc, AtMost::new(4));
-    let limit = |max_long_term_frame_idx_plus1| Operation::LimitLongTerm {
-        max_long_term_frame_idx_plus1,
-    };
-    let last_as = |long_term_frame_idx| Operation::AssignLongTerm {
-        difference_of_pic_nums_minus1: 0,
-        long_term_frame_idx,
-    };
-    let free = |long_term_pic_num| Operation::FreeLongTerm { long_term_pic_num };
-    let marks = begin(alloc, &sps, false)?;
-    // Without indices none is allowed.
-    let early = adapt(alloc, &marks, 2, &sps, 1, &[last_as(0)])?;
-    assert_eq!(rt; early.err(), Some(MarkFault::BadMarking));
-    let marks = adapt(alloc, &marks, 2, &sps, 1, &[limit(2), last_as(1)])??;
-    assert!(rt; are_marked(&marks, &[(1, Some(1)), (2, NONE)]));
-    // Index 1 goes from the first frame to the second, which stays in its place.
-    let marks = adapt(alloc, &marks, 3, &sps, 2, &[last_as(1)])??;
-    assert!(rt; are_marked(&marks, &[(2, Some(1)), (3, NONE)]));
-    let kept = adapt(alloc, &marks, 4, &sps, 3, &[limit(2)])??;
-    assert!(rt; are_marked(&kept, &[(2, Some(1)), (3, NONE), (4, NONE)]));
-    let above = adapt(alloc, &marks, 4, &sps, 3, &[limit(1)])??;
-    assert!(rt; are_marked(&above, &[(3, NONE), (4, NONE)]));
-    let freed = adapt(alloc, &marks, 4, &sps, 3, &[free(1), last_as(0)])??;
-    assert!(rt; are_marked(&freed, &[(3, Some(0)), (4, NONE)]));
-    for wrong in [free(0), last_as(2), limit(5)] {
-        let fault = adapt(alloc, &marks, 4, &sps, 3, &[wrong])?;
-        assert_eq!(rt; fault.err(), Some(MarkFault::BadMarking));
+fn rows_are_right(
+    rt: &(impl Abort + AllocGlobal),
+    sps: &Sps,
+    rows: &[Row<'_>],
+) -> Result<(), AllocError> {
+    for (place, row) in rows.iter().enumerate() {
+        row_holds(rt, place, row_is_right(rt.alloc(), sps, row)?);
     }
     Ok(())
 }
 
+/// Whether the marks are their copy's, and not those before the first picture.
+fn are_copied(marked: &Result<Marks, MarkFault>) -> bool {
+    match marked {
+        Ok(marks) => marks.copy().is_same(marks) && !marks.is_same(&Marks::new()),
+        Err(_) => false,
+    }
+}
+
 #[test]
-fn operation_5_frees_all(rt: HostRuntime) -> Result<(), Fail> {
-    let alloc = rt.alloc();
-    let sps = sps(alloc, AtMost::new(4));
-    let marks = begin(alloc, &sps, true)?;
-    let marks = slide(alloc, &marks, 2, &sps, 1)?;
-    let freed = adapt(alloc, &marks, 3, &sps, 2, &[Operation::FreeAll])??;
+fn marks_are_copied(rt: HostRuntime) -> Result<(), Fail> {
+    let sps = sps(rt.alloc(), AtMost::new(1));
+    let marked = marked(rt.alloc(), &sps, &[(0, Marking::Idr(true))])?;
+    assert!(rt; are_copied(&marked));
+    Ok(())
+}
+
+/// Whether this frame alone is marked.
+fn is_only(marked: &Result<Marks, MarkFault>, frame: &Frame) -> bool {
+    match marked {
+        Ok(marks) => marks.frames().len() == 1 && marks.frames().first() == Some(frame),
+        Err(_) => false,
+    }
+}
+
+#[test]
+fn operation_5_takes_the_counts_to_0(rt: HostRuntime) -> Result<(), Fail> {
+    let sps = sps(rt.alloc(), AtMost::new(4));
+    let freed = Marking::Adaptive(&[Operation::FreeAll]);
+    let pictures = [(0, Marking::Idr(true)), (1, Marking::Window), (2, freed)];
+    let marked = marked(rt.alloc(), &sps, &pictures)?;
     // frame_num counts as 0, and 7, the smaller count, is taken from both.
     let only = Frame {
         id: AuId::new(3),
@@ -271,77 +239,57 @@ fn operation_5_frees_all(rt: HostRuntime) -> Result<(), Fail> {
         term: Term::ShortTerm,
         counts: Counts { top: 3, bottom: 0 },
     };
-    assert_eq!(rt; freed.frames(), [only].as_slice());
-    let six = Operation::CurrentLongTerm {
-        long_term_frame_idx: 0,
-    };
-    // No index is left.
-    let gone = adapt(alloc, &marks, 3, &sps, 2, &[Operation::FreeAll, six])?;
-    assert_eq!(rt; gone.err(), Some(MarkFault::BadMarking));
-    let four = Operation::LimitLongTerm {
-        max_long_term_frame_idx_plus1: 1,
-    };
-    let again = adapt(alloc, &marks, 3, &sps, 2, &[six, Operation::FreeAll, four])??;
-    assert!(rt; are_marked(&again, &[(3, Some(0))]));
+    assert!(rt; is_only(&marked, &only));
     Ok(())
 }
 
 #[test]
-fn operation_6_takes_effect_last(rt: HostRuntime) -> Result<(), Fail> {
-    let alloc = rt.alloc();
-    let sps = sps(alloc, AtMost::new(2));
-    let marks = begin(alloc, &sps, false)?;
-    let limit = |max_long_term_frame_idx_plus1| Operation::LimitLongTerm {
-        max_long_term_frame_idx_plus1,
-    };
-    let six = Operation::CurrentLongTerm {
-        long_term_frame_idx: 0,
-    };
-    let none = adapt(alloc, &marks, 2, &sps, 1, &[six, limit(0)])?;
-    assert_eq!(rt; none.err(), Some(MarkFault::BadMarking));
-    let marks = adapt(alloc, &marks, 2, &sps, 1, &[six, limit(1)])??;
-    assert!(rt; are_marked(&marks, &[(1, NONE), (2, Some(0))]));
-    // The frame that held the index is freed, so there is room for the current one.
-    let marks = adapt(alloc, &marks, 3, &sps, 2, &[six])??;
-    assert!(rt; are_marked(&marks, &[(1, NONE), (3, Some(0))]));
-    Ok(())
-}
-
-#[test]
-fn an_idr_picture_frees_all(rt: HostRuntime) -> Result<(), Fail> {
-    let alloc = rt.alloc();
-    let sps = sps(alloc, AtMost::new(4));
-    let marks = begin(alloc, &sps, true)?;
-    let marks = slide(alloc, &marks, 2, &sps, 1)?;
-    let short = decode(&marks, 3, &sps, &header(alloc, 0, idr(false)))?;
-    assert!(rt; are_marked(&short, &[(3, NONE)]));
-    let long = decode(&marks, 3, &sps, &header(alloc, 0, idr(true)))?;
-    assert!(rt; are_marked(&long, &[(3, Some(0))]));
-    // Its greatest index is 0.
-    let six = |long_term_frame_idx| Operation::CurrentLongTerm {
-        long_term_frame_idx,
-    };
-    let above = adapt(alloc, &long, 4, &sps, 1, &[six(1)])?;
-    assert_eq!(rt; above.err(), Some(MarkFault::BadMarking));
-    let within = adapt(alloc, &long, 4, &sps, 1, &[six(0)])??;
-    assert!(rt; are_marked(&within, &[(4, Some(0))]));
-    Ok(())
-}
-
-#[test]
-fn ids_and_numbers(rt: HostRuntime) -> Result<(), Fail> {
+fn ids(rt: HostRuntime) {
     let id = AuId::new(u32::MAX);
-    assert_eq!(rt; id.timestamp(), 4_294_967_295_000);
-    assert_eq!(rt; id.number(), 4_294_967_295);
-    let alloc = rt.alloc();
-    let sps = sps(alloc, AtMost::new(1));
+    assert!(rt; id.timestamp() == 4_294_967_295_000);
+    assert!(rt; id.number() == 4_294_967_295);
+}
+
+#[test]
+fn numbers_of_frames(rt: HostRuntime) {
+    let sps = sps(rt.alloc(), AtMost::new(1));
     let frame = Frame {
         frame_num: 15,
         ..Frame::default()
     };
-    assert_eq!(rt; frame.pic_num(&sps, 15), Some(15));
-    assert_eq!(rt; frame.pic_num(&sps, 14), Some(-1));
-    assert_eq!(rt; frame_num_wrap(&sps, 2, 15), -1);
-    assert_eq!(rt; frame_num_wrap(&sps, 2, 2), 2);
+    let pic_nums = (frame.pic_num(&sps, 15), frame.pic_num(&sps, 14));
+    let wrapped = (frame_num_wrap(&sps, 2, 15), frame_num_wrap(&sps, 2, 2));
+    assert!(rt; pic_nums == (Some(15), Some(-1)) && wrapped == (-1, 2));
+}
+
+/// Each fault with its number and its text.
+const TOLD: [(MarkFault, u8, &str); 3] = [
+    (
+        MarkFault::BadMarking,
+        1,
+        "a marking operation names what isn't there, or contradicts another",
+    ),
+    (
+        MarkFault::NoShortTerm,
+        2,
+        "the sliding window has no short-term frame to free",
+    ),
+    (
+        MarkFault::TooManyReferences,
+        3,
+        "more reference frames than max_num_ref_frames",
+    ),
+];
+
+#[test]
+fn tells_faults(rt: HostRuntime) -> Result<(), Fail> {
+    for (row, (fault, number, text)) in TOLD.iter().enumerate() {
+        let told = format!(in rt.alloc(); "{fault}")?;
+        row_holds(
+            &rt,
+            row,
+            fault.number() == *number && told.as_str() == *text,
+        );
+    }
     Ok(())
 }

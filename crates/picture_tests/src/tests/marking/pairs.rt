@@ -1,10 +1,12 @@
 //! Each operation alone, and each two of them.
 
-use super::{adapt, are_marked, begin, slide, sps};
+use super::Marking::{Adaptive, Idr, Window};
+use super::{Frames, row_holds, row_is_right, sps};
 use base_types::AtMost;
 use header_types::MemoryManagementControlOperation as Operation;
-use ref_marking::MarkFault;
-use std::process::Abort;
+use ref_marking::MarkFault::BadMarking;
+use set_types::Sps;
+use std::alloc::{AllocError, Global};
 use std::test::Fail;
 
 // After the frames 1, long-term with index 0, and 2 and 3, short-term with FrameNums 1 and 2, frame 4 has frame_num 3.
@@ -36,51 +38,41 @@ const SIX: Operation = Operation::CurrentLongTerm {
     long_term_frame_idx: 0,
 };
 
-/// The frames that are marked: their units, and the indices of long-term frames. None are for BadMarking.
-type Marked<'a> = &'a [(u32, Option<u8>)];
+const BAD: Frames<'static> = &[];
 
-const BAD: Marked<'static> = &[];
+/// The first operation, what is marked after it alone, and after it and each of the six.
+type Pairs = (Operation, Frames<'static>, [Frames<'static>; 6]);
 
-/// Asserts what is marked after frame 4 with these operations.
-fn assert_marked(
-    rt: &(impl Abort + AllocGlobal),
+/// What is marked after frame 4 with these operations. No frames are for BadMarking.
+fn marks(
+    alloc: Global,
+    sps: &Sps,
     operations: &[Operation],
-    expected: Marked<'_>,
-) -> Result<(), Fail> {
-    let alloc = rt.alloc();
-    let sps = sps(alloc, AtMost::new(4));
-    let marks = begin(alloc, &sps, true)?;
-    let marks = slide(alloc, &marks, 2, &sps, 1)?;
-    let marks = slide(alloc, &marks, 3, &sps, 2)?;
-    match adapt(alloc, &marks, 4, &sps, 3, operations)? {
-        Ok(after) => assert!(rt; are_marked(&after, expected), "{operations:?}"),
-        Err(fault) => {
-            assert!(rt; expected.is_empty(), "{operations:?}");
-            assert_eq!(rt; fault, MarkFault::BadMarking);
+    frames: Frames<'_>,
+) -> Result<bool, AllocError> {
+    let last = (3, Adaptive(operations));
+    let pictures = [(0, Idr(true)), (1, Window), (2, Window), last];
+    let expected = if frames.is_empty() {
+        Err(BadMarking)
+    } else {
+        Ok(frames)
+    };
+    row_is_right(alloc, sps, &(&pictures, expected))
+}
+
+/// What is marked after the operation and each of the six.
+fn marks_pairs(alloc: Global, sps: &Sps, pairs: &Pairs) -> Result<bool, AllocError> {
+    let seconds = [ONE, TWO, THREE, FOUR, FIVE, SIX];
+    for (second, frames) in seconds.iter().zip(pairs.2) {
+        if !marks(alloc, sps, &[pairs.0, *second], frames)? {
+            return Ok(false);
         }
     }
-    Ok(())
+    marks(alloc, sps, &[pairs.0], pairs.1)
 }
 
-/// Asserts what is marked after the operation, and after it and each operation in turn.
-fn assert_pairs(
-    rt: &(impl Abort + AllocGlobal),
-    first: Operation,
-    alone: Marked<'_>,
-    expected: [Marked<'_>; 6],
-) -> Result<(), Fail> {
-    assert_marked(rt, &[first], alone)?;
-    let seconds = [ONE, TWO, THREE, FOUR, FIVE, SIX];
-    for (second, expected) in seconds.into_iter().zip(expected) {
-        assert_marked(rt, &[first, second], expected)?;
-    }
-    Ok(())
-}
-
-#[test]
-fn operation_1_and_another(rt: HostRuntime) -> Result<(), Fail> {
-    assert_pairs(
-        &rt,
+const PAIRS: [Pairs; 6] = [
+    (
         ONE,
         &[(1, Some(0)), (2, None), (4, None)],
         [
@@ -91,13 +83,8 @@ fn operation_1_and_another(rt: HostRuntime) -> Result<(), Fail> {
             BAD,
             &[(2, None), (4, Some(0))],
         ],
-    )
-}
-
-#[test]
-fn operation_2_and_another(rt: HostRuntime) -> Result<(), Fail> {
-    assert_pairs(
-        &rt,
+    ),
+    (
         TWO,
         &[(2, None), (3, None), (4, None)],
         [
@@ -108,13 +95,8 @@ fn operation_2_and_another(rt: HostRuntime) -> Result<(), Fail> {
             BAD,
             &[(2, None), (3, None), (4, Some(0))],
         ],
-    )
-}
-
-#[test]
-fn operation_3_and_another(rt: HostRuntime) -> Result<(), Fail> {
-    assert_pairs(
-        &rt,
+    ),
+    (
         THREE,
         &[(2, Some(0)), (3, None), (4, None)],
         [
@@ -125,33 +107,14 @@ fn operation_3_and_another(rt: HostRuntime) -> Result<(), Fail> {
             BAD,
             &[(3, None), (4, Some(0))],
         ],
-    )
-}
-
-#[test]
-fn operation_4_and_another(rt: HostRuntime) -> Result<(), Fail> {
-    assert_pairs(
-        &rt,
+    ),
+    (
         FOUR,
         &[(2, None), (3, None), (4, None)],
         [&[(2, None), (4, None)], BAD, BAD, BAD, &[(4, None)], BAD],
-    )
-}
-
-#[test]
-fn operation_5_and_another(rt: HostRuntime) -> Result<(), Fail> {
-    assert_pairs(
-        &rt,
-        FIVE,
-        &[(4, None)],
-        [BAD, BAD, BAD, &[(4, None)], BAD, BAD],
-    )
-}
-
-#[test]
-fn operation_6_and_another(rt: HostRuntime) -> Result<(), Fail> {
-    assert_pairs(
-        &rt,
+    ),
+    (FIVE, &[(4, None)], [BAD, BAD, BAD, &[(4, None)], BAD, BAD]),
+    (
         SIX,
         &[(2, None), (3, None), (4, Some(0))],
         [
@@ -162,5 +125,14 @@ fn operation_6_and_another(rt: HostRuntime) -> Result<(), Fail> {
             BAD,
             BAD,
         ],
-    )
+    ),
+];
+
+#[test]
+fn each_operation_and_another(rt: HostRuntime) -> Result<(), Fail> {
+    let sps = sps(rt.alloc(), AtMost::new(4));
+    for (row, pairs) in PAIRS.iter().enumerate() {
+        row_holds(&rt, row, marks_pairs(rt.alloc(), &sps, pairs)?);
+    }
+    Ok(())
 }

@@ -119,6 +119,9 @@ fn dec_ref_pic_marking(
 fn adaptive(alloc: Global, list: &[Operation]) -> Result<DecRefPicMarking, AllocError> {
     let mut operations = MemoryManagementControlOperations::new(alloc);
     for operation in list {
+        if operations.is_full() {
+            break;
+        }
         operations.push(*operation)?;
     }
     Ok(DecRefPicMarking::Adaptive { operations })

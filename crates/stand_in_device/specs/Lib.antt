@@ -1,0 +1,5 @@
+pub mod Inputs
+pub mod Pictures
+pub mod Jobs
+pub mod SliceWorks
+pub mod Decoding

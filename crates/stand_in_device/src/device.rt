@@ -1,0 +1,92 @@
+//! The device.
+
+ghost use Rattle.std.specs.Prelude.{◌≡◌, ◌∷◌, ◌++◌, [], IfErr, IfOk, IsTrue, OnErr, OnOk};
+ghost use Rattle.stand_in_device.specs.Inputs.{is_whole};
+ghost use Rattle.stand_in_device.specs.Pictures.{picture_of};
+
+use crate::decoding::Decoding;
+use crate::input::{Input, Reference};
+use crate::job::{Finished, Job, Undone};
+use crate::picture::Picture;
+use crate::slice_digest::SliceDigest;
+use std::alloc::{AllocError, Global};
+use std::marker::Model;
+
+/// A stateless decoder whose pictures are digests, with the finished frames that slices may refer to.
+#[derive(Drop)]
+pub struct Device {
+    work: SliceDigest,
+}
+
+impl Model for Device {
+    ghost use Rattle.std.specs.Prelude.{List};
+    ghost use Rattle.stand_in_device.specs.declared.input.Reference.{Reference};
+
+    ghost Value = { List Reference };
+
+    ghost view = { λ device. device.work.frames.items };
+}
+
+impl Device {
+    /// A device without frames. It takes no memory.
+    pub fn new(alloc: Global) -> Device
+        ensures { result ≡ [] }
+    {
+        Device {
+            work: SliceDigest::new(alloc),
+        }
+    }
+
+    /// Adds a finished frame after those that are there, as a CAPTURE buffer that was dequeued with this timestamp in
+    /// nanoseconds. Of two frames with one timestamp the first is referred to.
+    pub fn place(&mut self, timestamp: u64, picture: Picture) -> Result<(), AllocError>
+        ensures ok { OnOk result
+            (self.new ≡ self.old ++ record { timestamp = timestamp; picture = picture } ∷ []) }
+        ensures err { OnErr result (self.new ≡ self.old) }
+    {
+        self.work.frames.push(Reference { timestamp, picture })?;
+        Ok(())
+    }
+
+    /// Decodes a job: a device without frames but the job's references runs its requests through the queues, one after
+    /// the other, and the picture is that of the done CAPTURE buffer. Where memory is wanted, the job is handed back.
+    /// The device has no frames afterwards.
+    pub fn decode(&mut self, alloc: Global, job: Job) -> Result<Finished, Undone>
+        ensures done { IfOk result (λ finished. finished ≡ job) }
+        ensures undone { IfErr result (λ undone. undone.job ≡ job) }
+        ensures emptied { self.new ≡ [] }
+    {
+        let answer = self.picture_of(alloc, job.input());
+        self.work.frames.clear();
+        match answer {
+            Ok(picture) => Ok(Finished::new(job, picture)),
+            Err(cause) => Err(Undone { job, cause }),
+        }
+    }
+
+    /// The picture of an input that is whole.
+    fn picture_of(&mut self, alloc: Global, input: &Input) -> Result<Picture, AllocError>
+        requires { IsTrue (is_whole input.now) }
+        ensures { IfOk result (λ picture. picture ≡ picture_of input.now) }
+    {
+        self.work.frames.clear();
+        self.place_all(input.references())?;
+        let [first, ..] = input.requests() else {
+            unreachable!()
+        };
+        let decoding = Decoding::open(alloc)?;
+        let decoding = decoding.decode_slices(input.requests(), first.timestamp, &mut self.work)?;
+        decoding.finish(first.timestamp);
+        Ok(self.work.finish())
+    }
+
+    /// Adds finished frames.
+    fn place_all(&mut self, references: &[Reference]) -> Result<(), AllocError>
+        ensures { OnOk result (self.new ≡ self.old ++ references.now) }
+    {
+        for reference in references {
+            self.place(reference.timestamp, reference.picture)?;
+        }
+        Ok(())
+    }
+}

@@ -10,12 +10,14 @@ use Rattle.set_types.specs.declared.sps.ChromaFormat.TheVariants.{Monochrome, Yu
 use Rattle.set_types.specs.declared.sps.PicOrderCntType.{PicOrderCntType}
 use Rattle.set_types.specs.declared.sps.PicOrderCntType.TheVariants.{Zero, One, Two}
 
+-- chroma_format_idc
 abbrev pub same_format : ChromaFormat → ChromaFormat → Bool
 same_format Monochrome Monochrome = true
 same_format Yuv420 Yuv420 = true
 same_format Yuv422 Yuv422 = true
 same_format a b = false
 
+-- pic_order_cnt_type
 abbrev pub same_type : PicOrderCntType → PicOrderCntType → Bool
 same_type Zero Zero = true
 same_type One One = true

@@ -7,8 +7,8 @@ use crate::edits::Place;
 use access_unit::Unit;
 use pictures::AuId;
 
-#[tactic(auto, unfolding(crate::specs::Streams::place_of))]
 /// The place of the unit that has the id.
+#[tactic(auto, unfolding(crate::specs::Streams::place_of))]
 pub(crate) fn place_of(units: &[(AuId, Unit)], id: AuId) -> Option<usize>
     ensures value { result ≡ place_of units.now id }
     ensures inside { IfSome result (λ place. place < length units.now) }

@@ -72,8 +72,8 @@ impl V4l2CtrlH264Pps {
             && self.flags.is_same(other.flags)
     }
 
-    #[tactic(auto, unfolding(crate::specs::PpsForm::pps_form))]
     /// Its digest form goes after the form.
+    #[tactic(auto, unfolding(crate::specs::PpsForm::pps_form))]
     pub(crate) fn put(&self, form: &mut Vec<u8>)
         requires { vec_len form.old + 12 ≤ vec_capacity form.old }
         ensures items { form.new.items ≡ form.old.items ++ pps_form self.now }

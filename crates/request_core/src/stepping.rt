@@ -28,10 +28,10 @@ use pictures::{AuId, Counts, Marks, after_reset, resets};
 use set_types::Sps;
 use std::alloc::{AllocError, Global};
 
-#[tactic(auto, unfolding(crate::specs::Fold::fold_step))]
 /// One step of the fold: the state after the unit, and what becomes of the unit.
 ///
 /// It counts one step where it answers. Where memory runs out nothing is changed, and nothing counted.
+#[tactic(auto, unfolding(crate::specs::Fold::fold_step))]
 pub fn step(
     alloc: Global,
     state: &State,

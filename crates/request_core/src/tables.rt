@@ -55,8 +55,8 @@ impl Tables {
         })
     }
 
-    #[tactic(auto, unfolding(crate::specs::ParameterSets::put))]
     /// Puts a set into the place of its id. A place that has the same set already stays as it is.
+    #[tactic(auto, unfolding(crate::specs::ParameterSets::put))]
     pub(crate) fn put(&mut self, alloc: Global, set: &ParameterSet) -> Result<(), AllocError>
         ensures { OnOk result (self.new ≡ put self.old set.now) }
     {

@@ -119,12 +119,20 @@ fn dec_ref_pic_marking(
 fn adaptive(alloc: Global, list: &[Operation]) -> Result<DecRefPicMarking, AllocError> {
     let mut operations = MemoryManagementControlOperations::new(alloc);
     for operation in list {
-        if operations.is_full() {
-            break;
-        }
-        operations.push(*operation)?;
+        put(&mut operations, *operation)?;
     }
     Ok(DecRefPicMarking::Adaptive { operations })
+}
+
+/// Puts an operation after the others, where there is room.
+fn put(
+    operations: &mut MemoryManagementControlOperations,
+    operation: Operation,
+) -> Result<(), AllocError> {
+    if operations.as_slice().len() < 64 {
+        operations.push(operation)?;
+    }
+    Ok(())
 }
 
 /// The marks after a picture with counts 10 and 7.

@@ -4,28 +4,41 @@ use super::{A, End, LINES_OF_A, P1, ShortWriter};
 use crate::program::{run, run_on};
 use console_io::{Directory, Ended, PrintFault, Status};
 use std::io;
-use std::io::ErrorKind;
+use std::io::{ErrorKind, Read};
 use std::process::Abort;
 use std::test::Fail;
 use std::thread::Threads;
+
+/// A file that, as those of the system, doesn't declare what it holds.
+#[derive(Drop)]
+struct Text {
+    left: &'static [u8],
+}
+
+impl Read for Text {
+    fn read(&mut self, buf: &mut [u8]) -> io::Result<usize> {
+        self.left.read(buf)
+    }
+}
 
 /// Files by name.
 #[derive(Drop)]
 struct Folder;
 
 impl Directory for Folder {
-    type File = &'static [u8];
+    type File = Text;
 
-    fn open(&self, name: &str) -> Result<&'static [u8], ErrorKind> {
-        match name {
-            "a.264" => Ok(&A),
-            "-" => Ok(b"no stream"),
-            "a.script" => Ok(b"load a.264\nunit 1\n"),
-            "b.script" => Ok(b"load b.264\n"),
-            "c.script" => Ok(b"\nunit 1 2\n"),
-            "memory" => Err(ErrorKind::OutOfMemory),
-            _ => Err(ErrorKind::NotFound),
-        }
+    fn open(&self, name: &str) -> Result<Text, ErrorKind> {
+        let left: &'static [u8] = match name {
+            "a.264" => &A,
+            "-" => b"no stream",
+            "a.script" => b"load a.264\nunit 1\n",
+            "b.script" => b"load b.264\n",
+            "c.script" => b"\nunit 1 2\n",
+            "memory" => return Err(ErrorKind::OutOfMemory),
+            _ => return Err(ErrorKind::NotFound),
+        };
+        Ok(Text { left })
     }
 }
 

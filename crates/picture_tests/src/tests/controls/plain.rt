@@ -102,10 +102,10 @@ fn slice_params(
     })
 }
 
-/// The picture 65 88 84 80.
-fn idr_picture(alloc: Global) -> Result<V4l2CtrlH264DecodeParams, AllocError> {
-    Ok(V4l2CtrlH264DecodeParams {
-        dpb: Dpb::with_capacity(alloc, 1)?,
+/// The picture 65 88 84 80, with these frames.
+fn idr_picture(dpb: Dpb) -> V4l2CtrlH264DecodeParams {
+    V4l2CtrlH264DecodeParams {
+        dpb,
         nal_ref_idc: 3,
         frame_num: 0,
         top_field_order_cnt: 0,
@@ -119,13 +119,13 @@ fn idr_picture(alloc: Global) -> Result<V4l2CtrlH264DecodeParams, AllocError> {
         pic_order_cnt_bit_size: 0,
         slice_group_change_cycle: 0,
         flags: DecodeFlags { idr_pic: true },
-    })
+    }
 }
 
 /// The picture 41 9A 23 after that one.
 fn p_picture(alloc: Global) -> Result<V4l2CtrlH264DecodeParams, AllocError> {
-    let mut params = idr_picture(alloc)?;
-    let entry = V4l2H264DpbEntry {
+    let mut dpb = Dpb::with_capacity(alloc, 1)?;
+    dpb.push(V4l2H264DpbEntry {
         pic_num: 0,
         frame_num: 0,
         fields: V4l2H264FieldReference::Frame,
@@ -136,15 +136,16 @@ fn p_picture(alloc: Global) -> Result<V4l2CtrlH264DecodeParams, AllocError> {
             active: true,
             long_term: false,
         },
-    };
-    params.dpb.push(entry)?;
-    params.nal_ref_idc = 2;
-    params.frame_num = 1;
-    params.top_field_order_cnt = 2;
-    params.bottom_field_order_cnt = 2;
-    params.dec_ref_pic_marking_bit_size = 1;
-    params.flags = DecodeFlags { idr_pic: false };
-    Ok(params)
+    })?;
+    Ok(V4l2CtrlH264DecodeParams {
+        nal_ref_idc: 2,
+        frame_num: 1,
+        top_field_order_cnt: 2,
+        bottom_field_order_cnt: 2,
+        dec_ref_pic_marking_bit_size: 1,
+        flags: DecodeFlags { idr_pic: false },
+        ..idr_picture(dpb)
+    })
 }
 
 /// Flat lists, and no weights.
@@ -173,7 +174,8 @@ fn controls(
 /// The controls of an IDR picture of one slice.
 pub(super) fn idr_controls(alloc: Global) -> Result<Controls, AllocError> {
     let slice_params = slice_params(alloc, 25, SliceType::I, &List::new())?;
-    controls(alloc, slice_params, idr_picture(alloc)?)
+    let dpb = Dpb::with_capacity(alloc, 0)?;
+    controls(alloc, slice_params, idr_picture(dpb))
 }
 
 /// The controls of a P picture of one slice after it.

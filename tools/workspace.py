@@ -1,6 +1,7 @@
-"""The repository's top, and the crates of crates.txt."""
+"""The repository's top, the crates of crates.txt, and copies of them."""
 import pathlib
 import re
+import shutil
 
 TOP = pathlib.Path(__file__).resolve().parent.parent
 LINE = re.compile(r"(\w+)[^:]*:(.*)")
@@ -21,3 +22,16 @@ def below(name):
         found |= more
         left += more
     return [crate for crate in listed if crate in found]
+
+
+def copy_of(name, folder):
+    """Copies a crate's texts, and what was built of the crates below it, into a folder; the crate's folder there."""
+    low = below(name)
+    lines = (TOP / "crates.txt").read_text().splitlines()
+    wanted = [line for line in lines if (re.match(r"\w+", line) or [""])[0] in (*low, name)]
+    (folder / "crates.txt").write_text("\n".join(wanted) + "\n")
+    shutil.copy(TOP / "HANDLES", folder)
+    for crate in (*low, name):
+        left_out = shutil.ignore_patterns(*(["out"] if crate == name else ["incremental", "must-fail", "more-edits"]))
+        shutil.copytree(TOP / "crates" / crate, folder / "crates" / crate, ignore=left_out)
+    return folder / "crates" / name

@@ -1,4 +1,6 @@
+mod faults;
 mod fields;
+mod limits;
 mod tables;
 mod writer;
 

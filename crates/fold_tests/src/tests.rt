@@ -1,2 +1,3 @@
 mod fold;
 mod shown_order;
+mod texts;

@@ -1,6 +1,8 @@
 mod each_fault;
+mod limits;
 mod picture_faults;
 mod slice_faults;
+mod steps;
 mod streams;
 mod writer;
 

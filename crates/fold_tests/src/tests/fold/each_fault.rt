@@ -72,7 +72,7 @@ pub(super) const SAME_COUNT: &[Nal] = &[Nal::Slice(Slice {
 pub(super) const FAR: Order = Zero(7, i32::MAX);
 
 /// The unit of these NAL units.
-fn written(rt: &(impl Abort + AllocGlobal), nals: &[Nal]) -> Result<Unit, Fail> {
+pub(super) fn written(rt: &(impl Abort + AllocGlobal), nals: &[Nal]) -> Result<Unit, Fail> {
     let mut writer = Writer::new(rt.alloc());
     for nal in nals {
         writer.put(nal)?;

@@ -1,0 +1,86 @@
+//! Each fault by `step` itself, one unit after the other.
+
+use super::super::texts::row_holds;
+use super::each_fault::{I, P, PPS, Stream, written};
+use super::picture_faults::PICTURE_FAULTS;
+use super::slice_faults::SLICE_FAULTS;
+use super::writer::{Nal, Order, Slice};
+use Order::Zero;
+use access_unit::Unit;
+use outcomes::{Outcome, ValidityFault};
+use pictures::AuId;
+use request_core::{State, Steps, step};
+use std::alloc::{AllocError, AllocGlobal, Global};
+use std::process::Abort;
+use std::test::Fail;
+
+/// A long-term frame fills the window, which has no short-term frame to free.
+const NO_SHORT_TERM: [Stream; 1] = [(
+    &[
+        &[
+            Nal::Sps(0, Zero(0, 0), 1),
+            PPS,
+            Nal::Slice(Slice { long_term: 1, ..I }),
+        ],
+        &[Nal::Slice(P)],
+    ],
+    ValidityFault::BadMarking,
+)];
+
+/// One step after the state, which counts once.
+pub(super) fn step_once(
+    alloc: Global,
+    state: &State,
+    unit: &Unit,
+) -> Result<Option<(State, Outcome)>, AllocError> {
+    let mut steps = Steps::new();
+    let answer = step(alloc, state, AuId::new(1), unit, &mut steps)?;
+    if steps.count() == 1 {
+        Ok(Some(answer))
+    } else {
+        Ok(None)
+    }
+}
+
+/// The fault of the last unit; none where one before it has a fault too.
+fn last_fault(
+    rt: &(impl Abort + AllocGlobal),
+    units: &[&[Nal]],
+) -> Result<Option<ValidityFault>, Fail> {
+    let mut state = State::new(rt.alloc())?;
+    let mut found = None;
+    for nals in units {
+        if found.is_some() {
+            return Ok(None);
+        }
+        let unit = written(rt, *nals)?;
+        let Some((after, outcome)) = step_once(rt.alloc(), &state, &unit)? else {
+            return Ok(None);
+        };
+        state = after;
+        found = fault_of(&outcome);
+    }
+    Ok(found)
+}
+
+fn fault_of(outcome: &Outcome) -> Option<ValidityFault> {
+    match outcome {
+        Outcome::Plan(_) => None,
+        Outcome::Fault(fault) => Some(*fault),
+    }
+}
+
+/// The last unit of each stream alone has its fault.
+fn are_shown(rt: &(impl Abort + AllocGlobal), streams: &[Stream]) -> Result<(), Fail> {
+    for (row, (units, fault)) in streams.iter().enumerate() {
+        row_holds(rt, row, last_fault(rt, *units)? == Some(*fault));
+    }
+    Ok(())
+}
+
+#[test]
+fn steps_show_faults(rt: HostRuntime) -> Result<(), Fail> {
+    are_shown(&rt, &SLICE_FAULTS)?;
+    are_shown(&rt, &PICTURE_FAULTS)?;
+    are_shown(&rt, &NO_SHORT_TERM)
+}

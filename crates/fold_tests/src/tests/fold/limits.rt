@@ -52,10 +52,8 @@ fn has_requests(outcome: &Outcome, count: usize) -> bool {
 /// Whether a picture of so many slices is planned.
 fn plans_slices(rt: &(impl Abort + AllocGlobal), count: u32) -> Result<bool, Fail> {
     let state = State::new(rt.alloc())?;
-    match step_once(rt.alloc(), &state, &sliced(rt, count)?)? {
-        Some((_, outcome)) => Ok(has_requests(&outcome, count as usize)),
-        None => Ok(false),
-    }
+    let (_, outcome) = step_once(rt.alloc(), &state, &sliced(rt, count)?)?;
+    Ok(has_requests(&outcome, count as usize))
 }
 
 /// How many slices a picture has; a 257th is refused where the unit is read.
@@ -97,19 +95,15 @@ fn picture_by(rt: &(impl Abort + AllocGlobal), pps: u32) -> Result<Unit, Fail> {
 
 /// Whether the picture by the set of this id is planned after the state.
 fn plans_by(rt: &(impl Abort + AllocGlobal), state: &State, pps: u32) -> Result<bool, Fail> {
-    match step_once(rt.alloc(), state, &picture_by(rt, pps)?)? {
-        Some((_, outcome)) => Ok(has_requests(&outcome, 1)),
-        None => Ok(false),
-    }
+    let (_, outcome) = step_once(rt.alloc(), state, &picture_by(rt, pps)?)?;
+    Ok(has_requests(&outcome, 1))
 }
 
 #[test]
 fn sets_of_a_stream(rt: HostRuntime) -> Result<(), Fail> {
     let none = State::new(rt.alloc())?;
     row_holds(&rt, 0, !plans_by(&rt, &none, 255)?);
-    let Some((state, _)) = step_once(rt.alloc(), &none, &with_all_sets(&rt)?)? else {
-        panic!(rt; "not one step");
-    };
+    let (state, _) = step_once(rt.alloc(), &none, &with_all_sets(&rt)?)?;
     for pps in 0..256u32 {
         row_holds(&rt, pps as usize, plans_by(&rt, &state, pps)?);
     }

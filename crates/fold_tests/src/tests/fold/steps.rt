@@ -27,40 +27,39 @@ const NO_SHORT_TERM: [Stream; 1] = [(
     ValidityFault::BadMarking,
 )];
 
-/// One step after the state, which counts once.
+/// One step after the state.
 pub(super) fn step_once(
     alloc: Global,
     state: &State,
     unit: &Unit,
-) -> Result<Option<(State, Outcome)>, AllocError> {
-    let mut steps = Steps::new();
-    let answer = step(alloc, state, AuId::new(1), unit, &mut steps)?;
-    if steps.count() == 1 {
-        Ok(Some(answer))
-    } else {
-        Ok(None)
-    }
+) -> Result<(State, Outcome), AllocError> {
+    step(alloc, state, AuId::new(1), unit, &mut Steps::new())
 }
 
-/// The fault of the last unit; none where one before it has a fault too.
+/// The state after one unit more, and the unit's fault.
+fn after(
+    rt: &(impl Abort + AllocGlobal),
+    state: &State,
+    nals: &[Nal],
+) -> Result<(State, Option<ValidityFault>), Fail> {
+    let unit = written(rt, nals)?;
+    let (after, outcome) = step_once(rt.alloc(), state, &unit)?;
+    Ok((after, fault_of(&outcome)))
+}
+
+/// The fault of the last unit.
 fn last_fault(
     rt: &(impl Abort + AllocGlobal),
     units: &[&[Nal]],
 ) -> Result<Option<ValidityFault>, Fail> {
     let mut state = State::new(rt.alloc())?;
-    let mut found = None;
+    let mut last = None;
     for nals in units {
-        if found.is_some() {
-            return Ok(None);
-        }
-        let unit = written(rt, *nals)?;
-        let Some((after, outcome)) = step_once(rt.alloc(), &state, &unit)? else {
-            return Ok(None);
-        };
+        let (after, fault) = after(rt, &state, *nals)?;
         state = after;
-        found = fault_of(&outcome);
+        last = fault;
     }
-    Ok(found)
+    Ok(last)
 }
 
 fn fault_of(outcome: &Outcome) -> Option<ValidityFault> {
@@ -70,7 +69,7 @@ fn fault_of(outcome: &Outcome) -> Option<ValidityFault> {
     }
 }
 
-/// The last unit of each stream alone has its fault.
+/// The last unit of each stream has its fault.
 fn are_shown(rt: &(impl Abort + AllocGlobal), streams: &[Stream]) -> Result<(), Fail> {
     for (row, (units, fault)) in streams.iter().enumerate() {
         row_holds(rt, row, last_fault(rt, *units)? == Some(*fault));

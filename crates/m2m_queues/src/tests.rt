@@ -1,4 +1,6 @@
 mod calls;
+mod drawn;
+mod plain;
 
 use super::*;
 use calls::Answer::{Did, Done, Given, Holds, IsIn, Refused, Took};

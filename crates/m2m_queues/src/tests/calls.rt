@@ -111,7 +111,7 @@ fn holds(outcome: Result<Buffer, QueueFault>) -> Answer {
 }
 
 /// What a call on requests answers; any other is one on buffers.
-fn make_call(queues: &mut Queues<u32>, work: &mut Recorder, call: Call) -> Answer {
+pub fn make_call(queues: &mut Queues<u32>, work: &mut Recorder, call: Call) -> Answer {
     match call {
         Call::Alloc => match queues.alloc_request() {
             Ok(request) => Answer::Given(request.0),

@@ -1,18 +1,24 @@
 //! The work on a slice: its record is added to the digest of its frame.
+//!
+//! The front of a record is what the parameter sets decide. What a hasher holds goes on from all that was fed before, so
+//! only the front of a frame's first record is the front of a message: that one is kept, and taken again while the sets
+//! stay the same.
 
-ghost use Rattle.std.specs.Prelude.{◌≡◌, ◌++◌, ℕ, List, [], true, false};
+ghost use Rattle.std.specs.Prelude.{◌≡◌, ◌++◌, ℕ, List, [], IfOk, OnOk};
+ghost use Rattle.std.specs.List.{flat_map};
 ghost use Rattle.sha2.specs.Hashers.{Holds256};
 ghost use Rattle.sha2.specs.Sha256.{sha256};
-ghost use Rattle.h264_controls.specs.DigestForm.{digest_form};
-ghost use Rattle.m2m_queues.specs.Given.{given};
-ghost use Rattle.stand_in_device.specs.Pictures.{slice_record};
+ghost use Rattle.h264_controls.specs.DigestForm.{sets_form};
+ghost use Rattle.stand_in_device.specs.Inputs.{entries_of};
+ghost use Rattle.stand_in_device.specs.Pictures.{entry_bytes, size_bytes, slice_record};
 ghost use Rattle.stand_in_device.specs.SliceWorks.{Adds};
 
 use crate::input::Reference;
 use crate::picture::Picture;
 use crate::records::{feed_bytes, feed_references};
+use crate::sets_digest::SetsDigest;
 use base_types::Shared;
-use h264_controls::{References, Work, digest_form};
+use h264_controls::{References, SetControls, Work, digest_form, digest_in_two_parts, slice_form};
 use m2m_queues::{SliceWork, Target};
 use sha2::{Digest, Sha256};
 use std::alloc::{AllocError, Global};
@@ -31,6 +37,8 @@ pub(crate) struct SliceDigest {
     /// The frames that were placed, the first found by its timestamp.
     pub(crate) frames: Vec<Reference>,
     hasher: Sha256,
+    /// The front of the last frame that was begun.
+    front: Option<SetsDigest>,
     // Room for a digest form, which is used again.
     form: Vec<u8>,
 }
@@ -43,6 +51,7 @@ impl SliceDigest {
         SliceDigest {
             frames: Vec::new(alloc),
             hasher: Sha256::new(),
+            front: None,
             form: Vec::new(alloc),
         }
     }
@@ -54,6 +63,64 @@ impl SliceDigest {
         Picture {
             digest: self.hasher.finalize_reset(),
         }
+    }
+
+    /// A hasher that took the controls that the parameter sets decide.
+    fn front_of(&mut self, sets: &Shared<SetControls>) -> Result<Sha256, AllocError>
+        ensures hashed { IfOk result (λ hasher. Holds256 hasher (sets_form sets.now)) }
+        ensures frames { self.new.frames.items ≡ self.old.frames.items }
+    {
+        if let Some(front) = &self.front {
+            if front.is_of(sets) {
+                return front.hasher();
+            }
+        }
+        let front = SetsDigest::of(sets, &mut self.form)?;
+        let hasher = front.hasher();
+        self.front = Some(front);
+        hasher
+    }
+
+    /// Begins a frame with the record of a slice.
+    #[tactic(auto, unfolding(crate::specs::Pictures::slice_record))]
+    fn begin(&mut self, controls: &SliceControls, bytes: &[u8]) -> Result<(), AllocError>
+        ensures hashed { OnOk result (Holds256 self.new.hasher
+            (slice_record self.old.frames.items controls.now.work.controls controls.now.references bytes.now)) }
+        ensures frames { self.new.frames.items ≡ self.old.frames.items }
+    {
+        digest_in_two_parts();
+        let mut hasher = self.front_of(&controls.work.controls.sets)?;
+        self.form.clear();
+        slice_form(&controls.work.controls, &mut self.form)?;
+        feed_slice(
+            &mut hasher,
+            self.frames.as_slice(),
+            controls,
+            self.form.as_slice(),
+            bytes,
+        );
+        self.hasher = hasher;
+        Ok(())
+    }
+
+    /// Goes on with the record of a slice.
+    #[tactic(auto, unfolding(crate::specs::Pictures::slice_record))]
+    fn go_on(&mut self, controls: &SliceControls, bytes: &[u8]) -> Result<(), AllocError>
+        ensures hashed { OnOk result ((m : List ℕ) → Holds256 self.old.hasher m → Holds256 self.new.hasher
+            (m ++ slice_record self.old.frames.items controls.now.work.controls
+            controls.now.references bytes.now)) }
+        ensures frames { self.new.frames.items ≡ self.old.frames.items }
+    {
+        self.form.clear();
+        digest_form(&controls.work.controls, &mut self.form)?;
+        feed_slice(
+            &mut self.hasher,
+            self.frames.as_slice(),
+            controls,
+            self.form.as_slice(),
+            bytes,
+        );
+        Ok(())
     }
 }
 
@@ -67,32 +134,15 @@ impl SliceWork<SliceControls> for SliceDigest {
         _timestamp: u64,
         target: Target,
     ) -> Result<(), AllocError> {
-        self.form.clear();
-        digest_form(&controls.work.controls, &mut self.form)?;
-        begin_frame(&mut self.hasher, target.begins);
-        feed_slice(
-            &mut self.hasher,
-            self.frames.as_slice(),
-            controls,
-            self.form.as_slice(),
-            bytes,
-        );
-        Ok(())
+        if target.begins {
+            self.begin(controls, bytes)
+        } else {
+            self.go_on(controls, bytes)
+        }
     }
 }
 
-/// Starts from the empty message where a frame begins.
-fn begin_frame(hasher: &mut Sha256, begins: bool)
-    ensures fresh { begins ≡ true → Holds256 hasher.new [] }
-    ensures same { begins ≡ false → hasher.new ≡ hasher.old }
-{
-    if begins {
-        hasher.reset();
-    }
-}
-
-/// Feeds the record of a slice, whose controls have this digest form.
-#[tactic(auto, unfolding(crate::specs::Pictures::slice_record))]
+/// Feeds the form of a slice's controls, or the rest of it, and all that follows in its record.
 fn feed_slice(
     hasher: &mut Sha256,
     frames: &[Reference],
@@ -100,10 +150,9 @@ fn feed_slice(
     form: &[u8],
     bytes: &[u8],
 )
-    requires { form.now ≡ digest_form controls.now.work.controls }
     ensures { (m : List ℕ) → Holds256 hasher.old m
-        → Holds256 hasher.new (m ++ slice_record frames.now controls.now.work.controls
-        controls.now.references bytes.now) }
+        → Holds256 hasher.new (m ++ form.now ++ size_bytes bytes.now ++ bytes.now
+        ++ flat_map (entry_bytes frames.now controls.now.references) (entries_of controls.now.work.controls)) }
 {
     hasher.update(form);
     feed_bytes(hasher, bytes);

@@ -3,7 +3,7 @@
 mod refused;
 mod slices;
 
-use self::slices::{idr_slice, p_slice};
+use self::slices::{idr_slice, p_slice, two_slices};
 use crate::decoding::Decoding;
 use crate::slice_digest::SliceDigest;
 use crate::{Device, Input, Job, Picture, Reference, Undone};
@@ -25,10 +25,10 @@ const IDR_AND_P: [u8; 32] = [
     0x6B, 0xC6, 0xC0, 0x8C, 0xF1, 0xBA, 0xA8, 0x6F, 0x62, 0x95, 0x0D, 0xB2, 0xC1, 0xAC, 0xFA, 0xAC,
     0x24, 0x91, 0x2A, 0x0B, 0x56, 0xA8, 0xE0, 0xE6, 0xAC, 0x08, 0xD3, 0x02, 0xE2, 0xB4, 0x9D, 0x88,
 ];
-/// The SHA-256 of the IDR picture's record twice, 4,110 bytes.
-const TWICE: [u8; 32] = [
-    0x6B, 0xE8, 0x79, 0x6F, 0x6F, 0x5E, 0x92, 0x8C, 0x8F, 0x3E, 0xF0, 0x20, 0xD0, 0x48, 0x4F, 0x69,
-    0xB8, 0x62, 0x50, 0x18, 0x26, 0x6F, 0xD9, 0xD9, 0x7B, 0xD4, 0x95, 0x6A, 0x03, 0x08, 0x7B, 0xBB,
+/// The SHA-256 of 4,110 bytes: the records of the slices 65 88 84 80 and 65 42 21 30 of an IDR picture of two macroblocks.
+const TWO_SLICES: [u8; 32] = [
+    0x54, 0x17, 0x61, 0x10, 0x96, 0x8C, 0x2F, 0xC8, 0xE6, 0x41, 0x64, 0xE9, 0xF1, 0xC2, 0xD3, 0x48,
+    0xCF, 0x30, 0xC9, 0x20, 0x0C, 0x0E, 0xCE, 0xCA, 0x9B, 0xF6, 0xA3, 0x78, 0x61, 0x02, 0x18, 0xCF,
 ];
 
 /// The input of these requests, where the frame of unit 1 is the IDR picture.
@@ -81,9 +81,9 @@ fn a_picture_that_refers(rt: HostRuntime) -> Result<(), Fail> {
 
 #[test]
 fn a_picture_of_two_slices(rt: HostRuntime) -> Result<(), Fail> {
-    let alloc = rt.alloc();
-    let requests = vec![in alloc; idr_slice(alloc, true)?, idr_slice(alloc, false)?]?;
-    assert_picture(&rt, requests, TWICE)
+    let (first, last) = two_slices(rt.alloc())?;
+    let requests = vec![in rt.alloc(); first, last]?;
+    assert_picture(&rt, requests, TWO_SLICES)
 }
 
 /// Two slices of a picture go to one CAPTURE buffer, which is held after the first and done after the second.
@@ -91,8 +91,7 @@ fn a_picture_of_two_slices(rt: HostRuntime) -> Result<(), Fail> {
 fn two_slices_hold_one_capture_buffer(rt: HostRuntime) -> Result<(), Fail> {
     let alloc = rt.alloc();
     let mut work = SliceDigest::new(alloc);
-    let first = idr_slice(alloc, true)?;
-    let last = idr_slice(alloc, false)?;
+    let (first, last) = two_slices(alloc)?;
     assert!(rt; first.timestamp == 1000 && first.hold);
     assert!(rt; last.timestamp == 1000);
     let decoding = Decoding::open(alloc)?;

@@ -18,8 +18,8 @@ fn shared<T: Drop>(alloc: Global, value: T) -> Result<Shared<T>, AllocError> {
     Ok(Shared::new(alloc, value)?)
 }
 
-/// The sequence parameter set 67 42 00 0A DA 79.
-fn sps() -> V4l2CtrlH264Sps {
+/// The sequence parameter set 67 42 00 0A DA 79, or 67 42 00 0A DA 2E 40, whose pictures have another macroblock.
+fn sps(pic_width_in_mbs_minus1: u16) -> V4l2CtrlH264Sps {
     V4l2CtrlH264Sps {
         profile_idc: 66,
         constraint_set_flags: [false; 6],
@@ -36,7 +36,7 @@ fn sps() -> V4l2CtrlH264Sps {
         offset_for_ref_frame: [0; 255],
         offset_for_non_ref_pic: 0,
         offset_for_top_to_bottom_field: 0,
-        pic_width_in_mbs_minus1: 0,
+        pic_width_in_mbs_minus1,
         pic_height_in_map_units_minus1: 0,
         flags: SpsFlags {
             separate_colour_plane: false,
@@ -155,11 +155,12 @@ fn p_picture(alloc: Global) -> Result<V4l2CtrlH264DecodeParams, AllocError> {
 /// Flat lists, and no weights.
 fn controls(
     alloc: Global,
+    sps: V4l2CtrlH264Sps,
     slice_params: V4l2CtrlH264SliceParams,
     decode_params: V4l2CtrlH264DecodeParams,
 ) -> Result<Controls, AllocError> {
     let sets = SetControls {
-        sps: shared(alloc, sps())?,
+        sps: shared(alloc, sps)?,
         pps: pps(),
         scaling_matrix: V4l2CtrlH264ScalingMatrix {
             scaling_list_4x4: [[16; 16]; 6],
@@ -197,13 +198,35 @@ fn request(
 /// A slice of the IDR picture that is unit 1.
 pub(super) fn idr_slice(alloc: Global, hold: bool) -> Result<Request, AllocError> {
     let slice_params = slice_params(alloc, 25, SliceType::I, &List::new())?;
-    let controls = controls(
-        alloc,
-        slice_params,
-        idr_picture(Dpb::with_capacity(alloc, 0)?),
-    )?;
+    let picture = idr_picture(Dpb::with_capacity(alloc, 0)?);
+    let controls = controls(alloc, sps(0), slice_params, picture)?;
     let bytes = [0, 0, 1, 0x65, 0x88, 0x84, 0x80];
     request(alloc, 1, controls, &bytes, Vec::new(alloc), hold)
+}
+
+/// The slices 65 88 84 80 and 65 42 21 30 of an IDR picture of two macroblocks, which is unit 1.
+pub(super) fn two_slices(alloc: Global) -> Result<(Request, Request), AllocError> {
+    Ok((
+        slice_of_two(alloc, 25, 0, &[0, 0, 1, 0x65, 0x88, 0x84, 0x80], true)?,
+        slice_of_two(alloc, 27, 1, &[0, 0, 1, 0x65, 0x42, 0x21, 0x30], false)?,
+    ))
+}
+
+/// One of them: the size of its header, its first macroblock and its bytes.
+fn slice_of_two(
+    alloc: Global,
+    bits: u32,
+    first_mb_in_slice: u32,
+    bytes: &[u8],
+    hold: bool,
+) -> Result<Request, AllocError> {
+    let slice_params = V4l2CtrlH264SliceParams {
+        first_mb_in_slice,
+        ..slice_params(alloc, bits, SliceType::I, &List::new())?
+    };
+    let picture = idr_picture(Dpb::with_capacity(alloc, 0)?);
+    let controls = controls(alloc, sps(1), slice_params, picture)?;
+    request(alloc, 1, controls, bytes, Vec::new(alloc), hold)
 }
 
 /// The slice of the P picture that is unit 2, whose list 0 has this entry; unit 1 is the one frame that it may name.
@@ -211,7 +234,7 @@ pub(super) fn p_slice(alloc: Global, entry: Option<u8>) -> Result<Request, Alloc
     let mut entries = ArrayVec::new();
     let _ = entries.try_push(entry);
     let slice_params = slice_params(alloc, 23, SliceType::P, &List { entries })?;
-    let controls = controls(alloc, slice_params, p_picture(alloc)?)?;
+    let controls = controls(alloc, sps(0), slice_params, p_picture(alloc)?)?;
     let mut references = Vec::new(alloc);
     references.push(AuId::new(1))?;
     request(

@@ -1,0 +1,63 @@
+//! The digest of what the parameter sets decide: the front of a picture's first record, kept for the pictures after it.
+
+ghost use Rattle.std.specs.Prelude.{◌≡◌, ◌↔◌, IfOk, IsTrue};
+ghost use Rattle.sha2.specs.Hashers.{Holds256};
+ghost use Rattle.h264_controls.specs.DigestForm.{sets_form};
+
+use base_types::Shared;
+use h264_controls::{SetControls, sets_form};
+use sha2::{Digest, Sha256};
+use std::alloc::AllocError;
+use std::marker::Model;
+
+/// A hasher that took the form of the controls of parameter sets. Clauses see the controls.
+#[derive(Drop)]
+pub(crate) struct SetsDigest {
+    sets: Shared<SetControls>,
+    hasher: Sha256,
+}
+
+impl Model for SetsDigest {
+    ghost use Rattle.sha2.specs.Hashers.{Holds256};
+    ghost use Rattle.h264_controls.specs.DigestForm.{sets_form};
+    ghost use Rattle.h264_controls.specs.declared.set_controls.SetControls.{SetControls};
+
+    ghost Value = { SetControls };
+
+    ghost view = { λ digest. digest.sets };
+
+    ghost invariant = { λ digest. Holds256 digest.hasher (sets_form digest.sets) };
+}
+
+impl SetsDigest {
+    /// The digest of these controls, whose form is put together in `form`.
+    pub(crate) fn of(
+        sets: &Shared<SetControls>,
+        form: &mut Vec<u8>,
+    ) -> Result<SetsDigest, AllocError>
+        ensures { IfOk result (λ digest. digest ≡ sets.now) }
+    {
+        form.clear();
+        sets_form(sets, form)?;
+        let mut hasher = Sha256::new();
+        hasher.update(form.as_slice());
+        Ok(SetsDigest {
+            sets: sets.clone()?,
+            hasher,
+        })
+    }
+
+    /// Whether it is the digest of these controls.
+    pub(crate) fn is_of(&self, sets: &SetControls) -> bool
+        ensures { IsTrue result ↔ (self.now ≡ sets.now) }
+    {
+        self.sets.is_same(sets)
+    }
+
+    /// A hasher that took the form of the controls.
+    pub(crate) fn hasher(&self) -> Result<Sha256, AllocError>
+        ensures { IfOk result (λ hasher. Holds256 hasher (sets_form self.now)) }
+    {
+        self.hasher.clone()
+    }
+}

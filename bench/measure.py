@@ -43,10 +43,10 @@ def small_process():
     return concurrent.futures.ProcessPoolExecutor(1, multiprocessing.get_context("spawn"))
 
 
-def run(command, folder):
+def run(command, folder, repeats=REPEATS):
     """The best seconds of several runs, and the peak bytes; output and log lie in the folder."""
     runs = []
-    for _ in range(REPEATS):
+    for _ in range(repeats):
         *measured, status = small_process().submit(once, command, folder / "output", folder / "log").result()
         if status != 0:
             sys.exit(f"{command[0]} ended with status {status}")

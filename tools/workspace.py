@@ -16,7 +16,12 @@ def crates():
 
 def below(name):
     """The crates that a crate stands on, in the order of crates.txt."""
-    listed, found, left = crates(), set(), [name]
+    return below_all(crates()[name])
+
+
+def below_all(names):
+    """These crates and those that they stand on, in the order of crates.txt."""
+    listed, found, left = crates(), set(names), list(names)
     while left:
         more = set(listed[left.pop()]) - found
         found |= more

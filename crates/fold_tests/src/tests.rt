@@ -1,3 +1,4 @@
 mod fold;
+mod keys;
 mod shown_order;
 mod texts;

@@ -1,13 +1,29 @@
 //! Laws of the definitions, each the contract of a function that does nothing.
 
-ghost use Rattle.std.specs.Prelude.{◌≡◌};
+ghost use Rattle.std.specs.Prelude.{◌≡◌, List};
+ghost use Rattle.h264_controls.specs.declared.request.Request.{Request};
+ghost use Rattle.h264_controls.specs.declared.work.Work.{Work};
+ghost use Rattle.dep_keys.specs.KeyMaps.{AreLive, KeyMap, tree_of};
 ghost use Rattle.stand_in_device.specs.Inputs.{InputValue};
 ghost use Rattle.stand_in_device.specs.Pictures.{picture_of};
+ghost use Rattle.picture_keys.specs.Keys.{works_of};
 ghost use Rattle.picture_keys.specs.Known.{Known, key_of};
+ghost use Rattle.picture_keys.specs.Numbered.{AreNumbered, Numbers, numbers_named};
 ghost use Rattle.picture_keys.specs.KeyPictures.{ShowsKnown, picture_of_key};
 
 /// Where the pictures that an input refers to are those of the keys that are known, its own picture is that of its key.
 pub fn picture_is_that_of_its_key()
     ensures { (known : Known) (input : InputValue) → ShowsKnown known input
         → picture_of input ≡ picture_of_key (key_of known input.requests) }
+{}
+
+/// Where numbers stand for the keys that are known, the node that is made over them names live keys alone, and its tree
+/// is the key.
+pub fn node_is_that_of_its_key()
+    ensures tree { (keys : KeyMap (List Work)) (numbers : Numbers) (known : Known) (requests : List Request)
+        → AreNumbered keys numbers known
+        → tree_of keys (record { work = works_of requests; entries = numbers_named numbers requests })
+        ≡ key_of known requests }
+    ensures live { (keys : KeyMap (List Work)) (numbers : Numbers) (known : Known) (requests : List Request)
+        → AreNumbered keys numbers known → AreLive keys (numbers_named numbers requests) }
 {}

@@ -10,7 +10,7 @@ mod nodes;
 mod numbers;
 mod works;
 
-pub use laws::picture_is_that_of_its_key;
+pub use laws::{node_is_that_of_its_key, picture_is_that_of_its_key};
 pub use nodes::node_of;
 pub use numbers::KeyNumbers;
 pub use works::Works;

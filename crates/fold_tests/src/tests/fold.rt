@@ -28,7 +28,7 @@ const P1: [u8; 6] = [0, 0, 1, 0x41, 0x9A, 0x23];
 const P2: [u8; 6] = [0, 0, 1, 0x41, 0x9A, 0x43];
 
 /// The access unit of a text that is one, unless memory is wanted.
-fn unit(rt: &(impl Abort + AllocGlobal), text: &[u8]) -> Result<Unit, AllocError> {
+pub(super) fn unit(rt: &(impl Abort + AllocGlobal), text: &[u8]) -> Result<Unit, AllocError> {
     match read_unit(rt.alloc(), text) {
         Ok(unit) => Ok(unit),
         Err(Refused::Memory) => Err(AllocError),

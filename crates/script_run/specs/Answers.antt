@@ -1,11 +1,13 @@
 -- The lines that answer the commands of a script (docs/OUTPUT.md).
-use Rattle.std.specs.Prelude.{ℕ, ◌++◌, List, codes, decimal, Result, Ok, Err, Option, Some, None}
-use Rattle.outcomes.specs.declared.outcome.Outcome.{Outcome}
+use Rattle.std.specs.Prelude.{ℕ, ◌++◌, List, codes, decimal, Result, Ok, Err}
 use Rattle.edit_engine.specs.declared.receipts.Receipt.{Receipt}
 use Rattle.edit_engine.specs.declared.refusals.EditRefused.{EditRefused}
+use Rattle.edit_engine.specs.declared.refusals.NoSuchUnit.{NoSuchUnit}
+use Rattle.edit_engine.specs.declared.replies.Reply.{Reply}
+use Rattle.edit_engine.specs.declared.replies.Reply.TheVariants as replies
+use Rattle.edit_engine.specs.declared.replies.UnitReport.{UnitReport}
 use Rattle.edit_engine.specs.Names.{name_of}
 use Rattle.edit_engine.specs.Numbers.{number_of}
-use Rattle.edit_engine.specs.Streams.{Stream, outcome_in, position_in}
 use Rattle.unit_lines.specs.UnitLines.{outcome_lines}
 use Rattle.edit_script.specs.Words.{id_of}
 
@@ -32,13 +34,12 @@ loaded_line count = codes "loaded " ++ (decimal count ++ codes "\n")
 abbrev pub no_unit_line : ℕ → List ℕ
 no_unit_line number = codes "unit " ++ (decimal number ++ codes " none\n")
 
--- the lines of a unit that is looked for: of what becomes of it, if it's there
-abbrev pub found_lines : ℕ → Option Outcome → Option (Option ℕ) → List ℕ
-found_lines number (Some outcome) (Some position) = outcome_lines (id_of number) position outcome
-found_lines number (Some outcome) None = no_unit_line number
-found_lines number None position = no_unit_line number
+-- the lines of what is reported of the unit of a number
+abbrev pub report_lines : ℕ → Result UnitReport NoSuchUnit → List ℕ
+report_lines number (Ok report) = outcome_lines (id_of number) report.position report.outcome
+report_lines number (Err none) = no_unit_line number
 
--- the lines of the unit of a number
-abbrev pub number_lines : Stream → ℕ → List ℕ
-number_lines stream number =
-    found_lines number (outcome_in stream (id_of number)) (position_in stream (id_of number))
+-- the lines of a session's reply; that of a unit names the number that was asked for
+abbrev pub reply_lines : ℕ → Reply → List ℕ
+reply_lines number (replies.Edit answer) = edit_line answer
+reply_lines number (replies.Unit report) = report_lines number report

@@ -1,5 +1,5 @@
 -- The run of a script's commands on a session, and what it writes (docs/OUTPUT.md).
-use Rattle.std.specs.Prelude.{◌≡◌, ℕ, ◌-◌, ◌≤◌, ◌++◌, List, [], ◌∷◌, length, Result, Ok, Err, Option, Some, None, IfSome, ◌⊎◌}
+use Rattle.std.specs.Prelude.{◌≡◌, ℕ, ◌-◌, ◌≤◌, ◌++◌, List, [], ◌∷◌, length, Ok, Err, Option, Some, None, IfSome, ◌⊎◌}
 use Rattle.std.specs.Io.KnownBytes.{Appends}
 use Rattle.std.specs.List.{AllZip, filter}
 use Rattle.annexb.specs.ByteStream.{joined}
@@ -8,13 +8,19 @@ use Rattle.edit_engine.specs.declared.edits.Place.{Place}
 use Rattle.edit_engine.specs.declared.edits.Place.TheVariants.{First, After}
 use Rattle.edit_engine.specs.declared.receipts.Receipt.{Receipt}
 use Rattle.edit_engine.specs.declared.refusals.EditRefused.{EditRefused}
-use Rattle.edit_engine.specs.Machines.{Machine, empty, AnswersEdit, last_of}
+use Rattle.edit_engine.specs.declared.commands.Command.{Command as Told}
+use Rattle.edit_engine.specs.declared.commands.Command.TheVariants as told
+use Rattle.edit_engine.specs.declared.replies.Reply.{Reply}
+use Rattle.edit_engine.specs.declared.replies.Reply.TheVariants as replies
+use Rattle.edit_engine.specs.Machines.{Machine, empty, last_of}
+use Rattle.edit_engine.specs.Runs.{Answers as Replies}
 use Rattle.edit_engine.specs.Streams.{Stream}
-use Rattle.script_run.specs.Answers.{edit_line, refused_line, loaded_line, number_lines}
+use Rattle.script_run.specs.Answers.{refused_line, loaded_line, reply_lines}
 use Rattle.console_io.specs.Inputs.{Files}
 use Rattle.access_unit.specs.Rooms.{IsStream, IsStreamRefused, most_units}
 use Rattle.unit_lines.specs.Refusals.{refusal_text}
 use Rattle.edit_script.specs.Scripts.{lines_of, is_read, IsLine}
+use Rattle.edit_script.specs.Words.{id_of}
 use Rattle.edit_script.specs.declared.commands.Command.{Command}
 use Rattle.edit_script.specs.declared.commands.Command.TheVariants as command
 use Rattle.access_unit.specs.declared.room.Refusal.{Refusal}
@@ -34,9 +40,10 @@ abbrev pub InsertsAll : ℕ → Machine → List (List (List ℕ)) → List ℕ 
 InsertsAll count old [] lines new = (lines ≡ loaded_line count) × (new ≡ old)
 InsertsAll count old (part ∷ parts) lines new =
     ((receipt : Receipt) × (next : Machine)
-    × AnswersEdit old (Insert (end_of old.register.stream) (joined part)) (Ok receipt) next
+    × Replies old (told.Edit (Insert (end_of old.register.stream) (joined part))) (replies.Edit (Ok receipt)) next
     × InsertsAll count next parts lines new)
-    ⊎ ((refused : EditRefused) × AnswersEdit old (Insert (end_of old.register.stream) (joined part)) (Err refused) new
+    ⊎ ((refused : EditRefused)
+    × Replies old (told.Edit (Insert (end_of old.register.stream) (joined part))) (replies.Edit (Err refused)) new
     × (lines ≡ refused_line refused))
 
 -- for how many more units a stream has room
@@ -51,13 +58,16 @@ Loads old text lines new =
     ⊎ ((refusal : Refusal) × IsStreamRefused text (room_of old.register.stream) refusal
     × (lines ≡ refusal_text refusal) × (new ≡ old))
 
+-- the session replies to what it is told, and the lines are those of its reply; the number is the one asked for
+abbrev pub Follows : Machine → Told → ℕ → List ℕ → Machine → Type 0
+Follows old told number lines new = (reply : Reply) × Replies old told reply new × (lines ≡ reply_lines number reply)
+
 -- a command is answered by the lines, and leads from one state of the session to the other
 abbrev pub Answers : Files → Machine → Command → List ℕ → Machine → Type 0
-Answers files old (command.Edit edit) lines new =
-    (answer : Result Receipt EditRefused) × AnswersEdit old edit answer new × (lines ≡ edit_line answer)
+Answers files old (command.Edit edit) lines new = Follows old (told.Edit edit) 0 lines new
 Answers files old (command.Load path) lines new =
     (text : List ℕ) × IfSome (files path.now) (λ bytes. text ≡ bytes) × Loads old text lines new
-Answers files old (command.Unit number) lines new = (lines ≡ number_lines old.register.stream number) × (new ≡ old)
+Answers files old (command.Unit number) lines new = Follows old (told.Unit (id_of number)) number lines new
 
 -- the commands are answered one after the other, by these lines in all
 abbrev pub Runs : Files → Machine → List Command → List ℕ → Machine → Type 0

@@ -3,7 +3,7 @@
 ghost use Rattle.std.specs.Prelude.{◌≡◌, ℕ, List, length, IfErr, IfOk, IfSome, string_bytes};
 ghost use Rattle.annexb.specs.ByteStream.{joined};
 ghost use Rattle.edit_engine.specs.declared.edits.Edit.TheVariants.{Insert};
-ghost use Rattle.edit_engine.specs.Machines.{AnswersEdit};
+ghost use Rattle.edit_engine.specs.Runs.{Answers as Replies};
 ghost use Rattle.script_run.specs.RunFaults.{IsLoadFault};
 ghost use Rattle.script_run.specs.Running.{end_of, InsertsAll, Loads};
 
@@ -12,7 +12,7 @@ use crate::run_fault::RunFault;
 use access_unit::{MOST_UNITS, ReadFault, SharedNal, Unit, read_units};
 use bytes::Bytes;
 use console_io::Source;
-use edit_engine::{Edit, EditRefused, Place, Receipt, Session};
+use edit_engine::{Command as Told, Edit, EditRefused, Place, Receipt, Reply, Runner, Session};
 use std::alloc::{AllocError, Global};
 use std::thread::Threads;
 use unit_lines::RefusalLine;
@@ -23,11 +23,11 @@ pub fn load<'a, S: Source>(
     threads: &(impl Threads + Sync),
     alloc: Global,
     path: &'a str,
-    session: &mut Session,
+    runner: &mut Runner,
     source: &mut S,
 ) -> Result<String, RunFault<'a>>
     ensures ok { IfOk result (λ lines. (text : List ℕ) × IfSome (S.file source.old path.now) (λ bytes. text ≡ bytes)
-        × Loads session.old text (string_bytes lines) session.new) }
+        × Loads runner.old text (string_bytes lines) runner.new) }
     ensures kept { (name : List ℕ) → S.file source.new name ≡ S.file source.old name }
     ensures named { IfErr result (IsLoadFault path.entry) }
 {
@@ -35,22 +35,22 @@ pub fn load<'a, S: Source>(
         Ok(text) => text,
         Err(fault) => return Err(RunFault::of_input(fault, path)),
     };
-    let room = MOST_UNITS.saturating_sub(session.last().units);
+    let room = MOST_UNITS.saturating_sub(runner.session().last().units);
     match read_units(threads, alloc, text.as_slice(), room) {
-        Ok(units) => Ok(insert_all(alloc, units, session)?),
+        Ok(units) => Ok(insert_all(alloc, units, runner)?),
         Err(ReadFault::Refused(refusal)) => Ok(RefusalLine(refusal).to_string(alloc)?),
         Err(ReadFault::Memory) => Err(RunFault::Memory),
     }
 }
 
 /// Inserts the units after the last one, and gives the line that says how many, or why one is refused.
-fn insert_all(alloc: Global, units: Vec<Unit>, session: &mut Session) -> Result<String, AllocError>
+fn insert_all(alloc: Global, units: Vec<Unit>, runner: &mut Runner) -> Result<String, AllocError>
     ensures { IfOk result (λ lines.
-        InsertsAll (length units.items) session.old units.items (string_bytes lines) session.new) }
+        InsertsAll (length units.items) runner.old units.items (string_bytes lines) runner.new) }
 {
     let count = units.len();
     for unit in units {
-        if let Err(refused) = insert_last(alloc, &unit, session) {
+        if let Err(refused) = insert_last(alloc, &unit, runner) {
             return RefusedLine(refused).to_string(alloc);
         }
     }
@@ -58,12 +58,16 @@ fn insert_all(alloc: Global, units: Vec<Unit>, session: &mut Session) -> Result<
 }
 
 /// Inserts a unit after the last one.
-fn insert_last(alloc: Global, unit: &Unit, session: &mut Session) -> Result<Receipt, EditRefused>
-    ensures { AnswersEdit session.old (Insert (end_of session.old.register.stream) (joined unit.now))
-        result session.new }
+fn insert_last(alloc: Global, unit: &Unit, runner: &mut Runner) -> Result<Receipt, EditRefused>
+    ensures { Replies runner.old (Told.Edit (Insert (end_of runner.old.register.stream) (joined unit.now)))
+        (Reply.Edit result) runner.new }
 {
-    let place = end_of(session);
-    session.edit(Edit::Insert(place, text_of(alloc, unit.nals())?))
+    let place = end_of(runner.session());
+    let edit = Edit::Insert(place, text_of(alloc, unit.nals())?);
+    match runner.step(Told::Edit(edit))? {
+        Reply::Edit(answer) => answer,
+        Reply::Unit(_) => unreachable!(),
+    }
 }
 
 /// The place after the last unit.

@@ -2,12 +2,12 @@
 
 ghost use Rattle.std.specs.Prelude.{◌≡◌, ◌≢◌, ℕ, List, IfErr, IfOk, IfSome, OnOk, string_bytes};
 ghost use Rattle.std.specs.Io.KnownBytes.{Keeps};
-ghost use Rattle.script_run.specs.Answers.{edit_line, number_lines};
+ghost use Rattle.script_run.specs.Answers.{report_lines};
 ghost use Rattle.console_io.specs.Messages.{Tells};
 ghost use Rattle.script_run.specs.Messages.{run_fault_text};
 ghost use Rattle.script_run.specs.RunFaults.{IsCommandFault};
 ghost use Rattle.script_run.specs.declared.run_fault.RunFault.{RunFault};
-ghost use Rattle.script_run.specs.Running.{Answers, WritesRun, WritesScript};
+ghost use Rattle.script_run.specs.Running.{Answers, Follows, WritesRun, WritesScript};
 ghost use Rattle.script_run.specs.Stops.{StopsAt, StopsBy, StopsText};
 
 use crate::answers::{AcceptedLine, NoUnitLine, RefusedLine};
@@ -16,7 +16,7 @@ use crate::messages::say_run_fault;
 use crate::options::Options;
 use crate::run_fault::RunFault;
 use console_io::{Ended, Source, Status, whole_input, write_bytes};
-use edit_engine::{Config, EditRefused, Receipt, Session};
+use edit_engine::{Command as Told, Config, NoSuchUnit, Reply, Runner, Session, UnitReport};
 use edit_script::{Command, id_of_number, read_script};
 use std::alloc::{AllocError, Global};
 use std::io::{Read, Write};
@@ -77,10 +77,11 @@ fn run_text<'a, S: Source, W: Write>(
     let commands = read_script(alloc, text)?;
     let cache = options.cache;
     // The options are in range.
-    let Ok(mut session) = Session::new(alloc, Config { cache }) else {
+    let Ok(session) = Session::new(alloc, Config { cache }) else {
         return Err(RunFault::Memory);
     };
-    run_commands(threads, alloc, commands, &mut session, source, writer)
+    let mut runner = Runner::new(alloc, session);
+    run_commands(threads, alloc, commands, &mut runner, source, writer)
 }
 
 /// Runs the commands one after the other, and writes what each one prints.
@@ -88,18 +89,18 @@ fn run_commands<'a, S: Source, W: Write>(
     threads: &(impl Threads + Sync),
     alloc: Global,
     commands: Vec<Command<'a>>,
-    session: &mut Session,
+    runner: &mut Runner,
     source: &mut S,
     writer: &mut W,
 ) -> Result<(), RunFault<'a>>
     ensures ok { OnOk result
-        (WritesRun (S.file source.old) session.old commands.entry.items session.new
+        (WritesRun (S.file source.old) runner.old commands.entry.items runner.new
         (W.contents writer.old) (W.contents writer.new)) }
-    ensures stops { IfErr result (λ fault. StopsAt (S.file source.old) session.old commands.entry.items fault
+    ensures stops { IfErr result (λ fault. StopsAt (S.file source.old) runner.old commands.entry.items fault
         (W.contents writer.old) (W.contents writer.new)) }
 {
     for command in commands {
-        let lines = run_command(threads, alloc, command, session, source)?;
+        let lines = run_command(threads, alloc, command, runner, source)?;
         write_bytes(writer, lines.as_bytes())?;
     }
     Ok(())
@@ -110,43 +111,51 @@ fn run_command<'a, S: Source>(
     threads: &(impl Threads + Sync),
     alloc: Global,
     command: Command<'a>,
-    session: &mut Session,
+    runner: &mut Runner,
     source: &mut S,
 ) -> Result<String, RunFault<'a>>
     ensures ok { IfOk result (λ lines.
-        Answers (S.file source.old) session.old command.entry (string_bytes lines) session.new) }
+        Answers (S.file source.old) runner.old command.entry (string_bytes lines) runner.new) }
     ensures kept { (name : List ℕ) → S.file source.new name ≡ S.file source.old name }
     ensures named { IfErr result (IsCommandFault command.entry) }
 {
     match command {
-        Command::Edit(edit) => Ok(edit_answer(alloc, session.edit(edit))?),
-        Command::Load { path } => load(threads, alloc, path, session, source),
-        Command::Unit { number } => Ok(unit_answer(alloc, session, number)?),
+        Command::Edit(edit) => Ok(follow(alloc, runner, Told::Edit(edit), 0)?),
+        Command::Load { path } => load(threads, alloc, path, runner, source),
+        Command::Unit { number } => {
+            let told = Told::Unit(id_of_number(number));
+            Ok(follow(alloc, runner, told, number)?)
+        }
     }
 }
 
-/// The line that answers an edit.
-fn edit_answer(alloc: Global, answer: Result<Receipt, EditRefused>) -> Result<String, AllocError>
-    ensures { IfOk result (λ line. string_bytes line ≡ edit_line answer) }
+/// Tells the session something that asks for this number, and gives the lines of its reply.
+fn follow(alloc: Global, runner: &mut Runner, told: Told, number: u64) -> Result<String, AllocError>
+    ensures { IfOk result (λ lines. Follows runner.old told number (string_bytes lines) runner.new) }
 {
-    match answer {
-        Ok(receipt) => AcceptedLine(receipt).to_string(alloc),
-        Err(refused) => RefusedLine(refused).to_string(alloc),
+    let reply = runner.step(told)?;
+    match reply {
+        Reply::Edit(Ok(receipt)) => AcceptedLine(receipt).to_string(alloc),
+        Reply::Edit(Err(refused)) => RefusedLine(refused).to_string(alloc),
+        Reply::Unit(report) => report_lines(alloc, number, &report),
     }
 }
 
-/// The lines of the unit of this number: what becomes of it, or that there is none.
-fn unit_answer(alloc: Global, session: &Session, number: u64) -> Result<String, AllocError>
-    ensures { IfOk result (λ lines. string_bytes lines ≡ number_lines session.now.register.stream number) }
+/// The lines of what is reported of the unit of this number: what becomes of it, or that there is none.
+fn report_lines(
+    alloc: Global,
+    number: u64,
+    report: &Result<UnitReport, NoSuchUnit>,
+) -> Result<String, AllocError>
+    ensures { IfOk result (λ lines. string_bytes lines ≡ report_lines number report.now) }
 {
-    let id = id_of_number(number);
-    let (Ok(outcome), Ok(position)) = (session.outcome(id), session.position(id)) else {
-        return NoUnitLine(number).to_string(alloc);
-    };
-    let lines = UnitLines {
-        id,
-        outcome,
-        position,
-    };
-    lines.to_string(alloc)
+    match report {
+        Ok(report) => UnitLines {
+            id: id_of_number(number),
+            outcome: &report.outcome,
+            position: report.position,
+        }
+        .to_string(alloc),
+        Err(NoSuchUnit) => NoUnitLine(number).to_string(alloc),
+    }
 }

@@ -6,5 +6,5 @@ use Rattle.script_run.proofs.loading.insert_all.Given as goal
 
 abbrev pub invariant-loop-unit : goal.invariant-loop-unit
 invariant-loop-unit l = (lines : List ℕ) (new : Machine)
-    → InsertsAll (length l.fn.units.items) l.session (into_iter_items l.unit-iterator) lines new
-    → InsertsAll (length l.fn.units.items) l.fn.session l.fn.units.items lines new
+    → InsertsAll (length l.fn.units.items) l.runner (into_iter_items l.unit-iterator) lines new
+    → InsertsAll (length l.fn.units.items) l.fn.runner l.fn.units.items lines new

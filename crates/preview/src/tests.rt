@@ -2,6 +2,7 @@
 
 mod controls;
 mod examples;
+mod limits;
 mod loads;
 mod programs;
 mod refused;

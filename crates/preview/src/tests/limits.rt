@@ -1,0 +1,130 @@
+//! As many units of a stream and lines of a script as there can be, and more.
+
+use super::P1;
+use super::scripts::run_script;
+use access_unit::{ReadFault, Refusal, read_units};
+use console_io::Status;
+use plan_stream::plan_on;
+use std::alloc::{AllocError, Global};
+use std::process::Abort;
+use std::test::Fail;
+use std::thread::Threads;
+
+/// Asserts what a row of a table says.
+pub(super) fn row_holds(rt: &impl Abort, row: usize, holds: bool) {
+    assert!(rt; holds, "row {row}");
+}
+
+/// The bytes so many times.
+fn repeated(alloc: Global, bytes: &[u8], times: u32) -> Result<Vec<u8>, AllocError> {
+    let mut text = Vec::new(alloc);
+    for _ in 0..times {
+        text.extend_from_slice(bytes)?;
+    }
+    Ok(text)
+}
+
+/// How many units are read of so many, where there is room for so many.
+fn units_read(
+    rt: &(impl Abort + AllocGlobal + Threads + Sync),
+    count: u32,
+    room: usize,
+) -> Result<Result<usize, ReadFault>, AllocError> {
+    let text = repeated(rt.alloc(), &P1, count)?;
+    match read_units(rt, rt.alloc(), &text, room) {
+        Ok(units) => Ok(Ok(units.len())),
+        Err(fault) => Ok(Err(fault)),
+    }
+}
+
+const FULL: Result<usize, ReadFault> = Err(ReadFault::Refused(Refusal::StreamFull));
+
+/// How many units a stream has, for how many there is room, and what is read.
+const ROOMS: [(u32, usize, Result<usize, ReadFault>); 9] = [
+    (1, 0, FULL),
+    (1, 1, Ok(1)),
+    (2, 1, FULL),
+    (16, 16, Ok(16)),
+    (17, 16, FULL),
+    (1_024, 1_024, Ok(1_024)),
+    (1_025, 1_024, FULL),
+    (65_536, 65_536, Ok(65_536)),
+    (65_537, 65_536, FULL),
+];
+
+#[test]
+fn reads_as_many_units_as_there_is_room_for(rt: HostRuntime) -> Result<(), Fail> {
+    for (row, (count, room, read)) in ROOMS.iter().enumerate() {
+        row_holds(&rt, row, units_read(&rt, *count, *room)? == *read);
+    }
+    Ok(())
+}
+
+/// The lines of so many units without parameter sets.
+fn missing_sets(alloc: Global, count: u32) -> Result<String, AllocError> {
+    let mut lines = String::new(alloc);
+    for id in 1..=count {
+        lines.writeln(format_args!("unit {id} fault 1 MissingPps"))?;
+    }
+    Ok(lines)
+}
+
+/// Whether the text is planned to its end, and just these lines are printed.
+fn is_planned(rt: &(impl Abort + AllocGlobal + Threads + Sync), text: &[u8], lines: &[u8]) -> bool {
+    let (mut output, mut errors) = (Vec::new(rt.alloc()), Vec::new(rt.alloc()));
+    let mut reader = text;
+    let ended = plan_on(rt, rt.alloc(), "-", &mut reader, &mut output, &mut errors);
+    ended.status == Status::Success && output.as_slice() == lines && errors.is_empty()
+}
+
+#[test]
+fn plans_65_536_units(rt: HostRuntime) -> Result<(), Fail> {
+    let text = repeated(rt.alloc(), &P1, 65_536)?;
+    let lines = missing_sets(rt.alloc(), 65_536)?;
+    assert!(rt; is_planned(&rt, &text, lines.as_bytes()));
+    Ok(())
+}
+
+/// Whether a script ends so, and writes just these texts.
+fn ends_as(
+    rt: &(impl Abort + AllocGlobal + Threads + Sync),
+    script: &[u8],
+    status: Status,
+    lines: &[u8],
+    message: &[u8],
+) -> bool {
+    let (ended, output, errors) = run_script(rt, script, &[]);
+    ended == status && output.as_slice() == lines && errors.as_slice() == message
+}
+
+/// A script of so many lines is answered line by line, and one of as many lines and a wrong one isn't run.
+fn runs_lines(
+    rt: &(impl Abort + AllocGlobal + Threads + Sync),
+    count: u32,
+    message: &str,
+) -> Result<bool, AllocError> {
+    let mut script = repeated(rt.alloc(), b"unit 7\n", count)?;
+    let lines = repeated(rt.alloc(), b"unit 7 none\n", count)?;
+    let runs = ends_as(rt, &script, Status::Success, &lines, b"");
+    script.extend_from_slice(b"unit\n")?;
+    Ok(runs && ends_as(rt, &script, Status::Failure, b"", message.as_bytes()))
+}
+
+/// How many lines a script has, and what is told of the wrong one after them.
+const LINES: [(u32, &str); 7] = [
+    (0, "script fault at line 1\n"),
+    (15, "script fault at line 16\n"),
+    (16, "script fault at line 17\n"),
+    (1_024, "script fault at line 1025\n"),
+    (65_535, "script fault at line 65536\n"),
+    (65_536, "script fault at line 65537\n"),
+    (100_000, "script fault at line 100001\n"),
+];
+
+#[test]
+fn runs_scripts_of_many_lines(rt: HostRuntime) -> Result<(), Fail> {
+    for (row, (count, message)) in LINES.iter().enumerate() {
+        row_holds(&rt, row, runs_lines(&rt, *count, message)?);
+    }
+    Ok(())
+}

@@ -1,6 +1,6 @@
 //! The digest of what the parameter sets decide: the front of a picture's first record, kept for the pictures after it.
 
-ghost use Rattle.std.specs.Prelude.{◌≡◌, ◌↔◌, IfOk, IsTrue};
+ghost use Rattle.std.specs.Prelude.{◌≡◌, ◌↔◌, ◌++◌, IfOk, IsTrue, OnOk};
 ghost use Rattle.sha2.specs.Hashers.{Holds256};
 ghost use Rattle.h264_controls.specs.DigestForm.{sets_form};
 
@@ -10,23 +10,23 @@ use sha2::{Digest, Sha256};
 use std::alloc::AllocError;
 use std::marker::Model;
 
-/// A hasher that took the form of the controls of parameter sets. Clauses see the controls.
+/// The form of the controls of parameter sets, and a hasher that took it. Clauses see the controls.
 #[derive(Drop)]
 pub(crate) struct SetsDigest {
     sets: Shared<SetControls>,
+    form: Vec<u8>,
     hasher: Sha256,
 }
 
 impl Model for SetsDigest {
-    ghost use Rattle.sha2.specs.Hashers.{Holds256};
-    ghost use Rattle.h264_controls.specs.DigestForm.{sets_form};
     ghost use Rattle.h264_controls.specs.declared.set_controls.SetControls.{SetControls};
+    ghost use Rattle.stand_in_device.specs.Fronts.{IsFront};
 
     ghost Value = { SetControls };
 
     ghost view = { λ digest. digest.sets };
 
-    ghost invariant = { λ digest. Holds256 digest.hasher (sets_form digest.sets) };
+    ghost invariant = { λ digest. IsFront digest.sets digest.form.items digest.hasher };
 }
 
 impl SetsDigest {
@@ -43,6 +43,7 @@ impl SetsDigest {
         hasher.update(form.as_slice());
         Ok(SetsDigest {
             sets: sets.clone()?,
+            form: form.clone()?,
             hasher,
         })
     }
@@ -52,6 +53,13 @@ impl SetsDigest {
         ensures { IsTrue result ↔ (self.now ≡ sets.now) }
     {
         self.sets.is_same(sets)
+    }
+
+    /// Appends the form of the controls.
+    pub(crate) fn put(&self, form: &mut Vec<u8>) -> Result<(), AllocError>
+        ensures { OnOk result (form.new.items ≡ form.old.items ++ sets_form self.now) }
+    {
+        form.extend_from_slice(self.form.as_slice())
     }
 
     /// A hasher that took the form of the controls.

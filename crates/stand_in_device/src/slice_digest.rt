@@ -1,8 +1,8 @@
 //! The work on a slice: its record is added to the digest of its frame.
 //!
 //! The front of a record is what the parameter sets decide. What a hasher holds goes on from all that was fed before, so
-//! only the front of a frame's first record is the front of a message: that one is kept, and taken again while the sets
-//! stay the same.
+//! only the front of a frame's first record is the front of a message: while the sets stay the same its hasher is copied.
+//! For the other records its bytes are.
 
 ghost use Rattle.std.specs.Prelude.{◌≡◌, ◌++◌, ℕ, List, [], IfOk, OnOk};
 ghost use Rattle.std.specs.List.{flat_map};
@@ -18,7 +18,7 @@ use crate::picture::Picture;
 use crate::records::{feed_bytes, feed_references};
 use crate::sets_digest::SetsDigest;
 use base_types::Shared;
-use h264_controls::{References, SetControls, Work, digest_form, digest_in_two_parts, slice_form};
+use h264_controls::{References, SetControls, Work, digest_in_two_parts, sets_form, slice_form};
 use m2m_queues::{SliceWork, Target};
 use sha2::{Digest, Sha256};
 use std::alloc::{AllocError, Global};
@@ -81,6 +81,18 @@ impl SliceDigest {
         hasher
     }
 
+    /// Appends the form of the controls that the parameter sets decide.
+    fn put_sets(&mut self, sets: &SetControls) -> Result<(), AllocError>
+        ensures written { OnOk result (self.new.form.items ≡ self.old.form.items ++ sets_form sets.now) }
+        ensures hasher { self.new.hasher ≡ self.old.hasher }
+        ensures frames { self.new.frames.items ≡ self.old.frames.items }
+    {
+        match &self.front {
+            Some(front) if front.is_of(sets) => front.put(&mut self.form),
+            _ => sets_form(sets, &mut self.form),
+        }
+    }
+
     /// Begins a frame with the record of a slice.
     #[tactic(auto, unfolding(crate::specs::Pictures::slice_record))]
     fn begin(&mut self, controls: &SliceControls, bytes: &[u8]) -> Result<(), AllocError>
@@ -111,8 +123,10 @@ impl SliceDigest {
             controls.now.references bytes.now)) }
         ensures frames { self.new.frames.items ≡ self.old.frames.items }
     {
+        digest_in_two_parts();
         self.form.clear();
-        digest_form(&controls.work.controls, &mut self.form)?;
+        self.put_sets(&controls.work.controls.sets)?;
+        slice_form(&controls.work.controls, &mut self.form)?;
         feed_slice(
             &mut self.hasher,
             self.frames.as_slice(),

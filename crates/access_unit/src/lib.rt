@@ -22,6 +22,3 @@ pub use room::{MOST_UNITS, ReadFault, Refusal, read_units};
 pub use shared_nal::SharedNal;
 pub use stream::{StreamRefused, gather, read_stream};
 pub use unit::{Unit, read_shared, read_unit};
-
-#[cfg(test)]
-mod tests;

@@ -1,3 +1,5 @@
+//! The fold over streams made by hand.
+
 mod each_fault;
 mod limits;
 mod picture_faults;
@@ -6,7 +8,9 @@ mod steps;
 mod streams;
 mod writer;
 
+use super::row_holds;
 use access_unit::{Refused, Unit, read_unit};
+use h264_controls::Request;
 use header_types::SliceType;
 use outcomes::{Outcome, Plan, ValidityFault};
 use pictures::AuId;
@@ -21,6 +25,9 @@ const A: [u8; 23] = [
     0x88, 0x84, 0x80,
 ];
 
+/// The slice of that picture.
+const IDR: &[u8] = &[0, 0, 1, 0x65, 0x88, 0x84, 0x80];
+
 /// A P picture with frame_num 1.
 const P1: [u8; 6] = [0, 0, 1, 0x41, 0x9A, 0x23];
 
@@ -32,7 +39,7 @@ pub(super) fn unit(rt: &(impl Abort + AllocGlobal), text: &[u8]) -> Result<Unit,
     match read_unit(rt.alloc(), text) {
         Ok(unit) => Ok(unit),
         Err(Refused::Memory) => Err(AllocError),
-        Err(refused) => panic!(rt; "{refused} in {text:?}"),
+        Err(_) => panic!(rt; "the text is no unit"),
     }
 }
 
@@ -50,113 +57,148 @@ fn stream(
     Ok(stream)
 }
 
-/// The faults of the units, nothing for a valid one.
-fn faults(outcomes: &[Outcome], alloc: Global) -> Result<Vec<Option<ValidityFault>>, AllocError> {
-    let mut faults = Vec::new(alloc);
-    for outcome in outcomes {
-        faults.push(match outcome {
-            Outcome::Plan(_) => None,
-            Outcome::Fault(fault) => Some(*fault),
-        })?;
+/// What becomes of the units of these texts.
+fn outcomes_of(
+    rt: &(impl Abort + AllocGlobal),
+    texts: &[&[u8]],
+) -> Result<Vec<Outcome>, AllocError> {
+    let stream = stream(rt, texts)?;
+    scratch(rt.alloc(), &stream)
+}
+
+/// The unit's fault, nothing where it is valid.
+fn fault_of(outcome: &Outcome) -> Option<ValidityFault> {
+    match outcome {
+        Outcome::Plan(_) => None,
+        Outcome::Fault(fault) => Some(*fault),
     }
-    Ok(faults)
+}
+
+/// The units have these faults, nothing standing for a valid one.
+fn have_faults(outcomes: &[Outcome], faults: &[Option<ValidityFault>]) -> bool {
+    outcomes.len() == faults.len()
+        && outcomes
+            .iter()
+            .zip(faults)
+            .all(|(outcome, fault)| fault_of(outcome) == *fault)
+}
+
+/// The one request of a valid unit of one slice.
+fn only_request(outcome: &Outcome) -> Option<&Request> {
+    match outcome {
+        Outcome::Plan(plan) => match plan.requests.as_slice() {
+            [request] => Some(request),
+            _ => None,
+        },
+        Outcome::Fault(_) => None,
+    }
+}
+
+/// The request of the IDR picture.
+fn is_intra_request(request: &Request) -> bool {
+    let slice = &request.controls().slice_params;
+    request.bytes().as_slice() == IDR
+        && request.timestamp == 1000
+        && slice.header_bit_size == 25
+        && slice.slice_type == SliceType::I
+        && slice.ref_pic_list0.entries().is_empty()
+        && request.controls().decode_params.dpb.as_slice().is_empty()
+        && request.reference(0).is_none()
+        && !request.hold
+}
+
+/// The plan of the IDR picture.
+fn is_intra_plan(plan: &Plan) -> bool {
+    plan.begins_period && (plan.counts.top, plan.counts.bottom, plan.order) == (0, 0, 0)
+}
+
+/// The outcome of the IDR picture.
+fn is_intra(outcome: &Outcome) -> bool {
+    match (outcome, only_request(outcome)) {
+        (Outcome::Plan(plan), Some(request)) => is_intra_plan(plan) && is_intra_request(request),
+        _ => false,
+    }
+}
+
+/// The IDR picture's first step, counted once.
+fn steps_to_the_picture(alloc: Global, state: &State, unit: &Unit) -> Result<bool, AllocError> {
+    let mut steps = Steps::new();
+    let (_, outcome) = step(alloc, state, AuId::new(1), unit, &mut steps)?;
+    Ok(is_intra(&outcome) && steps.count() == 1)
 }
 
 #[test]
 fn plans_an_idr_picture(rt: HostRuntime) -> Result<(), Fail> {
     let state = State::new(rt.alloc())?;
-    let mut steps = Steps::new();
-    let (_, outcome) = step(
-        rt.alloc(),
-        &state,
-        AuId::new(1),
-        &unit(&rt, &A)?,
-        &mut steps,
-    )?;
-    assert_eq!(rt; steps.count(), 1);
-    let Outcome::Plan(plan) = outcome else {
-        panic!(rt; "a valid picture has a fault");
-    };
-    assert!(rt; plan.begins_period);
-    assert_eq!(rt;
-        (plan.counts.top, plan.counts.bottom, plan.order),
-        (0, 0, 0)
-    );
-    let [request] = plan.requests.as_slice() else {
-        panic!(rt; "one slice has one request");
-    };
-    assert_eq!(rt; request.bytes().as_slice(), A.split_at(16).1);
-    let slice = &request.controls().slice_params;
-    assert_eq!(rt; (request.timestamp, slice.header_bit_size), (1000, 25));
-    assert_eq!(rt; slice.slice_type, SliceType::I);
-    assert!(rt; slice.ref_pic_list0.entries().is_empty());
-    let dpb = request.controls().decode_params.dpb.as_slice();
-    assert!(rt; dpb.is_empty());
-    assert_eq!(rt; request.reference(0), None);
-    assert!(rt; !request.hold);
+    let unit = unit(&rt, &A)?;
+    assert!(rt; steps_to_the_picture(rt.alloc(), &state, &unit)?);
     Ok(())
+}
+
+/// The request of the P picture after the IDR picture.
+fn is_inter_request(request: &Request) -> bool {
+    let [entry] = request.controls().decode_params.dpb.as_slice() else {
+        return false;
+    };
+    request.reference_ts(0) == Some(1000)
+        && entry.pic_num == 0
+        && !entry.flags.long_term
+        && request.controls().slice_params.ref_pic_list0.entries() == [Some(0)].as_slice()
+}
+
+/// The outcome of the P picture after the IDR picture.
+fn is_inter(outcome: &Outcome) -> bool {
+    match (outcome, only_request(outcome)) {
+        (Outcome::Plan(plan), Some(request)) => {
+            (plan.counts.top, plan.counts.bottom) == (2, 2) && is_inter_request(request)
+        }
+        _ => false,
+    }
 }
 
 #[test]
 fn plans_a_picture_that_refers(rt: HostRuntime) -> Result<(), Fail> {
-    let outcomes = scratch(rt.alloc(), &stream(&rt, &[&A, &P1])?)?;
-    let [_, Outcome::Plan(plan)] = outcomes.as_slice() else {
-        panic!(rt; "a valid picture has a fault");
-    };
-    let [request] = plan.requests.as_slice() else {
-        panic!(rt; "one slice has one request");
-    };
-    assert_eq!(rt; (plan.counts.top, plan.counts.bottom), (2, 2));
-    let [entry] = request.controls().decode_params.dpb.as_slice() else {
-        panic!(rt; "one frame is marked");
-    };
-    assert_eq!(rt; (request.reference_ts(0), entry.pic_num), (Some(1000), 0));
-    assert!(rt; !entry.flags.long_term);
-    let list = request.controls().slice_params.ref_pic_list0.entries();
-    assert_eq!(rt; list, [Some(0)].as_slice());
+    let outcomes = outcomes_of(&rt, &[&A, &P1])?;
+    assert!(rt; outcomes.len() == 2 && is_inter(&outcomes[1]));
     Ok(())
 }
 
-#[test]
-fn a_fault_changes_nothing_but_sets(rt: HostRuntime) -> Result<(), Fail> {
-    // P2 skips frame_num 1; P1 after it follows A.
-    let outcomes = scratch(rt.alloc(), &stream(&rt, &[&A, &P2, &P1, &P2])?)?;
-    let faults = faults(&outcomes, rt.alloc())?;
-    assert_eq!(rt;
-        faults.as_slice(),
-        [None, Some(ValidityFault::FrameNumGap), None, None].as_slice()
-    );
-    Ok(())
-}
+/// Texts of units, and the faults of these.
+type Row = (&'static [&'static [u8]], &'static [Option<ValidityFault>]);
 
-#[test]
-fn names_the_first_fault(rt: HostRuntime) -> Result<(), Fail> {
-    let cut: [u8; 5] = [0, 0, 1, 0x41, 0x9A];
-    let outcomes = scratch(rt.alloc(), &stream(&rt, &[&P1, &A, &cut, &P1, &P1])?)?;
-    let faults = faults(&outcomes, rt.alloc())?;
-    assert_eq!(rt;
-        faults.as_slice(),
-        [
+const FAULTS: [Row; 2] = [
+    // P2 skips frame_num 1; P1 after it follows A: a fault changes nothing but sets.
+    (
+        &[&A, &P2, &P1, &P2],
+        &[None, Some(ValidityFault::FrameNumGap), None, None],
+    ),
+    (
+        &[&P1, &A, &[0, 0, 1, 0x41, 0x9A], &P1, &P1],
+        &[
             Some(ValidityFault::MissingPps),
             None,
             Some(ValidityFault::HeaderCut),
             None,
             Some(ValidityFault::FrameNumRepeat),
-        ]
-        .as_slice()
-    );
-    assert_eq!(rt; ValidityFault::FrameNumRepeat.number(), 12);
+        ],
+    ),
+];
+
+#[test]
+fn names_the_first_fault(rt: HostRuntime) -> Result<(), Fail> {
+    for (row, (texts, faults)) in FAULTS.iter().enumerate() {
+        row_holds(&rt, row, have_faults(&outcomes_of(&rt, texts)?, faults));
+    }
+    assert!(rt; ValidityFault::FrameNumRepeat.number() == 12);
     Ok(())
 }
 
 #[test]
 fn tells_faults(rt: HostRuntime) -> Result<(), Fail> {
     let fault = ValidityFault::FrameNumGap;
-    assert_eq!(rt; fault.name(), "FrameNumGap");
-    assert_eq!(rt;
-        format!(in rt.alloc(); "{fault}")?.as_str(),
-        "frame_num is neither the last one nor the next"
-    );
+    let told = format!(in rt.alloc(); "{fault}")?;
+    assert!(rt; fault.name() == "FrameNumGap");
+    assert!(rt; told.as_str() == "frame_num is neither the last one nor the next");
     Ok(())
 }
 
@@ -165,7 +207,7 @@ fn refused_scratch(rt: HostRuntime) {
     // The units want memory too.
     if let Ok(stream) = stream(&rt, &[&A, &P1]) {
         if let Ok(outcomes) = scratch(rt.alloc(), &stream) {
-            assert_eq!(rt; outcomes.len(), 2);
+            assert!(rt; outcomes.len() == 2);
         }
     }
 }

@@ -1,10 +1,10 @@
 //! Output order, by positions worked out by hand (C.4.5.3).
 
+use super::row_holds;
 use outcomes::{Outcome, Plan, Requests, ValidityFault};
 use output_order::positions;
 use pictures::Counts;
 use std::alloc::{AllocError, Global};
-use std::process::Abort;
 use std::test::Fail;
 
 /// A valid unit with this picture order count, which begins a period or not; a faulted one for `None`.
@@ -23,26 +23,13 @@ fn outcome(alloc: Global, valid: Option<(i32, bool)>) -> Outcome {
     }
 }
 
-/// The units stand at just these positions, or memory runs out.
-fn stand_at(
-    rt: &(impl Abort + AllocGlobal),
-    units: &[Option<(i32, bool)>],
-    expected: &[Option<usize>],
-) -> Result<(), AllocError> {
-    let mut outcomes = Vec::new(rt.alloc());
-    for unit in units {
-        outcomes.push(outcome(rt.alloc(), *unit))?;
-    }
-    assert_eq!(rt; positions(rt.alloc(), &outcomes)?.as_slice(), expected);
-    Ok(())
-}
+/// Units, and where they stand.
+type Row = (&'static [Option<(i32, bool)>], &'static [Option<usize>]);
 
-#[test]
-fn counts_earlier_units(rt: HostRuntime) -> Result<(), Fail> {
-    stand_at(&rt, &[], &[])?;
+const ROWS: [Row; 7] = [
+    (&[], &[]),
     // I P B B, and the second B before the first.
-    stand_at(
-        &rt,
+    (
         &[
             Some((0, true)),
             Some((6, false)),
@@ -50,10 +37,9 @@ fn counts_earlier_units(rt: HostRuntime) -> Result<(), Fail> {
             Some((2, false)),
         ],
         &[Some(0), Some(3), Some(2), Some(1)],
-    )?;
+    ),
     // Two periods: counts of the second are compared with each other alone.
-    stand_at(
-        &rt,
+    (
         &[
             Some((0, true)),
             Some((8, false)),
@@ -63,15 +49,10 @@ fn counts_earlier_units(rt: HostRuntime) -> Result<(), Fail> {
             Some((4, false)),
         ],
         &[Some(0), Some(2), Some(1), Some(4), Some(3), Some(5)],
-    )?;
-    Ok(())
-}
-
-#[test]
-fn leaves_faulted_units_out(rt: HostRuntime) -> Result<(), Fail> {
-    stand_at(&rt, &[None, None], &[None, None])?;
-    stand_at(
-        &rt,
+    ),
+    // Faulted units are left out.
+    (&[None, None], &[None, None]),
+    (
         &[
             None,
             Some((0, true)),
@@ -81,19 +62,10 @@ fn leaves_faulted_units_out(rt: HostRuntime) -> Result<(), Fail> {
             None,
         ],
         &[None, Some(0), None, Some(2), Some(1), None],
-    )?;
-    Ok(())
-}
-
-#[test]
-fn equal_units_keep_their_order(rt: HostRuntime) -> Result<(), Fail> {
-    stand_at(
-        &rt,
-        &[Some((0, true)), Some((0, true))],
-        &[Some(0), Some(1)],
-    )?;
-    stand_at(
-        &rt,
+    ),
+    // Equal units keep their order.
+    (&[Some((0, true)), Some((0, true))], &[Some(0), Some(1)]),
+    (
         &[
             Some((0, true)),
             Some((2, false)),
@@ -101,7 +73,27 @@ fn equal_units_keep_their_order(rt: HostRuntime) -> Result<(), Fail> {
             Some((2, false)),
         ],
         &[Some(0), Some(2), Some(1), Some(3)],
-    )?;
+    ),
+];
+
+/// The units stand at just these positions.
+fn stand_at(
+    alloc: Global,
+    units: &[Option<(i32, bool)>],
+    expected: &[Option<usize>],
+) -> Result<bool, AllocError> {
+    let mut outcomes = Vec::new(alloc);
+    for unit in units {
+        outcomes.push(outcome(alloc, *unit))?;
+    }
+    Ok(positions(alloc, &outcomes)?.as_slice() == expected)
+}
+
+#[test]
+fn orders_short_streams(rt: HostRuntime) -> Result<(), Fail> {
+    for (row, (units, expected)) in ROWS.iter().enumerate() {
+        row_holds(&rt, row, stand_at(rt.alloc(), units, expected)?);
+    }
     Ok(())
 }
 
@@ -110,34 +102,42 @@ fn scattered(place: u16) -> u16 {
     place.wrapping_mul(40_503)
 }
 
-#[test]
-fn orders_a_long_stream(rt: HostRuntime) -> Result<(), Fail> {
-    let mut outcomes = Vec::new(rt.alloc());
+/// As many units as such numbers, with these counts.
+fn scattered_units(alloc: Global) -> Result<Vec<Outcome>, AllocError> {
+    let mut outcomes = Vec::new(alloc);
     for place in 0..=u16::MAX {
         let order = i32::from(scattered(place));
-        outcomes.push(outcome(rt.alloc(), Some((order, false))))?;
+        outcomes.push(outcome(alloc, Some((order, false))))?;
     }
-    let found = positions(rt.alloc(), &outcomes)?;
-    assert_eq!(rt; found.len(), 65_536);
-    // The counts are 0 to 65,535, so each is the position of its unit.
-    for (place, position) in (0..=u16::MAX).zip(found.iter()) {
-        assert_eq!(rt; *position, Some(usize::from(scattered(place))));
+    Ok(outcomes)
+}
+
+/// The counts are 0 to 65,535, so each is the position of its unit.
+fn are_scattered(positions: &[Option<usize>]) -> bool {
+    let mut are = positions.len() == 65_536;
+    for (place, position) in (0..=u16::MAX).zip(positions) {
+        are &= *position == Some(usize::from(scattered(place)));
     }
+    are
+}
+
+#[test]
+fn orders_a_long_stream(rt: HostRuntime) -> Result<(), Fail> {
+    let units = scattered_units(rt.alloc())?;
+    assert!(rt; are_scattered(&positions(rt.alloc(), &units)?));
     Ok(())
 }
 
 #[test]
 fn refused_positions(rt: HostRuntime) {
     let mut outcomes = Vec::new(rt.alloc());
+    let mut is_stored = true;
     for count in [0, 4, 2] {
-        if outcomes
+        is_stored &= outcomes
             .push(outcome(rt.alloc(), Some((count, count == 0))))
-            .is_err()
-        {
-            return;
-        }
+            .is_ok();
     }
-    if let Ok(found) = positions(rt.alloc(), &outcomes) {
-        assert_eq!(rt; found.as_slice(), [Some(0), Some(2), Some(1)].as_slice());
+    if is_stored && let Ok(found) = positions(rt.alloc(), &outcomes) {
+        assert!(rt; found.as_slice() == [Some(0), Some(2), Some(1)].as_slice());
     }
 }

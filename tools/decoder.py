@@ -1,6 +1,7 @@
 """The program bench/decode_stream: a stream planned, and decoded by the stand-in device.
 
-It is no crate of the workspace, so that the gate doesn't prove it. It is built in a temporary workspace, beside copies
+It is no crate of the workspace, so that the gate doesn't prove it; its code is called main.rt.txt, since the gate wants
+each .rt file in a crate. It is built in a temporary workspace, beside copies
 of the crates that it stands on with what was proved of them, so these are best proved before (`rt all check`).
 """
 import functools
@@ -41,6 +42,8 @@ def build():
         for crate in below_all(LIBRARIES):
             shutil.copytree(TOP / "crates" / crate, room / "crates" / crate)
         shutil.copytree(SOURCE, room / "crates" / NAME, ignore=shutil.ignore_patterns("out"))
+        main = room / "crates" / NAME / "src" / "main.rt"
+        main.with_name("main.rt.txt").rename(main)
         shutil.copy(TOP / "HANDLES", room)
         (room / "crates.txt").write_text(lines_of(below_all(LIBRARIES)) + f"{NAME}: {' '.join(LIBRARIES)}\n")
         BUILT.parent.mkdir(exist_ok=True)

@@ -29,7 +29,9 @@ const I: &[u8] = &[0, 0, 1, 0x65, 0x88, 0x84, 0x80];
 
 /// P pictures with frame_num 1 and 2, and the first with a byte more.
 const P1: &[u8] = &[0, 0, 1, 0x41, 0x9A, 0x23];
+
 const P2: &[u8] = &[0, 0, 1, 0x41, 0x9A, 0x43];
+
 const P1X: &[u8] = &[0, 0, 1, 0x41, 0x9A, 0x23, 0x80];
 
 /// A P picture with frame_num 1 that is no reference.
@@ -62,10 +64,7 @@ impl Fingerprint<Works> for Zeros {
 }
 
 /// The units of a row.
-fn units_of(
-    rt: &(impl Abort + AllocGlobal),
-    row: Row,
-) -> Result<Vec<(AuId, Unit)>, AllocError> {
+fn units_of(rt: &(impl Abort + AllocGlobal), row: Row) -> Result<Vec<(AuId, Unit)>, AllocError> {
     let mut units = Vec::new(rt.alloc());
     for (id, text, _) in row {
         units.push((AuId::new(*id), super::fold::unit(rt, text)?))?;

@@ -1,14 +1,9 @@
 //! What is said of refusals and faults: numbers and names as docs/OUTPUT.md has them, and a text for who reads.
 
+use super::row_holds;
 use access_unit::{ReadFault, Refusal, Refused, StreamRefused};
 use outcomes::ValidityFault;
-use std::process::Abort;
 use std::test::Fail;
-
-/// Asserts what a row of a table says.
-pub(super) fn row_holds(rt: &impl Abort, row: usize, holds: bool) {
-    assert!(rt; holds, "row {row}");
-}
 
 /// Each fault of a unit with its number, its name and its text.
 const FAULTS: [(ValidityFault, u8, &str, &str); 18] = [

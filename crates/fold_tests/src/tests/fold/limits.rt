@@ -1,10 +1,9 @@
 //! As many slices and parameter sets as a unit and a stream can have.
 
-use super::super::texts::row_holds;
 use super::each_fault::{I, PPS};
 use super::steps::step_once;
-use super::unit;
 use super::writer::{Nal, Order, Slice, Writer};
+use super::{row_holds, unit};
 use Nal::{Bytes, Pps, Sps};
 use Order::{Two, Zero};
 use access_unit::Unit;

@@ -1,8 +1,8 @@
 //! Each fault by `step` itself, one unit after the other.
 
-use super::super::texts::row_holds;
 use super::each_fault::{I, P, PPS, Stream, written};
 use super::picture_faults::PICTURE_FAULTS;
+use super::row_holds;
 use super::slice_faults::SLICE_FAULTS;
 use super::writer::{Nal, Order, Slice};
 use Order::Zero;

@@ -1,2 +1,3 @@
 pub mod Pictured
 pub mod Numbering
+pub mod Following

@@ -65,7 +65,7 @@ pub node_live : (keys : KeyMap (List Work)) (numbers : Numbers) (known : Known) 
 node_live keys numbers known h requests =
     rw (numbered_all numbers requests) (units_live keys numbers known h (named_by_all requests))
 
-extended : (keys more : KeyMap (List Work)) → Extends keys more → (number : Option ℕ) (key : Option Key)
+pub extended : (keys more : KeyMap (List Work)) → Extends keys more → (number : Option ℕ) (key : Option Key)
     → StandsFor keys number key → StandsFor more number key
 extended keys more extends None key h = h
 extended keys more extends (Some number) None h = h

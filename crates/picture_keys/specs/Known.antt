@@ -28,3 +28,19 @@ key_of_outcome known (Fault fault) = None
 abbrev pub known_with : Known → ℕ → Option Key → Known
 known_with known id None = known
 known_with known id (Some key) = (id, key) ∷ known
+
+-- the keys that are known after units, each with its id and what becomes of it
+abbrev pub known_after : Known → List (ℕ × Outcome) → Known
+known_after known [] = known
+known_after known (unit ∷ units) = known_after (known_with known unit.0 (key_of_outcome known unit.1)) units
+
+-- the keys of units that come after those that are known
+abbrev pub keys_after : Known → List (ℕ × Outcome) → List (Option Key)
+keys_after known [] = []
+keys_after known (unit ∷ units) =
+    key_of_outcome known unit.1
+    ∷ keys_after (known_with known unit.0 (key_of_outcome known unit.1)) units
+
+-- the keys of a stream's units, nothing for one with a fault
+abbrev pub keys_of : List (ℕ × Outcome) → List (Option Key)
+keys_of units = keys_after [] units

@@ -1,5 +1,5 @@
 -- Units with the numbers of their pictures' keys, and when these stand for the keys that are known.
-use Rattle.std.specs.Prelude.{◌≡◌, ℕ, List, map, Option, None, Some, option_and_then}
+use Rattle.std.specs.Prelude.{◌≡◌, ℕ, List, [], ◌∷◌, map, Option, None, Some, option_and_then}
 use Rattle.std.specs.Ordering.{nat_cmp}
 use Rattle.std.specs.BTreeMap.{is_at}
 use Rattle.std.specs.Map.{lookup}
@@ -39,3 +39,10 @@ StandsFor keys (Some number) (Some key) = tree_at keys number ≡ Some key
 -- the numbers stand for the keys that are known
 abbrev pub AreNumbered : KeyMap (List Work) → Numbers → Known → Type 0
 AreNumbered keys numbers known = (id : ℕ) → StandsFor keys (number_at numbers id) (key_at known id)
+
+-- numbers stand for keys, one by one
+abbrev pub AllStandFor : KeyMap (List Work) → List (Option ℕ) → List (Option Key) → Type 0
+AllStandFor keys [] [] = Unit {0}
+AllStandFor keys [] (key ∷ more) = ⊥
+AllStandFor keys (number ∷ numbers) [] = ⊥
+AllStandFor keys (number ∷ numbers) (key ∷ more) = StandsFor keys number key × AllStandFor keys numbers more

@@ -1,0 +1,114 @@
+//! The keys of a stream's units, found one after the other.
+
+ghost use Rattle.std.specs.Prelude.{◌≡◌, ℕ, ◌==◌, List, [], ◌∷◌, ◌++◌, Some, IfOk, OnOk, if◌then◌else◌};
+ghost use Rattle.h264_controls.specs.declared.work.Work.{Work};
+ghost use Rattle.outcomes.specs.declared.outcome.Outcome.{Outcome as Becomes};
+ghost use Rattle.dep_keys.specs.KeyMaps.{AreLive, Extends, KeyMap, tree_at, tree_of};
+ghost use Rattle.picture_keys.specs.Keys.{works_of};
+ghost use Rattle.picture_keys.specs.Known.{Known};
+ghost use Rattle.picture_keys.specs.Numbered.{AreNumbered, number_at, numbers_named};
+ghost use Rattle.picture_keys.specs.Following.{AreNumberedSome, Follow, FollowSome, HasNumber};
+
+use crate::nodes::node_of;
+use crate::numbers::KeyNumbers;
+use crate::works::Works;
+use dep_keys::{Fingerprint, KeyId, Keys};
+use outcomes::{Outcome, Requests};
+use pictures::AuId;
+use std::alloc::{AllocError, Global};
+use std::marker::Model;
+
+/// The numbers of the keys of a stream's units, so far as these were gone over.
+#[derive(Debug, Drop)]
+pub struct UnitKeys {
+    numbers: KeyNumbers,
+    found: Vec<Option<KeyId>>,
+}
+
+impl Model for UnitKeys {
+    ghost use Rattle.picture_keys.specs.Following.{UnitNumbers};
+
+    ghost Value = { UnitNumbers };
+
+    ghost view = { λ keys. record { numbers = keys.numbers; found = keys.found.items } };
+}
+
+impl UnitKeys {
+    /// Before the first unit.
+    pub fn new(alloc: Global) -> UnitKeys
+        ensures start { (keys : KeyMap (List Work)) → Follow keys [] result }
+        ensures some { (keys : KeyMap (List Work)) → FollowSome keys result }
+    {
+        UnitKeys {
+            numbers: KeyNumbers::new(alloc),
+            found: Vec::new(alloc),
+        }
+    }
+
+    /// Goes over one unit more. The key of a valid one is interned. Where memory is wanted, keys may have been added,
+    /// and the numbers are of no more use.
+    pub fn add<F: Fingerprint<Works>>(
+        &mut self,
+        alloc: Global,
+        keys: &mut Keys<Works, F>,
+        id: AuId,
+        outcome: &Outcome,
+    ) -> Result<(), AllocError>
+        requires { FollowSome keys.old self.old }
+        ensures stay { Extends keys.old keys.new }
+        ensures ok { OnOk result ((units : List (ℕ × Becomes)) → Follow keys.old units self.old
+            → Follow keys.new (units ++ (id, outcome.now) ∷ []) self.new) }
+        ensures some { OnOk result (FollowSome keys.new self.new) }
+    {
+        let number = number_of(alloc, &mut self.numbers, keys, id, outcome)?;
+        self.found.push(number)?;
+        Ok(())
+    }
+
+    /// The number of each unit's key, in the order of the units; nothing for a unit with a fault.
+    pub fn into_numbers(self) -> Vec<Option<KeyId>>
+        ensures { result.items ≡ self.found }
+    {
+        self.found
+    }
+}
+
+/// Interns the key of a unit and gives the unit its number, or nothing where it has a fault.
+fn number_of<F: Fingerprint<Works>>(
+    alloc: Global,
+    numbers: &mut KeyNumbers,
+    keys: &mut Keys<Works, F>,
+    id: AuId,
+    outcome: &Outcome,
+) -> Result<Option<KeyId>, AllocError>
+    requires { AreNumberedSome keys.old numbers.old }
+    ensures stay { Extends keys.old keys.new }
+    ensures ok { IfOk result (λ number. (known : Known) → AreNumbered keys.old numbers.old known
+        → HasNumber keys.new numbers.new known id outcome.now number) }
+{
+    match outcome {
+        Outcome::Plan(plan) => Ok(Some(intern(alloc, numbers, keys, id, &plan.requests)?)),
+        Outcome::Fault(_) => Ok(None),
+    }
+}
+
+/// Interns the key of a unit's requests, and gives the unit its number.
+fn intern<F: Fingerprint<Works>>(
+    alloc: Global,
+    numbers: &mut KeyNumbers,
+    keys: &mut Keys<Works, F>,
+    id: AuId,
+    requests: &Requests,
+) -> Result<KeyId, AllocError>
+    requires { AreLive keys.old (numbers_named numbers.old requests.now) }
+    ensures stay { Extends keys.old keys.new }
+    ensures there { IfOk result (λ key. tree_at keys.new key ≡ Some (tree_of keys.old
+        (record { work = works_of requests.now; entries = numbers_named numbers.old requests.now }))) }
+    ensures put { IfOk result (λ key. (other : ℕ) → number_at numbers.new other
+        ≡ (if id == other then Some key else number_at numbers.old other)) }
+{
+    let node = node_of(alloc, numbers, requests)?;
+    let key = keys.intern(node)?;
+    numbers.put(id, key)?;
+    Ok(key)
+}

@@ -1,12 +1,14 @@
 //! What a picture is made of.
 
-ghost use Rattle.std.specs.Prelude.{◌≡◌, ◌==◌};
+ghost use Rattle.std.specs.Prelude.{◌≡◌, ◌==◌, ◌↔◌, IfOk, IsTrue};
 ghost use Rattle.std.specs.List.{list_all};
 ghost use Rattle.stand_in_device.specs.Inputs.{are_of_one_picture, has_references, holds_but_last, is_there, is_whole, picture_at, picture_of_frame};
 
 use crate::picture::Picture;
+use crate::same::{same_references, same_requests};
 use h264_controls::{References, Request};
 use pictures::AuId;
+use std::alloc::{AllocError, Global};
 use std::marker::Model;
 
 /// A finished picture by its frame's timestamp in nanoseconds.
@@ -54,6 +56,28 @@ impl Input {
         ensures { result.now ≡ self.now.references }
     {
         self.references.as_slice()
+    }
+
+    /// The same input; it shares the works of its requests.
+    pub fn copy(&self, alloc: Global) -> Result<Input, AllocError>
+        ensures { IfOk result (λ copy. copy ≡ self.now) }
+    {
+        let mut requests = Vec::with_capacity(alloc, self.requests.len())?;
+        for request in &self.requests {
+            requests.push(request.copy()?)?;
+        }
+        Ok(Input {
+            requests,
+            references: self.references.to_vec(alloc)?,
+        })
+    }
+
+    /// Whether both are made of the same requests and pictures, each in the same order.
+    pub fn is_same(&self, other: &Input) -> bool
+        ensures { IsTrue result ↔ (self.now ≡ other.now) }
+    {
+        same_requests(&self.requests, &other.requests)
+            && same_references(&self.references, &other.references)
     }
 
     /// Whether the requests are those of one picture, with its timestamp and with the capture buffer held on all but

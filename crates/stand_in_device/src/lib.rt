@@ -11,6 +11,7 @@ mod input;
 mod job;
 mod picture;
 mod records;
+mod same;
 mod sets_digest;
 mod slice_digest;
 

@@ -135,3 +135,22 @@ fn inputs_that_are_not_whole(rt: HostRuntime) -> Result<(), Fail> {
     assert!(rt; Input::new(missing, Vec::new(alloc)).is_whole());
     Ok(())
 }
+
+/// Whether a copy of an input is the same as it, and neither is the same as another.
+fn is_its_copy_alone(alloc: Global, input: &Input, other: &Input) -> Result<bool, AllocError> {
+    let copy = input.copy(alloc)?;
+    Ok(copy.is_same(input) && !copy.is_same(other) && !other.is_same(input))
+}
+
+#[test]
+fn an_input_is_its_copy_and_no_other(rt: HostRuntime) -> Result<(), Fail> {
+    let alloc = rt.alloc();
+    let idr = input(alloc, vec![in alloc; idr_slice(alloc, false)?]?)?;
+    let held = input(alloc, vec![in alloc; idr_slice(alloc, true)?]?)?;
+    let p = input(alloc, vec![in alloc; p_slice(alloc, Some(0))?]?)?;
+    let alone = Input::new(vec![in alloc; idr_slice(alloc, false)?]?, Vec::new(alloc));
+    for other in [&held, &p, &alone] {
+        assert!(rt; is_its_copy_alone(alloc, &idr, other)?);
+    }
+    Ok(())
+}

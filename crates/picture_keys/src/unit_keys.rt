@@ -1,13 +1,13 @@
 //! The keys of a stream's units, found one after the other.
 
-ghost use Rattle.std.specs.Prelude.{◌≡◌, ℕ, ◌==◌, List, [], ◌∷◌, ◌++◌, Some, IfOk, OnOk, if◌then◌else◌};
+ghost use Rattle.std.specs.Prelude.{◌≡◌, ℕ, ◌==◌, List, [], ◌∷◌, ◌++◌, Some, IfOk, OnErr, OnOk, if◌then◌else◌};
 ghost use Rattle.h264_controls.specs.declared.work.Work.{Work};
 ghost use Rattle.outcomes.specs.declared.outcome.Outcome.{Outcome as Becomes};
 ghost use Rattle.dep_keys.specs.KeyMaps.{AreLive, Extends, KeyMap, tree_at, tree_of};
-ghost use Rattle.picture_keys.specs.Keys.{works_of};
 ghost use Rattle.picture_keys.specs.Known.{Known};
 ghost use Rattle.picture_keys.specs.Numbered.{AreNumbered, number_at, numbers_named};
 ghost use Rattle.picture_keys.specs.Following.{AreNumberedSome, Follow, FollowSome, HasNumber};
+ghost use Rattle.picture_keys.specs.Adding.{AddsAtMost, AddsAtMostKey, node_over};
 
 use crate::nodes::node_of;
 use crate::numbers::KeyNumbers;
@@ -45,8 +45,8 @@ impl UnitKeys {
         }
     }
 
-    /// Goes over one unit more. The key of a valid one is interned. Where memory is wanted, keys may have been added,
-    /// and the numbers are of no more use.
+    /// Goes over one unit more. The key of a valid one is interned. Where memory is wanted, the unit wasn't gone over,
+    /// and may be again; its key may have been added, which then no unit has.
     pub fn add<F: Fingerprint<Works>>(
         &mut self,
         alloc: Global,
@@ -56,12 +56,15 @@ impl UnitKeys {
     ) -> Result<(), AllocError>
         requires { FollowSome keys.old self.old }
         ensures stay { Extends keys.old keys.new }
+        ensures few { AddsAtMost keys.old self.old.numbers outcome.now keys.new }
         ensures ok { OnOk result ((units : List (ℕ × Becomes)) → Follow keys.old units self.old
             → Follow keys.new (units ++ (id, outcome.now) ∷ []) self.new) }
         ensures some { OnOk result (FollowSome keys.new self.new) }
+        ensures err { OnErr result (self.new ≡ self.old) }
     {
+        self.found.reserve(1)?;
         let number = number_of(alloc, &mut self.numbers, keys, id, outcome)?;
-        self.found.push(number)?;
+        self.found.push_reserved(number);
         Ok(())
     }
 
@@ -73,7 +76,8 @@ impl UnitKeys {
     }
 }
 
-/// Interns the key of a unit and gives the unit its number, or nothing where it has a fault.
+/// Interns the key of a unit and gives the unit its number, or nothing where it has a fault. Where memory is wanted, no
+/// unit is given one.
 fn number_of<F: Fingerprint<Works>>(
     alloc: Global,
     numbers: &mut KeyNumbers,
@@ -83,8 +87,10 @@ fn number_of<F: Fingerprint<Works>>(
 ) -> Result<Option<KeyId>, AllocError>
     requires { AreNumberedSome keys.old numbers.old }
     ensures stay { Extends keys.old keys.new }
+    ensures few { AddsAtMost keys.old numbers.old outcome.now keys.new }
     ensures ok { IfOk result (λ number. (known : Known) → AreNumbered keys.old numbers.old known
         → HasNumber keys.new numbers.new known id outcome.now number) }
+    ensures err { OnErr result (numbers.new ≡ numbers.old) }
 {
     match outcome {
         Outcome::Plan(plan) => Ok(Some(intern(alloc, numbers, keys, id, &plan.requests)?)),
@@ -92,7 +98,7 @@ fn number_of<F: Fingerprint<Works>>(
     }
 }
 
-/// Interns the key of a unit's requests, and gives the unit its number.
+/// Interns the key of a unit's requests, and gives the unit its number. Where memory is wanted, no unit is given one.
 fn intern<F: Fingerprint<Works>>(
     alloc: Global,
     numbers: &mut KeyNumbers,
@@ -102,10 +108,12 @@ fn intern<F: Fingerprint<Works>>(
 ) -> Result<KeyId, AllocError>
     requires { AreLive keys.old (numbers_named numbers.old requests.now) }
     ensures stay { Extends keys.old keys.new }
-    ensures there { IfOk result (λ key. tree_at keys.new key ≡ Some (tree_of keys.old
-        (record { work = works_of requests.now; entries = numbers_named numbers.old requests.now }))) }
+    ensures few { AddsAtMostKey keys.old (tree_of keys.old (node_over numbers.old requests.now)) keys.new }
+    ensures there { IfOk result (λ key. tree_at keys.new key
+        ≡ Some (tree_of keys.old (node_over numbers.old requests.now))) }
     ensures put { IfOk result (λ key. (other : ℕ) → number_at numbers.new other
         ≡ (if id == other then Some key else number_at numbers.old other)) }
+    ensures err { OnErr result (numbers.new ≡ numbers.old) }
 {
     let node = node_of(alloc, numbers, requests)?;
     let key = keys.intern(node)?;

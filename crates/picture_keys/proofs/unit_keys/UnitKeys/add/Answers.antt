@@ -14,7 +14,7 @@ returns-clause-ok g c = λ units follow.
     let has = c.in_ok-number.ensures.ok (known_after [] units) numbered in
     follow_with c.args.keys.now c.number_of.new.keys units c.args.id c.args.outcome.now c.args.self.now _
     c.in_ok-number.number c.in_ok-number.ensures.stay follow has
-    (rw (← c.self.view_is) c.in_ok-push.ensures.items)
+    (rw (← c.self.view_is, ← c.reserve.ensures.items) c.push_reserved.ensures.items)
 
 pub returns-clause-some : goal.returns-clause-some
 returns-clause-some g c =

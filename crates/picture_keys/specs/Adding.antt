@@ -1,0 +1,24 @@
+-- What going over a unit adds to the keys.
+use Rattle.std.specs.Prelude.{◌≡◌, ◌⊎◌, ℕ, List}
+use Rattle.h264_controls.specs.declared.request.Request.{Request}
+use Rattle.h264_controls.specs.declared.work.Work.{Work}
+use Rattle.outcomes.specs.declared.outcome.Outcome.{Outcome}
+use Rattle.outcomes.specs.declared.outcome.Outcome.TheVariants.{Plan, Fault}
+use Rattle.dep_keys.specs.Interning.{IsInterned}
+use Rattle.dep_keys.specs.KeyMaps.{KeyMap, tree_of}
+use Rattle.dep_keys.specs.Nodes.{NodeOf}
+use Rattle.picture_keys.specs.Keys.{Key, works_of}
+use Rattle.picture_keys.specs.Numbered.{Numbers, numbers_named}
+
+-- the node of the key of requests, over the numbers of the keys of the units that they name
+abbrev pub node_over : Numbers → List Request → NodeOf (List Work)
+node_over numbers requests = record { work = works_of requests; entries = numbers_named numbers requests }
+
+-- the keys are as they were, or the key was interned
+abbrev pub AddsAtMostKey : KeyMap (List Work) → Key → KeyMap (List Work) → Type 0
+AddsAtMostKey keys key more = (more ≡ keys) ⊎ ((number : ℕ) × IsInterned keys key number more)
+
+-- to the keys comes at most that of a unit, and none where it has a fault
+abbrev pub AddsAtMost : KeyMap (List Work) → Numbers → Outcome → KeyMap (List Work) → Type 0
+AddsAtMost keys numbers (Plan plan) more = AddsAtMostKey keys (tree_of keys (node_over numbers plan.requests)) more
+AddsAtMost keys numbers (Fault fault) more = more ≡ keys

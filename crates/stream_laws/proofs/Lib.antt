@@ -1,0 +1,11 @@
+pub mod Chains
+pub mod MarkedFrames
+pub mod SliceHeaders
+pub mod IntraSlices
+pub mod ReadSlices
+pub mod Gathered
+pub mod Requests
+pub mod KnownUnits
+pub mod NamedUnits
+pub mod Plans
+pub mod Decodable

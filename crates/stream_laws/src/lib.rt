@@ -1,0 +1,11 @@
+//! Laws over the definitions of several crates, about a whole stream.
+//!
+//! Whoever decodes a stream's units in order never meets one that lacks something: where no access unit is refused, the
+//! plan of each valid unit has the requests of one picture, and each entry of their reference lists is missing or
+//! names an earlier valid unit, whose picture has been made by then. request_core says what becomes of the units,
+//! access_unit what is refused, and picture_keys what can be decoded; none of them could say this by itself.
+#![tactic(auto)]
+
+mod laws;
+
+pub use laws::outcomes_can_be_decoded;

@@ -14,3 +14,5 @@ pub mod SliceParamsControl
 pub mod SpsControl
 pub mod SetControls
 pub mod References
+pub mod ListEntries
+pub mod UnitIds

@@ -10,6 +10,7 @@ mod controls;
 mod decode_params_control;
 mod digest;
 mod dpb;
+mod few;
 mod laws;
 mod pps_control;
 mod pred_weights_control;

@@ -1,27 +1,40 @@
 //! A reference list of a control.
 
 ghost use Rattle.std.specs.Prelude.{◌≡◌, ◌↔◌, ◌≤◌, length, IfOk, IsTrue};
+ghost use Rattle.h264_controls.specs.ListEntries.{entries_in};
 
+use crate::few::Few;
 use pictures::List;
-use smallvec::SmallVec;
 use std::alloc::{AllocError, Global};
+use std::boxed::Box;
 use std::marker::Model;
+
+/// How many entries stand in the list itself, which takes 16 bytes with them.
+const FEW: usize = 7;
 
 /// The active entries of a reference list, at most 32: each the index of an entry of the decoded picture buffer, or
 /// missing. A short list takes no memory of its own.
 #[derive(Debug, Drop)]
 pub struct RefPicList {
-    entries: SmallVec<Option<u8>, 8>,
+    entries: Entries,
+}
+
+/// Where the entries of a list stand.
+#[derive(Debug, Drop)]
+enum Entries {
+    Few(Few<Option<u8>, 7>),
+    Many(Box<Vec<Option<u8>>>),
 }
 
 impl Model for RefPicList {
     ghost use Rattle.std.specs.Prelude.{ℕ, ◌≤◌, List, Option, length};
+    ghost use Rattle.h264_controls.specs.ListEntries.{entries_in};
 
     ghost Value = { List (Option ℕ) };
 
-    ghost view = { λ list. list.entries.items };
+    ghost view = { λ list. entries_in list.entries };
 
-    ghost invariant = { λ list. length list.entries.items ≤ 32 };
+    ghost invariant = { λ list. length (entries_in list.entries) ≤ 32 };
 }
 
 impl RefPicList {
@@ -29,9 +42,20 @@ impl RefPicList {
     pub fn of(alloc: Global, list: &List) -> Result<RefPicList, AllocError>
         ensures { IfOk result (λ entries. entries ≡ list.now) }
     {
-        Ok(RefPicList {
-            entries: SmallVec::from_slice(alloc, list.entries())?,
-        })
+        RefPicList::with_entries(alloc, list.entries())
+    }
+
+    /// The list with these entries.
+    fn with_entries(alloc: Global, entries: &[Option<u8>]) -> Result<RefPicList, AllocError>
+        requires { length entries.now ≤ 32 }
+        ensures { IfOk result (λ list. list ≡ entries.now) }
+    {
+        let entries = if entries.len() <= FEW {
+            Entries::Few(Few::of(None, entries))
+        } else {
+            Entries::Many(Box::new(alloc, Vec::from_slice(alloc, entries)?)?)
+        };
+        Ok(RefPicList { entries })
     }
 
     /// The entries, in order.
@@ -39,16 +63,22 @@ impl RefPicList {
         ensures value { result.now ≡ self.now }
         ensures fits { length result.now ≤ 32 }
     {
-        self.entries.as_slice()
+        match &self.entries {
+            Entries::Few(few) => few.as_slice(),
+            Entries::Many(many) => many.as_slice(),
+        }
     }
 
     /// The same entries.
     pub fn copy(&self) -> Result<RefPicList, AllocError>
         ensures { IfOk result (λ copy. copy ≡ self.now) }
     {
-        Ok(RefPicList {
-            entries: SmallVec::from_slice(*self.entries.allocator(), self.entries())?,
-        })
+        match &self.entries {
+            Entries::Few(few) => Ok(RefPicList {
+                entries: Entries::Few(Few::of(None, few.as_slice())),
+            }),
+            Entries::Many(many) => RefPicList::with_entries(*many.allocator(), many.as_slice()),
+        }
     }
 
     /// Whether both have the same entries in the same order.

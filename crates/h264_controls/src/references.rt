@@ -2,24 +2,38 @@
 
 ghost use Rattle.std.specs.Prelude.{◌≡◌, ◌↔◌, slice_get, map, IfOk, IsTrue};
 ghost use Rattle.h264_controls.specs.References.{references};
+ghost use Rattle.h264_controls.specs.UnitIds.{ids_in};
 
+use crate::few::Few;
 use header_types::SliceHeader;
 use pictures::{AuId, Frame, Marks};
 use std::alloc::{AllocError, Global};
 use std::marker::Model;
 
-/// The units of the frames of the decoded picture buffer, in the order of its entries.
+/// How many ids stand in the value itself, which takes 32 bytes with them.
+const FEW: usize = 6;
+
+/// The units of the frames of the decoded picture buffer, in the order of its entries. Few of them take no memory of
+/// their own.
 #[derive(Debug, Drop)]
 pub struct References {
-    ids: Vec<AuId>,
+    ids: Ids,
+}
+
+/// Where the ids stand.
+#[derive(Debug, Drop)]
+enum Ids {
+    Few(Few<AuId, 6>),
+    Many(Vec<AuId>),
 }
 
 impl Model for References {
     ghost use Rattle.std.specs.Prelude.{ℕ, List};
+    ghost use Rattle.h264_controls.specs.UnitIds.{ids_in};
 
     ghost Value = { List ℕ };
 
-    ghost view = { λ references. references.ids.items };
+    ghost view = { λ references. ids_in references.ids };
 }
 
 impl References {
@@ -27,6 +41,11 @@ impl References {
     pub fn new(ids: Vec<AuId>) -> References
         ensures { result ≡ ids.items }
     {
+        let ids = if ids.len() <= FEW {
+            Ids::Few(Few::of(AuId::new(0), &ids))
+        } else {
+            Ids::Many(ids)
+        };
         References { ids }
     }
 
@@ -45,7 +64,10 @@ impl References {
     pub fn as_slice(&self) -> &[AuId]
         ensures { result.now ≡ self.now }
     {
-        self.ids.as_slice()
+        match &self.ids {
+            Ids::Few(few) => few.as_slice(),
+            Ids::Many(many) => many.as_slice(),
+        }
     }
 
     /// Whether both have the same units in the same order.
@@ -59,7 +81,7 @@ impl References {
     pub fn get(&self, index: u8) -> Option<AuId>
         ensures { result ≡ slice_get self.now index }
     {
-        self.ids.get(usize::from(index)).copied()
+        self.as_slice().get(usize::from(index)).copied()
     }
 }
 

@@ -29,8 +29,8 @@ pub struct V4l2CtrlH264DecodeParams {
     pub dec_ref_pic_marking_bit_size: u32,
     /// The size in bits of the fields from pic_order_cnt_lsb to delta_pic_order_cnt1 together.
     pub pic_order_cnt_bit_size: u32,
-    /// 0 here: a set with several slice groups is refused.
-    pub slice_group_change_cycle: u32,
+    /// 0 here, and so one byte in place of Linux's four: a set with several slice groups is refused.
+    pub slice_group_change_cycle: u8,
     pub flags: DecodeFlags,
 }
 
@@ -143,7 +143,7 @@ impl V4l2CtrlH264DecodeParams {
         put_s32(form, self.delta_pic_order_cnt1);
         put_u32(form, self.dec_ref_pic_marking_bit_size);
         put_u32(form, self.pic_order_cnt_bit_size);
-        put_u32(form, self.slice_group_change_cycle);
+        put_u32(form, u32::from(self.slice_group_change_cycle));
         put_u32(form, self.flags.number());
     }
 }

@@ -13,7 +13,7 @@ returns-clause-items c =
     let delta_bottom : c.put_s32-3.new.form.items ≡ c.put_u16-4.new.form.items ++ s32 c.args.self.now.delta_pic_order_cnt_bottom = grind (arith, to_z-of_z) in
     let delta0 : c.put_s32-4.new.form.items ≡ c.put_s32-3.new.form.items ++ s32 c.args.self.now.delta_pic_order_cnt0 = grind (arith, to_z-of_z) in
     let delta1 : c.put_s32-5.new.form.items ≡ c.put_s32-4.new.form.items ++ s32 c.args.self.now.delta_pic_order_cnt1 = grind (arith, to_z-of_z) in
-    rw (c.put_u32-4.ensures.items, c.number.ensures, c.put_u32-3.ensures.items, c.put_u32-2.ensures.items, c.put_u32.ensures.items)
+    rw (c.put_u32-4.ensures.items, c.number.ensures, c.put_u32-3.ensures.items, c.from.ensures, c.put_u32-2.ensures.items, c.put_u32.ensures.items)
     (rw (delta1, delta0, delta_bottom, c.put_u16-4.ensures.items, c.put_u16-3.ensures.items, bottom, top)
     (rw (c.put_u16-2.ensures.items, c.put_u16.ensures.items, c.put_dpb.ensures.items)
     (simp append_assoc)))

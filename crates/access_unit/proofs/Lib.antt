@@ -6,3 +6,4 @@ pub mod Progress
 pub mod Lengths
 pub mod Texts
 pub mod StreamParts
+pub mod Trailing

@@ -4,7 +4,9 @@ pub mod Coded
 pub mod Sets
 pub mod Refusals
 pub mod Answers
+pub mod Placed
 pub mod Stored
+pub mod Keeping
 pub mod Streams
 pub mod Gathered
 pub mod Rooms

@@ -6,9 +6,11 @@
 
 mod checks;
 mod cuts;
+mod kept;
 mod laws;
 mod parameter_sets;
 mod parts;
+mod placed;
 mod refused;
 mod room;
 mod shared_nal;

@@ -10,6 +10,7 @@ ghost use Rattle.access_unit.specs.declared.refused.Refused.TheVariants.{Memory}
 ghost use Rattle.access_unit.specs.Stored.{IsShown, units_in};
 
 use crate::cuts::cut_next;
+use crate::kept::{Kept, keep};
 use crate::parameter_sets::ParameterSet;
 use crate::parts::Parts;
 use crate::refused::Refused;
@@ -26,18 +27,18 @@ pub(crate) const MOST_BYTES: usize = 4_194_304;
 /// them. It owns their bytes once. Clauses see the bytes of the NAL units.
 #[derive(Debug, Drop)]
 pub struct Unit {
-    parts: Parts,
+    kept: Kept,
 }
 
 impl Model for Unit {
     ghost use Rattle.std.specs.Prelude.{ℕ, List};
-    ghost use Rattle.access_unit.specs.Stored.{IsOfUnit};
+    ghost use Rattle.access_unit.specs.Keeping.{IsKeptOf, nals_in};
 
     ghost Value = { List (List ℕ) };
 
-    ghost view = { λ unit. unit.parts.nals.items };
+    ghost view = { λ unit. nals_in unit.kept };
 
-    ghost invariant = { λ unit. IsOfUnit unit.parts };
+    ghost invariant = { λ unit. IsKeptOf (nals_in unit.kept) unit.kept };
 }
 
 impl Unit {
@@ -47,21 +48,21 @@ impl Unit {
         // Joined, they are a text that is read as this access unit.
         ensures accepted { IsAccepted (joined self.now) self.now }
     {
-        self.parts.nals.as_slice()
+        self.kept.nals()
     }
 
     /// The slices among the NAL units, in order: one or more.
     pub fn slices(&self) -> &[SharedNal]
         ensures { result.now ≡ filter is_slice self.now }
     {
-        self.parts.slices.as_slice()
+        self.kept.slices()
     }
 
     /// The parameter sets among the NAL units, in order.
     pub fn sets(&self) -> &[ParameterSet]
         ensures { result.now ≡ sets_of self.now }
     {
-        self.parts.sets.as_slice()
+        self.kept.sets()
     }
 }
 
@@ -135,5 +136,7 @@ pub(crate) fn unit_of(alloc: Global, mut text: Bytes, nals: &[Nal<'_>]) -> Resul
     if parts.slices.is_empty() {
         return Err(Refused::NoPicture);
     }
-    Ok(Unit { parts })
+    Ok(Unit {
+        kept: keep(alloc, parts)?,
+    })
 }

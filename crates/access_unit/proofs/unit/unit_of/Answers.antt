@@ -35,6 +35,6 @@ loop-nal-preserved c =
 pub loop-nal-init : goal.loop-nal-init
 loop-nal-init c = IsReadTo-first _ _ _ c.requires.has c.in_ok-parts.ensures
 
-pub invariant_of-result : goal.invariant_of-result
-invariant_of-result c =
+pub keep-requires : goal.keep-requires
+keep-requires c =
     IsOfUnit-end _ _ _ _ c.loop-nal.invariant c.loop-nal-test.false _ c.requires (grind (arith, common_steps, c.if-is_empty.ensures))

@@ -1,0 +1,39 @@
+-- What is kept of an access unit.
+use Rattle.std.specs.Prelude.{◌≡◌, ℕ, ◌≤◌, List, [], length}
+use Rattle.std.specs.List.{filter}
+use Rattle.annexb.specs.NalUnit.{is_slice}
+use Rattle.annexb.specs.ByteStream.{joined}
+use Rattle.access_unit.specs.declared.kept.Kept.{Kept}
+use Rattle.access_unit.specs.declared.kept.Kept.TheVariants.{Lone, Several}
+use Rattle.access_unit.specs.declared.parameter_sets.ParameterSet.{ParameterSet}
+use Rattle.access_unit.specs.Answers.{IsAccepted}
+use Rattle.access_unit.specs.Placed.{first_of, slices_among}
+use Rattle.access_unit.specs.Sets.{sets_of}
+
+-- the NAL units, in order
+abbrev pub nals_in : Kept → List (List ℕ)
+nals_in (Lone nals) = nals
+nals_in (Several nals slices sets) = nals.items
+
+-- the slices among them
+abbrev pub slices_in : Kept → List (List ℕ)
+slices_in (Lone nals) = nals
+slices_in (Several nals slices sets) = slices_among nals.items slices
+
+-- the parameter sets among them
+abbrev pub sets_in : Kept → List ParameterSet
+sets_in (Lone nals) = []
+sets_in (Several nals slices sets) = sets.items
+
+-- how many NAL units stand before the first slice, where that is kept
+abbrev pub first_place : Kept → ℕ
+first_place (Lone nals) = 0
+first_place (Several nals slices sets) = first_of slices
+
+-- what is kept is the access unit of these NAL units
+pub record IsKeptOf (units : List (List ℕ)) (kept : Kept) : Type 0 where
+  pub nals_are : nals_in kept ≡ units
+  pub slices_are : slices_in kept ≡ filter is_slice units
+  pub within : first_place kept ≤ length units
+  pub sets_are : sets_in kept ≡ sets_of units
+  pub accepted : IsAccepted (joined units) units

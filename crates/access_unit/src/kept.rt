@@ -1,0 +1,83 @@
+//! What is kept of an access unit.
+ghost use Rattle.std.specs.Prelude.{◌≡◌, ◌≤◌, [], length, vec_len, IfOk};
+ghost use Rattle.access_unit.specs.Keeping.{IsKeptOf, first_place, nals_in, sets_in, slices_in};
+ghost use Rattle.access_unit.specs.Stored.{IsOfUnit};
+
+use crate::parameter_sets::ParameterSet;
+use crate::parts::Parts;
+use crate::placed::{Slices, placed};
+use crate::shared_nal::SharedNal;
+use std::alloc::{AllocError, Global};
+
+/// What is kept of an access unit.
+#[derive(Debug, Drop)]
+pub(crate) enum Kept {
+    /// One NAL unit, which is a slice: most take no memory beside their bytes.
+    Lone([SharedNal; 1]),
+    /// Any other NAL units.
+    Several {
+        nals: Vec<SharedNal>,
+        slices: Slices,
+        sets: Vec<ParameterSet>,
+    },
+}
+
+impl Kept {
+    /// The NAL units, in order.
+    pub(crate) fn nals(&self) -> &[SharedNal]
+        ensures { result.now ≡ nals_in self.now }
+    {
+        match self {
+            Kept::Lone(nals) => nals.as_slice(),
+            Kept::Several { nals, .. } => nals.as_slice(),
+        }
+    }
+
+    /// The slices among them, in order.
+    pub(crate) fn slices(&self) -> &[SharedNal]
+        requires { first_place self.now ≤ length (nals_in self.now) }
+        ensures { result.now ≡ slices_in self.now }
+    {
+        match self {
+            Kept::Lone(nals) => nals.as_slice(),
+            Kept::Several { nals, slices, .. } => slices.among(nals),
+        }
+    }
+
+    /// The parameter sets among them, in order.
+    pub(crate) fn sets(&self) -> &[ParameterSet]
+        ensures { result.now ≡ sets_in self.now }
+    {
+        match self {
+            Kept::Lone(_) => &[],
+            Kept::Several { sets, .. } => sets.as_slice(),
+        }
+    }
+}
+
+/// What is kept of these parts, which are those of an access unit.
+pub(crate) fn keep(alloc: Global, parts: Parts) -> Result<Kept, AllocError>
+    requires { IsOfUnit parts }
+    ensures { IfOk result (IsKeptOf parts.nals.items) }
+{
+    let Parts { nals, slices, sets } = parts;
+    if nals.len() == 1 && slices.len() == 1 && sets.is_empty() {
+        return Ok(lone(nals));
+    }
+    let slices = placed(alloc, &nals, slices)?;
+    Ok(Kept::Several { nals, slices, sets })
+}
+
+/// The only one of these NAL units.
+fn lone(mut nals: Vec<SharedNal>) -> Kept
+    requires { vec_len nals ≡ 1 }
+    ensures nals { nals_in result ≡ nals.items }
+    ensures slices { slices_in result ≡ nals.items }
+    ensures sets { sets_in result ≡ [] }
+    ensures first { first_place result ≡ 0 }
+{
+    match nals.pop() {
+        Some(nal) => Kept::Lone([nal]),
+        None => unreachable!(),
+    }
+}

@@ -10,20 +10,21 @@ use Rattle.console_io.specs.Messages.{Tells}
 use Rattle.console_io.proofs.Chunked.{front-all, front-behind}
 
 -- a front at least was written
-pub tells-front : {T : Type 0} (told : Result T PrintFault) (a b : Option (List ℕ)) (bytes : List ℕ)
-    → Tells told a b bytes → AppendsFront a b bytes
-tells-front (Ok x) a b bytes tells = front-all a b bytes tells
-tells-front (Err fault) a b bytes tells = tells.1
+pub tells-front : {T : Type 0} (told : Result T PrintFault) (R : Type 0) (a b : Option (List ℕ)) (bytes : List ℕ)
+    → Tells told R a b bytes → AppendsFront a b bytes
+tells-front (Ok x) R a b bytes tells = front-all a b bytes tells
+tells-front (Err fault) R a b bytes tells = tells.2
 
 -- after what is written
-pub tells-behind : {T : Type 0} (told : Result T PrintFault) (a b c : Option (List ℕ)) (bytes more : List ℕ)
-    → Appends a b bytes → OnOk told (Appends b c more) → OnErr told (AppendsFront b c more) → IsOkUnless told Unwritten
-    → Tells told a c (bytes ++ more)
-tells-behind (Ok x) a b c bytes more appends all front fault = Appends-trans a b c bytes more appends all
-tells-behind (Err it) a b c bytes more appends all front fault = (fault, front-behind a b c bytes more appends front)
+pub tells-behind : {T : Type 0} (told : Result T PrintFault) (R : Type 0) (a b c : Option (List ℕ)) (bytes more : List ℕ)
+    → Appends a b bytes → OnOk told (Appends b c more) → OnErr told (AppendsFront b c more) → OnErr told R
+    → IsOkUnless told Unwritten → Tells told R a c (bytes ++ more)
+tells-behind (Ok x) R a b c bytes more appends all front refused fault = Appends-trans a b c bytes more appends all
+tells-behind (Err it) R a b c bytes more appends all front refused fault =
+    (fault, refused, front-behind a b c bytes more appends front)
 
 -- a message is cut
-pub tells-cut : {T : Type 0} (told : Result T PrintFault) (it : PrintFault) (a b : Option (List ℕ)) (bytes : List ℕ)
-    → IsErrAnd told (λ fault. fault ≡ it) → it ≡ Unwritten → AppendsFront a b bytes → Tells told a b bytes
-tells-cut (Ok x) it a b bytes is unwritten front = absurd is
-tells-cut (Err fault) it a b bytes is unwritten front = (is ∙ unwritten, front)
+pub tells-cut : {T : Type 0} (told : Result T PrintFault) (it : PrintFault) (R : Type 0) (a b : Option (List ℕ)) (bytes : List ℕ)
+    → IsErrAnd told (λ fault. fault ≡ it) → it ≡ Unwritten → R → AppendsFront a b bytes → Tells told R a b bytes
+tells-cut (Ok x) it R a b bytes is unwritten refused front = absurd is
+tells-cut (Err fault) it R a b bytes is unwritten refused front = (is ∙ unwritten, refused, front)

@@ -1,4 +1,5 @@
 pub mod Chunks
 pub mod Inputs
 pub mod Messages
+pub mod Sinks
 pub mod Status

@@ -1,13 +1,14 @@
 //! Text on its way to a writer, in pieces of some 64 KB.
 
-ghost use Rattle.std.specs.Prelude.{◌≡◌, ◌++◌, [], OnOk, OnErr, IfSome, IsErrOf, IsOkUnless};
+ghost use Rattle.std.specs.Prelude.{◌≡◌, ◌<◌, ◌≤◌, ◌++◌, [], length, take, OnOk, OnErr, IfOk, IfSome, IsErrOf, IsOkUnless};
 ghost use Rattle.std.specs.Io.KnownBytes.{Appends, Keeps};
 ghost use Rattle.console_io.specs.declared.chunks.PrintFault.TheVariants.{Memory};
 ghost use Rattle.console_io.specs.Chunks.{Adds, AppendsFront, waiting_of};
 
+use crate::sink::Sink;
 use std::alloc::{AllocError, Global};
 use std::fmt::Display;
-use std::io::{ErrorKind, Write};
+use std::io::ErrorKind;
 
 /// From how many bytes on the text that waits is written.
 const CHUNK: usize = 64 * 1024;
@@ -46,7 +47,7 @@ impl Chunks {
     }
 
     /// Adds a text after those before it. Where it's the writer that fails, it has the front of all that waited.
-    pub fn print<D: Display + Drop, W: Write>(
+    pub fn print<D: Display + Drop, W: Sink>(
         &mut self,
         text: D,
         writer: &mut W,
@@ -57,6 +58,7 @@ impl Chunks {
             → Keeps (W.contents writer.old) (W.contents writer.new) }
         ensures unwritten { IsErrOf result PrintFault.Unwritten → IfSome (D.output text) (λ bytes.
             AppendsFront (W.contents writer.old) (W.contents writer.new) (waiting_of self.old ++ bytes)) }
+        ensures refused { IsErrOf result PrintFault.Unwritten → W.refuses writer.new }
     {
         self.waiting.write(text)?;
         if self.waiting.len() < CHUNK {
@@ -66,12 +68,13 @@ impl Chunks {
     }
 
     /// Writes what waits.
-    pub fn pass_on<W: Write>(&mut self, writer: &mut W) -> Result<(), PrintFault>
+    pub fn pass_on<W: Sink>(&mut self, writer: &mut W) -> Result<(), PrintFault>
         ensures ok { OnOk result
             (Appends (W.contents writer.old) (W.contents writer.new) (waiting_of self.old)) }
         ensures waits { OnOk result (waiting_of self.new ≡ []) }
         ensures unwritten { OnErr result
             (AppendsFront (W.contents writer.old) (W.contents writer.new) (waiting_of self.old)) }
+        ensures refused { OnErr result (W.refuses writer.new) }
         ensures fault { IsOkUnless result PrintFault.Unwritten }
     {
         write_bytes(writer, self.waiting.as_bytes())?;
@@ -81,20 +84,35 @@ impl Chunks {
 }
 
 /// Writes the bytes: all of them, or those before the writer fails or takes none. An interrupted write is made again.
-pub fn write_bytes<W: Write>(writer: &mut W, bytes: &[u8]) -> Result<(), PrintFault>
+pub fn write_bytes<W: Sink>(writer: &mut W, bytes: &[u8]) -> Result<(), PrintFault>
     ensures ok { OnOk result (Appends (W.contents writer.old) (W.contents writer.new) bytes.now) }
     ensures unwritten { OnErr result
         (AppendsFront (W.contents writer.old) (W.contents writer.new) bytes.now) }
+    ensures refused { OnErr result (W.refuses writer.new) }
     ensures fault { IsOkUnless result PrintFault.Unwritten }
 {
     let mut written = 0;
-    'writes: for _ in 0..u64::MAX {
-        if written >= bytes.len() {
-            return Ok(());
-        }
-        match writer.write(bytes.split_at(written).1) {
+    'writes: while written < bytes.len() {
+        let more = write_front(writer, bytes.split_at(written).1)?;
+        written += more;
+    }
+    Ok(())
+}
+
+/// Writes a front of the bytes, of which there are some, and says how long it is. An interrupted write is made again.
+fn write_front<W: Sink>(writer: &mut W, bytes: &[u8]) -> Result<usize, PrintFault>
+    requires { 0 < length bytes.now }
+    ensures some { IfOk result (λ count. (0 < count) × (count ≤ length bytes.now)) }
+    ensures ok { IfOk result (λ count.
+        Appends (W.contents writer.old) (W.contents writer.new) (take count bytes.now)) }
+    ensures unwritten { OnErr result (Keeps (W.contents writer.old) (W.contents writer.new)) }
+    ensures refused { OnErr result (W.refuses writer.new) }
+    ensures fault { IsOkUnless result PrintFault.Unwritten }
+{
+    'tries: for turn in 0..u64::MAX {
+        match writer.write_some(bytes) {
             Ok(0) => return Err(PrintFault::Unwritten),
-            Ok(more) => written += more,
+            Ok(count) => return Ok(count),
             Err(error) => {
                 if error.kind() != ErrorKind::Interrupted {
                     return Err(PrintFault::Unwritten);

@@ -7,6 +7,7 @@
 mod chunks;
 mod input;
 mod messages;
+mod sink;
 mod source;
 mod status;
 
@@ -15,5 +16,6 @@ pub use input::{Input, InputFault, open_input, whole_input};
 pub use messages::{
     say_input_fault, say_line, say_not_text, say_out_of_memory, say_print_fault, say_unread,
 };
+pub use sink::Sink;
 pub use source::{Directory, Files, Source};
 pub use status::{Ended, Status};

@@ -5,22 +5,23 @@ ghost use Rattle.console_io.specs.Messages.{Tells, input_fault_text, line_text, 
 
 use crate::chunks::{PrintFault, write_bytes};
 use crate::input::InputFault;
-use std::io::Write;
+use crate::sink::Sink;
 
 /// Says that memory is wanted.
-pub fn say_out_of_memory<E: Write>(errors: &mut E) -> Result<(), PrintFault>
-    ensures { Tells result (E.contents errors.old) (E.contents errors.new) out_of_memory }
+pub fn say_out_of_memory<E: Sink>(errors: &mut E) -> Result<(), PrintFault>
+    ensures { Tells result (E.refuses errors.new) (E.contents errors.old) (E.contents errors.new)
+        out_of_memory }
 {
     write_bytes(errors, b"out of memory\n")
 }
 
 /// Says why the input of this name isn't read.
-pub fn say_input_fault<E: Write>(
+pub fn say_input_fault<E: Sink>(
     fault: InputFault,
     name: &str,
     errors: &mut E,
 ) -> Result<(), PrintFault>
-    ensures { Tells result (E.contents errors.old) (E.contents errors.new)
+    ensures { Tells result (E.refuses errors.new) (E.contents errors.old) (E.contents errors.new)
         (input_fault_text name.now fault) }
 {
     match fault {
@@ -30,8 +31,9 @@ pub fn say_input_fault<E: Write>(
 }
 
 /// Says why a text isn't printed. A writer that takes no more is known to who reads it.
-pub fn say_print_fault<E: Write>(fault: PrintFault, errors: &mut E) -> Result<(), PrintFault>
-    ensures { Tells result (E.contents errors.old) (E.contents errors.new) (print_fault_text fault) }
+pub fn say_print_fault<E: Sink>(fault: PrintFault, errors: &mut E) -> Result<(), PrintFault>
+    ensures { Tells result (E.refuses errors.new) (E.contents errors.old) (E.contents errors.new)
+        (print_fault_text fault) }
 {
     match fault {
         PrintFault::Memory => say_out_of_memory(errors),
@@ -40,15 +42,16 @@ pub fn say_print_fault<E: Write>(fault: PrintFault, errors: &mut E) -> Result<()
 }
 
 /// Says that the input of this name can't be read.
-pub fn say_unread<E: Write>(name: &str, errors: &mut E) -> Result<(), PrintFault>
-    ensures { Tells result (E.contents errors.old) (E.contents errors.new) (unread_text name.now) }
+pub fn say_unread<E: Sink>(name: &str, errors: &mut E) -> Result<(), PrintFault>
+    ensures { Tells result (E.refuses errors.new) (E.contents errors.old) (E.contents errors.new)
+        (unread_text name.now) }
 {
     say_line(b"cannot read ", name.as_bytes(), errors)
 }
 
 /// Says a line that ends with this word.
-pub fn say_line<E: Write>(front: &[u8], word: &[u8], errors: &mut E) -> Result<(), PrintFault>
-    ensures { Tells result (E.contents errors.old) (E.contents errors.new)
+pub fn say_line<E: Sink>(front: &[u8], word: &[u8], errors: &mut E) -> Result<(), PrintFault>
+    ensures { Tells result (E.refuses errors.new) (E.contents errors.old) (E.contents errors.new)
         (line_text front.now word.now) }
 {
     write_bytes(errors, front)?;
@@ -57,8 +60,9 @@ pub fn say_line<E: Write>(front: &[u8], word: &[u8], errors: &mut E) -> Result<(
 }
 
 /// Says that a word of the command line isn't UTF-8.
-pub fn say_not_text<E: Write>(errors: &mut E) -> Result<(), PrintFault>
-    ensures { Tells result (E.contents errors.old) (E.contents errors.new) not_text }
+pub fn say_not_text<E: Sink>(errors: &mut E) -> Result<(), PrintFault>
+    ensures { Tells result (E.refuses errors.new) (E.contents errors.old) (E.contents errors.new)
+        not_text }
 {
     write_bytes(
         errors,

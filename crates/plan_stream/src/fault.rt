@@ -5,8 +5,7 @@ ghost use Rattle.console_io.specs.Messages.{Tells};
 ghost use Rattle.plan_stream.specs.Faults.{fault_of_input, fault_of_print, plan_fault_text};
 
 use access_unit::Refusal;
-use console_io::{InputFault, PrintFault, say_out_of_memory, say_unread, write_bytes};
-use std::io::Write;
+use console_io::{InputFault, PrintFault, Sink, say_out_of_memory, say_unread, write_bytes};
 
 /// Why a plan isn't printed whole.
 #[derive(Clone, Copy, Debug, PartialEq, Eq)]
@@ -45,12 +44,12 @@ impl From<PrintFault> for PlanFault {
 
 /// Says why the plan of the stream of this name isn't printed whole. A refusal is printed where the plan would be, and
 /// a writer that takes no more is known to who reads it.
-pub fn say_plan_fault<E: Write>(
+pub fn say_plan_fault<E: Sink>(
     fault: PlanFault,
     name: &str,
     errors: &mut E,
 ) -> Result<(), PrintFault>
-    ensures { Tells result (E.contents errors.old) (E.contents errors.new)
+    ensures { Tells result (E.refuses errors.new) (E.contents errors.old) (E.contents errors.new)
         (plan_fault_text name.now fault) }
 {
     match fault {

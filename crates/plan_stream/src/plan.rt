@@ -1,6 +1,6 @@
 //! `preview plan`: a stream read, planned and printed.
 
-ghost use Rattle.std.specs.Prelude.{◌≡◌, ◌≤◌, ◌≢◌, ◌++◌, length, IfErr, IfOk, IfSome, OnOk, vec_len};
+ghost use Rattle.std.specs.Prelude.{◌≡◌, ◌≤◌, ◌≢◌, ◌++◌, length, IfErr, IfOk, IfSome, IsErrOf, OnOk, vec_len};
 ghost use Rattle.std.specs.Io.KnownBytes.{Appends, Keeps};
 ghost use Rattle.access_unit.specs.Rooms.{most_units};
 ghost use Rattle.request_core.specs.Fold.{outcomes_of};
@@ -16,17 +16,17 @@ ghost use Rattle.plan_stream.specs.StreamText.{stream_text, units_text};
 
 use crate::fault::{PlanFault, say_plan_fault};
 use access_unit::{MOST_UNITS, ReadFault, Refusal, Unit, read_units};
-use console_io::{Chunks, Ended, PrintFault, Status, whole_input, write_bytes};
+use console_io::{Chunks, Ended, PrintFault, Sink, Status, whole_input, write_bytes};
 use outcomes::Outcome;
 use pictures::AuId;
 use std::alloc::{AllocError, Global};
-use std::io::{Read, Write};
+use std::io::Read;
 use std::thread::Threads;
 use unit_lines::{RefusalLine, UnitLines};
 
 /// Prints the plan of the stream that the reader gives, or its refusal. Where the reader fails or memory is wanted,
 /// `errors` is told; the reader has this name there.
-pub fn plan_on<R: Read, W: Write, E: Write>(
+pub fn plan_on<R: Read, W: Sink, E: Sink>(
     threads: &(impl Threads + Sync),
     alloc: Global,
     name: &str,
@@ -41,8 +41,9 @@ pub fn plan_on<R: Read, W: Write, E: Write>(
     // At a failure it is what the fault that is told leaves of it.
     ensures ends { result.status ≡ Status.Failure → (fault : PlanFault)
         × IfSome (R.remaining reader.old) (λ text.
-        EndsBy text fault (W.contents writer.old) (W.contents writer.new))
-        × Tells result.told (E.contents errors.old) (E.contents errors.new) (plan_fault_text name.now fault) }
+        EndsBy text fault (W.refuses writer.new) (W.contents writer.old) (W.contents writer.new))
+        × Tells result.told (E.refuses errors.new) (E.contents errors.old) (E.contents errors.new)
+        (plan_fault_text name.now fault) }
     ensures usage { result.status ≢ Status.Usage }
 {
     match plan(threads, alloc, reader, writer) {
@@ -52,7 +53,7 @@ pub fn plan_on<R: Read, W: Write, E: Write>(
 }
 
 /// Prints the plan of the stream that the reader gives, or its refusal.
-fn plan<R: Read, W: Write>(
+fn plan<R: Read, W: Sink>(
     threads: &(impl Threads + Sync),
     alloc: Global,
     reader: &mut R,
@@ -61,21 +62,22 @@ fn plan<R: Read, W: Write>(
     ensures planned { OnOk result (IfSome (R.remaining reader.old) (λ text.
         WritesPlan text (W.contents writer.old) (W.contents writer.new))) }
     ensures ends { IfErr result (λ fault. IfSome (R.remaining reader.old) (λ text.
-        EndsBy text fault (W.contents writer.old) (W.contents writer.new))) }
+        EndsBy text fault (W.refuses writer.new) (W.contents writer.old) (W.contents writer.new))) }
 {
     let text = whole_input(alloc, reader)?;
     plan_text(threads, alloc, text.as_slice(), writer)
 }
 
 /// Prints the plan of the stream of this text, or its refusal.
-fn plan_text<W: Write>(
+fn plan_text<W: Sink>(
     threads: &(impl Threads + Sync),
     alloc: Global,
     text: &[u8],
     writer: &mut W,
 ) -> Result<(), PlanFault>
     ensures planned { OnOk result (WritesPlan text.now (W.contents writer.old) (W.contents writer.new)) }
-    ensures ends { IfErr result (λ fault. EndsBy text.now fault (W.contents writer.old) (W.contents writer.new)) }
+    ensures ends { IfErr result (λ fault.
+        EndsBy text.now fault (W.refuses writer.new) (W.contents writer.old) (W.contents writer.new)) }
 {
     match read_units(threads, alloc, text, MOST_UNITS) {
         Ok(units) => Ok(print_units(alloc, units, writer)?),
@@ -88,24 +90,22 @@ fn plan_text<W: Write>(
 }
 
 /// Prints why the stream is refused.
-fn print_refusal<W: Write>(
-    alloc: Global,
-    refusal: Refusal,
-    writer: &mut W,
-) -> Result<(), PrintFault>
+fn print_refusal<W: Sink>(alloc: Global, refusal: Refusal, writer: &mut W) -> Result<(), PrintFault>
     ensures ok { OnOk result (Appends (W.contents writer.old) (W.contents writer.new) (refusal_text refusal)) }
     ensures written { AppendsFront (W.contents writer.old) (W.contents writer.new) (refusal_text refusal) }
+    ensures refused { IsErrOf result PrintFault.Unwritten → W.refuses writer.new }
 {
     let line = RefusalLine(refusal).to_string(alloc)?;
     write_bytes(writer, line.as_bytes())
 }
 
 /// Prints the lines of all units.
-fn print_units<W: Write>(alloc: Global, units: Vec<Unit>, writer: &mut W) -> Result<(), PrintFault>
+fn print_units<W: Sink>(alloc: Global, units: Vec<Unit>, writer: &mut W) -> Result<(), PrintFault>
     requires { vec_len units ≤ most_units }
     ensures ok { OnOk result
         (Appends (W.contents writer.old) (W.contents writer.new) (stream_text (numbered_from 1 units.items))) }
     ensures written { AppendsFront (W.contents writer.old) (W.contents writer.new) (stream_text (numbered_from 1 units.items)) }
+    ensures refused { IsErrOf result PrintFault.Unwritten → W.refuses writer.new }
 {
     let stream = numbered(alloc, units)?;
     let outcomes = request_core::scratch(alloc, &stream)?;
@@ -114,7 +114,7 @@ fn print_units<W: Write>(alloc: Global, units: Vec<Unit>, writer: &mut W) -> Res
 }
 
 /// Prints the lines of the units in pieces.
-fn print_all<W: Write>(
+fn print_all<W: Sink>(
     alloc: Global,
     stream: &[(AuId, Unit)],
     outcomes: &[Outcome],
@@ -125,6 +125,7 @@ fn print_all<W: Write>(
     requires placed { positions.now ≡ positions_of outcomes.now }
     ensures ok { OnOk result (Appends (W.contents writer.old) (W.contents writer.new) (stream_text stream.now)) }
     ensures written { AppendsFront (W.contents writer.old) (W.contents writer.new) (stream_text stream.now) }
+    ensures refused { IsErrOf result PrintFault.Unwritten → W.refuses writer.new }
 {
     let mut chunks = Chunks::new(alloc);
     print_lines(stream, outcomes, positions, &mut chunks, writer)?;
@@ -132,7 +133,7 @@ fn print_all<W: Write>(
 }
 
 /// Prints the lines of the units, of which these are the outcomes and the positions.
-fn print_lines<W: Write>(
+fn print_lines<W: Sink>(
     stream: &[(AuId, Unit)],
     outcomes: &[Outcome],
     positions: &[Option<usize>],
@@ -145,6 +146,7 @@ fn print_lines<W: Write>(
         (units_text stream.now outcomes.now positions.now) chunks.new (W.contents writer.new)) }
     ensures written { AppendsFront (W.contents writer.old) (W.contents writer.new)
         (waiting_of chunks.old ++ units_text stream.now outcomes.now positions.now) }
+    ensures refused { IsErrOf result PrintFault.Unwritten → W.refuses writer.new }
 {
     for (place, unit) in stream.iter().enumerate() {
         let lines = UnitLines {

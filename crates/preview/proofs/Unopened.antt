@@ -19,25 +19,25 @@ some-all : {T : Type 0} (known : Option T) {P : T → Type 0} → ((value : T) �
 some-all None all = tt
 some-all (Some value) all = all value
 
-module _ {T : Type 0} (files : Files) (standard : Option (List ℕ)) (told : Result T PrintFault) (old had has : Option (List ℕ)) where
+module _ {T : Type 0} (files : Files) (standard : Option (List ℕ)) (told : Result T PrintFault) (refused mute : Type 0) (old had has : Option (List ℕ)) where
   -- of a plan
-  pub plan-unopened : (name : List ℕ) (it : InputFault) → Tells told had has (input_fault_text name it)
-      → FailsAt files standard (plan name) told old old had has
+  pub plan-unopened : (name : List ℕ) (it : InputFault) → Tells told mute had has (input_fault_text name it)
+      → FailsAt files standard (plan name) told refused old old mute had has
   plan-unopened name input.Unread tells =
       (fault.Unread, some-all (text_named files standard name) (λ text. Keeps-refl old), tells)
   plan-unopened name input.Memory tells =
       (fault.Memory, some-all (text_named files standard name) (λ text. inl (Keeps-refl old)), tells)
 
   -- of a run
-  pub run-unopened : (name : Bor (List ℕ)) (room : ℕ) (it : InputFault) → Tells told had has (input_fault_text name.now it)
-      → FailsAt files standard (run name.now room) told old old had has
+  pub run-unopened : (name : Bor (List ℕ)) (room : ℕ) (it : InputFault) → Tells told mute had has (input_fault_text name.now it)
+      → FailsAt files standard (run name.now room) told refused old old mute had has
   run-unopened name room input.Unread tells = (
     fault_of_input name input.Unread,
-    some-all (text_named files standard name.now) (λ text. stops-unread files name text room input.Unread old),
+    some-all (text_named files standard name.now) (λ text. stops-unread files name text room input.Unread refused old),
     tells,
   )
   run-unopened name room input.Memory tells = (
     fault_of_input name input.Memory,
-    some-all (text_named files standard name.now) (λ text. stops-unread files name text room input.Memory old),
+    some-all (text_named files standard name.now) (λ text. stops-unread files name text room input.Memory refused old),
     tells,
   )

@@ -22,22 +22,25 @@ IsDone files standard (plan name) old new =
 IsDone files standard (run name room) old new =
     IfSome (text_named files standard name) (λ text. WritesScript files text room old new)
 
--- it ended by a fault, which was told
-abbrev pub FailsAt : {T : Type 0} → Files → Option (List ℕ) → Wanted → Result T PrintFault → Option (List ℕ) → Option (List ℕ) → Option (List ℕ) → Option (List ℕ) → Type 0
-FailsAt files standard (plan name) told old new had has =
-    (fault : PlanFault) × IfSome (text_named files standard name) (λ text. EndsBy text fault old new)
-    × Tells told had has (plan_fault_text name fault)
-FailsAt files standard (run name room) told old new had has =
-    (fault : RunFault) × IfSome (text_named files standard name) (λ text. StopsBy files name text room fault old new)
-    × Tells told had has (run_fault_text fault)
+-- it ended by a fault, which was told; of the two outputs it is said whether each refused, and what it had and has
+abbrev pub FailsAt : {T : Type 0} → Files → Option (List ℕ) → Wanted → Result T PrintFault
+    → Type 0 → Option (List ℕ) → Option (List ℕ) → Type 0 → Option (List ℕ) → Option (List ℕ) → Type 0
+FailsAt files standard (plan name) told refused old new mute had has =
+    (fault : PlanFault) × IfSome (text_named files standard name) (λ text. EndsBy text fault refused old new)
+    × Tells told mute had has (plan_fault_text name fault)
+FailsAt files standard (run name room) told refused old new mute had has =
+    (fault : RunFault)
+    × IfSome (text_named files standard name) (λ text. StopsBy files name text room fault refused old new)
+    × Tells told mute had has (run_fault_text fault)
 
 -- memory was wanted for the words or for an answer to them: that was told, and nothing printed
-abbrev pub WantsMemory : {T : Type 0} → Result T PrintFault → Option (List ℕ) → Option (List ℕ) → Option (List ℕ) → Option (List ℕ) → Type 0
-WantsMemory told old new had has = Keeps old new × Tells told had has out_of_memory
+abbrev pub WantsMemory : {T : Type 0} → Result T PrintFault → Option (List ℕ) → Option (List ℕ)
+    → Type 0 → Option (List ℕ) → Option (List ℕ) → Type 0
+WantsMemory told old new mute had has = Keeps old new × Tells told mute had has out_of_memory
 
--- a text wasn't printed whole, and nothing was told
-abbrev pub WritesPart : Option (List ℕ) → Option (List ℕ) → Option (List ℕ) → Option (List ℕ) → Type 0
-WritesPart old new had has = ((text : List ℕ) × AppendsFront old new text) × Keeps had has
+-- the writer refused before a text was printed whole, and nothing was told
+abbrev pub WritesPart : Type 0 → Option (List ℕ) → Option (List ℕ) → Option (List ℕ) → Option (List ℕ) → Type 0
+WritesPart refused old new had has = refused × ((text : List ℕ) × AppendsFront old new text) × Keeps had has
 
 -- the words ask for this, and have no fault
 abbrev pub AskFor : List Text → Wanted → Type 0
@@ -50,8 +53,9 @@ Succeeds files standard words old new =
     ⊎ (HasOne IsRequest (faults_of words) × ((text : List ℕ) × Appends old new text))
 
 -- what the words ask for failed, or memory was wanted, or help or the version wasn't printed whole
-abbrev pub Fails : {T : Type 0} → Files → Option (List ℕ) → List Text → Result T PrintFault → Option (List ℕ) → Option (List ℕ) → Option (List ℕ) → Option (List ℕ) → Type 0
-Fails files standard words told old new had has =
-    ((wanted : Wanted) × AskFor words wanted × FailsAt files standard wanted told old new had has)
-    ⊎ WantsMemory told old new had has
-    ⊎ (HasOne IsRequest (faults_of words) × WritesPart old new had has)
+abbrev pub Fails : {T : Type 0} → Files → Option (List ℕ) → List Text → Result T PrintFault
+    → Type 0 → Option (List ℕ) → Option (List ℕ) → Type 0 → Option (List ℕ) → Option (List ℕ) → Type 0
+Fails files standard words told refused old new mute had has =
+    ((wanted : Wanted) × AskFor words wanted × FailsAt files standard wanted told refused old new mute had has)
+    ⊎ WantsMemory told old new mute had has
+    ⊎ (HasOne IsRequest (faults_of words) × WritesPart refused old new had has)

@@ -13,19 +13,19 @@ use crate::command_line::{Asked, parse};
 use clap::Error;
 use clap::error::ErrorKind;
 use console_io::{
-    Directory, Ended, Files, Status, open_input, say_input_fault, say_not_text, say_out_of_memory,
-    write_bytes,
+    Directory, Ended, Files, Sink, Status, open_input, say_input_fault, say_not_text,
+    say_out_of_memory, write_bytes,
 };
 use plan_stream::plan_on;
 use script_run::{Options, script_on};
 use std::alloc::Global;
 use std::convert::AsStr;
 use std::io;
-use std::io::{Read, Write};
+use std::io::Read;
 use std::thread::Threads;
 
 /// Does what the process's words ask for, with these threads. Words that can't be read are a wrong command line.
-pub fn run<D: Directory, I: Read + Drop, W: Write, E: Write>(
+pub fn run<D: Directory, I: Read + Drop, W: Sink, E: Sink>(
     threads: &(impl Threads + Sync),
     alloc: Global,
     words: io::Result<Vec<String>>,
@@ -41,15 +41,18 @@ pub fn run<D: Directory, I: Read + Drop, W: Write, E: Write>(
         (W.contents output.old) (W.contents output.new)) }
     ensures fails { result.status ≡ Status.Failure → MatchResult words (λ words.
         Fails (D.bytes directory.now) (I.remaining standard) (map string_bytes words.items) result.told
-        (W.contents output.old) (W.contents output.new) (E.contents errors.old) (E.contents errors.new))
+        (W.refuses output.new) (W.contents output.old) (W.contents output.new)
+        (E.refuses errors.new) (E.contents errors.old) (E.contents errors.new))
         (λ error. (error_kind error ≡ OutOfMemory) × WantsMemory result.told
-        (W.contents output.old) (W.contents output.new) (E.contents errors.old) (E.contents errors.new)) }
+        (W.contents output.old) (W.contents output.new)
+        (E.refuses errors.new) (E.contents errors.old) (E.contents errors.new)) }
     ensures usage { result.status ≡ Status.Usage → Keeps (W.contents output.old) (W.contents output.new) }
     ensures wrong { result.status ≡ Status.Usage → MatchResult words
         (λ words. AreMistaken (map string_bytes words.items))
         (λ error. error_kind error ≢ OutOfMemory) }
     ensures told { result.status ≡ Status.Usage → IfErr words (λ _.
-        Tells result.told (E.contents errors.old) (E.contents errors.new) not_text) }
+        Tells result.told (E.refuses errors.new) (E.contents errors.old) (E.contents errors.new)
+        not_text) }
 {
     match words {
         Ok(words) => run_on(
@@ -69,7 +72,7 @@ pub fn run<D: Directory, I: Read + Drop, W: Write, E: Write>(
 }
 
 /// Does what the words ask for, of which the first is the program's name.
-pub fn run_on<T: AsStr, D: Directory, I: Read + Drop, W: Write, E: Write>(
+pub fn run_on<T: AsStr, D: Directory, I: Read + Drop, W: Sink, E: Sink>(
     threads: &(impl Threads + Sync),
     alloc: Global,
     words: &[T],
@@ -84,11 +87,12 @@ pub fn run_on<T: AsStr, D: Directory, I: Read + Drop, W: Write, E: Write>(
         (W.contents output.old) (W.contents output.new) }
     ensures fails { result.status ≡ Status.Failure
         → Fails (D.bytes directory.now) (I.remaining standard) (map T.text words.now) result.told
-        (W.contents output.old) (W.contents output.new) (E.contents errors.old) (E.contents errors.new) }
+        (W.refuses output.new) (W.contents output.old) (W.contents output.new)
+        (E.refuses errors.new) (E.contents errors.old) (E.contents errors.new) }
     ensures usage { result.status ≡ Status.Usage → Keeps (W.contents output.old) (W.contents output.new) }
     ensures wrong { result.status ≡ Status.Usage → AreMistaken (map T.text words.now) }
     ensures told { result.status ≡ Status.Usage → (text : List ℕ)
-        × Tells result.told (E.contents errors.old) (E.contents errors.new) text }
+        × Tells result.told (E.refuses errors.new) (E.contents errors.old) (E.contents errors.new) text }
 {
     match parse(alloc, words) {
         Ok(Asked::Plan { file }) => {
@@ -102,7 +106,7 @@ pub fn run_on<T: AsStr, D: Directory, I: Read + Drop, W: Write, E: Write>(
 }
 
 /// Prints the plan of the stream that the name stands for.
-fn plan_named<D: Directory, I: Read + Drop, W: Write, E: Write>(
+fn plan_named<D: Directory, I: Read + Drop, W: Sink, E: Sink>(
     threads: &(impl Threads + Sync),
     alloc: Global,
     name: &str,
@@ -115,8 +119,8 @@ fn plan_named<D: Directory, I: Read + Drop, W: Write, E: Write>(
     ensures right { result.status ≡ Status.Success → IsDone (D.bytes directory.now) (I.remaining standard)
         (plan name.now) (W.contents output.old) (W.contents output.new) }
     ensures fails { result.status ≡ Status.Failure → FailsAt (D.bytes directory.now) (I.remaining standard)
-        (plan name.now) result.told (W.contents output.old) (W.contents output.new)
-        (E.contents errors.old) (E.contents errors.new) }
+        (plan name.now) result.told (W.refuses output.new) (W.contents output.old) (W.contents output.new)
+        (E.refuses errors.new) (E.contents errors.old) (E.contents errors.new) }
     ensures usage { result.status ≢ Status.Usage }
 {
     match open_input(directory, standard, name) {
@@ -126,7 +130,7 @@ fn plan_named<D: Directory, I: Read + Drop, W: Write, E: Write>(
 }
 
 /// Runs the script that the options name, whose files the directory has.
-fn run_named<D: Directory, I: Read + Drop, W: Write, E: Write>(
+fn run_named<D: Directory, I: Read + Drop, W: Sink, E: Sink>(
     threads: &(impl Threads + Sync),
     alloc: Global,
     options: Options<'_>,
@@ -140,7 +144,8 @@ fn run_named<D: Directory, I: Read + Drop, W: Write, E: Write>(
         (run_of options.entry.name.now options.entry.cache) (W.contents output.old) (W.contents output.new) }
     ensures fails { result.status ≡ Status.Failure → FailsAt (D.bytes directory.now) (I.remaining standard)
         (run_of options.entry.name.now options.entry.cache) result.told
-        (W.contents output.old) (W.contents output.new) (E.contents errors.old) (E.contents errors.new) }
+        (W.refuses output.new) (W.contents output.old) (W.contents output.new)
+        (E.refuses errors.new) (E.contents errors.old) (E.contents errors.new) }
     ensures usage { result.status ≢ Status.Usage }
 {
     let mut files = Files { directory };
@@ -159,18 +164,20 @@ fn run_named<D: Directory, I: Read + Drop, W: Write, E: Write>(
 }
 
 /// Prints clap's answer: help and the version on the output, a mistake on `errors`.
-fn answer<W: Write, E: Write>(alloc: Global, error: &Error, output: &mut W, errors: &mut E) -> Ended
+fn answer<W: Sink, E: Sink>(alloc: Global, error: &Error, output: &mut W, errors: &mut E) -> Ended
     ensures memory { kind_of error.now ≡ ErrorKind.OutOfMemory → result.status ≡ Status.Failure }
     ensures done { result.status ≡ Status.Success → IsRequest (kind_of error.now)
         × Keeps (E.contents errors.old) (E.contents errors.new)
         × ((text : List ℕ) × Appends (W.contents output.old) (W.contents output.new) text) }
     ensures wrong { result.status ≡ Status.Usage → IsMistake (kind_of error.now)
         × Keeps (W.contents output.old) (W.contents output.new)
-        × ((text : List ℕ) × Tells result.told (E.contents errors.old) (E.contents errors.new) text) }
+        × ((text : List ℕ)
+        × Tells result.told (E.refuses errors.new) (E.contents errors.old) (E.contents errors.new) text) }
     ensures fails { result.status ≡ Status.Failure → WantsMemory result.told
-        (W.contents output.old) (W.contents output.new) (E.contents errors.old) (E.contents errors.new)
-        ⊎ (IsRequest (kind_of error.now) × WritesPart (W.contents output.old) (W.contents output.new)
-        (E.contents errors.old) (E.contents errors.new)) }
+        (W.contents output.old) (W.contents output.new)
+        (E.refuses errors.new) (E.contents errors.old) (E.contents errors.new)
+        ⊎ (IsRequest (kind_of error.now) × WritesPart (W.refuses output.new)
+        (W.contents output.old) (W.contents output.new) (E.contents errors.old) (E.contents errors.new)) }
 {
     if error.kind() == ErrorKind::OutOfMemory {
         return Ended::failed(say_out_of_memory(errors));

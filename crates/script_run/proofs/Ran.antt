@@ -50,8 +50,8 @@ module _ (files : Files) where
   pub stops-before : (from : Machine) (commands : List Command) (between : Machine) (a b : Option (List ℕ))
       → WritesRun files from commands between a b
       → (all : List Command) (it : Command) (rest : List Command) → all ≡ commands ++ it ∷ rest
-      → (fault : RunFault) → IsCommandFault it fault → StopsAt files from all fault a b
-  stops-before from commands between a b ran all it rest are fault stopped = record {
+      → (fault : RunFault) → IsCommandFault it fault → (R : Type 0) → StopsAt files from all fault R a b
+  stops-before from commands between a b ran all it rest are fault stopped R = record {
     before = commands;
     command = it;
     after = rest;
@@ -67,8 +67,8 @@ module _ (files : Files) where
       → WritesRun files from commands between a b
       → (all : List Command) (it : Command) (rest : List Command) → all ≡ commands ++ it ∷ rest
       → (lines : List ℕ) (to : Machine) → Answers files between it lines to → AppendsFront b c lines
-      → (fault : RunFault) → fault ≡ Unwritten → StopsAt files from all fault a c
-  stops-within from commands between a b c ran all it rest are lines to answers got fault unwritten = record {
+      → (fault : RunFault) → fault ≡ Unwritten → (R : Type 0) → R → StopsAt files from all fault R a c
+  stops-within from commands between a b c ran all it rest are lines to answers got fault unwritten R refused = record {
     before = commands;
     command = it;
     after = rest;
@@ -76,5 +76,5 @@ module _ (files : Files) where
     between = between;
     lines = ran.0;
     ran = ran.1;
-    stops = inr (unwritten, (lines, to, answers, front-behind a b c ran.0 lines ran.2 got));
+    stops = inr (unwritten, refused, (lines, to, answers, front-behind a b c ran.0 lines ran.2 got));
   }

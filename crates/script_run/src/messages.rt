@@ -5,13 +5,13 @@ ghost use Rattle.console_io.specs.Messages.{Tells};
 ghost use Rattle.script_run.specs.Messages.{run_fault_text, script_fault_text};
 
 use crate::run_fault::RunFault;
-use console_io::{PrintFault, say_line, say_out_of_memory, say_unread, write_bytes};
+use console_io::{PrintFault, Sink, say_line, say_out_of_memory, say_unread, write_bytes};
 use itoa::Buffer;
-use std::io::Write;
 
 /// Says why a script isn't run to its end. A writer that takes no more is known to who reads it.
-pub fn say_run_fault<E: Write>(fault: RunFault<'_>, errors: &mut E) -> Result<(), PrintFault>
-    ensures { Tells result (E.contents errors.old) (E.contents errors.new) (run_fault_text fault.entry) }
+pub fn say_run_fault<E: Sink>(fault: RunFault<'_>, errors: &mut E) -> Result<(), PrintFault>
+    ensures { Tells result (E.refuses errors.new) (E.contents errors.old) (E.contents errors.new)
+        (run_fault_text fault.entry) }
 {
     match fault {
         RunFault::Unread(name) => say_unread(name, errors),
@@ -22,8 +22,9 @@ pub fn say_run_fault<E: Write>(fault: RunFault<'_>, errors: &mut E) -> Result<()
 }
 
 /// Says that the line of this number is no command.
-fn say_script_fault<E: Write>(number: usize, errors: &mut E) -> Result<(), PrintFault>
-    ensures { Tells result (E.contents errors.old) (E.contents errors.new) (script_fault_text number) }
+fn say_script_fault<E: Sink>(number: usize, errors: &mut E) -> Result<(), PrintFault>
+    ensures { Tells result (E.refuses errors.new) (E.contents errors.old) (E.contents errors.new)
+        (script_fault_text number) }
 {
     let mut digits = Buffer::new();
     say_line(

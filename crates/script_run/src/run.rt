@@ -15,17 +15,17 @@ use crate::loading::load;
 use crate::messages::say_run_fault;
 use crate::options::Options;
 use crate::run_fault::RunFault;
-use console_io::{Ended, Source, Status, whole_input, write_bytes};
+use console_io::{Ended, Sink, Source, Status, whole_input, write_bytes};
 use edit_engine::{Command as Told, Config, NoSuchUnit, Reply, Runner, Session, UnitReport};
 use edit_script::{Command, id_of_number, read_script};
 use std::alloc::{AllocError, Global};
-use std::io::{Read, Write};
+use std::io::Read;
 use std::thread::Threads;
 use unit_lines::UnitLines;
 
 /// Runs the script that the reader gives, whose files the source gives, on a session of its own. Each line that is a
 /// command is answered by one write. Why the run ends before the script does is told to `errors`.
-pub fn script_on<R: Read, S: Source, W: Write, E: Write>(
+pub fn script_on<R: Read, S: Source, W: Sink, E: Sink>(
     threads: &(impl Threads + Sync),
     alloc: Global,
     options: Options<'_>,
@@ -42,8 +42,9 @@ pub fn script_on<R: Read, S: Source, W: Write, E: Write>(
     ensures stops { result.status ≡ Status.Failure → (fault : RunFault)
         × IfSome (R.remaining reader.old) (λ text.
         StopsBy (S.file source.old) options.entry.name.now text options.entry.cache fault
-        (W.contents writer.old) (W.contents writer.new))
-        × Tells result.told (E.contents errors.old) (E.contents errors.new) (run_fault_text fault) }
+        (W.refuses writer.new) (W.contents writer.old) (W.contents writer.new))
+        × Tells result.told (E.refuses errors.new) (E.contents errors.old) (E.contents errors.new)
+        (run_fault_text fault) }
     ensures usage { result.status ≢ Status.Usage }
 {
     let text = match whole_input(alloc, reader) {
@@ -60,7 +61,7 @@ pub fn script_on<R: Read, S: Source, W: Write, E: Write>(
 }
 
 /// Runs the script of this text. Where a line is no command, nothing is run.
-fn run_text<'a, S: Source, W: Write>(
+fn run_text<'a, S: Source, W: Sink>(
     threads: &(impl Threads + Sync),
     alloc: Global,
     options: Options<'_>,
@@ -72,7 +73,7 @@ fn run_text<'a, S: Source, W: Write>(
         (WritesScript (S.file source.old) text.now options.entry.cache
         (W.contents writer.old) (W.contents writer.new)) }
     ensures stops { IfErr result (λ fault. StopsText (S.file source.old) text.now options.entry.cache fault
-        (W.contents writer.old) (W.contents writer.new)) }
+        (W.refuses writer.new) (W.contents writer.old) (W.contents writer.new)) }
 {
     let commands = read_script(alloc, text)?;
     let cache = options.cache;
@@ -85,7 +86,7 @@ fn run_text<'a, S: Source, W: Write>(
 }
 
 /// Runs the commands one after the other, and writes what each one prints.
-fn run_commands<'a, S: Source, W: Write>(
+fn run_commands<'a, S: Source, W: Sink>(
     threads: &(impl Threads + Sync),
     alloc: Global,
     commands: Vec<Command<'a>>,
@@ -97,7 +98,7 @@ fn run_commands<'a, S: Source, W: Write>(
         (WritesRun (S.file source.old) runner.old commands.entry.items runner.new
         (W.contents writer.old) (W.contents writer.new)) }
     ensures stops { IfErr result (λ fault. StopsAt (S.file source.old) runner.old commands.entry.items fault
-        (W.contents writer.old) (W.contents writer.new)) }
+        (W.refuses writer.new) (W.contents writer.old) (W.contents writer.new)) }
 {
     for command in commands {
         let lines = run_command(threads, alloc, command, runner, source)?;

@@ -38,4 +38,5 @@ returns-in_err-write_bytes-clause-stops g c =
     let left = rw c.in-Some.ensures.steps.0 at before.invariant.left in
     err-all c.from_residual-in_err-write_bytes.result _ c.from_residual-in_err-write_bytes.ensures.1
     (λ fault is. stops-within files c.args.runner.now before.yielded before.runner _ _ _ before.invariant.ran _ command
-    _ left lines later answers got fault (is ∙ ap fault_of_print c.in_err-write_bytes.ensures.fault))
+    _ left lines later answers got fault (is ∙ ap fault_of_print c.in_err-write_bytes.ensures.fault) _
+    c.in_err-write_bytes.ensures.refused)

@@ -1,0 +1,6 @@
+//! Tests of sessions under edits and of runs of commands. They call public functions alone, so edit_engine is proved
+//! once.
+#![tactic(auto)]
+
+#[cfg(test)]
+mod tests;

@@ -1,0 +1,109 @@
+mod edits;
+mod limits;
+mod random;
+mod refused;
+mod running;
+mod texts;
+
+use bytes::Bytes;
+use edit_engine::{Config, Edit, EditRefused, NoSuchUnit, Place, Receipt, Session};
+use outcomes::{Outcome, ValidityFault};
+use pictures::AuId;
+use std::process::Abort;
+
+/// Sets and an IDR picture, of one macroblock, count type 2 and one reference frame.
+const A: &[u8] = &[
+    0, 0, 1, 0x67, 0x42, 0x00, 0x0A, 0xDA, 0x79, 0, 0, 1, 0x68, 0xCE, 0x38, 0x80, 0, 0, 1, 0x65,
+    0x88, 0x84, 0x80,
+];
+
+/// The IDR picture alone.
+const I: &[u8] = &[0, 0, 1, 0x65, 0x88, 0x84, 0x80];
+
+/// A P picture with frame_num 1.
+const P1: &[u8] = &[0, 0, 1, 0x41, 0x9A, 0x23];
+
+/// A P picture with frame_num 2.
+const P2: &[u8] = &[0, 0, 1, 0x41, 0x9A, 0x43];
+
+/// Asserts what a row of a table says.
+fn row_holds(rt: &impl Abort, row: usize, holds: bool) {
+    assert!(rt; holds, "row {row}");
+}
+
+/// A session with an empty stream.
+fn empty_session(rt: &(impl Abort + AllocGlobal)) -> Session {
+    match Session::new(rt.alloc(), Config { cache: 64 }) {
+        Ok(session) => session,
+        Err(_) => panic!(rt; "no session is made"),
+    }
+}
+
+/// An edit as a row has it.
+#[derive(Clone, Copy)]
+enum Told {
+    First(&'static [u8]),
+    After(u32, &'static [u8]),
+    Delete(u32),
+    Replace(u32, &'static [u8]),
+}
+
+/// The edit of a row.
+fn edit_of(told: Told) -> Edit {
+    match told {
+        Told::First(text) => Edit::Insert(Place::First, Bytes::from_static(text)),
+        Told::After(id, text) => {
+            Edit::Insert(Place::After(AuId::new(id)), Bytes::from_static(text))
+        }
+        Told::Delete(id) => Edit::Delete(AuId::new(id)),
+        Told::Replace(id, text) => Edit::Replace(AuId::new(id), Bytes::from_static(text)),
+    }
+}
+
+/// A receipt's number, id and steps, or a refusal's number.
+type Answer = Result<(u64, u32, u64), u8>;
+
+/// What an edit is answered is this.
+fn is_answer(answer: Result<Receipt, EditRefused>, wanted: Answer) -> bool {
+    match (answer, wanted) {
+        (Ok(receipt), Ok(wanted)) => {
+            (receipt.number, receipt.id.number(), receipt.steps) == wanted
+        }
+        (Err(refused), Err(number)) => refused.number() == number,
+        _ => false,
+    }
+}
+
+/// What becomes of a unit, as a row has it.
+#[derive(Clone, Copy)]
+enum Shown {
+    Gone,
+    Fault(ValidityFault),
+    At(usize),
+}
+
+/// The session says this of the unit of the id.
+fn shows(session: &Session, id: u32, shown: Shown) -> bool {
+    let id = AuId::new(id);
+    match (session.outcome(id), session.position(id), shown) {
+        (Err(NoSuchUnit), Err(NoSuchUnit), Shown::Gone) => true,
+        (Ok(Outcome::Fault(fault)), Ok(None), Shown::Fault(wanted)) => *fault == wanted,
+        (Ok(Outcome::Plan(_)), Ok(Some(place)), Shown::At(wanted)) => place == wanted,
+        _ => false,
+    }
+}
+
+/// An edit with what it is answered, or a unit with what becomes of it.
+#[derive(Clone, Copy)]
+enum Step {
+    Edit(Told, Answer),
+    Unit(u32, Shown),
+}
+
+/// The session answers the step so.
+fn holds(session: &mut Session, step: &Step) -> bool {
+    match step {
+        Step::Edit(told, wanted) => is_answer(session.edit(edit_of(*told)), *wanted),
+        Step::Unit(id, shown) => shows(session, *id, *shown),
+    }
+}

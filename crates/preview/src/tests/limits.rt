@@ -1,28 +1,14 @@
 //! As many units of a stream and lines of a script as there can be, and more.
 
-use super::P1;
-use super::scripts::run_script;
+use super::plans::is_planned;
+use super::scripts::ends_as;
+use super::{A, P1, repeated, row_holds};
 use access_unit::{ReadFault, Refusal, read_units};
 use console_io::Status;
-use plan_stream::plan_on;
 use std::alloc::{AllocError, Global};
 use std::process::Abort;
 use std::test::Fail;
 use std::thread::Threads;
-
-/// Asserts what a row of a table says.
-pub(super) fn row_holds(rt: &impl Abort, row: usize, holds: bool) {
-    assert!(rt; holds, "row {row}");
-}
-
-/// The bytes so many times.
-fn repeated(alloc: Global, bytes: &[u8], times: u32) -> Result<Vec<u8>, AllocError> {
-    let mut text = Vec::new(alloc);
-    for _ in 0..times {
-        text.extend_from_slice(bytes)?;
-    }
-    Ok(text)
-}
 
 /// How many units are read of so many, where there is room for so many.
 fn units_read(
@@ -69,32 +55,19 @@ fn missing_sets(alloc: Global, count: u32) -> Result<String, AllocError> {
     Ok(lines)
 }
 
-/// Whether the text is planned to its end, and just these lines are printed.
-fn is_planned(rt: &(impl Abort + AllocGlobal + Threads + Sync), text: &[u8], lines: &[u8]) -> bool {
-    let (mut output, mut errors) = (Vec::new(rt.alloc()), Vec::new(rt.alloc()));
-    let mut reader = text;
-    let ended = plan_on(rt, rt.alloc(), "-", &mut reader, &mut output, &mut errors);
-    ended.status == Status::Success && output.as_slice() == lines && errors.is_empty()
-}
-
 #[test]
 fn plans_65_536_units(rt: HostRuntime) -> Result<(), Fail> {
     let text = repeated(rt.alloc(), &P1, 65_536)?;
     let lines = missing_sets(rt.alloc(), 65_536)?;
-    assert!(rt; is_planned(&rt, &text, lines.as_bytes()));
+    assert!(rt; is_planned(&rt, &text, Status::Success, lines.as_bytes()));
     Ok(())
 }
 
-/// Whether a script ends so, and writes just these texts.
-fn ends_as(
-    rt: &(impl Abort + AllocGlobal + Threads + Sync),
-    script: &[u8],
-    status: Status,
-    lines: &[u8],
-    message: &[u8],
-) -> bool {
-    let (ended, output, errors) = run_script(rt, script, &[]);
-    ended == status && output.as_slice() == lines && errors.as_slice() == message
+#[test]
+fn refuses_more_units_than_65_536(rt: HostRuntime) -> Result<(), Fail> {
+    let text = repeated(rt.alloc(), &A, 65_537)?;
+    assert!(rt; is_planned(&rt, &text, Status::Failure, b"refused 17 StreamFull\n"));
+    Ok(())
 }
 
 /// A script of so many lines is answered line by line, and one of as many lines and a wrong one isn't run.
@@ -105,9 +78,9 @@ fn runs_lines(
 ) -> Result<bool, AllocError> {
     let mut script = repeated(rt.alloc(), b"unit 7\n", count)?;
     let lines = repeated(rt.alloc(), b"unit 7 none\n", count)?;
-    let runs = ends_as(rt, &script, Status::Success, &lines, b"");
+    let runs = ends_as(rt, &script, &[], Status::Success, &lines, b"");
     script.extend_from_slice(b"unit\n")?;
-    Ok(runs && ends_as(rt, &script, Status::Failure, b"", message.as_bytes()))
+    Ok(runs && ends_as(rt, &script, &[], Status::Failure, b"", message.as_bytes()))
 }
 
 /// How many lines a script has, and what is told of the wrong one after them.

@@ -1,43 +1,40 @@
 //! Files that scripts load.
 
-use super::scripts::{INSERT_A, run_script, texts};
-use super::{A, LINES_OF_A, LINES_OF_P1, P1, P2, joined};
+use super::scripts::{INSERT_A, ends_as};
+use super::{A, LINES_OF_A, LINES_OF_P1, P1, P2, SETS, joined, repeated, row_holds, texts};
 use crate::sample::{CLOCK, CLOCK_LINES};
+use Status::{Failure, Success};
 use console_io::Status;
+use std::alloc::AllocError;
 use std::process::Abort;
 use std::test::Fail;
 use std::thread::Threads;
 
-/// The script, where this text is in the file `stream`, ends so and writes these texts.
+/// Whether the script, where this text is in the file `stream` and A in the file `-`, ends so and writes these texts.
 fn loads(
     rt: &(impl Abort + AllocGlobal + Threads + Sync),
-    script: &str,
+    script: &[u8],
     stream: &[u8],
-    wanted: (Status, &str, &str),
-) {
-    let (status, output, errors) = run_script(
-        rt,
-        script.as_bytes(),
-        &[("stream", stream), ("-", &A)],
-    );
-    assert_eq!(rt;
-        output.as_slice(),
-        wanted.1.as_bytes(),
-        "output for {script}"
-    );
-    assert_eq!(rt;
-        errors.as_slice(),
-        wanted.2.as_bytes(),
-        "errors for {script}"
-    );
-    assert_eq!(rt; status, wanted.0, "status for {script}");
+    wanted: (Status, &[u8], &[u8]),
+) -> bool {
+    let files: [(&str, &[u8]); 2] = [("stream", stream), ("-", &A)];
+    ends_as(rt, script, files.as_slice(), wanted.0, wanted.1, wanted.2)
 }
 
-#[test]
-fn loads_behind_the_last_unit(rt: HostRuntime) -> Result<(), Fail> {
-    let stream = joined(rt.alloc(), &[&A, &P1, &[0, 0, 0], &P2])?;
-    let lines = texts(
-        rt.alloc(),
+/// The parts of a script and of a stream, how it ends, the lines and what is told.
+type Load = (
+    &'static [&'static str],
+    &'static [&'static [u8]],
+    Status,
+    &'static [&'static str],
+    &'static str,
+);
+
+const LOADS: [Load; 6] = [
+    (
+        &["load stream\nunit 1\nunit 2\nunit 3\nload stream\nunit 5\ndelete 1\nunit 7"],
+        &[&A, &P1, &[0, 0, 0], &P2],
+        Success,
         &[
             "loaded 3\n",
             LINES_OF_A,
@@ -48,79 +45,88 @@ fn loads_behind_the_last_unit(rt: HostRuntime) -> Result<(), Fail> {
             "request 5.0 ts 5000 bits 23 type 0 frame 1 dpb 4000:0:3 l0 0 l1 - hold 0\n",
             "edit 7 id 1\nunit 7 none\n",
         ],
-    )?;
-    let script = "load stream\nunit 1\nunit 2\nunit 3\nload stream\nunit 5\ndelete 1\nunit 7";
-    loads(&rt, script, &stream, (Status::Success, lines.as_str(), ""));
+        "",
+    ),
+    (
+        &[INSERT_A, "load stream\nunit 2\nunit 1\n"],
+        &[],
+        Success,
+        &["edit 1 id 1\nrefused 1 Split\nunit 2 none\n", LINES_OF_A],
+        "",
+    ),
+    (
+        &[INSERT_A, "load stream\nunit 2\nunit 1\n"],
+        &[b"no stream"],
+        Success,
+        &["edit 1 id 1\nrefused 1 Split\nunit 2 none\n", LINES_OF_A],
+        "",
+    ),
+    (
+        &[INSERT_A, "load stream\nunit 2\nunit 1\n"],
+        &[SETS],
+        Success,
+        &[
+            "edit 1 id 1\nunit 0 refused 12 NoPicture\nunit 2 none\n",
+            LINES_OF_A,
+        ],
+        "",
+    ),
+    (
+        &[INSERT_A, "load stream\nunit 2\nunit 1\n"],
+        &[&P1, &[0, 0, 1, 0x6E]],
+        Success,
+        &[
+            "edit 1 id 1\nunit 1 refused 2 UnitType\nunit 2 none\n",
+            LINES_OF_A,
+        ],
+        "",
+    ),
+    // A file that can't be read ends the run after the lines before it; `-` is the name of a file.
+    (
+        &["unit 1\nload -\nload no-such-file\nunit 1\n"],
+        &[&P2],
+        Failure,
+        &["unit 1 none\nloaded 1\n"],
+        "cannot read no-such-file\n",
+    ),
+];
+
+/// Whether the row's script ends so and writes just that.
+fn load_holds(
+    rt: &(impl Abort + AllocGlobal + Threads + Sync),
+    row: &Load,
+) -> Result<bool, AllocError> {
+    let (script, stream) = (texts(rt.alloc(), row.0)?, joined(rt.alloc(), row.1)?);
+    let lines = texts(rt.alloc(), row.3)?;
+    let wanted = (row.2, lines.as_bytes(), row.4.as_bytes());
+    Ok(loads(rt, script.as_bytes(), &stream, wanted))
+}
+
+#[test]
+fn loads_files(rt: HostRuntime) -> Result<(), Fail> {
+    for (row, load) in LOADS.iter().enumerate() {
+        row_holds(&rt, row, load_holds(&rt, load)?);
+    }
     Ok(())
 }
 
+/// A sample's units, each of which has its lines.
 #[test]
 fn loads_a_sample(rt: HostRuntime) -> Result<(), Fail> {
-    let mut script = String::new(rt.alloc());
-    script.push_str("load stream\n")?;
-    for id in 1..13u32 {
-        script.writeln(format_args!("unit {id}"))?;
-    }
     let lines = texts(rt.alloc(), &CLOCK_LINES)?;
     let lines = texts(rt.alloc(), &["loaded 12\n", lines.as_str()])?;
-    loads(
-        &rt,
-        script.as_str(),
-        &CLOCK,
-        (Status::Success, lines.as_str(), ""),
-    );
-    Ok(())
-}
-
-#[test]
-fn refuses_streams(rt: HostRuntime) -> Result<(), Fail> {
-    let script = texts(rt.alloc(), &[INSERT_A, "load stream\nunit 2\nunit 1\n"])?;
-    let cases: [(&[u8], &str); 4] = [
-        (b"", "refused 1 Split\n"),
-        (b"no stream", "refused 1 Split\n"),
-        (A.split_at(16).0, "unit 0 refused 12 NoPicture\n"),
-        (
-            &[0, 0, 1, 0x41, 0x9A, 0x23, 0, 0, 1, 0x6E],
-            "unit 1 refused 2 UnitType\n",
-        ),
-    ];
-    for (stream, refused) in cases {
-        let lines = texts(
-            rt.alloc(),
-            &["edit 1 id 1\n", refused, "unit 2 none\n", LINES_OF_A],
-        )?;
-        loads(
-            &rt,
-            script.as_str(),
-            stream,
-            (Status::Success, lines.as_str(), ""),
-        );
-    }
+    let script = b"load stream\nunit 1\nunit 2\nunit 3\nunit 4\nunit 5\nunit 6\nunit 7\nunit 8\n\
+unit 9\nunit 10\nunit 11\nunit 12\n";
+    assert!(rt; loads(&rt, script, &CLOCK, (Success, lines.as_bytes(), b"")));
     Ok(())
 }
 
 /// 65,536 units after one that is there are too many.
 #[test]
 fn refuses_more_units_than_there_is_room_for(rt: HostRuntime) -> Result<(), Fail> {
-    let mut stream = Vec::with_capacity(rt.alloc(), 65_536 * P1.len())?;
-    for _ in 0..65_536 {
-        stream.extend_from_slice(&P1)?;
-    }
+    let stream = repeated(rt.alloc(), &P1, 65_536)?;
     let script = texts(rt.alloc(), &[INSERT_A, "load stream\nunit 2\n"])?;
-    let lines = "edit 1 id 1\nrefused 17 StreamFull\nunit 2 none\n";
-    loads(&rt, script.as_str(), &stream, (Status::Success, lines, ""));
-    Ok(())
-}
-
-/// A file that can't be read ends the run after the lines before it; `-` is the name of a file.
-#[test]
-fn ends_at_a_file_that_is_not_there(rt: HostRuntime) -> Result<(), Fail> {
-    let script = "unit 1\nload -\nload no-such-file\nunit 1\n";
-    let wanted = (
-        Status::Failure,
-        "unit 1 none\nloaded 1\n",
-        "cannot read no-such-file\n",
-    );
-    loads(&rt, script, &P2, wanted);
+    let lines = b"edit 1 id 1\nrefused 17 StreamFull\nunit 2 none\n";
+    assert!(rt; loads(&rt, script.as_bytes(), &stream, (Success, lines, b"")));
     Ok(())
 }

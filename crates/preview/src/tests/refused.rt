@@ -1,97 +1,111 @@
-//! Runs of which any growth of memory may be refused.
+//! Runs of which any growth of memory may be refused. What they write and read is in memory that isn't.
 
 use super::scripts::TestFiles;
-use super::{A, P1};
+use super::{P1, SETS};
 use crate::program::run_on;
+use Status::{Failure, Success};
 use console_io::Status;
 use plan_stream::plan_on;
 use script_run::{Options, script_on};
 use std::process::Abort;
 use std::thread::Threads;
 
-/// What a run is said to have written, or that memory was wanted.
-fn assert_told_or_out_of_memory(
-    rt: &impl Abort,
+/// A stream of A and P1, and its lines.
+const STREAM: &[u8] = &[
+    0, 0, 1, 0x67, 0x42, 0x00, 0x0A, 0xDA, 0x79, 0, 0, 1, 0x68, 0xCE, 0x38, 0x80, 0, 0, 1, 0x65,
+    0x88, 0x84, 0x80, 0, 0, 1, 0x41, 0x9A, 0x23,
+];
+
+const LINES: &str = "unit 1 position 0 counts 0 0 requests 1\n\
+request 1.0 ts 1000 bits 25 type 2 frame 0 dpb - l0 - l1 - hold 0\n\
+unit 2 position 1 counts 2 2 requests 1\n\
+request 2.0 ts 2000 bits 23 type 0 frame 1 dpb 1000:0:3 l0 0 l1 - hold 0\n";
+
+/// The bytes of a room that a writer has written, where so many are left.
+fn front(room: &[u8], left: usize) -> &[u8] {
+    room.split_at(room.len().saturating_sub(left)).0
+}
+
+/// Whether it ended so and wrote this, or memory was wanted, told of, and nothing printed.
+fn is_told_or_out_of_memory(
     status: Status,
     output: &[u8],
     errors: &[u8],
     wanted: (Status, &str),
-) {
+) -> bool {
     if errors == b"out of memory\n".as_slice() {
-        assert_eq!(rt; status, Status::Failure);
-        assert!(rt;
-            output.is_empty(),
-            "nothing is printed where memory is wanted"
-        );
+        status == Failure && output.is_empty()
     } else {
-        assert_eq!(rt; status, wanted.0);
-        assert_eq!(rt; output, wanted.1.as_bytes());
-        assert!(rt; errors.is_empty());
+        status == wanted.0 && output == wanted.1.as_bytes() && errors.is_empty()
     }
 }
 
-/// Plans a stream, over memory that isn't refused for what is written.
+/// Whether the stream is planned so, or memory was wanted.
 fn plans_or_wants_memory(
     rt: &(impl Abort + AllocGlobal + Threads + Sync),
     text: &[u8],
     wanted: (Status, &str),
-) {
+) -> bool {
     let (mut output, mut errors) = ([0u8; 512], [0u8; 64]);
     let (mut writer, mut teller) = (output.as_mut_slice(), errors.as_mut_slice());
-    let status = plan_on(rt, rt.alloc(), "-", &mut &*text, &mut writer, &mut teller).status;
-    let (written, told) = (
-        512usize.saturating_sub(writer.len()),
-        64usize.saturating_sub(teller.len()),
-    );
-    let (output, errors) = (output.split_at(written).0, errors.split_at(told).0);
-    assert_told_or_out_of_memory(rt, status, output, errors, wanted);
+    let ended = plan_on(rt, rt.alloc(), "-", &mut &*text, &mut writer, &mut teller);
+    let (left, quiet) = (writer.len(), teller.len());
+    let (output, errors) = (front(&output, left), front(&errors, quiet));
+    is_told_or_out_of_memory(ended.status, output, errors, wanted)
 }
 
 #[test]
 fn refused_plan(rt: HostRuntime) {
-    let mut text = [0; 29];
-    text[..23].copy_from_slice(&A);
-    text[23..].copy_from_slice(&P1);
-    let lines = "unit 1 position 0 counts 0 0 requests 1\n\
-request 1.0 ts 1000 bits 25 type 2 frame 0 dpb - l0 - l1 - hold 0\n\
-unit 2 position 1 counts 2 2 requests 1\n\
-request 2.0 ts 2000 bits 23 type 0 frame 1 dpb 1000:0:3 l0 0 l1 - hold 0\n";
-    plans_or_wants_memory(&rt, &text, (Status::Success, lines));
+    assert!(rt; plans_or_wants_memory(&rt, STREAM, (Success, LINES)));
 }
 
 #[test]
 fn refused_refusal(rt: HostRuntime) {
-    let refused = "unit 0 refused 12 NoPicture\n";
-    plans_or_wants_memory(&rt, A.split_at(16).0, (Status::Failure, refused));
+    let wanted = (Failure, "unit 0 refused 12 NoPicture\n");
+    assert!(rt; plans_or_wants_memory(&rt, SETS, wanted));
+}
+
+/// Whether a command line that names no file ends so, or memory was wanted.
+fn is_unread_or_wants_memory(rt: &(impl Abort + AllocGlobal + Threads + Sync)) -> bool {
+    let (mut output, mut errors) = ([0u8; 512], [0u8; 64]);
+    let (mut writer, mut teller) = (output.as_mut_slice(), errors.as_mut_slice());
+    let standard: &[u8] = &[];
+    let ended = run_on(
+        rt,
+        rt.alloc(),
+        &["preview", "plan", "no/such.264"],
+        &super::command_lines::Folder,
+        standard,
+        &mut writer,
+        &mut teller,
+    );
+    let (left, quiet) = (writer.len(), teller.len());
+    let errors = front(&errors, quiet);
+    ended.status == Failure
+        && left == 512
+        && (errors == b"out of memory\n".as_slice()
+            || errors == b"cannot read no/such.264\n".as_slice())
 }
 
 #[test]
 fn refused_command_line(rt: HostRuntime) {
-    let (mut output, mut errors) = ([0u8; 512], [0u8; 64]);
-    let (mut writer, mut teller) = (output.as_mut_slice(), errors.as_mut_slice());
-    let standard: &[u8] = &[];
-    let status = run_on(
-        &rt,
-        rt.alloc(),
-        &["preview", "plan", "no/such.264"],
-        &rt,
-        standard,
-        &mut writer,
-        &mut teller,
-    )
-    .status;
-    assert_eq!(rt; writer.len(), 512);
-    let told = 64usize.saturating_sub(teller.len());
-    let errors = errors.split_at(told).0;
-    assert_eq!(rt; status, Status::Failure);
-    assert!(rt;
-        errors == b"out of memory\n".as_slice() || errors == b"cannot read no/such.264\n".as_slice()
-    );
+    assert!(rt; is_unread_or_wants_memory(&rt));
 }
 
-/// Runs a script, over memory that isn't refused for what is written and what is read.
-#[test]
-fn refused_script(rt: HostRuntime) {
+/// Whether what a script wrote is its lines, or an edit wanted memory, or the run did.
+fn is_run_or_out_of_memory(status: Status, output: &[u8], errors: &[u8]) -> bool {
+    let lines = b"loaded 1\nedit 2 id 2\nedit 3 id 1\nunit 2 fault 1 MissingPps\n".as_slice();
+    if errors == b"out of memory\n".as_slice() {
+        return status == Failure;
+    }
+    let text = std::str::from_utf8(output).unwrap_or_default();
+    status == Success
+        && errors.is_empty()
+        && (output == lines || text.contains("refused 15 Memory\n"))
+}
+
+/// Whether a script is run, or memory was wanted.
+fn runs_or_wants_memory(rt: &(impl Abort + AllocGlobal + Threads + Sync)) -> bool {
     let (mut output, mut errors) = ([0u8; 512], [0u8; 64]);
     let (mut writer, mut teller) = (output.as_mut_slice(), errors.as_mut_slice());
     let script = b"load p\ninsert after 1 00 00 01 41 9A 43\ndelete 1\nunit 2\n";
@@ -104,28 +118,20 @@ fn refused_script(rt: HostRuntime) {
         files: files.as_slice(),
         asked: 0,
     };
-    let status = script_on(
-        &rt,
+    let ended = script_on(
+        rt,
         rt.alloc(),
         options,
         &mut script.as_slice(),
         &mut source,
         &mut writer,
         &mut teller,
-    )
-    .status;
-    let (written, told) = (
-        512usize.saturating_sub(writer.len()),
-        64usize.saturating_sub(teller.len()),
     );
-    let (output, errors) = (output.split_at(written).0, errors.split_at(told).0);
-    let lines = b"loaded 1\nedit 2 id 2\nedit 3 id 1\nunit 2 fault 1 MissingPps\n".as_slice();
-    if errors == b"out of memory\n".as_slice() {
-        assert_eq!(rt; status, Status::Failure);
-    } else {
-        assert!(rt; errors.is_empty());
-        assert_eq!(rt; status, Status::Success);
-        let text = std::str::from_utf8(output).unwrap_or_default();
-        assert!(rt; output == lines || text.contains("refused 15 Memory\n"));
-    }
+    let (left, quiet) = (writer.len(), teller.len());
+    is_run_or_out_of_memory(ended.status, front(&output, left), front(&errors, quiet))
+}
+
+#[test]
+fn refused_script(rt: HostRuntime) {
+    assert!(rt; runs_or_wants_memory(&rt));
 }

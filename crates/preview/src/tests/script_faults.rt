@@ -1,7 +1,8 @@
 //! Scripts that are wrong, or whose parts can't be read.
 
-use super::FailingReader;
-use super::scripts::{INSERT_A, TestFiles, answers, run_script, texts};
+use super::scripts::{INSERT_A, TestFiles, ends_as};
+use super::{FAILURES, FailingReader, joined, row_holds};
+use Status::{Failure, Success};
 use console_io::Status;
 use script_run::{Options, script_on};
 use std::alloc::AllocError;
@@ -9,126 +10,141 @@ use std::process::Abort;
 use std::test::Fail;
 use std::thread::Threads;
 
-/// The script is wrong at this line, and nothing is run.
-fn is_wrong_at(
+/// Lines that are no command.
+const WRONG: [&str; 44] = [
+    // No word, or one that is no command, or isn't yet.
+    " ",
+    "   ",
+    " # no comment",
+    "Unit 1",
+    "units 1",
+    "show 1",
+    "take",
+    "land 1",
+    "give 1",
+    "settle",
+    "group",
+    "end",
+    // Numbers.
+    "unit",
+    "unit 1 2",
+    "unit x",
+    "unit +1",
+    "unit -1",
+    "unit 1x",
+    "unit 12345678901",
+    "unit 00000000001",
+    "unit 1\t",
+    "\tunit 1",
+    "unit 1\r",
+    "unit\t1",
+    "unit \u{661}",
+    // Words too few or too many.
+    "insert",
+    "insert before 1 00",
+    "insert after",
+    "insert after x",
+    "insert 1 00",
+    "delete",
+    "delete 1 2",
+    "delete x",
+    "replace",
+    "replace x 00",
+    "load",
+    "load a b",
+    // Digits that are no pairs.
+    "insert first 0",
+    "insert first 0g",
+    "insert first 0 0",
+    "insert first 000",
+    "insert first 00,00",
+    "insert after 1 0x00",
+    "replace 1 00 0",
+];
+
+/// Whether the script is wrong at the line that is told so, and nothing is run.
+fn is_wrong(
     rt: &(impl Abort + AllocGlobal + Threads + Sync),
     script: &[u8],
-    line: usize,
-) -> Result<(), AllocError> {
-    let (status, output, errors) = run_script(rt, script, &[]);
-    let wanted = format!(in rt.alloc(); "script fault at line {line}\n")?;
-    assert_eq!(rt;
-        errors.as_slice(),
-        wanted.as_bytes(),
-        "errors for {script:?}"
-    );
-    assert!(rt; output.is_empty(), "output for {script:?}");
-    assert_eq!(rt; status, Status::Failure);
-    Ok(())
+    message: &str,
+) -> bool {
+    ends_as(rt, script, &[], Failure, b"", message.as_bytes())
+}
+
+/// Whether a script of the line alone is wrong there, and one that has it after right lines and before another wrong
+/// one.
+fn is_first_wrong(
+    rt: &(impl Abort + AllocGlobal + Threads + Sync),
+    line: &[u8],
+) -> Result<bool, AllocError> {
+    let parts: [&[u8]; 4] = [
+        b"\n# comment\n",
+        INSERT_A.as_bytes(),
+        line,
+        b"\nunit 1\nwrong\n",
+    ];
+    let script = joined(rt.alloc(), &parts)?;
+    Ok(
+        is_wrong(rt, line, "script fault at line 1\n")
+            && is_wrong(rt, &script, "script fault at line 4\n"),
+    )
 }
 
 #[test]
 fn finds_the_first_wrong_line(rt: HostRuntime) -> Result<(), Fail> {
-    let wrong = [
-        // No word, or one that is no command, or isn't yet.
-        " ",
-        "   ",
-        " # no comment",
-        "Unit 1",
-        "units 1",
-        "show 1",
-        "take",
-        "land 1",
-        "give 1",
-        "settle",
-        "group",
-        "end",
-        // Numbers.
-        "unit",
-        "unit 1 2",
-        "unit x",
-        "unit +1",
-        "unit -1",
-        "unit 1x",
-        "unit 12345678901",
-        "unit 00000000001",
-        "unit 1\t",
-        "\tunit 1",
-        "unit 1\r",
-        "unit\t1",
-        "unit \u{661}",
-        // Words too few or too many.
-        "insert",
-        "insert before 1 00",
-        "insert after",
-        "insert after x",
-        "insert 1 00",
-        "delete",
-        "delete 1 2",
-        "delete x",
-        "replace",
-        "replace x 00",
-        "load",
-        "load a b",
-        // Digits that are no pairs.
-        "insert first 0",
-        "insert first 0g",
-        "insert first 0 0",
-        "insert first 000",
-        "insert first 00,00",
-        "insert after 1 0x00",
-        "replace 1 00 0",
-    ];
-    for line in wrong {
-        is_wrong_at(&rt, line.as_bytes(), 1)?;
-        // After right lines, and before another wrong one.
-        let script = texts(
-            rt.alloc(),
-            &["\n# comment\n", INSERT_A, line, "\nunit 1\nwrong\n"],
-        )?;
-        is_wrong_at(&rt, script.as_bytes(), 4)?;
+    for (row, line) in WRONG.iter().enumerate() {
+        row_holds(&rt, row, is_first_wrong(&rt, line.as_bytes())?);
     }
     Ok(())
 }
 
+/// Scripts with bytes that are no text, which comments alone may have, and what is told.
+const BYTES: [(&[u8], &str); 3] = [
+    (b"unit \xFF", "script fault at line 1\n"),
+    (b"unit 1\n\nload a\xC3\n", "script fault at line 3\n"),
+    (b"# \xFF\nunit 1 \xC3\xA9", "script fault at line 2\n"),
+];
+
 #[test]
-fn takes_text_alone_but_in_comments(rt: HostRuntime) -> Result<(), Fail> {
-    is_wrong_at(&rt, b"unit \xFF", 1)?;
-    is_wrong_at(&rt, b"unit 1\n\nload a\xC3\n", 3)?;
-    is_wrong_at(&rt, b"# \xFF\nunit 1 \xC3\xA9", 2)?;
-    let (status, output, errors) = run_script(&rt, b"#\xFF\x00\xC3\nunit 1\n", &[]);
-    assert_eq!(rt; status, Status::Success);
-    assert_eq!(rt; output.as_slice(), b"unit 1 none\n".as_slice());
-    assert!(rt; errors.is_empty());
-    answers(&rt, &["# \u{e9}\n"], &[])?;
-    Ok(())
+fn takes_text_alone_but_in_comments(rt: HostRuntime) {
+    for (row, (script, message)) in BYTES.iter().enumerate() {
+        row_holds(&rt, row, is_wrong(&rt, *script, *message));
+    }
+    let script = b"#\xFF\x00\xC3\nunit 1\n";
+    assert!(rt; ends_as(&rt, script, &[], Success, b"unit 1 none\n", b""));
+}
+
+/// Whether just this is told of a reader that fails, and nothing is run.
+fn is_told(
+    rt: &(impl Abort + AllocGlobal + Threads + Sync),
+    mut reader: FailingReader<'_>,
+    message: &str,
+) -> bool {
+    let (mut output, mut errors) = (Vec::new(rt.alloc()), Vec::new(rt.alloc()));
+    let options = Options {
+        name: "-",
+        cache: 4096,
+    };
+    let mut source = TestFiles {
+        files: &[],
+        asked: 0,
+    };
+    let ended = script_on(
+        rt,
+        rt.alloc(),
+        options,
+        &mut reader,
+        &mut source,
+        &mut output,
+        &mut errors,
+    );
+    ended.status == Failure && output.is_empty() && errors.as_slice() == message.as_bytes()
 }
 
 #[test]
-fn tells_of_a_script_that_is_not_read(rt: HostRuntime) -> Result<(), Fail> {
-    for text in [INSERT_A.as_bytes(), b"wrong".as_slice(), b"".as_slice()] {
-        let (mut output, mut errors) = (Vec::new(rt.alloc()), Vec::new(rt.alloc()));
-        let options = Options {
-            name: "a script",
-            cache: 4096,
-        };
-        let mut source = TestFiles {
-            files: &[],
-            asked: 0,
-        };
-        let status = script_on(
-            &rt,
-            rt.alloc(),
-            options,
-            &mut FailingReader(text),
-            &mut source,
-            &mut output,
-            &mut errors,
-        )
-        .status;
-        assert_eq!(rt; status, Status::Failure);
-        assert!(rt; output.is_empty());
-        assert_eq!(rt; errors.as_slice(), b"cannot read a script\n".as_slice());
+fn tells_of_a_script_that_is_not_read(rt: HostRuntime) {
+    for (row, (text, kind, message)) in FAILURES.iter().enumerate() {
+        let reader = FailingReader(*text, *kind);
+        row_holds(&rt, row, is_told(&rt, reader, *message));
     }
-    Ok(())
 }

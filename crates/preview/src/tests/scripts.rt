@@ -1,8 +1,10 @@
 //! Scripts run over memory: lines in, lines out.
 
-use super::{A, End, LINES_OF_A, P1, ShortWriter};
+use super::writers::{End, ShortWriter};
+use super::{A, LINES_OF_A, P1, joined, repeated, row_holds, texts};
+use Status::{Failure, Success};
 use bytes::Bytes;
-use console_io::{InputFault, Source, Status};
+use console_io::{Ended, InputFault, Source, Status};
 use edit_engine::{Config, Edit, Place, Session};
 use outcomes::Outcome;
 use script_run::{Options, script_on};
@@ -12,27 +14,30 @@ use std::test::Fail;
 use std::thread::Threads;
 
 /// The insertion of A as the first unit.
-pub(crate) const INSERT_A: &str =
+pub(super) const INSERT_A: &str =
     "insert first 00 00 01 6742000ADA79 000001 68CE3880 000001 65888480\n";
 
 /// A, and the pictures with frame_num 1 and 2 after it.
-pub(crate) const INSERT_THREE: &str =
-    "insert first 000001 6742000ada79 000001 68ce3880 000001 65888480\n\
+const INSERT_THREE: &str = "insert first 000001 6742000ada79 000001 68ce3880 000001 65888480\n\
 insert after 1 00 00 01 41 9A 23\n\
 insert after 2 00 00 01 41 9A 43\n";
 
 /// What the edits of these three answer.
-pub(crate) const THREE: &str = "edit 1 id 1\nedit 2 id 2\nedit 3 id 3\n";
+const THREE: &str = "edit 1 id 1\nedit 2 id 2\nedit 3 id 3\n";
 
 /// Unit 3 after the unit 4.
 const LINES_OF_3: &str = "unit 3 position 2 counts 4 4 requests 1\n\
 request 3.0 ts 3000 bits 23 type 0 frame 2 dpb 4000:1:3 l0 0 l1 - hold 0\n";
 
+/// Unit 2 of a stream with a B picture.
+const LINE_OF_2: &str =
+    "request 2.0 ts 2000 bits 27 type 0 frame 1 dpb 1000:0:3 l0 0 l1 - hold 0\n";
+
 /// Files by name, and how many were asked for.
 #[derive(Drop)]
-pub(crate) struct TestFiles<'a> {
-    pub(crate) files: &'a [(&'a str, &'a [u8])],
-    pub(crate) asked: usize,
+pub(super) struct TestFiles<'a> {
+    pub(super) files: &'a [(&'a str, &'a [u8])],
+    pub(super) asked: usize,
 }
 
 impl<'a> Source for TestFiles<'a> {
@@ -47,19 +52,22 @@ impl<'a> Source for TestFiles<'a> {
     }
 }
 
-/// A run of a script on these files: how it ended, and what it wrote on both streams.
-pub(crate) fn run_script(
+/// Whether a script on these files ends so, and writes just these texts on both streams.
+pub(super) fn ends_as(
     rt: &(impl Abort + AllocGlobal + Threads + Sync),
     script: &[u8],
     files: &[(&str, &[u8])],
-) -> (Status, Vec<u8>, Vec<u8>) {
+    status: Status,
+    lines: &[u8],
+    message: &[u8],
+) -> bool {
     let (mut output, mut errors) = (Vec::new(rt.alloc()), Vec::new(rt.alloc()));
     let options = Options {
         name: "a script",
         cache: 64,
     };
     let mut source = TestFiles { files, asked: 0 };
-    let status = script_on(
+    let ended = script_on(
         rt,
         rt.alloc(),
         options,
@@ -67,38 +75,25 @@ pub(crate) fn run_script(
         &mut source,
         &mut output,
         &mut errors,
-    )
-    .status;
-    (status, output, errors)
+    );
+    ended.status == status && output.as_slice() == lines && errors.as_slice() == message
 }
 
-/// The script of these parts runs to its end and prints these lines.
-pub(crate) fn answers(
+/// Whether the script of these parts runs to its end and prints these lines.
+pub(super) fn answers(
     rt: &(impl Abort + AllocGlobal + Threads + Sync),
     parts: &[&str],
     lines: &[&str],
-) -> Result<(), AllocError> {
-    let (script, wanted) = (texts(rt.alloc(), parts)?, texts(rt.alloc(), lines)?);
-    let (status, output, errors) = run_script(rt, script.as_bytes(), &[]);
-    assert_eq!(rt; output.as_slice(), wanted.as_bytes(), "output for {script}");
-    assert!(rt; errors.is_empty(), "errors for {script}");
-    assert_eq!(rt; status, Status::Success);
-    Ok(())
+) -> Result<bool, AllocError> {
+    let (script, lines) = (texts(rt.alloc(), parts)?, texts(rt.alloc(), lines)?);
+    Ok(ends_as(rt, script.as_bytes(), &[], Success, lines.as_bytes(), b""))
 }
 
-/// The texts, one after the other.
-pub(crate) fn texts(alloc: Global, parts: &[&str]) -> Result<String, AllocError> {
-    let mut text = String::new(alloc);
-    for part in parts {
-        text.push_str(*part)?;
-    }
-    Ok(text)
-}
+/// The parts of a script, and the lines that it prints.
+type Script = (&'static [&'static str], &'static [&'static str]);
 
-#[test]
-fn refuses_texts(rt: HostRuntime) -> Result<(), Fail> {
-    answers(
-        &rt,
+const SCRIPTS: [Script; 11] = [
+    (
         &[
             "insert first 00 00 01 67 42 00 0A DA 79\n",
             "insert first\n",
@@ -119,28 +114,8 @@ fn refuses_texts(rt: HostRuntime) -> Result<(), Fail> {
             "refused 1 Split\n",
             "refused 16 NoSuchUnit\n",
         ],
-    )?;
-    Ok(())
-}
-
-#[test]
-fn refuses_more_than_4_194_304_bytes(rt: HostRuntime) -> Result<(), Fail> {
-    let mut script = String::new(rt.alloc());
-    script.push_str("insert first ")?;
-    for _ in 0..4_194_305 {
-        script.push_str("00")?;
-    }
-    let (status, output, errors) = run_script(&rt, script.as_bytes(), &[]);
-    assert_eq!(rt; status, Status::Success);
-    assert_eq!(rt; output.as_slice(), b"refused 14 TooLarge\n".as_slice());
-    assert!(rt; errors.is_empty());
-    Ok(())
-}
-
-#[test]
-fn deletes_and_repairs(rt: HostRuntime) -> Result<(), Fail> {
-    answers(
-        &rt,
+    ),
+    (
         &[
             INSERT_THREE,
             "delete 2\n",
@@ -157,14 +132,8 @@ fn deletes_and_repairs(rt: HostRuntime) -> Result<(), Fail> {
             LINES_OF_3,
             "unit 2 none\n",
         ],
-    )?;
-    Ok(())
-}
-
-#[test]
-fn replaces_and_inserts_before(rt: HostRuntime) -> Result<(), Fail> {
-    answers(
-        &rt,
+    ),
+    (
         &[
             INSERT_THREE,
             "replace 2 00 00 01 41 9A 43\n",
@@ -184,43 +153,28 @@ fn replaces_and_inserts_before(rt: HostRuntime) -> Result<(), Fail> {
             "refused 16 NoSuchUnit\n",
             "refused 1 Split\n",
         ],
-    )?;
-    Ok(())
-}
-
-#[test]
-fn tells_faults_of_units(rt: HostRuntime) -> Result<(), Fail> {
-    answers(
-        &rt,
+    ),
+    (
         &["insert first 000001419A23\n", "unit 1\n"],
         &["edit 1 id 1\n", "unit 1 fault 1 MissingPps\n"],
-    )?;
-    answers(
-        &rt,
+    ),
+    (
         &[
             "insert first 000001 6742000ADA79 000001 68CE3880 000001 419A23\n",
             "unit 1\n",
         ],
         &["edit 1 id 1\n", "unit 1 fault 8 NoIdr\n"],
-    )?;
-    answers(
-        &rt,
+    ),
+    (
         &[INSERT_A, "insert after 1 000001419A\n", "unit 2\n"],
         &[
             "edit 1 id 1\n",
             "edit 2 id 2\n",
             "unit 2 fault 3 HeaderCut\n",
         ],
-    )?;
-    Ok(())
-}
-
-/// A P picture that is shown after the B picture after it moves up where that is deleted.
-#[test]
-fn positions_follow_a_deletion(rt: HostRuntime) -> Result<(), Fail> {
-    let request = "request 2.0 ts 2000 bits 27 type 0 frame 1 dpb 1000:0:3 l0 0 l1 - hold 0\n";
-    answers(
-        &rt,
+    ),
+    // A P picture that is shown after the B picture after it moves up where that is deleted.
+    (
         &[
             "insert first 000001674D000AF6F2 00000168CE3880 000001658884 0C\n",
             "insert after 1 00 00 01 41 9A 28 30\n",
@@ -230,20 +184,14 @@ fn positions_follow_a_deletion(rt: HostRuntime) -> Result<(), Fail> {
         &[
             "edit 1 id 1\nedit 2 id 2\nedit 3 id 3\n",
             "unit 2 position 2 counts 4 4 requests 1\n",
-            request,
+            LINE_OF_2,
             "edit 4 id 3\n",
             "unit 2 position 1 counts 4 4 requests 1\n",
-            request,
+            LINE_OF_2,
         ],
-    )?;
-    Ok(())
-}
-
-/// Numbers are printed as values, and one that no id reaches is one of no unit.
-#[test]
-fn names_units_by_any_number(rt: HostRuntime) -> Result<(), Fail> {
-    answers(
-        &rt,
+    ),
+    // Numbers are printed as values, and one that no id reaches is one of no unit.
+    (
         &[
             "\n# A comment, and an empty line before it\n",
             INSERT_A,
@@ -264,24 +212,35 @@ fn names_units_by_any_number(rt: HostRuntime) -> Result<(), Fail> {
             "refused 16 NoSuchUnit\n",
             LINES_OF_A,
         ],
-    )?;
-    answers(&rt, &[], &[])?;
-    answers(&rt, &["# a comment alone"], &[])?;
+    ),
+    (&[], &[]),
+    (&["# a comment alone"], &[]),
+    (&["# \u{e9}\n"], &[]),
+];
+
+#[test]
+fn answers_scripts(rt: HostRuntime) -> Result<(), Fail> {
+    for (row, (script, lines)) in SCRIPTS.iter().enumerate() {
+        row_holds(&rt, row, answers(&rt, *script, *lines)?);
+    }
     Ok(())
 }
 
-/// What a writer gets that takes so many bytes, how the run ends, and how many files it asks for.
+#[test]
+fn refuses_more_than_4_194_304_bytes(rt: HostRuntime) -> Result<(), Fail> {
+    let zeros = repeated(rt.alloc(), b"00", 4_194_305)?;
+    let script = joined(rt.alloc(), &[b"insert first ", &zeros])?;
+    let lines = b"refused 14 TooLarge\n";
+    assert!(rt; ends_as(&rt, &script, &[], Success, lines, b""));
+    Ok(())
+}
+
+/// What a writer of this room gets, how the run ends, and how many files it asks for, where nothing is told.
 fn run_to(
     rt: &(impl Abort + AllocGlobal + Threads + Sync),
-    script: &str,
-    room: usize,
-) -> (Vec<u8>, Status, usize) {
-    let mut writer = ShortWriter {
-        got: Vec::new(rt.alloc()),
-        at_a_time: usize::MAX,
-        room,
-        end: End::Fails,
-    };
+    script: &[u8],
+    writer: &mut ShortWriter,
+) -> Option<(Ended, usize)> {
     let mut errors = Vec::new(rt.alloc());
     let options = Options {
         name: "-",
@@ -292,55 +251,64 @@ fn run_to(
         files: files.as_slice(),
         asked: 0,
     };
-    let status = script_on(
+    let mut reader = script;
+    let ended = script_on(
         rt,
         rt.alloc(),
         options,
-        &mut script.as_bytes(),
+        &mut reader,
         &mut source,
-        &mut writer,
+        writer,
         &mut errors,
-    )
-    .status;
-    assert!(rt; errors.is_empty(), "errors at {room}");
-    let ShortWriter {
-        got,
-        at_a_time: _,
-        room: _,
-        end: _,
-    } = writer;
-    (got, status, source.asked)
+    );
+    errors.is_empty().then_some((ended, source.asked))
 }
 
-/// A writer that fails after some bytes has just these, and no later line runs.
+/// Whether a writer of this room gets just that many bytes, the run ends so, and so many files are asked for.
+fn gets(
+    rt: &(impl Abort + AllocGlobal + Threads + Sync),
+    script: &[u8],
+    lines: &[u8],
+    room: usize,
+    status: Status,
+    asked: usize,
+) -> bool {
+    let mut writer = ShortWriter::new(rt.alloc(), usize::MAX, room, End::Fails);
+    let told = Ok(());
+    run_to(rt, script, &mut writer) == Some((Ended { status, told }, asked))
+        && writer.got.as_slice() == lines.split_at(room.min(lines.len())).0
+}
+
+/// A script whose last command loads a file, and its lines.
+const LOADED_LAST: Script = (
+    &[
+        INSERT_THREE,
+        "delete 2\nunit 3\ninsert after 1 00 00 01 41 9A 23\nunit 3\nload p\n",
+    ],
+    &[
+        THREE,
+        "edit 4 id 2\nunit 3 fault 11 FrameNumGap\nedit 5 id 4\n",
+        LINES_OF_3,
+        "loaded 1\n",
+    ],
+);
+
+/// A writer that fails after some bytes has just these, and no later line runs: the last one is of 9 bytes.
 #[test]
 fn ends_where_the_writer_fails(rt: HostRuntime) -> Result<(), Fail> {
-    let script = texts(
-        rt.alloc(),
-        &[
-            INSERT_THREE,
-            "delete 2\nunit 3\ninsert after 1 00 00 01 41 9A 23\nunit 3\nload p\n",
-        ],
-    )?;
-    let lines = texts(
-        rt.alloc(),
-        &[
-            THREE,
-            "edit 4 id 2\nunit 3 fault 11 FrameNumGap\nedit 5 id 4\n",
-            LINES_OF_3,
-            "loaded 1\n",
-        ],
-    )?;
-    let (got, status, asked) = run_to(&rt, script.as_str(), lines.len());
-    assert_eq!(rt; got.as_slice(), lines.as_bytes());
-    assert_eq!(rt; status, Status::Success);
-    assert_eq!(rt; asked, 1);
+    let (script, lines) = (
+        texts(rt.alloc(), LOADED_LAST.0)?,
+        texts(rt.alloc(), LOADED_LAST.1)?,
+    );
+    let (script, lines) = (script.as_bytes(), lines.as_bytes());
+    assert!(rt; gets(&rt, script, lines, lines.len(), Success, 1));
     for room in 0..lines.len() {
-        let (got, status, asked) = run_to(&rt, script.as_str(), room);
-        assert_eq!(rt; got.as_slice(), lines.as_bytes().split_at(room).0);
-        assert_eq!(rt; status, Status::Failure, "status after {room} bytes");
-        let runs_load = room.saturating_add(9) >= lines.len();
-        assert_eq!(rt; asked > 0, runs_load, "files asked for after {room} bytes");
+        let asked = if room.saturating_add(9) >= lines.len() {
+            1
+        } else {
+            0
+        };
+        row_holds(&rt, room, gets(&rt, script, lines, room, Failure, asked));
     }
     Ok(())
 }

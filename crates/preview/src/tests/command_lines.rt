@@ -1,0 +1,370 @@
+//! Command lines on files and a standard input over memory: the status, and what each stream gets.
+
+use super::writers::{End, ShortWriter};
+use super::{A, LINES_OF_A, P1, row_holds};
+use crate::program::{run, run_on};
+use Status::{Failure, Success, Usage};
+use console_io::{Directory, Ended, PrintFault, Status};
+use std::alloc::{AllocError, Global};
+use std::io;
+use std::io::{ErrorKind, Read};
+use std::process::Abort;
+use std::test::Fail;
+use std::thread::Threads;
+
+/// A file that, as those of the system, doesn't declare what it holds.
+#[derive(Drop)]
+pub(super) struct Text {
+    left: &'static [u8],
+}
+
+impl Read for Text {
+    fn read(&mut self, buf: &mut [u8]) -> io::Result<usize> {
+        self.left.read(buf)
+    }
+}
+
+/// Files by name.
+#[derive(Drop)]
+pub(super) struct Folder;
+
+impl Directory for Folder {
+    type File = Text;
+
+    fn open(&self, name: &str) -> Result<Text, ErrorKind> {
+        let left: &'static [u8] = match name {
+            "a.264" => &A,
+            "-" => b"no stream",
+            "a.script" => b"load a.264\nunit 1\n",
+            "b.script" => b"load b.264\n",
+            "c.script" => b"\nunit 1 2\n",
+            "memory" => return Err(ErrorKind::OutOfMemory),
+            "forbidden" => return Err(ErrorKind::PermissionDenied),
+            "folder" => return Err(ErrorKind::IsADirectory),
+            _ => return Err(ErrorKind::NotFound),
+        };
+        Ok(Text { left })
+    }
+}
+
+/// What a run on the words after the program's name writes on its output and on standard error.
+#[derive(Drop)]
+struct Written {
+    ended: Ended,
+    output: Vec<u8>,
+    errors: Vec<u8>,
+}
+
+/// The program's name and these words after it.
+fn named<'a>(alloc: Global, words: &[&'a str]) -> Result<Vec<&'a str>, AllocError> {
+    let mut all = Vec::new(alloc);
+    all.push("preview")?;
+    all.extend_from_slice(words)?;
+    Ok(all)
+}
+
+/// A run on the words after the program's name.
+fn written(
+    rt: &(impl Abort + AllocGlobal + Threads + Sync),
+    words: &[&str],
+    standard: &'static [u8],
+) -> Result<Written, AllocError> {
+    let all = named(rt.alloc(), words)?;
+    let (mut output, mut errors) = (Vec::new(rt.alloc()), Vec::new(rt.alloc()));
+    let ended = run_on(
+        rt,
+        rt.alloc(),
+        all.as_slice(),
+        &Folder,
+        standard,
+        &mut output,
+        &mut errors,
+    );
+    Ok(Written {
+        ended,
+        output,
+        errors,
+    })
+}
+
+/// The words after the program's name, the standard input, the status and what is written on both streams.
+type Run = (
+    &'static [&'static str],
+    &'static [u8],
+    Status,
+    &'static str,
+    &'static str,
+);
+
+const RUNS: [Run; 17] = [
+    (&["plan", "a.264"], &P1, Success, LINES_OF_A, ""),
+    (
+        &["plan", "-"],
+        &P1,
+        Success,
+        "unit 1 fault 1 MissingPps\n",
+        "",
+    ),
+    (
+        &["plan", "-"],
+        b"no stream",
+        Failure,
+        "refused 1 Split\n",
+        "",
+    ),
+    (&["plan", "b.264"], &A, Failure, "", "cannot read b.264\n"),
+    (
+        &["plan", "forbidden"],
+        &A,
+        Failure,
+        "",
+        "cannot read forbidden\n",
+    ),
+    (&["plan", "folder"], &A, Failure, "", "cannot read folder\n"),
+    (&["plan", "memory"], &A, Failure, "", "out of memory\n"),
+    (&["run", "a.script"], &P1, Success, LOADED_A, ""),
+    (&["run", "-"], b"unit 7\n", Success, "unit 7 none\n", ""),
+    (&["run", "b.script"], &A, Failure, "", "cannot read b.264\n"),
+    (
+        &["run", "c.script"],
+        &A,
+        Failure,
+        "",
+        "script fault at line 2\n",
+    ),
+    (
+        &["run", "d.script"],
+        &A,
+        Failure,
+        "",
+        "cannot read d.script\n",
+    ),
+    (&["run", "memory"], &A, Failure, "", "out of memory\n"),
+    (
+        &["run", "-"],
+        b"load memory\n",
+        Failure,
+        "",
+        "out of memory\n",
+    ),
+    (&["run", "-"], b"load -\n", Success, "refused 1 Split\n", ""),
+    (&["--version"], &A, Success, "preview 0.1.0\n", ""),
+    (&["-V"], &A, Success, "preview 0.1.0\n", ""),
+];
+
+const LOADED_A: &str = "loaded 1\nunit 1 position 0 counts 0 0 requests 1\n\
+request 1.0 ts 1000 bits 25 type 2 frame 0 dpb - l0 - l1 - hold 0\n";
+
+/// Whether the row's run ends so and writes just that.
+fn run_holds(
+    rt: &(impl Abort + AllocGlobal + Threads + Sync),
+    row: &Run,
+) -> Result<bool, AllocError> {
+    let got = written(rt, row.0, row.1)?;
+    let (status, told) = (row.2, Ok(()));
+    Ok(
+        got.ended == Ended { status, told }
+            && got.output.as_slice() == row.3.as_bytes()
+            && got.errors.as_slice() == row.4.as_bytes(),
+    )
+}
+
+#[test]
+fn does_what_the_words_name(rt: HostRuntime) -> Result<(), Fail> {
+    for (row, it) in RUNS.iter().enumerate() {
+        row_holds(&rt, row, run_holds(&rt, it)?);
+    }
+    Ok(())
+}
+
+/// The words after the program's name, the status, and a part of the text: at success that of the output, else of
+/// standard error, where the other one is empty.
+type Answer = (&'static [&'static str], Status, &'static str);
+
+const ANSWERS: [Answer; 17] = [
+    (&[], Usage, "Usage: preview <COMMAND>"),
+    (&["plan"], Usage, "<FILE>"),
+    (&["plan", "a", "b"], Usage, "'b'"),
+    (&["paint", "a"], Usage, "'paint'"),
+    (&["plan", "--hex", "a"], Usage, "'--hex'"),
+    (&["--help"], Success, "Usage: preview <COMMAND>"),
+    (&["plan", "--help"], Success, "Usage: preview plan <FILE>"),
+    (&["help", "plan"], Success, "Usage: preview plan <FILE>"),
+    (&["run"], Usage, "<SCRIPT>"),
+    (&["run", "--hex", "a"], Usage, "'--hex'"),
+    (&["run", "--workers", "1", "a"], Usage, "'1'"),
+    (&["run", "--workers", "x", "a"], Usage, "'x'"),
+    (&["run", "--cache", "0", "a"], Usage, "'0'"),
+    (&["run", "--cache", "4097", "a"], Usage, "'4097'"),
+    (
+        &["run", "--help"],
+        Success,
+        "Usage: preview run [OPTIONS] <SCRIPT>",
+    ),
+    (
+        &["run", "--cache", "1", "--workers", "0", "no/such"],
+        Failure,
+        "cannot read no/such\n",
+    ),
+    (
+        &["run", "no", "--cache", "4096"],
+        Failure,
+        "cannot read no\n",
+    ),
+];
+
+/// Whether the row's words are answered so, on one stream alone.
+fn answer_holds(
+    rt: &(impl Abort + AllocGlobal + Threads + Sync),
+    row: &Answer,
+) -> Result<bool, Fail> {
+    let got = written(rt, row.0, &[])?;
+    let (said, other) = match row.1 {
+        Success => (&got.output, &got.errors),
+        Failure | Usage => (&got.errors, &got.output),
+    };
+    let text = std::str::from_utf8(said.as_slice())?;
+    Ok(got.ended.status == row.1 && other.is_empty() && text.contains(row.2))
+}
+
+#[test]
+fn answers_command_lines(rt: HostRuntime) -> Result<(), Fail> {
+    for (row, answer) in ANSWERS.iter().enumerate() {
+        row_holds(&rt, row, answer_holds(&rt, answer)?);
+    }
+    Ok(())
+}
+
+/// Words that can't be read for this: how it ended, and what standard error has got, where the output has nothing.
+fn run_without_words(
+    rt: &(impl Abort + AllocGlobal + Threads + Sync),
+    kind: ErrorKind,
+    status: Status,
+    message: &[u8],
+) -> bool {
+    let (mut output, mut errors) = (Vec::new(rt.alloc()), Vec::new(rt.alloc()));
+    let words = Err(io::Error::from(kind));
+    let standard: &[u8] = &[];
+    let ended = run(
+        rt,
+        rt.alloc(),
+        words,
+        &Folder,
+        standard,
+        &mut output,
+        &mut errors,
+    );
+    ended.status == status && output.is_empty() && errors.as_slice() == message
+}
+
+#[test]
+fn tells_of_words_that_are_not_read(rt: HostRuntime) {
+    let message = b"error: invalid UTF-8 was detected in one or more arguments\n";
+    assert!(rt; run_without_words(&rt, ErrorKind::InvalidData, Usage, message));
+    assert!(rt; run_without_words(&rt, ErrorKind::OutOfMemory, Failure, b"out of memory\n"));
+}
+
+/// Whether what is told is cut where standard error takes no more, and the status is the same.
+fn cuts_errors(
+    rt: &(impl Abort + AllocGlobal + Threads + Sync),
+    words: &[&str],
+    status: Status,
+    message: &[u8],
+    room: usize,
+) -> bool {
+    let mut output = Vec::new(rt.alloc());
+    let mut errors = ShortWriter::new(rt.alloc(), 5, room, End::Fails);
+    let standard: &[u8] = b"unit 1\nunit\n";
+    let ended = run_on(
+        rt,
+        rt.alloc(),
+        words,
+        &Folder,
+        standard,
+        &mut output,
+        &mut errors,
+    );
+    let told = Err(PrintFault::Unwritten);
+    ended == Ended { status, told }
+        && output.is_empty()
+        && errors.got.as_slice() == message.split_at(room.min(message.len())).0
+}
+
+/// The words of a run that fails, and what is told of it.
+const MESSAGES: [(&[&str], &str); 4] = [
+    (&["preview", "plan", "b.264"], "cannot read b.264\n"),
+    (&["preview", "plan", "memory"], "out of memory\n"),
+    (&["preview", "run", "b.script"], "cannot read b.264\n"),
+    (&["preview", "run", "-"], "script fault at line 2\n"),
+];
+
+#[test]
+fn cuts_what_is_told(rt: HostRuntime) {
+    for (words, message) in MESSAGES {
+        for room in 0..message.len() {
+            let cuts = cuts_errors(&rt, words, Failure, message.as_bytes(), room);
+            row_holds(&rt, room, cuts);
+        }
+    }
+}
+
+/// Whether help or the version, which is this text, fails on an output that takes so many bytes, and nothing is told.
+fn fails_cut(
+    rt: &(impl Abort + AllocGlobal + Threads + Sync),
+    words: &[&str],
+    text: &[u8],
+    room: usize,
+    end: End,
+) -> bool {
+    let mut output = ShortWriter::new(rt.alloc(), usize::MAX, room, end);
+    let mut errors = Vec::new(rt.alloc());
+    let standard: &[u8] = &[];
+    let ended = run_on(
+        rt,
+        rt.alloc(),
+        words,
+        &Folder,
+        standard,
+        &mut output,
+        &mut errors,
+    );
+    let (status, told) = (Failure, Ok(()));
+    ended == Ended { status, told }
+        && errors.is_empty()
+        && output.got.as_slice() == text.split_at(room.min(text.len())).0
+}
+
+/// Whether the words' answer fails on each output that takes less than all of it.
+fn fails_where_cut(
+    rt: &(impl Abort + AllocGlobal + Threads + Sync),
+    words: &[&str],
+) -> Result<bool, AllocError> {
+    let got = written(rt, words, &[])?;
+    let (all, text) = (named(rt.alloc(), words)?, got.output.as_slice());
+    for room in 0..text.len() {
+        let is_failure = fails_cut(rt, all.as_slice(), text, room, End::Fails)
+            && fails_cut(rt, all.as_slice(), text, room, End::TakesNone);
+        if !is_failure {
+            return Ok(false);
+        }
+    }
+    Ok(got.ended.status == Success && text.len() > 10)
+}
+
+/// The words after the program's name that ask for help or the version.
+const REQUESTS: [&[&str]; 6] = [
+    &["--version"],
+    &["-V"],
+    &["--help"],
+    &["help"],
+    &["plan", "--help"],
+    &["help", "run"],
+];
+
+#[test]
+fn help_that_is_cut_is_a_failure(rt: HostRuntime) -> Result<(), Fail> {
+    for (row, words) in REQUESTS.iter().enumerate() {
+        row_holds(&rt, row, fails_where_cut(&rt, *words)?);
+    }
+    Ok(())
+}

@@ -64,7 +64,7 @@ fn named<'a>(alloc: Global, words: &[&'a str]) -> Result<Vec<&'a str>, AllocErro
 }
 
 /// A run on the words after the program's name.
-fn written(
+fn run_with(
     rt: &(impl Abort + AllocGlobal + Threads + Sync),
     words: &[&str],
     standard: &'static [u8],
@@ -88,7 +88,7 @@ fn written(
 }
 
 /// The words after the program's name, the standard input, the status and what is written on both streams.
-type Run = (
+type Ran = (
     &'static [&'static str],
     &'static [u8],
     Status,
@@ -96,7 +96,7 @@ type Run = (
     &'static str,
 );
 
-const RUNS: [Run; 17] = [
+const RUNS: [Ran; 17] = [
     (&["plan", "a.264"], &P1, Success, LINES_OF_A, ""),
     (
         &["plan", "-"],
@@ -158,9 +158,9 @@ request 1.0 ts 1000 bits 25 type 2 frame 0 dpb - l0 - l1 - hold 0\n";
 /// Whether the row's run ends so and writes just that.
 fn run_holds(
     rt: &(impl Abort + AllocGlobal + Threads + Sync),
-    row: &Run,
+    row: &Ran,
 ) -> Result<bool, AllocError> {
-    let got = written(rt, row.0, row.1)?;
+    let got = run_with(rt, row.0, row.1)?;
     let (status, told) = (row.2, Ok(()));
     Ok(
         got.ended == Ended { status, told }
@@ -218,7 +218,7 @@ fn answer_holds(
     rt: &(impl Abort + AllocGlobal + Threads + Sync),
     row: &Answer,
 ) -> Result<bool, Fail> {
-    let got = written(rt, row.0, &[])?;
+    let got = run_with(rt, row.0, &[])?;
     let (said, other) = match row.1 {
         Success => (&got.output, &got.errors),
         Failure | Usage => (&got.errors, &got.output),
@@ -339,7 +339,7 @@ fn fails_where_cut(
     rt: &(impl Abort + AllocGlobal + Threads + Sync),
     words: &[&str],
 ) -> Result<bool, AllocError> {
-    let got = written(rt, words, &[])?;
+    let got = run_with(rt, words, &[])?;
     let (all, text) = (named(rt.alloc(), words)?, got.output.as_slice());
     for room in 0..text.len() {
         let is_failure = fails_cut(rt, all.as_slice(), text, room, End::Fails)

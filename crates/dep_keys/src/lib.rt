@@ -21,6 +21,3 @@ pub use key_id::KeyId;
 pub use keys::Keys;
 pub use node::Node;
 pub use work::Work;
-
-#[cfg(test)]
-mod tests;

@@ -3,67 +3,34 @@
 mod distinct;
 mod flags;
 mod growth;
-mod lists;
-mod plain;
 
 use self::distinct::distinct_controls;
-use self::plain::{idr_controls, p_controls};
-use base_types::Shared;
-use bytes::Bytes;
-use h264_controls::{Controls, References, Request, Work, digest_form, sets_form, slice_form};
+use super::row_holds;
+use h264_controls::{Controls, Request, digest_form, sets_form, slice_form};
 use pictures::AuId;
 use std::alloc::{AllocError, Global};
-use std::process::Abort;
 use std::test::Fail;
-
-fn shared<T: Drop>(alloc: Global, value: T) -> Result<Shared<T>, AllocError> {
-    Ok(Shared::new(alloc, value)?)
-}
+use test_builders::{idr_controls, p_controls, request_of};
 
 /// The request of a slice of which more follow, whose references are the units 3 and 9.
 fn request(
     alloc: Global,
     controls: Controls,
-    bytes: Bytes,
-    timestamp: u64,
+    bytes: &[u8],
+    id: u32,
 ) -> Result<Request, AllocError> {
-    let mut ids = Vec::new(alloc);
-    ids.push(AuId::new(3))?;
-    ids.push(AuId::new(9))?;
-    Ok(Request {
-        work: shared(alloc, Work { controls, bytes })?,
-        timestamp,
-        references: shared(alloc, References::new(ids))?,
-        hold: true,
-    })
+    request_of(
+        alloc,
+        id,
+        controls,
+        bytes,
+        &[AuId::new(3), AuId::new(9)],
+        true,
+    )
 }
 
 /// How many times, and the bytes.
 type Piece<'a> = (usize, &'a [u8]);
-
-fn joined(alloc: Global, pieces: &[Piece<'_>]) -> Result<Vec<u8>, AllocError> {
-    let mut joined = Vec::new(alloc);
-    for (times, bytes) in pieces {
-        for _ in 0..*times {
-            joined.extend_from_slice(*bytes)?;
-        }
-    }
-    Ok(joined)
-}
-
-/// Asserts that the controls have this form, after what was there.
-fn assert_form(
-    rt: &(impl Abort + AllocGlobal),
-    controls: &Controls,
-    pieces: &[Piece<'_>],
-) -> Result<(), Fail> {
-    let mut form = Vec::new(rt.alloc());
-    form.push(0xAA)?;
-    digest_form(controls, &mut form)?;
-    assert_eq!(rt; form.remove(0), 0xAA);
-    assert_eq!(rt; form, joined(rt.alloc(), pieces)?);
-    Ok(())
-}
 
 /// The access unit 67 42 00 0A DA 79, 68 CE 38 80, 65 88 84 80.
 const IDR: [Piece<'static>; 14] = [
@@ -203,65 +170,140 @@ const DISTINCT: [Piece<'static>; 71] = [
     (0, &[]), // 2812
 ];
 
-#[test]
-fn form_of_an_idr_picture(rt: HostRuntime) -> Result<(), Fail> {
-    assert_form(&rt, &idr_controls(rt.alloc())?, &IDR)
+/// Controls that are put together by hand.
+#[derive(Clone, Copy)]
+enum Made {
+    Idr,
+    P,
+    Distinct,
+}
+
+fn build(alloc: Global, which: Made) -> Result<Controls, AllocError> {
+    match which {
+        Made::Idr => idr_controls(alloc),
+        Made::P => p_controls(alloc, Some(0)),
+        Made::Distinct => distinct_controls(alloc),
+    }
+}
+
+/// A byte and the pieces after it.
+fn joined(alloc: Global, pieces: &[Piece<'_>]) -> Result<Vec<u8>, AllocError> {
+    let mut joined = Vec::new(alloc);
+    joined.push(0xAA)?;
+    for (times, bytes) in pieces {
+        for _ in 0..*times {
+            joined.extend_from_slice(*bytes)?;
+        }
+    }
+    Ok(joined)
+}
+
+/// A byte and the controls' form after it.
+fn form_of(alloc: Global, controls: &Controls) -> Result<Vec<u8>, AllocError> {
+    let mut form = Vec::new(alloc);
+    form.push(0xAA)?;
+    digest_form(controls, &mut form)?;
+    Ok(form)
+}
+
+/// Whether the controls have this form, after what was there.
+fn has_form(alloc: Global, controls: &Controls, pieces: &[Piece<'_>]) -> Result<bool, AllocError> {
+    let wanted = joined(alloc, pieces)?;
+    Ok(form_of(alloc, controls)? == wanted)
+}
+
+/// Controls with their form and its length.
+type Form = (Made, &'static [Piece<'static>], usize);
+
+const FORMS: [Form; 3] = [
+    (Made::Idr, &IDR, 2040),
+    (Made::P, &P, 2040),
+    (Made::Distinct, &DISTINCT, 2812),
+];
+
+/// Whether the controls, and a copy of them, have the form, and it has its length.
+fn form_is_right(alloc: Global, controls: &Controls, form: &Form) -> Result<bool, AllocError> {
+    let copy = controls.copy()?;
+    Ok(
+        form_of(alloc, controls)?.len().checked_sub(1) == Some(form.2)
+            && has_form(alloc, controls, form.1)?
+            && has_form(alloc, &copy, form.1)?,
+    )
+}
+
+fn row_is_right(alloc: Global, form: &Form) -> Result<bool, AllocError> {
+    let controls = build(alloc, form.0)?;
+    form_is_right(alloc, &controls, form)
 }
 
 #[test]
-fn form_of_a_p_picture(rt: HostRuntime) -> Result<(), Fail> {
-    assert_form(&rt, &p_controls(rt.alloc())?, &P)
-}
-
-#[test]
-fn form_of_distinct_members(rt: HostRuntime) -> Result<(), Fail> {
-    assert_form(&rt, &distinct_controls(rt.alloc())?, &DISTINCT)
-}
-
-#[test]
-fn form_has_2040_bytes_or_2812(rt: HostRuntime) -> Result<(), Fail> {
-    let mut form = Vec::new(rt.alloc());
-    digest_form(&idr_controls(rt.alloc())?, &mut form)?;
-    assert_eq!(rt; form.len(), 2040);
-    form.clear();
-    digest_form(&distinct_controls(rt.alloc())?, &mut form)?;
-    assert_eq!(rt; form.len(), 2812);
+fn forms(rt: HostRuntime) -> Result<(), Fail> {
+    for (row, form) in FORMS.iter().enumerate() {
+        row_holds(&rt, row, row_is_right(rt.alloc(), form)?);
+    }
     Ok(())
+}
+
+/// Whether a copy of the request that `copies` makes has its work, its timestamp, its references and that it is held.
+fn is_copy(request: &Request, copy: &Request) -> bool {
+    copy.work.is_same(&request.work)
+        && copy.bytes().len() == 6
+        && copy.timestamp == 2000
+        && copy.hold
+        && copy.reference_ts(1) == Some(9000)
+        && copy.reference(2) == None
+}
+
+/// Whether the copy is one, and its controls have their form.
+fn has_a_copy(alloc: Global, request: &Request) -> Result<bool, AllocError> {
+    let copy = request.copy()?;
+    Ok(is_copy(request, &copy) && has_form(alloc, copy.controls(), &DISTINCT)?)
 }
 
 #[test]
 fn copies(rt: HostRuntime) -> Result<(), Fail> {
-    let bytes = Bytes::copy_from_slice(rt.alloc(), &[0, 0, 1, 0x41, 0x9A, 0x23])?;
-    let request = request(rt.alloc(), distinct_controls(rt.alloc())?, bytes, 2000)?;
-    let copy = request.copy()?;
-    assert_form(&rt, copy.controls(), &DISTINCT)?;
-    assert!(rt; copy.work.is_same(&request.work));
-    assert_eq!(rt; copy.bytes().len(), 6);
-    assert_eq!(rt; (copy.timestamp, copy.hold), (2000, true));
-    assert_eq!(rt; copy.reference_ts(1), Some(9000));
-    assert_eq!(rt; copy.reference(2), None);
-    assert_form(&rt, &idr_controls(rt.alloc())?.copy()?, &IDR)
+    let bytes = [0, 0, 1, 0x41, 0x9A, 0x23];
+    let request = request(rt.alloc(), distinct_controls(rt.alloc())?, &bytes, 2)?;
+    assert!(rt; has_a_copy(rt.alloc(), &request)?);
+    Ok(())
+}
+
+/// Controls, others, and whether they are the same.
+const PAIRS: [(Made, Made, bool); 4] = [
+    (Made::Idr, Made::Idr, true),
+    (Made::Idr, Made::P, false),
+    (Made::Distinct, Made::Distinct, true),
+    (Made::Distinct, Made::Idr, false),
+];
+
+fn are_same(alloc: Global, one: Made, other: Made) -> Result<bool, AllocError> {
+    let one = build(alloc, one)?;
+    let other = build(alloc, other)?;
+    Ok(one.is_same(&other))
 }
 
 #[test]
 fn work_that_differs(rt: HostRuntime) -> Result<(), Fail> {
-    let idr = idr_controls(rt.alloc())?;
-    assert!(rt; idr.is_same(&idr_controls(rt.alloc())?));
-    assert!(rt; !idr.is_same(&p_controls(rt.alloc())?));
-    let distinct = distinct_controls(rt.alloc())?;
-    assert!(rt; distinct.is_same(&distinct_controls(rt.alloc())?));
-    assert!(rt; !distinct.is_same(&idr));
+    for (row, (one, other, wanted)) in PAIRS.iter().enumerate() {
+        row_holds(&rt, row, are_same(rt.alloc(), *one, *other)? == *wanted);
+    }
     Ok(())
+}
+
+/// Whether the form is that of the sets, of 1540 bytes, and that of the slice after it.
+fn has_two_parts(alloc: Global, controls: &Controls) -> Result<bool, AllocError> {
+    let whole = form_of(alloc, controls)?;
+    let mut parts = Vec::new(alloc);
+    parts.push(0xAA)?;
+    sets_form(&controls.sets, &mut parts)?;
+    let front = parts.len();
+    slice_form(controls, &mut parts)?;
+    Ok(front == 1541 && parts == whole)
 }
 
 #[test]
 fn form_in_two_parts(rt: HostRuntime) -> Result<(), Fail> {
     let controls = distinct_controls(rt.alloc())?;
-    let (mut whole, mut parts) = (Vec::new(rt.alloc()), Vec::new(rt.alloc()));
-    digest_form(&controls, &mut whole)?;
-    sets_form(&controls.sets, &mut parts)?;
-    assert_eq!(rt; parts.len(), 1540);
-    slice_form(&controls, &mut parts)?;
-    assert_eq!(rt; parts, whole);
+    assert!(rt; has_two_parts(rt.alloc(), &controls)?);
     Ok(())
 }

@@ -7,79 +7,21 @@ use super::row_holds;
 use base_types::AtMost;
 use header_types::{
     DecRefPicMarking, MemoryManagementControlOperation as Operation,
-    MemoryManagementControlOperations, RefPicListModifications, SliceHeader, SliceType,
+    MemoryManagementControlOperations, RefPicListModifications, SliceHeader,
 };
 use pictures::{AuId, Counts, Frame, Marks, Term, frame_num_wrap};
 use ref_marking::{MarkFault, mark};
-use set_types::{ChromaFormat, Offsets, PicOrderCntType, ScalingLists, Sps};
+use set_types::Sps;
 use std::alloc::{AllocError, Global};
 use std::process::Abort;
 use std::test::Fail;
+use test_builders::{p_header_with, small_sps};
 
-// A set with MaxFrameNum 16.
-fn sps(alloc: Global, max_num_ref_frames: AtMost<16>) -> Sps {
-    Sps {
-        profile_idc: 66,
-        constraint_set_flags: [false; 6],
-        level_idc: 10,
-        seq_parameter_set_id: AtMost::new(0),
-        chroma_format_idc: ChromaFormat::Yuv420,
-        bit_depth_luma_minus8: AtMost::new(0),
-        bit_depth_chroma_minus8: AtMost::new(0),
-        qpprime_y_zero_transform_bypass_flag: false,
-        seq_scaling_matrix_present_flag: false,
-        scaling_lists: ScalingLists::new(alloc),
-        log2_max_frame_num_minus4: AtMost::new(0),
-        pic_order_cnt_type: PicOrderCntType::Two,
-        log2_max_pic_order_cnt_lsb_minus4: AtMost::new(0),
-        delta_pic_order_always_zero_flag: false,
-        offset_for_non_ref_pic: 0,
-        offset_for_top_to_bottom_field: 0,
-        num_ref_frames_in_pic_order_cnt_cycle: 0,
-        offset_for_ref_frame: Offsets::new(alloc),
-        max_num_ref_frames,
-        gaps_in_frame_num_value_allowed_flag: false,
-        pic_width_in_mbs_minus1: 0,
-        pic_height_in_map_units_minus1: 0,
-        direct_8x8_inference_flag: false,
-    }
-}
-
-fn header(
-    alloc: Global,
-    frame_num: u16,
-    nal_ref_idc: u8,
-    marking: DecRefPicMarking,
-) -> SliceHeader {
-    SliceHeader {
-        nal_ref_idc,
-        nal_unit_type: 1,
-        first_mb_in_slice: 0,
-        slice_type: SliceType::P,
-        pic_parameter_set_id: 0,
-        frame_num,
-        idr_pic_id: 0,
-        pic_order_cnt_lsb: 0,
-        delta_pic_order_cnt_bottom: 0,
-        delta_pic_order_cnt0: 0,
-        delta_pic_order_cnt1: 0,
-        redundant_pic_cnt: 0,
-        direct_spatial_mv_pred_flag: false,
-        num_ref_idx_l0_active_minus1: AtMost::new(0),
-        num_ref_idx_l1_active_minus1: AtMost::new(0),
-        ref_pic_list_modification_l0: RefPicListModifications::new(alloc),
-        ref_pic_list_modification_l1: RefPicListModifications::new(alloc),
-        pred_weight_table: None,
-        dec_ref_pic_marking: marking,
-        cabac_init_idc: 0,
-        slice_qp_delta: 0,
-        disable_deblocking_filter_idc: 0,
-        slice_alpha_c0_offset_div2: 0,
-        slice_beta_offset_div2: 0,
-        header_bit_size: 0,
-        dec_ref_pic_marking_bit_size: 0,
-        pic_order_cnt_bit_size: 0,
-    }
+/// A set with MaxFrameNum 16.
+fn sps_of(alloc: Global, max_num_ref_frames: AtMost<16>) -> Sps {
+    let mut sps = small_sps(alloc);
+    sps.max_num_ref_frames = max_num_ref_frames;
+    sps
 }
 
 /// How a picture is marked.
@@ -144,9 +86,12 @@ fn decode(marks: &Marks, id: u32, sps: &Sps, header: &SliceHeader) -> Result<Mar
 
 /// The header of a picture.
 fn header_of(alloc: Global, picture: &Picture<'_>) -> Result<SliceHeader, AllocError> {
-    let nal_ref_idc = u8::from(!matches!(picture.1, Marking::NoReference));
-    let marking = dec_ref_pic_marking(alloc, &picture.1)?;
-    Ok(header(alloc, picture.0, nal_ref_idc, marking))
+    let dec_ref_pic_marking = dec_ref_pic_marking(alloc, &picture.1)?;
+    let none_0 = RefPicListModifications::new(alloc);
+    let none_1 = RefPicListModifications::new(alloc);
+    let mut header = p_header_with(picture.0, none_0, none_1, dec_ref_pic_marking);
+    header.nal_ref_idc = u8::from(!matches!(picture.1, Marking::NoReference));
+    Ok(header)
 }
 
 /// The marks after one picture more.
@@ -202,7 +147,8 @@ fn row_is_right(alloc: Global, sps: &Sps, row: &Row<'_>) -> Result<bool, AllocEr
     Ok(is_as(&marked, &row.1))
 }
 
-fn rows_are_right(
+/// Asserts what the rows say, with this set.
+fn rows_hold(
     rt: &(impl Abort + AllocGlobal),
     sps: &Sps,
     rows: &[Row<'_>],
@@ -213,6 +159,16 @@ fn rows_are_right(
     Ok(())
 }
 
+/// Asserts what the rows say, with MaxFrameNum 16 and this max_num_ref_frames.
+fn rows_are_right(
+    rt: &(impl Abort + AllocGlobal),
+    max_num_ref_frames: AtMost<16>,
+    rows: &[Row<'_>],
+) -> Result<(), Fail> {
+    let sps = sps_of(rt.alloc(), max_num_ref_frames);
+    Ok(rows_hold(rt, &sps, rows)?)
+}
+
 /// Whether the marks are their copy's, and not those before the first picture.
 fn are_copied(marked: &Result<Marks, MarkFault>) -> bool {
     match marked {
@@ -221,11 +177,14 @@ fn are_copied(marked: &Result<Marks, MarkFault>) -> bool {
     }
 }
 
+fn copies_marks(alloc: Global, sps: &Sps) -> Result<bool, AllocError> {
+    Ok(are_copied(&marked(alloc, sps, &[(0, Marking::Idr(true))])?))
+}
+
 #[test]
 fn marks_are_copied(rt: HostRuntime) -> Result<(), Fail> {
-    let sps = sps(rt.alloc(), AtMost::new(1));
-    let marked = marked(rt.alloc(), &sps, &[(0, Marking::Idr(true))])?;
-    assert!(rt; are_copied(&marked));
+    let sps = sps_of(rt.alloc(), AtMost::new(1));
+    assert!(rt; copies_marks(rt.alloc(), &sps)?);
     Ok(())
 }
 
@@ -237,20 +196,24 @@ fn is_only(marked: &Result<Marks, MarkFault>, frame: &Frame) -> bool {
     }
 }
 
-#[test]
-fn operation_5_takes_the_counts_to_0(rt: HostRuntime) -> Result<(), Fail> {
-    let sps = sps(rt.alloc(), AtMost::new(4));
+/// Whether only the picture with operation 5 is marked: frame_num counts as 0, and 7, the smaller count, is taken from
+/// both.
+fn takes_counts_to_0(alloc: Global, sps: &Sps) -> Result<bool, AllocError> {
     let freed = Marking::Adaptive(&[Operation::FreeAll]);
     let pictures = [(0, Marking::Idr(true)), (1, Marking::Window), (2, freed)];
-    let marked = marked(rt.alloc(), &sps, &pictures)?;
-    // frame_num counts as 0, and 7, the smaller count, is taken from both.
     let only = Frame {
         id: AuId::new(3),
         frame_num: 0,
         term: Term::ShortTerm,
         counts: Counts { top: 3, bottom: 0 },
     };
-    assert!(rt; is_only(&marked, &only));
+    Ok(is_only(&marked(alloc, sps, &pictures)?, &only))
+}
+
+#[test]
+fn operation_5_takes_the_counts_to_0(rt: HostRuntime) -> Result<(), Fail> {
+    let sps = sps_of(rt.alloc(), AtMost::new(4));
+    assert!(rt; takes_counts_to_0(rt.alloc(), &sps)?);
     Ok(())
 }
 
@@ -263,7 +226,7 @@ fn ids(rt: HostRuntime) {
 
 #[test]
 fn numbers_of_frames(rt: HostRuntime) {
-    let sps = sps(rt.alloc(), AtMost::new(1));
+    let sps = sps_of(rt.alloc(), AtMost::new(1));
     let frame = Frame {
         frame_num: 15,
         ..Frame::default()

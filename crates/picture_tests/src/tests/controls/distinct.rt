@@ -1,8 +1,5 @@
 //! Controls with a value of its own in each member.
 
-use super::lists::p_list;
-use super::shared;
-use base_types::AtMost;
 use h264_controls::{
     Controls, DecodeFlags, Dpb, DpbEntryFlags, PpsFlags, RefPicList, SetControls, SliceFlags,
     SpsFlags, V4l2CtrlH264DecodeParams, V4l2CtrlH264Pps, V4l2CtrlH264PredWeights,
@@ -12,7 +9,7 @@ use h264_controls::{
 use header_types::SliceType;
 use set_types::{ChromaFormat, PicOrderCntType, WeightedBipred};
 use std::alloc::{AllocError, Global};
-use std::test::Fail;
+use test_builders::{controls_of, list_of, shared};
 
 fn sps() -> V4l2CtrlH264Sps {
     let mut offset_for_ref_frame = [0; 255];
@@ -109,7 +106,9 @@ pub(super) fn pred_weights() -> V4l2CtrlH264PredWeights {
 }
 
 /// List 0 has the frames 1 and 0 and a missing entry, list 1 the frame 0.
-fn slice_params(alloc: Global) -> Result<V4l2CtrlH264SliceParams, Fail> {
+fn slice_params(alloc: Global) -> Result<V4l2CtrlH264SliceParams, AllocError> {
+    let ref_pic_list0 = RefPicList::of(alloc, &list_of(&[Some(1), Some(0), None]))?;
+    let ref_pic_list1 = RefPicList::of(alloc, &list_of(&[Some(0)]))?;
     Ok(V4l2CtrlH264SliceParams {
         header_bit_size: 0x0102_0304,
         first_mb_in_slice: 0x0A0B_0C0D,
@@ -124,8 +123,8 @@ fn slice_params(alloc: Global) -> Result<V4l2CtrlH264SliceParams, Fail> {
         slice_beta_offset_div2: 8,
         num_ref_idx_l0_active_minus1: 9,
         num_ref_idx_l1_active_minus1: 10,
-        ref_pic_list0: RefPicList::of(alloc, &p_list(alloc, 2, AtMost::new(2))?)?,
-        ref_pic_list1: RefPicList::of(alloc, &p_list(alloc, 1, AtMost::new(0))?)?,
+        ref_pic_list0,
+        ref_pic_list1,
         flags: SliceFlags {
             direct_spatial_mv_pred: true,
             sp_for_switch: false,
@@ -183,16 +182,23 @@ fn decode_params(alloc: Global) -> Result<V4l2CtrlH264DecodeParams, AllocError> 
     })
 }
 
-pub(super) fn distinct_controls(alloc: Global) -> Result<Controls, Fail> {
-    let sets = SetControls {
+fn set_controls(alloc: Global) -> Result<SetControls, AllocError> {
+    Ok(SetControls {
         sps: shared(alloc, sps())?,
         pps: pps(),
         scaling_matrix: scaling_matrix(),
-    };
-    Ok(Controls {
-        sets: shared(alloc, sets)?,
-        pred_weights: Some(shared(alloc, pred_weights())?),
-        slice_params: slice_params(alloc)?,
-        decode_params: shared(alloc, decode_params(alloc)?)?,
     })
+}
+
+pub(super) fn distinct_controls(alloc: Global) -> Result<Controls, AllocError> {
+    let sets = set_controls(alloc)?;
+    let slice_params = slice_params(alloc)?;
+    let decode_params = decode_params(alloc)?;
+    controls_of(
+        alloc,
+        sets,
+        Some(pred_weights()),
+        slice_params,
+        decode_params,
+    )
 }

@@ -1,5 +1,6 @@
 //! Each flag alone has its number.
 
+use super::super::row_holds;
 use h264_controls::{DecodeFlags, DpbEntryFlags, PpsFlags, SliceFlags, SpsFlags};
 
 fn sps_flags(set: u8) -> SpsFlags {
@@ -42,20 +43,35 @@ fn dpb_entry_flags(set: u8) -> DpbEntryFlags {
     }
 }
 
+/// The flag that is set, and the numbers of the flags of a PPS, an SPS, an entry of the buffer and a slice.
+const NUMBERS: [(u8, u32, u32, u32, u32); 8] = [
+    (0, 1, 1, 1, 1),
+    (1, 2, 2, 2, 2),
+    (2, 4, 4, 4, 0),
+    (3, 8, 8, 0, 0),
+    (4, 16, 16, 0, 0),
+    (5, 32, 32, 0, 0),
+    (6, 64, 64, 0, 0),
+    (7, 128, 0, 0, 0),
+];
+
+/// The numbers of the flags where this one is set.
+fn numbers_of(set: u8) -> (u8, u32, u32, u32, u32) {
+    (
+        set,
+        u32::from(pps_flags(set).number()),
+        sps_flags(set).number(),
+        dpb_entry_flags(set).number(),
+        slice_flags(set).number(),
+    )
+}
+
 #[test]
 fn numbers_of_flags(rt: HostRuntime) {
-    let numbers = [1, 2, 4, 8, 16, 32, 64, 128];
-    for (set, number) in numbers.iter().enumerate() {
-        let set = set as u8;
-        let wide = u32::from(*number);
-        assert_eq!(rt; pps_flags(set).number(), *number);
-        assert_eq!(rt; sps_flags(set).number(), if set < 7 { wide } else { 0 });
-        assert_eq!(rt;
-            dpb_entry_flags(set).number(),
-            if set < 3 { wide } else { 0 }
-        );
-        assert_eq!(rt; slice_flags(set).number(), if set < 2 { wide } else { 0 });
+    for (row, numbers) in NUMBERS.iter().enumerate() {
+        row_holds(&rt, row, numbers_of(numbers.0) == *numbers);
     }
-    assert_eq!(rt; DecodeFlags { idr_pic: true }.number(), 1);
-    assert_eq!(rt; DecodeFlags { idr_pic: false }.number(), 0);
+    let idr = DecodeFlags { idr_pic: true };
+    let other = DecodeFlags { idr_pic: false };
+    assert!(rt; idr.number() == 1 && other.number() == 0);
 }

@@ -1,11 +1,10 @@
 //! Calls of which any growth of memory may be refused.
 
 use super::distinct::pred_weights;
-use super::plain::idr_controls;
-use super::{request, shared};
-use bytes::Bytes;
-use h264_controls::{Controls, digest_form};
+use super::request;
+use h264_controls::{Controls, Request, digest_form};
 use std::alloc::{AllocError, Global};
+use test_builders::{idr_controls, shared};
 
 /// The controls of a picture, with weights.
 fn controls_with_weights(alloc: Global) -> Result<Controls, AllocError> {
@@ -14,38 +13,45 @@ fn controls_with_weights(alloc: Global) -> Result<Controls, AllocError> {
     Ok(controls)
 }
 
-/// A form that has one byte, the controls' form after it, or why there is none.
-fn form_behind_a_byte(alloc: Global, controls: &Controls) -> Result<(Vec<u8>, bool), AllocError> {
+/// Whether the form stands after a byte, or that byte alone where there is no memory.
+fn form_stands_behind_a_byte(alloc: Global, controls: &Controls) -> Result<bool, AllocError> {
     let mut form = Vec::new(alloc);
     form.push(0xAA)?;
-    let refused = digest_form(controls, &mut form).is_err();
-    Ok((form, refused))
+    let length = match digest_form(controls, &mut form) {
+        Ok(()) => 2813,
+        Err(AllocError) => 1,
+    };
+    Ok(form.len() == length && form.first() == Some(&0xAA))
+}
+
+/// Where there is memory for the controls, whether their form stands after a byte.
+fn grows_a_form(alloc: Global) -> Result<bool, AllocError> {
+    let controls = controls_with_weights(alloc)?;
+    form_stands_behind_a_byte(alloc, &controls)
 }
 
 #[test]
 fn refused_growth_of_a_form(rt: HostRuntime) {
-    let Ok(controls) = controls_with_weights(rt.alloc()) else {
-        return;
-    };
-    if let Ok((form, refused)) = form_behind_a_byte(rt.alloc(), &controls) {
-        assert_eq!(rt; form.len(), if refused { 1 } else { 2813 });
-        assert_eq!(rt; form.first(), Some(&0xAA));
+    assert!(rt; grows_a_form(rt.alloc()) != Ok(false));
+}
+
+/// A request with weights.
+fn request_with_weights(alloc: Global) -> Result<Request, AllocError> {
+    let controls = controls_with_weights(alloc)?;
+    request(alloc, controls, &[0, 0, 1, 0x41], 7)
+}
+
+/// Whether the copy of a request has its timestamp and bytes, where there is memory.
+fn is_copied(request: &Request) -> bool {
+    match request.copy() {
+        Ok(copy) => copy.timestamp == 7000 && copy.bytes().len() == 4,
+        Err(AllocError) => true,
     }
 }
 
 #[test]
 fn refused_growth_of_a_copy(rt: HostRuntime) {
-    let Ok(controls) = controls_with_weights(rt.alloc()) else {
-        return;
-    };
-    let Ok(bytes) = Bytes::copy_from_slice(rt.alloc(), &[0, 0, 1, 0x41]) else {
-        return;
-    };
-    let Ok(request) = request(rt.alloc(), controls, bytes, 7) else {
-        return;
-    };
-    if let Ok(copy) = request.copy() {
-        assert_eq!(rt; copy.timestamp, 7);
-        assert_eq!(rt; copy.bytes().len(), 4);
+    if let Ok(request) = request_with_weights(rt.alloc()) {
+        assert!(rt; is_copied(&request));
     }
 }

@@ -1,204 +1,309 @@
 //! Lists of slices, worked by hand.
 
-use super::{Slice, THREE, assert_lists, b_slice, higher, long_term, lower, p_slice};
-use header_types::SliceType;
+use super::{Picture, Row, are_right};
+use header_types::RefPicListModification as Command;
+use header_types::SliceType::{B, I, P, Si, Sp};
+use ref_lists::ListFault::{BadModification, NoReference, OrderTie};
 use std::test::Fail;
 
-#[test]
-fn p_list(rt: HostRuntime) -> Result<(), Fail> {
-    assert_lists(&rt, &THREE, &p_slice(2, 2, &[]), &[Some(2), Some(1)], &[])?;
-    assert_lists(
-        &rt,
-        &THREE,
-        &p_slice(2, 2, &[lower(3)]),
-        &[Some(0), Some(2)],
-        &[],
-    )
-}
+// Commands that name the short-term frame whose number is lower than the last by so much, or higher.
+const LOWER_1: Command = Command::Subtract {
+    abs_diff_pic_num_minus1: 0,
+};
+
+const LOWER_2: Command = Command::Subtract {
+    abs_diff_pic_num_minus1: 1,
+};
+
+const LOWER_3: Command = Command::Subtract {
+    abs_diff_pic_num_minus1: 2,
+};
+
+const LOWER_4: Command = Command::Subtract {
+    abs_diff_pic_num_minus1: 3,
+};
+
+const LOWER_14: Command = Command::Subtract {
+    abs_diff_pic_num_minus1: 13,
+};
+
+const LOWER_16: Command = Command::Subtract {
+    abs_diff_pic_num_minus1: 15,
+};
+
+const HIGHER_1: Command = Command::Add {
+    abs_diff_pic_num_minus1: 0,
+};
+
+const HIGHER_13: Command = Command::Add {
+    abs_diff_pic_num_minus1: 12,
+};
+
+// Commands that name a long-term frame.
+const LONG_TERM_0: Command = Command::LongTerm {
+    long_term_pic_num: 0,
+};
+
+const LONG_TERM_3: Command = Command::LongTerm {
+    long_term_pic_num: 3,
+};
+
+const LONG_TERM_7: Command = Command::LongTerm {
+    long_term_pic_num: 7,
+};
+
+/// Short-term frames with FrameNums 15, 0 and 1: for frame_num 2 their PicNums are -1, 0 and 1.
+const THREE: &[Picture] = &[(15, 0, None), (0, 2, None), (1, 4, None)];
+
+const TIED: &[Picture] = &[(0, 2, None), (1, 2, None)];
+
+const FAULTS: [Row; 8] = [
+    // With the picture, with a command beside it that names no frame; and with another frame.
+    (THREE, (B, 2, 4, 2, &[], &[LONG_TERM_0]), Err(OrderTie)),
+    (TIED, (B, 2, 4, 2, &[], &[]), Err(OrderTie)),
+    // Not in a P slice.
+    (TIED, (P, 2, 6, 2, &[], &[]), Ok((&[Some(1), Some(0)], &[]))),
+    (&[], (P, 2, 6, 2, &[LONG_TERM_0], &[]), Err(NoReference)),
+    (&[], (B, 2, 4, 2, &[], &[]), Err(NoReference)),
+    // No short-term frame has PicNum -2, no long-term frame the number 0, in list 1 either.
+    (THREE, (P, 2, 6, 2, &[LOWER_4], &[]), Err(BadModification)),
+    (
+        THREE,
+        (B, 2, 6, 2, &[], &[LONG_TERM_0]),
+        Err(BadModification),
+    ),
+    // The second command is past the only entry.
+    (
+        THREE,
+        (P, 2, 6, 1, &[LOWER_1, LONG_TERM_0], &[]),
+        Ok((&[Some(2)], &[])),
+    ),
+];
 
 #[test]
-fn picture_numbers_wrap(rt: HostRuntime) -> Result<(), Fail> {
-    // Each command counts from the number before it: 1, then -1 as 15.
-    assert_lists(
-        &rt,
-        &THREE,
-        &p_slice(2, 3, &[lower(1), lower(2)]),
-        &[Some(2), Some(0), Some(1)],
-        &[],
-    )?;
-    // 15 is above CurrPicNum and so -1; from there once around to 0.
-    assert_lists(
-        &rt,
-        &THREE,
-        &p_slice(2, 3, &[higher(13), higher(1)]),
-        &[Some(0), Some(1), Some(2)],
-        &[],
-    )?;
-    // A long-term frame between them leaves the number.
-    assert_lists(
-        &rt,
-        &[(15, 0, None), (0, 2, Some(7)), (1, 4, None)],
-        &p_slice(2, 3, &[lower(1), long_term(7), lower(2)]),
-        &[Some(2), Some(1), Some(0)],
-        &[],
-    )
+fn faults(rt: HostRuntime) -> Result<(), Fail> {
+    are_right(&rt, &FAULTS)
 }
+
+const P_LISTS: [Row; 8] = [
+    (
+        THREE,
+        (P, 2, 6, 2, &[], &[]),
+        Ok((&[Some(2), Some(1)], &[])),
+    ),
+    (
+        THREE,
+        (P, 2, 6, 2, &[LOWER_3], &[]),
+        Ok((&[Some(0), Some(2)], &[])),
+    ),
+    // More entries than frames.
+    (
+        THREE,
+        (P, 2, 6, 4, &[], &[]),
+        Ok((&[Some(2), Some(1), Some(0), None], &[])),
+    ),
+    // A slice of a switching picture.
+    (
+        THREE,
+        (Sp, 2, 6, 2, &[], &[]),
+        Ok((&[Some(2), Some(1)], &[])),
+    ),
+    // Picture numbers wrap: each command counts from the number before it: 1, then -1 as 15.
+    (
+        THREE,
+        (P, 2, 6, 3, &[LOWER_1, LOWER_2], &[]),
+        Ok((&[Some(2), Some(0), Some(1)], &[])),
+    ),
+    // 15 is above CurrPicNum and so -1; from there once around to 0.
+    (
+        THREE,
+        (P, 2, 6, 3, &[HIGHER_13, HIGHER_1], &[]),
+        Ok((&[Some(0), Some(1), Some(2)], &[])),
+    ),
+    // A long-term frame between them leaves the number.
+    (
+        &[(15, 0, None), (0, 2, Some(7)), (1, 4, None)],
+        (P, 2, 6, 3, &[LOWER_1, LONG_TERM_7, LOWER_2], &[]),
+        Ok((&[Some(2), Some(1), Some(0)], &[])),
+    ),
+    (
+        &[(0, 0, None)],
+        (P, 1, 6, 2, &[], &[]),
+        Ok((&[Some(0), None], &[])),
+    ),
+];
+
+#[test]
+fn p_lists(rt: HostRuntime) -> Result<(), Fail> {
+    are_right(&rt, &P_LISTS)
+}
+
+/// Three frames whose counts don't rise with their frame_nums.
+const B_FRAMES: &[Picture] = &[(15, 0, None), (0, 8, None), (1, 4, None)];
+
+const B_LISTS: [Row; 5] = [
+    (
+        B_FRAMES,
+        (B, 2, 6, 3, &[], &[]),
+        Ok((&[Some(2), Some(0), Some(1)], &[Some(1), Some(2), Some(0)])),
+    ),
+    // Each list has its own commands.
+    (
+        B_FRAMES,
+        (B, 2, 6, 3, &[], &[LOWER_3]),
+        Ok((&[Some(2), Some(0), Some(1)], &[Some(0), Some(1), Some(2)])),
+    ),
+    // Lists that are alike are exchanged before they are cut.
+    (
+        &[(0, 4, None), (1, 2, None)],
+        (B, 2, 6, 1, &[], &[]),
+        Ok((&[Some(0)], &[Some(1)])),
+    ),
+    // One entry isn't exchanged, and two that differ aren't.
+    (
+        &[(0, 4, None)],
+        (B, 2, 6, 1, &[], &[]),
+        Ok((&[Some(0)], &[Some(0)])),
+    ),
+    (
+        &[(0, 4, None), (1, 8, None)],
+        (B, 2, 6, 1, &[], &[]),
+        Ok((&[Some(0)], &[Some(1)])),
+    ),
+];
 
 #[test]
 fn b_lists(rt: HostRuntime) -> Result<(), Fail> {
-    assert_lists(
-        &rt,
-        &[(15, 0, None), (0, 8, None), (1, 4, None)],
-        &b_slice(6, 3, &[]),
-        &[Some(2), Some(0), Some(1)],
-        &[Some(1), Some(2), Some(0)],
-    )?;
-    // Each list has its own commands.
-    assert_lists(
-        &rt,
-        &[(15, 0, None), (0, 8, None), (1, 4, None)],
-        &b_slice(6, 3, &[lower(3)]),
-        &[Some(2), Some(0), Some(1)],
-        &[Some(0), Some(1), Some(2)],
-    )
+    are_right(&rt, &B_LISTS)
 }
 
-#[test]
-fn b_lists_are_exchanged_before_they_are_cut(rt: HostRuntime) -> Result<(), Fail> {
-    assert_lists(
-        &rt,
-        &[(0, 4, None), (1, 2, None)],
-        &b_slice(6, 1, &[]),
-        &[Some(0)],
-        &[Some(1)],
-    )?;
-    // One entry isn't exchanged, and two that differ aren't.
-    assert_lists(
-        &rt,
-        &[(0, 4, None)],
-        &b_slice(6, 1, &[]),
-        &[Some(0)],
-        &[Some(0)],
-    )?;
-    assert_lists(
-        &rt,
-        &[(0, 4, None), (1, 8, None)],
-        &b_slice(6, 1, &[]),
-        &[Some(0)],
-        &[Some(1)],
-    )
-}
+/// Two long-term frames among short-term ones.
+const LONG_TERM: &[Picture] = &[(0, 2, Some(3)), (0, 4, None), (1, 8, Some(1)), (1, 6, None)];
 
-#[test]
-fn long_term_frames_come_last(rt: HostRuntime) -> Result<(), Fail> {
-    let pictures = [(0, 2, Some(3)), (0, 4, None), (1, 8, Some(1)), (1, 6, None)];
-    assert_lists(
-        &rt,
-        &pictures,
-        &p_slice(2, 4, &[]),
-        &[Some(3), Some(1), Some(2), Some(0)],
-        &[],
-    )?;
+/// Frames that stand alike.
+const ALIKE: &[Picture] = &[(15, 0, None), (1, 2, None), (1, 4, None)];
+
+const ORDERS: [Row; 5] = [
+    // Long-term frames come last.
+    (
+        LONG_TERM,
+        (P, 2, 6, 4, &[], &[]),
+        Ok((&[Some(3), Some(1), Some(2), Some(0)], &[])),
+    ),
     // Their counts are no ties, and the frame that is named comes first.
-    assert_lists(
-        &rt,
-        &pictures,
-        &b_slice(8, 4, &[long_term(3)]),
-        &[Some(3), Some(1), Some(2), Some(0)],
-        &[Some(0), Some(1), Some(3), Some(2)],
-    )
-}
+    (
+        LONG_TERM,
+        (B, 2, 8, 4, &[], &[LONG_TERM_3]),
+        Ok((
+            &[Some(3), Some(1), Some(2), Some(0)],
+            &[Some(0), Some(1), Some(3), Some(2)],
+        )),
+    ),
+    // A frame that is named twice stands twice, before entries that are missing.
+    (
+        &[(0, 0, None), (1, 2, None)],
+        (P, 2, 6, 5, &[LOWER_1, LOWER_1, HIGHER_1], &[]),
+        Ok((&[Some(1), Some(0), Some(1), None, None], &[])),
+    ),
+    // Frames that stand alike stay in decoding order.
+    (
+        ALIKE,
+        (P, 2, 6, 3, &[], &[]),
+        Ok((&[Some(1), Some(2), Some(0)], &[])),
+    ),
+    (
+        ALIKE,
+        (P, 2, 6, 3, &[LOWER_3, LOWER_14], &[]),
+        Ok((&[Some(0), Some(1), Some(2)], &[])),
+    ),
+];
 
 #[test]
-fn missing_entries(rt: HostRuntime) -> Result<(), Fail> {
-    assert_lists(
-        &rt,
-        &[(0, 0, None)],
-        &p_slice(1, 2, &[]),
-        &[Some(0), None],
-        &[],
-    )?;
-    // A frame that is named twice stands twice, before entries that are missing.
-    assert_lists(
-        &rt,
-        &[(0, 0, None), (1, 2, None)],
-        &p_slice(2, 5, &[lower(1), lower(1), higher(1)]),
-        &[Some(1), Some(0), Some(1), None, None],
-        &[],
-    )
+fn orders_of_frames(rt: HostRuntime) -> Result<(), Fail> {
+    are_right(&rt, &ORDERS)
 }
+
+const SIXTEEN: &[Picture] = &[
+    (0, 0, None),
+    (1, 2, None),
+    (2, 4, None),
+    (3, 6, None),
+    (4, 8, None),
+    (5, 10, None),
+    (6, 12, None),
+    (7, 14, None),
+    (8, 16, None),
+    (9, 18, None),
+    (10, 20, None),
+    (11, 22, None),
+    (12, 24, None),
+    (13, 26, None),
+    (14, 28, None),
+    (15, 30, None),
+];
+
+const THIRTY_TWO: [Row; 2] = [
+    (
+        SIXTEEN,
+        (P, 15, 6, 32, &[], &[]),
+        Ok((
+            &[
+                Some(15),
+                Some(14),
+                Some(13),
+                Some(12),
+                Some(11),
+                Some(10),
+                Some(9),
+                Some(8), //
+                Some(7),
+                Some(6),
+                Some(5),
+                Some(4),
+                Some(3),
+                Some(2),
+                Some(1),
+                Some(0), //
+                None,
+                None,
+                None,
+                None,
+                None,
+                None,
+                None,
+                None, //
+                None,
+                None,
+                None,
+                None,
+                None,
+                None,
+                None,
+                None,
+            ],
+            &[],
+        )),
+    ),
+    // Once around MaxFrameNum each time: one frame 32 times.
+    (
+        SIXTEEN,
+        (P, 15, 6, 32, &[LOWER_16; 32], &[]),
+        Ok((&[Some(15); 32], &[])),
+    ),
+];
 
 #[test]
 fn sixteen_frames_and_thirty_two_entries(rt: HostRuntime) -> Result<(), Fail> {
-    let pictures = [
-        (0, 0, None),
-        (1, 2, None),
-        (2, 4, None),
-        (3, 6, None),
-        (4, 8, None),
-        (5, 10, None),
-        (6, 12, None),
-        (7, 14, None),
-        (8, 16, None),
-        (9, 18, None),
-        (10, 20, None),
-        (11, 22, None),
-        (12, 24, None),
-        (13, 26, None),
-        (14, 28, None),
-        (15, 30, None),
-    ];
-    let mut entries = [None; 32];
-    for (entry, place) in entries.iter_mut().zip((0..16).rev()) {
-        *entry = Some(place);
-    }
-    assert_lists(&rt, &pictures, &p_slice(15, 32, &[]), &entries, &[])?;
-    // Once around MaxFrameNum each time: one frame 32 times.
-    let around = [lower(16); 32];
-    let entries = [Some(15); 32];
-    assert_lists(&rt, &pictures, &p_slice(15, 32, &around), &entries, &[])
+    are_right(&rt, &THIRTY_TWO)
 }
+
+const INTRA: [Row; 3] = [
+    (THREE, (I, 2, 6, 2, &[LONG_TERM_0], &[]), Ok((&[], &[]))),
+    (&[], (I, 2, 6, 2, &[LONG_TERM_0], &[]), Ok((&[], &[]))),
+    (THREE, (Si, 2, 6, 2, &[LONG_TERM_0], &[]), Ok((&[], &[]))),
+];
 
 #[test]
 fn intra_slices_have_no_lists(rt: HostRuntime) -> Result<(), Fail> {
-    let commands = [long_term(0)];
-    let slice = Slice {
-        slice_type: SliceType::I,
-        ..p_slice(2, 2, &commands)
-    };
-    assert_lists(&rt, &THREE, &slice, &[], &[])?;
-    assert_lists(&rt, &[], &slice, &[], &[])?;
-    let switching = Slice {
-        slice_type: SliceType::Si,
-        ..slice
-    };
-    assert_lists(&rt, &THREE, &switching, &[], &[])
-}
-
-#[test]
-fn switching_slices_have_list_0(rt: HostRuntime) -> Result<(), Fail> {
-    let slice = Slice {
-        slice_type: SliceType::Sp,
-        ..p_slice(2, 2, &[])
-    };
-    assert_lists(&rt, &THREE, &slice, &[Some(2), Some(1)], &[])
-}
-
-#[test]
-fn frames_that_stand_alike_stay_in_decode_order(rt: HostRuntime) -> Result<(), Fail> {
-    let alike = [(15, 0, None), (1, 2, None), (1, 4, None)];
-    assert_lists(
-        &rt,
-        &alike,
-        &p_slice(2, 3, &[]),
-        &[Some(1), Some(2), Some(0)],
-        &[],
-    )?;
-    assert_lists(
-        &rt,
-        &alike,
-        &p_slice(2, 3, &[lower(3), lower(14)]),
-        &[Some(0), Some(1), Some(2)],
-        &[],
-    )
+    are_right(&rt, &INTRA)
 }

@@ -1,7 +1,7 @@
 //! Each operation alone, and each two of them.
 
 use super::Marking::{Adaptive, Idr, Window};
-use super::{Frames, row_holds, row_is_right, sps};
+use super::{Frames, row_holds, row_is_right, sps_of};
 use base_types::AtMost;
 use header_types::MemoryManagementControlOperation as Operation;
 use ref_marking::MarkFault::BadMarking;
@@ -130,7 +130,7 @@ const PAIRS: [Pairs; 6] = [
 
 #[test]
 fn each_operation_and_another(rt: HostRuntime) -> Result<(), Fail> {
-    let sps = sps(rt.alloc(), AtMost::new(4));
+    let sps = sps_of(rt.alloc(), AtMost::new(4));
     for (row, pairs) in PAIRS.iter().enumerate() {
         row_holds(&rt, row, marks_pairs(rt.alloc(), &sps, pairs)?);
     }

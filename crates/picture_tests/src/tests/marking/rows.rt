@@ -1,7 +1,7 @@
 //! Streams of pictures with what is marked after them.
 
 use super::Marking::{Adaptive, Idr, NoReference, Window};
-use super::{Picture, Row, rows_are_right, sps};
+use super::{Picture, Row, rows_are_right, rows_hold, sps_of};
 use base_types::AtMost;
 use header_types::MemoryManagementControlOperation as Operation;
 use ref_marking::MarkFault::{BadMarking, NoShortTerm, TooManyReferences};
@@ -14,21 +14,21 @@ const SIX: Operation = Operation::CurrentLongTerm {
     long_term_frame_idx: 0,
 };
 
+const OF_ONE: [Row<'static>; 4] = [
+    // A full window needs a short-term frame.
+    (&[(0, Idr(true)), (1, Window)], Err(NoShortTerm)),
+    (
+        &[(0, Idr(true)), (1, Adaptive(&[]))],
+        Err(TooManyReferences),
+    ),
+    (&[(0, Idr(false)), (1, Window)], Ok(&[(2, None)])),
+    // A picture that is no reference leaves the marks.
+    (&[(0, Idr(true)), (1, NoReference)], Ok(&[(1, Some(0))])),
+];
+
 #[test]
 fn one_frame(rt: HostRuntime) -> Result<(), Fail> {
-    let rows: [Row<'_>; 4] = [
-        // A full window needs a short-term frame.
-        (&[(0, Idr(true)), (1, Window)], Err(NoShortTerm)),
-        (
-            &[(0, Idr(true)), (1, Adaptive(&[]))],
-            Err(TooManyReferences),
-        ),
-        (&[(0, Idr(false)), (1, Window)], Ok(&[(2, None)])),
-        // A picture that is no reference leaves the marks.
-        (&[(0, Idr(true)), (1, NoReference)], Ok(&[(1, Some(0))])),
-    ];
-    rows_are_right(&rt, &sps(rt.alloc(), AtMost::new(1)), &rows)?;
-    Ok(())
+    rows_are_right(&rt, AtMost::new(1), &OF_ONE)
 }
 
 const OF_TWO: [Row<'static>; 3] = [
@@ -84,20 +84,24 @@ const OF_TWO: [Row<'static>; 3] = [
 
 #[test]
 fn two_frames(rt: HostRuntime) -> Result<(), Fail> {
-    rows_are_right(&rt, &sps(rt.alloc(), AtMost::new(2)), &OF_TWO)?;
-    Ok(())
+    rows_are_right(&rt, AtMost::new(2), &OF_TWO)
 }
+
+// MaxFrameNum is 16, so at frame_num 1 the FrameNumWrap of 15 is -1.
+const WRAPPED: [Row<'static>; 2] = [
+    (
+        &[(0, Idr(true)), (0, Window), (15, Window)],
+        Ok(&[(1, Some(0)), (2, None), (3, None)]),
+    ),
+    (
+        &[(0, Idr(true)), (0, Window), (15, Window), (1, Window)],
+        Ok(&[(1, Some(0)), (2, None), (4, None)]),
+    ),
+];
 
 #[test]
 fn the_window_frees_the_least_frame_num_wrap(rt: HostRuntime) -> Result<(), Fail> {
-    // MaxFrameNum is 16, so at frame_num 1 the FrameNumWrap of 15 is -1.
-    let pictures: [Picture<'_>; 4] = [(0, Idr(true)), (0, Window), (15, Window), (1, Window)];
-    let rows: [Row<'_>; 2] = [
-        (&pictures[..3], Ok(&[(1, Some(0)), (2, None), (3, None)])),
-        (&pictures, Ok(&[(1, Some(0)), (2, None), (4, None)])),
-    ];
-    rows_are_right(&rt, &sps(rt.alloc(), AtMost::new(3)), &rows)?;
-    Ok(())
+    rows_are_right(&rt, AtMost::new(3), &WRAPPED)
 }
 
 /// Seventeen pictures with the sliding window.
@@ -144,7 +148,7 @@ const UNITS: [(u32, Option<u8>); 17] = [
 
 #[test]
 fn sixteen_frames(rt: HostRuntime) -> Result<(), Fail> {
-    let mut sps = sps(rt.alloc(), AtMost::new(16));
+    let mut sps = sps_of(rt.alloc(), AtMost::new(16));
     // MaxFrameNum is 32.
     sps.log2_max_frame_num_minus4 = AtMost::new(1);
     let mut adaptive = SEVENTEEN;
@@ -154,8 +158,7 @@ fn sixteen_frames(rt: HostRuntime) -> Result<(), Fail> {
         (&SEVENTEEN, Ok(&UNITS[1..])),
         (&adaptive, Err(TooManyReferences)),
     ];
-    rows_are_right(&rt, &sps, &rows)?;
-    Ok(())
+    Ok(rows_hold(&rt, &sps, &rows)?)
 }
 
 // An IDR picture and two with the window: at frame_num 1 their PicNums are 0, -2 and -1.
@@ -237,8 +240,7 @@ const FREED: [Row<'static>; 4] = [
 
 #[test]
 fn operation_1_frees_the_frame_of_a_pic_num(rt: HostRuntime) -> Result<(), Fail> {
-    rows_are_right(&rt, &sps(rt.alloc(), AtMost::new(4)), &FREED)?;
-    Ok(())
+    rows_are_right(&rt, AtMost::new(4), &FREED)
 }
 
 const A: Picture<'static> = (0, Idr(false));
@@ -377,8 +379,7 @@ const LONG_TERM: [Row<'static>; 9] = [
 
 #[test]
 fn operations_2_to_4_on_long_term_frames(rt: HostRuntime) -> Result<(), Fail> {
-    rows_are_right(&rt, &sps(rt.alloc(), AtMost::new(4)), &LONG_TERM)?;
-    Ok(())
+    rows_are_right(&rt, AtMost::new(4), &LONG_TERM)
 }
 
 const LONG: Picture<'static> = (0, Idr(true));
@@ -431,6 +432,5 @@ const ALL_FREED: [Row<'static>; 7] = [
 
 #[test]
 fn all_frames_are_freed(rt: HostRuntime) -> Result<(), Fail> {
-    rows_are_right(&rt, &sps(rt.alloc(), AtMost::new(4)), &ALL_FREED)?;
-    Ok(())
+    rows_are_right(&rt, AtMost::new(4), &ALL_FREED)
 }

@@ -1,16 +1,16 @@
 //! Each field of a header at both ends of its range, past them, and cut (7.3.3).
 
-use super::tables::{B, Header, IDR, LONG, P, SWITCHING};
-use super::writer::{Code, Writer};
-use super::{row_holds, small_pps, small_sps};
-use annexb::split;
+use super::tables::{B, Field, Header, IDR, LONG, P, SWITCHING};
+use super::writer::{Code, put};
+use super::{row_holds, summary_of};
+use annexb::{SplitFault, split};
 use base_types::AtMost;
 use set_types::{Pps, Sps, WeightedBipred};
 use slice_front::HeaderFault;
-use slice_header::read;
 use std::alloc::{AllocError, Global};
 use std::process::Abort;
 use std::test::Fail;
+use test_builders::{BitWriter, small_pps, small_sps};
 
 /// 256 macroblocks, and a picture parameter set that announces each field.
 fn sets(alloc: Global, header: &Header, width: u8) -> (Sps, Pps) {
@@ -30,23 +30,30 @@ fn sets(alloc: Global, header: &Header, width: u8) -> (Sps, Pps) {
     (sps, pps)
 }
 
-/// The header with this code at this place, and where the code begins and ends.
+/// A field of a header: its header, its place among the codes, and the sets.
+#[derive(Clone, Copy)]
+struct Place<'a> {
+    header: &'a Header,
+    at: usize,
+    sps: &'a Sps,
+    pps: &'a Pps,
+}
+
+/// The header with this code at its place, and where the code begins and ends.
 fn written(
     alloc: Global,
-    sps: &Sps,
-    header: &Header,
-    at: usize,
+    place: &Place<'_>,
     code: Code,
-) -> Result<(Writer, usize, usize), AllocError> {
-    let mut writer = Writer::new(alloc);
+) -> Result<(BitWriter, usize, usize), AllocError> {
+    let mut writer = BitWriter::new(alloc);
     let (mut start, mut end) = (0, 0);
-    for (place, other) in header.codes.iter().enumerate() {
-        if place == at {
+    for (at, other) in place.header.codes.iter().enumerate() {
+        if at == place.at {
             start = writer.count();
-            writer.put(sps, code)?;
+            put(&mut writer, place.sps, code)?;
             end = writer.count();
         } else {
-            writer.put(sps, *other)?;
+            put(&mut writer, place.sps, *other)?;
         }
     }
     Ok((writer, start, end))
@@ -54,88 +61,143 @@ fn written(
 
 /// The size of the header of the one unit of a text, or its fault.
 fn header_bit_size(
-    rt: &(impl Abort + AllocGlobal),
+    alloc: Global,
     text: &[u8],
-    sps: &Sps,
-    pps: &Pps,
-) -> Result<Result<usize, HeaderFault>, Fail> {
-    let nals = split(rt.alloc(), text)?;
+    place: &Place<'_>,
+) -> Result<Option<Result<usize, HeaderFault>>, SplitFault> {
+    let nals = split(alloc, text)?;
     let [nal] = nals.as_slice() else {
-        panic!(rt; "more units than one");
+        return Ok(None);
     };
-    match read(rt.alloc(), nal, sps, pps) {
-        Ok(header) => Ok(Ok(header.header_bit_size as usize)),
-        Err(fault) => Ok(Err(fault)),
-    }
+    Ok(Some(match summary_of(alloc, nal, place.sps, place.pps) {
+        Ok((_, _, header_bit_size, _, _)) => Ok(header_bit_size as usize),
+        Err(fault) => Err(fault),
+    }))
 }
 
-/// A code is read, and cut where the payload ends in it: so often as a byte ends there.
-fn is_read(
-    rt: &(impl Abort + AllocGlobal),
-    header: &Header,
-    at: usize,
-    code: Code,
-    width: u8,
-) -> Result<usize, Fail> {
-    let (sps, pps) = sets(rt.alloc(), header, width);
-    let (writer, start, end) = written(rt.alloc(), &sps, header, at, code)?;
-    let text = writer.text(rt.alloc(), header.first, writer.count())?;
-    let size = writer.count().saturating_add(8);
-    row_holds(rt, at, header_bit_size(rt, &text, &sps, &pps)? == Ok(size));
+/// Whether the first so many bits are read as a header of this size, or show this fault.
+fn reads(
+    alloc: Global,
+    place: &Place<'_>,
+    writer: &BitWriter,
+    count: usize,
+    wanted: Result<usize, HeaderFault>,
+) -> Result<bool, Fail> {
+    let text = writer.unit(alloc, place.header.first, count)?;
+    Ok(header_bit_size(alloc, &text, place)? == Some(wanted))
+}
+
+/// Whether the payload is cut where it ends after so many bits; nothing where a unit can't end there.
+fn is_cut(
+    alloc: Global,
+    place: &Place<'_>,
+    writer: &BitWriter,
+    count: usize,
+) -> Result<Option<bool>, Fail> {
+    let text = writer.unit(alloc, place.header.first, count)?;
+    if count % 8 != 0 || text.last() == Some(&0) {
+        return Ok(None);
+    }
+    Ok(Some(header_bit_size(alloc, &text, place)? == Some(Err(HeaderFault::Cut))))
+}
+
+/// How often a code is cut, so often as a byte ends in it; nothing where a cut shows something else.
+fn cuts(
+    alloc: Global,
+    place: &Place<'_>,
+    writer: &BitWriter,
+    start: usize,
+    end: usize,
+) -> Result<Option<usize>, Fail> {
     let mut cuts = 0usize;
     for count in start..end {
-        let text = writer.text(rt.alloc(), header.first, count)?;
-        if count % 8 == 0 && text.last() != Some(&0) {
-            let found = header_bit_size(rt, &text, &sps, &pps)?;
-            row_holds(rt, at, found == Err(HeaderFault::Cut));
-            cuts = cuts.saturating_add(1);
+        match is_cut(alloc, place, writer, count)? {
+            Some(true) => cuts = cuts.saturating_add(1),
+            Some(false) => return Ok(None),
+            None => {}
         }
     }
-    Ok(cuts)
+    Ok(Some(cuts))
 }
 
-/// A code is out of the range of its field.
-fn is_refused(
-    rt: &(impl Abort + AllocGlobal),
-    header: &Header,
-    at: usize,
-    code: Code,
-    width: u8,
-) -> Result<(), Fail> {
-    let (sps, pps) = sets(rt.alloc(), header, width);
-    let (writer, _, _) = written(rt.alloc(), &sps, header, at, code)?;
-    let text = writer.text(rt.alloc(), header.first, writer.count())?;
-    let found = header_bit_size(rt, &text, &sps, &pps)?;
-    row_holds(rt, at, found == Err(HeaderFault::Value));
-    Ok(())
+/// How often a code is cut that is read.
+fn cuts_of_read(alloc: Global, place: &Place<'_>, code: Code) -> Result<Option<usize>, Fail> {
+    let (writer, start, end) = written(alloc, place, code)?;
+    let size = writer.count().saturating_add(8);
+    if reads(alloc, place, &writer, writer.count(), Ok(size))? {
+        cuts(alloc, place, &writer, start, end)
+    } else {
+        Ok(None)
+    }
 }
 
-/// A field, where it begins at each place within a byte.
-fn has_field(
-    rt: &(impl Abort + AllocGlobal),
-    header: &Header,
-    at: usize,
+/// Whether a code is out of the range of its field.
+fn is_refused(alloc: Global, place: &Place<'_>, code: Code) -> Result<bool, Fail> {
+    let (writer, _, _) = written(alloc, place, code)?;
+    reads(
+        alloc,
+        place,
+        &writer,
+        writer.count(),
+        Err(HeaderFault::Value),
+    )
+}
+
+/// How often the codes are cut that are read; nothing where one isn't read, or one that is to be refused is.
+fn cuts_of_field(
+    alloc: Global,
+    place: &Place<'_>,
     read: &[Code],
     refused: &[Code],
-) -> Result<(), Fail> {
+) -> Result<Option<usize>, Fail> {
     let mut cuts = 0usize;
-    for width in 0..13u8 {
-        for code in read {
-            cuts = cuts.saturating_add(is_read(rt, header, at, *code, width)?);
-        }
-        for code in refused {
-            is_refused(rt, header, at, *code, width)?;
+    for code in read {
+        match cuts_of_read(alloc, place, *code)? {
+            Some(count) => cuts = cuts.saturating_add(count),
+            None => return Ok(None),
         }
     }
-    // The code is cut somewhere.
-    row_holds(rt, at, cuts > 0 || at == 0);
-    Ok(())
+    for code in refused {
+        if !is_refused(alloc, place, *code)? {
+            return Ok(None);
+        }
+    }
+    Ok(Some(cuts))
+}
+
+/// The same with sets of this width.
+fn cuts_of_width(
+    alloc: Global,
+    header: &Header,
+    field: &Field,
+    width: u8,
+) -> Result<Option<usize>, Fail> {
+    let (sps, pps) = sets(alloc, header, width);
+    let place = Place {
+        header,
+        at: field.0,
+        sps: &sps,
+        pps: &pps,
+    };
+    cuts_of_field(alloc, &place, field.1, field.2)
+}
+
+/// Whether a field is right where it begins at each place within a byte, and is cut somewhere.
+fn field_is_right(alloc: Global, header: &Header, field: &Field) -> Result<bool, Fail> {
+    let mut cuts = 0usize;
+    for width in 0..13u8 {
+        match cuts_of_width(alloc, header, field, width)? {
+            Some(count) => cuts = cuts.saturating_add(count),
+            None => return Ok(false),
+        }
+    }
+    Ok(cuts > 0 || field.0 == 0)
 }
 
 /// Each field of a header.
 fn has_fields(rt: &(impl Abort + AllocGlobal), header: &Header) -> Result<(), Fail> {
-    for (at, read, refused) in header.fields {
-        has_field(rt, header, *at, read, refused)?;
+    for field in header.fields {
+        row_holds(rt, field.0, field_is_right(rt.alloc(), header, field)?);
     }
     Ok(())
 }

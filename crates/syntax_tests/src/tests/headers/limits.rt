@@ -1,12 +1,14 @@
 //! Headers about as long as the front of 64 bytes that is read first, and as many commands and operations as there can
 //! be (7.3.3.1, 7.3.3.3). None of them is answered by want of memory.
 
-use super::{row_holds, small_pps, small_sps, summary_of};
+use super::{row_holds, summary_of};
 use annexb::{Nal, split};
 use set_types::{Pps, Sps};
 use slice_front::HeaderFault;
 use std::alloc::{AllocError, Global};
+use std::process::Abort;
 use std::test::Fail;
+use test_builders::{small_pps, small_sps};
 
 /// A unit: its first bytes with a start code, one byte more so many times, and its last bytes; and how many bits its
 /// header and its marking have.
@@ -107,20 +109,24 @@ fn row_is_right(alloc: Global, sps: &Sps, pps: &Pps, row: &Row) -> Result<bool, 
     Ok(is_read_as(alloc, &nals, sps, pps, &row.3))
 }
 
-#[test]
-fn long_headers(rt: HostRuntime) -> Result<(), Fail> {
-    let (sps, pps) = (small_sps(rt.alloc()), small_pps(rt.alloc()));
-    for (place, row) in LONG.iter().enumerate() {
-        row_holds(&rt, place, row_is_right(rt.alloc(), &sps, &pps, row)?);
+fn rows_are_right(
+    rt: &(impl Abort + AllocGlobal),
+    sps: &Sps,
+    pps: &Pps,
+    rows: &[Row],
+) -> Result<(), Fail> {
+    for (place, row) in rows.iter().enumerate() {
+        row_holds(rt, place, row_is_right(rt.alloc(), sps, pps, row)?);
     }
     Ok(())
 }
 
 #[test]
+fn long_headers(rt: HostRuntime) -> Result<(), Fail> {
+    rows_are_right(&rt, &small_sps(rt.alloc()), &small_pps(rt.alloc()), &LONG)
+}
+
+#[test]
 fn many_commands(rt: HostRuntime) -> Result<(), Fail> {
-    let (sps, pps) = (small_sps(rt.alloc()), small_pps(rt.alloc()));
-    for (place, row) in MANY.iter().enumerate() {
-        row_holds(&rt, place, row_is_right(rt.alloc(), &sps, &pps, row)?);
-    }
-    Ok(())
+    rows_are_right(&rt, &small_sps(rt.alloc()), &small_pps(rt.alloc()), &MANY)
 }

@@ -16,19 +16,19 @@ abbrev pub Stream : Type 0
 Stream = List (ℕ × List (List ℕ))
 
 -- a unit isn't refused
-abbrev pub IsAccepted : ℕ × List (List ℕ) → Type 0
-IsAccepted unit = refusal_of unit.1 ≡ None
+abbrev pub IsNotRefused : ℕ × List (List ℕ) → Type 0
+IsNotRefused unit = refusal_of unit.1 ≡ None
 
 -- after a state whose frames are of units that are known
-pub AllCanDecode-outcomes_from : (known : Known) (state : FoldState) (stream : Stream) → AreKnown known state.marks.frames → All IsAccepted stream
+pub AllCanDecode-outcomes_from : (known : Known) (state : FoldState) (stream : Stream) → AreKnown known state.marks.frames → All IsNotRefused stream
     → AllCanDecode known (zip (map (λ unit. unit.0) stream) (outcomes_from state stream))
 AllCanDecode-outcomes_from known state [] known_frames accepted = tt
 AllCanDecode-outcomes_from known state (unit ∷ units) known_frames accepted =
     let step = fold_step state unit.0 unit.1 in
-    let goes_on = step_goes_on known state unit.0 unit.1 known_frames (All-head IsAccepted unit units accepted) in
-    (goes_on.can, AllCanDecode-outcomes_from (known_with known unit.0 (key_of_outcome known step.1)) step.0 units goes_on.are_known (All-tail IsAccepted unit units accepted))
+    let goes_on = step_goes_on known state unit.0 unit.1 known_frames (All-head IsNotRefused unit units accepted) in
+    (goes_on.can, AllCanDecode-outcomes_from (known_with known unit.0 (key_of_outcome known step.1)) step.0 units goes_on.are_known (All-tail IsNotRefused unit units accepted))
 
 -- from the first unit on
-pub AllCanDecode-outcomes_of : (stream : Stream) → All IsAccepted stream → AllCanDecode [] (zip (map (λ unit. unit.0) stream) (outcomes_of stream))
+pub AllCanDecode-outcomes_of : (stream : Stream) → All IsNotRefused stream → AllCanDecode [] (zip (map (λ unit. unit.0) stream) (outcomes_of stream))
 AllCanDecode-outcomes_of stream accepted =
     AllCanDecode-outcomes_from [] no_units stream (All-nil (λ (frame : Frame). IsKnown [] frame.id)) accepted

@@ -53,11 +53,15 @@ no_entries : {A : Type 0} (list : List A) → length list ≡ 0 → list ≡ []
 no_entries [] is = refl
 no_entries (x ∷ list) is = absurd (omega arith)
 
-module _ (known : Known) (marks : Marked) (counts : Counts) (all : AreKnown known marks.frames) where
-  -- the entries of both lists name units whose keys are known
-  abbrev AreNamed : SliceHeader → Entries × Entries → Type 0
-  AreNamed header lists = All (NamesKnown known (references marks.frames header)) (lists.0 ++ lists.1)
+-- the entries of both lists of a slice name units whose keys are known
+abbrev AreNamed : Known → Marked → SliceHeader → Entries × Entries → Type 0
+AreNamed known marks header lists = All (NamesKnown known (references marks.frames header)) (lists.0 ++ lists.1)
 
+-- a slice with its lists names such units alone
+abbrev pub NamesKnownOnly : Known → Marked → ListedSlice → Type 0
+NamesKnownOnly known marks listed = AreNamed known marks listed.slice.header (listed.list_0, listed.list_1)
+
+module _ (known : Known) (marks : Marked) (counts : Counts) (all : AreKnown known marks.frames) where
   module _ (sps : Sps) (header : SliceHeader) (lists : Entries × Entries) (are : lists_of marks sps header counts ≡ Ok lists) where
     without_lists : has_list_0 header.slice_type ≡ false → lists.0 ++ lists.1 ≡ []
     without_lists none =
@@ -69,13 +73,13 @@ module _ (known : Known) (marks : Marked) (counts : Counts) (all : AreKnown know
         ap (λ list. list ++ lists.1) first ∙ second
 
     -- in an IDR picture there are none
-    named_in_idr : has_list_0 header.slice_type ≡ false → AreNamed header lists
+    named_in_idr : has_list_0 header.slice_type ≡ false → AreNamed known marks header lists
     named_in_idr none =
         subst (All (NamesKnown known (references marks.frames header))) (sym (without_lists none))
         (All-nil (NamesKnown known (references marks.frames header)))
 
     -- in others they name marked frames
-    named_in_others : is_idr header ≡ false → AreNamed header lists
+    named_in_others : is_idr header ≡ false → AreNamed known marks header lists
     named_in_others other =
         let units = map (λ (frame : Frame). frame.id) marks.frames in
         let marked = if_ok (λ (lists : Entries × Entries). All (IsMarked marks) lists.0 × All (IsMarked marks) lists.1)
@@ -85,20 +89,16 @@ module _ (known : Known) (marks : Marked) (counts : Counts) (all : AreKnown know
         (All-weaker (IsMarked marks) (NamesKnown known units) (entry_known known marks all) lists.1 marked.1) in
         subst (λ (idr : Bool). All (NamesKnown known (if idr then [] else units)) (lists.0 ++ lists.1)) (sym other) named
 
-    lists_named : (is_idr header ≡ true → has_list_0 header.slice_type ≡ false) → AreNamed header lists
+    lists_named : (is_idr header ≡ true → has_list_0 header.slice_type ≡ false) → AreNamed known marks header lists
     lists_named intra =
         ⊎_elim (λ idr. named_in_idr (intra idr)) (λ other. named_in_others other) (cases_Bool (is_idr header))
 
-  -- a slice with its lists names such units alone
-  abbrev pub NamesKnownOnly : ListedSlice → Type 0
-  NamesKnownOnly listed = All (NamesKnown known (references marks.frames listed.slice.header)) (listed.list_0 ++ listed.list_1)
-
   by_lists : (slice : SliceRead) (answer : Result (Entries × Entries) ListFault) (listed : ListedSlice) → lists_of marks slice.sps slice.header counts ≡ answer
-      → with_lists slice answer ≡ Ok listed → IsIntraInIdr slice → NamesKnownOnly listed
+      → with_lists slice answer ≡ Ok listed → IsIntraInIdr slice → NamesKnownOnly known marks listed
   by_lists slice (Ok lists) listed are is intra =
       let same : record { slice = slice; list_0 = lists.0; list_1 = lists.1 } ≡ listed = cc in
-      subst NamesKnownOnly same (lists_named slice.sps slice.header lists are intra)
+      subst (NamesKnownOnly known marks) same (lists_named slice.sps slice.header lists are intra)
   by_lists slice (Err fault) listed are is intra = absurd cc
 
-  pub listed_named : (slice : SliceRead) (with : ListedSlice) → IsIntraInIdr slice → listed marks counts slice ≡ Ok with → NamesKnownOnly with
+  pub listed_named : (slice : SliceRead) (with : ListedSlice) → IsIntraInIdr slice → listed marks counts slice ≡ Ok with → NamesKnownOnly known marks with
   listed_named slice with intra is = by_lists slice (lists_of marks slice.sps slice.header counts) with refl is intra

@@ -44,61 +44,71 @@ marked_kept Holds (Err BadMarking) marks is holds = absurd cc
 marked_kept Holds (Err NoShortTerm) marks is holds = absurd cc
 
 module _ (known : Known) (state : FoldState) (id : ℕ) (all : AreKnown known state.marks.frames) where
-  module _ (counts : Counts) where
-    -- the requests of slices with their lists can be decoded
-    can_decode : (listed : List ListedSlice) (first : ListedSlice) (more : List ListedSlice) → listed ≡ first ∷ more
-        → All (NamesKnownOnly known state.marks counts all) listed → CanDecode known (requests_of state.marks.frames counts id listed)
-    can_decode listed first more is named = record {
-      one_picture = subst (λ (slices : List ListedSlice). are_of_one_picture (requests_of state.marks.frames counts id slices) ≡ true) (sym is)
-          (one_picture state.marks.frames counts id first more);
-      named = all_requests state.marks.frames counts id (RequestNamesKnown known) listed
-          (All-weaker (NamesKnownOnly known state.marks counts all)
-          (λ (slice : ListedSlice). (hold : Bool) → RequestNamesKnown known (request_of state.marks.frames counts id slice hold))
-          (λ slice names hold. names) listed named);
-    }
+  -- the requests of slices with their lists can be decoded
+  can_decode : (counts : Counts) (listed : List ListedSlice) (first : ListedSlice) (more : List ListedSlice) → listed ≡ first ∷ more
+      → All (NamesKnownOnly known state.marks) listed → CanDecode known (requests_of state.marks.frames counts id listed)
+  can_decode counts listed first more is named = record {
+    one_picture = subst (λ (slices : List ListedSlice). are_of_one_picture (requests_of state.marks.frames counts id slices) ≡ true) (sym is)
+        (one_picture state.marks.frames counts id first more);
+    named = all_requests state.marks.frames counts id (RequestNamesKnown known) listed
+        (All-weaker (NamesKnownOnly known state.marks)
+        (λ (slice : ListedSlice). (hold : Bool) → RequestNamesKnown known (request_of state.marks.frames counts id slice hold))
+        (λ slice names hold. names) listed named);
+  }
 
-  -- what becomes of a picture whose slices are without lists where it is IDR
-  picture_goes_on : (first : SliceRead) (others : List SliceRead) (planned : FoldState × Plan) → All IsIntraInIdr (first ∷ others)
-      → picture_behind state id first (first ∷ others) ≡ Ok planned → GoesOn known id (planned.0, outcomes.Plan planned.1)
-  unfolding picture_behind
-  picture_goes_on first others planned intra is =
-      let passed = then_ok (passes (first_shown (picture_rows state first.sps first.header))) _ planned is in
-      let counting = then_ok (counted (counts_of state.anchor first.sps first.header)) _ planned passed.2 in
-      let counts = counting.0 in
-      let listing = then_ok (gathered (map (listed state.marks counts) (first ∷ others))) _ planned counting.2 in
-      let slices = listing.0 in
-      let marking = then_ok (marked (marks_after state.marks id first.sps first.header counts)) _ planned listing.2 in
-      let marks = marking.0 in
-      let some = some_gathered (listed state.marks counts first) (map (listed state.marks counts) others) slices listing.1 in
-      let named = all_gathered IsIntraInIdr (NamesKnownOnly known state.marks counts all) (listed state.marks counts)
-      (listed_named known state.marks counts all) (first ∷ others) slices intra listing.1 in
-      let requests = requests_of state.marks.frames counts id slices in
-      let key = key_of known requests in
-      let after = marked_kept (λ (marks : Marked). AreKnown (known_with known id (Some key)) marks.frames)
-      (marks_after state.marks id first.sps first.header counts) marks marking.1
-      (marks_after_kept (IsKnown (known_with known id (Some key))) state.marks id first.sps first.header counts
-      (all_known_more known id key state.marks.frames all) (known_last known id key)) in
-      let same : (state_after state first counts marks, plan_of state id first counts slices) ≡ planned = cc in
-      subst (λ (planned : FoldState × Plan). GoesOn known id (planned.0, outcomes.Plan planned.1)) same
-      (record { can = can_decode counts slices some.0 some.1 some.2 named; are_known = after })
+  -- what is made is this state and this plan
+  made_goes_on : (after : FoldState) (plan : Plan) (made : FoldState × Plan) → ◌≡◌ {A = Result (FoldState × Plan) ValidityFault} (Ok (after, plan)) (Ok made)
+      → GoesOn known id (after, outcomes.Plan plan) → GoesOn known id (made.0, outcomes.Plan made.1)
+  made_goes_on after plan made is goes_on =
+      let same : (after, plan) ≡ made = cc in subst (λ (made : FoldState × Plan). GoesOn known id (made.0, outcomes.Plan made.1)) same goes_on
 
-  slices_go_on : (slices : List SliceRead) (planned : FoldState × Plan) → All IsIntraInIdr slices → picture_of state id slices ≡ Ok planned
-      → GoesOn known id (planned.0, outcomes.Plan planned.1)
-  slices_go_on [] planned intra is = absurd cc
-  slices_go_on (first ∷ others) planned intra is =
-      let passed = then_ok (passes (first_shown (slice_rows first others))) (λ passed. picture_behind state id first (first ∷ others)) planned is in
-      picture_goes_on first others planned intra passed.2
+  module _ (first : SliceRead) (others : List SliceRead) (intra : All IsIntraInIdr (first ∷ others)) where
+    -- a picture whose slices are without lists where it is IDR, with its counts, lists and marks
+    marked_goes_on : (counts : Counts) (slices : List ListedSlice) (marks : Marked) → gathered (map (listed state.marks counts) (first ∷ others)) ≡ Ok slices
+        → marked (marks_after state.marks id first.sps first.header counts) ≡ Ok marks
+        → GoesOn known id (state_after state first counts marks, outcomes.Plan (plan_of state id first counts slices))
+    marked_goes_on counts slices marks lists_are marks_are =
+        let some = some_gathered (listed state.marks counts first) (map (listed state.marks counts) others) slices lists_are in
+        let named = all_gathered IsIntraInIdr (NamesKnownOnly known state.marks) (listed state.marks counts)
+        (listed_named known state.marks counts all) (first ∷ others) slices intra lists_are in
+        let key = key_of known (requests_of state.marks.frames counts id slices) in
+        let kept = marks_after_kept (IsKnown (known_with known id (Some key))) state.marks id first.sps first.header counts
+        (all_known_more known id key state.marks.frames all) (known_last known id key) in
+        record {
+          can = can_decode counts slices some.0 some.1 some.2 named;
+          are_known = marked_kept (λ (marks : Marked). AreKnown (known_with known id (Some key)) marks.frames)
+              (marks_after state.marks id first.sps first.header counts) marks marks_are kept;
+        }
+
+    -- what becomes of such a picture
+    picture_goes_on : (made : FoldState × Plan) → picture_behind state id first (first ∷ others) ≡ Ok made → GoesOn known id (made.0, outcomes.Plan made.1)
+    unfolding picture_behind
+    picture_goes_on made is =
+        let passed = then_ok (passes (first_shown (picture_rows state first.sps first.header))) _ made is in
+        let counting = then_ok (counted (counts_of state.anchor first.sps first.header)) _ made passed.2 in
+        let listing = then_ok (gathered (map (listed state.marks counting.0) (first ∷ others))) _ made counting.2 in
+        let marking = then_ok (marked (marks_after state.marks id first.sps first.header counting.0)) _ made listing.2 in
+        made_goes_on _ _ made marking.2 (marked_goes_on counting.0 listing.0 marking.0 listing.1 marking.1)
+
+  -- what becomes of the slices of a unit
+  slices_go_on : (slices : List SliceRead) (made : FoldState × Plan) → All IsIntraInIdr slices → picture_of state id slices ≡ Ok made
+      → GoesOn known id (made.0, outcomes.Plan made.1)
+  slices_go_on [] made intra is = absurd cc
+  slices_go_on (first ∷ others) made intra is =
+      let passed = then_ok (passes (first_shown (slice_rows first others))) (λ passed. picture_behind state id first (first ∷ others)) made is in
+      picture_goes_on first others intra made passed.2
 
   module _ (unit : List (List ℕ)) (accepted : refusal_of unit ≡ None) where
-    unit_goes_on : (planned' : FoldState × Plan) → planned state id unit ≡ Ok planned' → GoesOn known id (planned'.0, outcomes.Plan planned'.1)
-    unit_goes_on planned' is =
+    -- where the unit has a plan, and in any case
+    unit_goes_on : (made : FoldState × Plan) → planned state id unit ≡ Ok made → GoesOn known id (made.0, outcomes.Plan made.1)
+    unit_goes_on made is =
         let slices = filter is_slice unit in
-        let read = then_ok (gathered (map (slice_at state.tables) slices)) (picture_of state id) planned' is in
+        let read = then_ok (gathered (map (slice_at state.tables) slices)) (picture_of state id) made is in
         let allowed = All-filter is_slice IsAllowed unit (allowed_units unit accepted) in
-        slices_go_on read.0 planned' (all_gathered IsAllowed IsIntraInIdr (slice_at state.tables) (read_allowed state.tables) slices read.0 allowed read.1) read.2
+        slices_go_on read.0 made (all_gathered IsAllowed IsIntraInIdr (slice_at state.tables) (read_allowed state.tables) slices read.0 allowed read.1) read.2
 
     answer_goes_on : (answer : Result (FoldState × Plan) ValidityFault) → planned state id unit ≡ answer → GoesOn known id (outcome_of state answer)
-    answer_goes_on (Ok planned') is = unit_goes_on planned' is
+    answer_goes_on (Ok made) is = unit_goes_on made is
     answer_goes_on (Err fault) is = record { can = tt; are_known = all }
 
 -- a unit that isn't refused, after units that are known

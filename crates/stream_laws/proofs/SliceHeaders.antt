@@ -1,13 +1,14 @@
 -- The type of a slice, by its header and by the first fields of it alone (ITU-T H.264, 7.3.3).
+use Rattle.std.specs.Prelude.{nat_abs}
 use Rattle.std.proofs.Common.{◌≡◌, ℕ, ◌-◌, List, [], ◌∷◌, Option, None, Some, Result, Ok, Err, ℤ, refl, sym, ap, ◌∙◌, subst}
 use Rattle.expgolomb.specs.declared.fault.CodeFault.{CodeFault}
 use Rattle.expgolomb.specs.declared.fault.CodeFault.TheVariants as code
 use Rattle.expgolomb.specs.Bits.{Place}
-use Rattle.base_types.specs.Chains.{◌>>=◌}
 use Rattle.annexb.specs.NalUnit.{nal_unit_type, nal_ref_idc}
 use Rattle.set_types.specs.declared.sps.Sps.{Sps}
 use Rattle.set_types.specs.declared.pps.Pps.{Pps}
 use Rattle.header_types.specs.declared.slice_headers.SliceHeader.{SliceHeader}
+use Rattle.header_types.specs.SliceTypes.{slice_type_of}
 use Rattle.syntax_tables.specs.Grammar.{Code}
 use Rattle.syntax_tables.specs.Ranges.{any, at_most}
 use Rattle.syntax_tables.specs.Reading.{in_range, checked, code_at, value_at, field_at, rows_at}
@@ -39,11 +40,22 @@ value_in_any : {E : Type 0} (code : Code) (cut long : E) (range : ℤ → Option
 unfolding value_at
 value_in_any code cut long range p x is = checked_in_any cut long range (code_at code p) x is
 
--- three fields that can be read begin with two that can
-front_type : (range : ℤ → Option HeaderFault) (p : Place) (front : HeaderFront) (after : Place)
-    → table_at (front_table range) p ≡ Ok (front, after) → type_of (table_at (type_table any) p) ≡ Some front.slice_type
+-- the third field leaves the type
+type_kept : (second : HeaderFront) (id : ℤ) (p : Place) (x : HeaderFront × Place)
+    → rows_at {E = HeaderFault} take_front [] (take_front PicParameterSetId id second) p ≡ Ok x
+    → second.slice_type ≡ x.0.slice_type
+unfolding rows_at
+type_kept second id p x is =
+    let same : (take_front PicParameterSetId id second, p) ≡ x = cc in ap (λ (y : HeaderFront × Place). y.0.slice_type) same
+
+-- the first two fields of three that can be read
+first_two : (range : ℤ → Option HeaderFault) (p : Place) (front : HeaderFront) (after : Place)
+    → table_at (front_table range) p ≡ Ok (front, after)
+    → (one : ℤ × Place) × (two : ℤ × Place) × (field_at (first_mb_row range) no_front p ≡ Ok one)
+    × (field_at slice_type_row (take_front FirstMbInSlice one.0 no_front) one.1 ≡ Ok two)
+    × (slice_type_of (nat_abs two.0) ≡ front.slice_type)
 unfolding table_at rows_at
-front_type range p front after is =
+first_two range p front after is =
     let one = then_ok (field_at (first_mb_row range) no_front p)
     (λ x. rows_at take_front (slice_type_row ∷ parameter_set_row ∷ []) (take_front FirstMbInSlice x.0 no_front) x.1) (front, after) is in
     let first = take_front FirstMbInSlice one.0.0 no_front in
@@ -52,11 +64,21 @@ front_type range p front after is =
     let second = take_front SliceTypeCode two.0.0 first in
     let three = then_ok (field_at parameter_set_row second two.0.1)
     (λ x. rows_at take_front [] (take_front PicParameterSetId x.0 second) x.1) (front, after) two.2 in
-    let same : (take_front PicParameterSetId three.0.0 second, three.0.1) ≡ (front, after) = cc in
-    ap (λ read. type_of (read >>= λ x. rows_at take_front (slice_type_row ∷ []) (take_front FirstMbInSlice x.0 no_front) x.1))
-    (value_in_any _ _ _ range p one.0 one.1)
-    ∙ (ap (λ read. type_of (read >>= λ x. rows_at take_front [] (take_front SliceTypeCode x.0 first) x.1)) two.1
-    ∙ ap (λ (x : HeaderFront × Place). Some x.0.slice_type) same)
+    (one.0, two.0, one.1, two.1, type_kept second three.0.0 three.0.1 (front, after) three.2)
+
+-- the type that two fields say
+type_read : (p : Place) (one two : ℤ × Place) → field_at (first_mb_row any) no_front p ≡ Ok one
+    → field_at slice_type_row (take_front FirstMbInSlice one.0 no_front) one.1 ≡ Ok two
+    → type_of (table_at (type_table any) p) ≡ Some (slice_type_of (nat_abs two.0))
+unfolding table_at rows_at
+type_read p one two first second = rw (first, second) refl
+
+-- three that can be read begin with them
+front_type : (range : ℤ → Option HeaderFault) (p : Place) (front : HeaderFront) (after : Place)
+    → table_at (front_table range) p ≡ Ok (front, after) → type_of (table_at (type_table any) p) ≡ Some front.slice_type
+front_type range p front after is =
+    let read = first_two range p front after is in
+    type_read p read.0 read.1 (value_in_any _ _ _ range p read.0 read.2) read.3 ∙ ap Some read.4
 
 -- what holds of all that syntax can say
 module _ {A E : Type 0} (P : A → Type 0) where

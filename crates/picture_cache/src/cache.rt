@@ -1,4 +1,4 @@
-ghost use Rattle.std.specs.Prelude.{◌≡◌, ◌≤◌, ◌==◌, [], length, is_some, IfOk, OnOk, OnErr, IsSome, IsOk};
+ghost use Rattle.std.specs.Prelude.{◌≡◌, ◌≤◌, ◌==◌, [], length, is_some, option_copied, IfOk, OnOk, OnErr, IsSome, IsOk};
 ghost use Rattle.std.specs.Map.{lookup, keys_of};
 ghost use Rattle.picture_cache.specs.Bounded.{IsStructural, IsBounded, with_first, without};
 
@@ -61,6 +61,13 @@ impl<K: Eq + Hash + Drop, P: Drop> PictureCache<K, P> {
         ensures bounded { IsBounded K.eq self.new }
     {
         self.cache.pop(&key)
+    }
+
+    /// The picture that was put under the key, if it is there. The order of the pairs stays.
+    pub fn picture(&self, key: &K) -> Option<&P>
+        ensures { option_copied result ≡ lookup (K.eq key.now) self.now.pairs }
+    {
+        self.cache.peek(key)
     }
 
     /// The keys of the pairs, in their order.

@@ -1,3 +1,4 @@
 pub mod Pictured
 pub mod Numbering
 pub mod Following
+pub mod Naming

@@ -45,7 +45,7 @@ map_flat g f [] = refl
 map_flat g f (x ∷ xs) = map-append g (f x) (flat_map f xs) ∙ ap (λ rest. map g (f x) ++ rest) (map_flat g f xs)
 
 -- the numbers at the entries are those of the units that are named
-numbered_all : (numbers : Numbers) (requests : List Request)
+pub numbered_all : (numbers : Numbers) (requests : List Request)
     → numbers_named numbers requests ≡ map (number_named numbers) (named_by_all requests)
 unfolding numbers_in
 numbered_all numbers requests = sym (map_flat (number_named numbers) named_by requests)

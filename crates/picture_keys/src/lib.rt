@@ -6,12 +6,14 @@
 #![tactic(auto)]
 
 mod laws;
+mod named;
 mod nodes;
 mod numbers;
 mod unit_keys;
 mod works;
 
 pub use laws::{node_is_that_of_its_key, picture_is_that_of_its_key};
+pub use named::units_named;
 pub use nodes::node_of;
 pub use numbers::KeyNumbers;
 pub use unit_keys::UnitKeys;

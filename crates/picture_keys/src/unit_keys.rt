@@ -3,7 +3,7 @@
 ghost use Rattle.std.specs.Prelude.{◌≡◌, ℕ, ◌==◌, List, [], ◌∷◌, ◌++◌, Some, IfOk, OnErr, OnOk, if◌then◌else◌};
 ghost use Rattle.h264_controls.specs.declared.work.Work.{Work};
 ghost use Rattle.outcomes.specs.declared.outcome.Outcome.{Outcome as Becomes};
-ghost use Rattle.dep_keys.specs.KeyMaps.{AreLive, Extends, KeyMap, tree_at, tree_of};
+ghost use Rattle.dep_keys.specs.KeyMaps.{AreLive, Extends, IsKeyMap, KeyMap, tree_at, tree_of};
 ghost use Rattle.picture_keys.specs.Known.{Known};
 ghost use Rattle.picture_keys.specs.Numbered.{AreNumbered, number_at, numbers_named};
 ghost use Rattle.picture_keys.specs.Following.{AreNumberedSome, Follow, FollowSome, HasNumber};
@@ -56,6 +56,7 @@ impl UnitKeys {
     ) -> Result<(), AllocError>
         requires { FollowSome keys.old self.old }
         ensures stay { Extends keys.old keys.new }
+        ensures one { IsKeyMap keys.old → IsKeyMap keys.new }
         ensures few { AddsAtMost keys.old self.old.numbers outcome.now keys.new }
         ensures ok { OnOk result ((units : List (ℕ × Becomes)) → Follow keys.old units self.old
             → Follow keys.new (units ++ (id, outcome.now) ∷ []) self.new) }
@@ -87,6 +88,7 @@ fn number_of<F: Fingerprint<Works>>(
 ) -> Result<Option<KeyId>, AllocError>
     requires { AreNumberedSome keys.old numbers.old }
     ensures stay { Extends keys.old keys.new }
+    ensures one { IsKeyMap keys.old → IsKeyMap keys.new }
     ensures few { AddsAtMost keys.old numbers.old outcome.now keys.new }
     ensures ok { IfOk result (λ number. (known : Known) → AreNumbered keys.old numbers.old known
         → HasNumber keys.new numbers.new known id outcome.now number) }
@@ -108,6 +110,7 @@ fn intern<F: Fingerprint<Works>>(
 ) -> Result<KeyId, AllocError>
     requires { AreLive keys.old (numbers_named numbers.old requests.now) }
     ensures stay { Extends keys.old keys.new }
+    ensures one { IsKeyMap keys.old → IsKeyMap keys.new }
     ensures few { AddsAtMostKey keys.old (tree_of keys.old (node_over numbers.old requests.now)) keys.new }
     ensures there { IfOk result (λ key. tree_at keys.new key
         ≡ Some (tree_of keys.old (node_over numbers.old requests.now))) }

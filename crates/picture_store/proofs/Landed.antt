@@ -1,0 +1,339 @@
+-- What becomes of the jobs that are out, and of held pictures where a result lands.
+use Rattle.std.proofs.Common.{◌≡◌, refl, ap, sym, ◌∙◌, subst, ℕ, zero, suc, ◌<◌, ◌==◌, List, [], ◌∷◌, length, map, take, drop, Bool, true, false, Option, None, Some, IsSome, if◌then◌else◌, inl, inr, ◌⊎◌, ◌↔◌, arith}
+use Rattle.std.specs.Prelude.{All, Contains, remove, slice_get, slice_index_or}
+use Rattle.std.specs.Option.{is_some}
+use Rattle.std.specs.List.{zip}
+use Rattle.std.proofs.lemmas.List.{map-append, take-map, drop-map}
+use Rattle.std.proofs.lemmas.List.Elements.{All-append, All-take, All-drop, All-map}
+use Rattle.std.proofs.lemmas.Bool.{eqb-true, eq-eqb}
+use Rattle.outcomes.specs.declared.outcome.Outcome.{Outcome}
+use Rattle.dep_keys.specs.KeyMaps.{tree_at}
+use Rattle.stand_in_device.specs.declared.picture.Picture.{Picture}
+use Rattle.stand_in_device.specs.Jobs.{JobValue}
+use Rattle.picture_keys.specs.Keys.{Key}
+use Rattle.picture_keys.specs.Known.{Known, key_of_outcome, known_with, keys_after, keys_of}
+use Rattle.picture_keys.specs.KeyPictures.{picture_of_key}
+use Rattle.picture_keys.specs.Numbered.{StandsFor, AllStandFor}
+use Rattle.picture_store.specs.declared.job_out.JobOut.{JobOut}
+use Rattle.picture_store.specs.Stores.{OutValue}
+use Rattle.picture_store.specs.Showing.{IsPictureAt}
+use Rattle.picture_store.specs.Jobs.{IsOf, IsOut, without}
+use Rattle.picture_store.specs.Places.{PlacesValue, place_at, numbers_held, IsTable}
+use Rattle.picture_store.specs.Kept.{Trees, key_for, keys_for, jobs_for, IsRight, IsJobRight, IsKept}
+use Rattle.picture_store.proofs.Lifting.{held_found, found_held, for_contains, contains_for}
+use Rattle.picture_store.proofs.Tables.{none_not_some}
+use Rattle.picture_store.proofs.Viewed.{seen, viewed}
+use Rattle.picture_store.proofs.Stays.{key_is, stand_live, stand_number}
+
+-- the item at a place, as it is seen
+pub got_at : {X Y : Type 0} (f : X → Y) (xs : List X) (i : ℕ) (x : X) → i < length xs → x ≡ slice_index_or xs i x
+    → slice_get (map f xs) i ≡ Some (f x)
+got_at f [] i x within is = absurd (omega (arith, within))
+got_at f (first ∷ xs) zero x within is = ap (λ y. Some (f y)) (sym is)
+got_at f (first ∷ xs) (suc i) x within is = got_at f xs i x (omega (arith, within)) is
+
+-- without an item, as it is seen
+pub map_remove : {X Y : Type 0} (f : X → Y) (xs : List X) (i : ℕ) → map f (remove xs i) ≡ remove (map f xs) i
+map_remove f xs i =
+    map-append f (take i xs) (drop (suc i) xs)
+    ∙ rw (take-map f i xs, drop-map f (suc i) xs) refl
+
+-- what holds of all holds of all but one
+pub all_without : {X : Type 0} (P : X → Type 0) (xs : List X) (i : ℕ) → All P xs → All P (remove xs i)
+all_without P xs i all = All-append P (take i xs) (drop (suc i) xs) (All-take P i xs all) (All-drop P (suc i) xs all)
+
+-- a job that is not out isn't seen to be
+pub foreign_for : (keys : Trees) (out : List JobOut) (job : JobValue)
+    → All (λ (other : JobOut). (other.number ≡ job.number) × (other.input ≡ job.input) → ⊥) out
+    → All (λ other. IsOf job other → ⊥) (jobs_for keys out)
+foreign_for keys out job none = All-map (λ other. IsOf job other → ⊥) (seen keys) out none
+
+-- without a job that is out
+pub seen_without : (keys : Trees) (ids : List ℕ) (outcomes : List Outcome) (places : PlacesValue)
+    (cached : List (ℕ × Picture)) (room : ℕ) (out more : List JobOut) (given at : ℕ) → more ≡ remove out at
+    → viewed keys ids outcomes places cached room more given
+    ≡ without (viewed keys ids outcomes places cached room out given) at
+seen_without keys ids outcomes places cached room out more given at is =
+    ap (λ (jobs : List OutValue). record (viewed keys ids outcomes places cached room out given) { out = jobs })
+    (ap (jobs_for keys) is ∙ map_remove (seen keys) out at)
+
+-- the job at a place is out
+pub out_seen : (keys : Trees) (ids : List ℕ) (outcomes : List Outcome) (places : PlacesValue)
+    (cached : List (ℕ × Picture)) (room : ℕ) (out : List JobOut) (given at : ℕ) (job : JobValue) (other : JobOut)
+    → at < length out → other ≡ slice_index_or out at other
+    → ((d : JobOut) → (slice_index_or out at d).number ≡ job.number)
+    → ((d : JobOut) → (slice_index_or out at d).input ≡ job.input)
+    → IsOut (viewed keys ids outcomes places cached room out given) job at (seen keys other)
+out_seen keys ids outcomes places cached room out given at job other within is number input = record {
+  stands = got_at (seen keys) out at other within is;
+  is = (ap (λ (j : JobOut). j.number) is ∙ number other, ap (λ (j : JobOut). j.input) is ∙ input other);
+}
+
+module _ (keys : Trees) (ids : List ℕ) (outcomes : List Outcome) (found : List (Option ℕ)) (places : PlacesValue)
+    (cached : List (ℕ × Picture)) (out : List JobOut) (kept : IsKept keys ids outcomes found places cached out) where
+  pub kept_without : (at : ℕ) → IsKept keys ids outcomes found places cached (remove out at)
+  kept_without at = record {
+    right = kept.right;
+    same = kept.same;
+    stand = kept.stand;
+    decodable = kept.decodable;
+    used = kept.used;
+    stored = kept.stored;
+    jobs = all_without (IsJobRight keys) out at kept.jobs;
+  }
+
+  module _ (number : ℕ) (key : Key) (live : tree_at keys number ≡ Some key) where
+    place_of_use : Contains (keys_of (zip ids outcomes)) (Some (key_for keys number)) → IsSome (place_at places number)
+    place_of_use is =
+        let unit : (n : ℕ) × Contains found (Some n) × (tree_at keys n ≡ Some key) =
+        stand_number keys found (keys_of (zip ids outcomes)) kept.stand key
+        (subst (λ (k : Key). Contains (keys_of (zip ids outcomes)) (Some k)) (key_is keys number key live) is) in
+        (kept.used number).1
+        (subst (λ n. Contains found (Some n)) (kept.right.one.trees unit.0 number key unit.2 live) unit.1)
+
+    -- a key without a place isn't in use
+    pub unused_for : place_at places number ≡ None
+        → Contains (keys_of (zip ids outcomes)) (Some (key_for keys number)) → ⊥
+    unused_for none is = none_not_some (place_at places number) none (place_of_use is)
+
+    -- a key whose place has a picture is held
+    pub held_for : (picture : Picture) → place_at places number ≡ Some (Some picture)
+        → Contains (keys_for keys (numbers_held places)) (key_for keys number)
+    held_for picture is =
+        contains_for keys (numbers_held places) number (found_held places kept.right.table number picture is)
+
+    -- a key that has a place is in use
+    pub used_for_place : (picture : Option Picture) → place_at places number ≡ Some picture
+        → Contains (keys_of (zip ids outcomes)) (Some (key_for keys number))
+    used_for_place picture is =
+        let unit : (k : Key) × (tree_at keys number ≡ Some k) × Contains (keys_of (zip ids outcomes)) (Some k) =
+        stand_live keys found (keys_of (zip ids outcomes)) kept.stand number ((kept.used number).0 (ap is_some is)) in
+        subst (λ (k : Key). Contains (keys_of (zip ids outcomes)) (Some k)) (sym (key_is keys number unit.0 unit.1)) unit.2
+
+    two_places : (o : Option (Option Picture)) (picture : Picture) → o ≡ Some (Some picture) → o ≡ Some None → ⊥
+    two_places o picture held awaited = cc
+
+    -- a key whose place has none isn't held
+    pub awaited_for : place_at places number ≡ Some None
+        → Contains (keys_for keys (numbers_held places)) (key_for keys number) → ⊥
+    awaited_for awaited is =
+        let source : (n : ℕ) × Contains (numbers_held places) n × (key_for keys n ≡ key_for keys number) =
+        for_contains keys (numbers_held places) (key_for keys number) is in
+        let held : (picture : Picture) × (place_at places source.0 ≡ Some (Some picture)) =
+        held_found places kept.right.table source.0 source.1 in
+        let right : IsRight keys source.0 held.0 = kept.right.held source.0 held.0 held.1 in
+        let tree : tree_at keys source.0 ≡ Some key =
+        right.1 ∙ ap Some (sym (key_is keys source.0 right.0 right.1) ∙ source.2 ∙ key_is keys number key live) in
+        let same : source.0 ≡ number = kept.right.one.trees source.0 number key tree live in
+        two_places (place_at places number) held.0 (subst (λ n. place_at places n ≡ Some (Some held.0)) same held.1) awaited
+
+    picked : (b : Bool) (place other : Option (Option Picture)) → IsSome other → IsSome place
+        → IsSome (if b then place else other)
+    picked true place other others is = is
+    picked false place other others is = others
+
+    -- a picture is put into the place of the key
+    module _ (picture : Picture) (right : IsRight keys number picture) (awaited : place_at places number ≡ Some None)
+        (more : PlacesValue) (table : IsTable more)
+        (put : (other : ℕ) → place_at more other
+        ≡ (if number == other then Some (Some picture) else place_at places other)) where
+      put_there : place_at more number ≡ Some (Some picture)
+      put_there =
+          put number
+          ∙ ap (λ b. if b then Some (Some picture) else place_at places number) (eq-eqb number number refl)
+
+      split : (b : Bool) (other : ℕ) (shown : Picture) → b ≡ (number == other)
+          → (if b then Some (Some picture) else place_at places other) ≡ Some (Some shown)
+          → ((number ≡ other) × (picture ≡ shown)) ⊎ (place_at places other ≡ Some (Some shown))
+      split true other shown is same = inl (eqb-true number other (sym is), cc)
+      split false other shown is same = inr same
+
+      -- a picture that is held afterwards is the new one, or was held
+      held_then : (other : ℕ) (shown : Picture) → place_at more other ≡ Some (Some shown)
+          → ((number ≡ other) × (picture ≡ shown)) ⊎ (place_at places other ≡ Some (Some shown))
+      held_then other shown is = split (number == other) other shown refl (sym (put other) ∙ is)
+
+      stays_held : (b : Bool) (other : ℕ) (shown : Picture) → place_at places other ≡ Some (Some shown)
+          → (kept_picture : Picture) × ((if b then Some (Some picture) else place_at places other) ≡ Some (Some kept_picture))
+      stays_held true other shown is = (picture, refl)
+      stays_held false other shown is = (shown, is)
+
+      there_before : (b : Bool) (other : ℕ) → b ≡ (number == other)
+          → IsSome (if b then Some (Some picture) else place_at places other) → IsSome (place_at places other)
+      there_before true other is some =
+          ap is_some (subst (λ n. place_at places n ≡ Some None) (eqb-true number other (sym is)) awaited)
+      there_before false other is some = some
+
+      used_then : (other : ℕ) → IsSome (place_at more other) ↔ Contains found (Some other)
+      used_then other = (
+        λ is. (kept.used other).0 (there_before (number == other) other refl (subst IsSome (put other) is)),
+        λ is. subst IsSome (sym (put other))
+            (picked (number == other) (Some (Some picture)) (place_at places other) ((kept.used other).1 is) refl),
+      )
+
+      right_then : (other : ℕ) (shown : Picture) → place_at more other ≡ Some (Some shown) → IsRight keys other shown
+      right_then other shown is =
+          elim (held_then other shown is) [
+            | inl same ↦
+                subst (λ n. IsRight keys n shown) same.0 (subst (λ p. IsRight keys number p) same.1 right)
+            | inr before ↦ kept.right.held other shown before
+          ]
+
+      pub kept_landed : IsKept keys ids outcomes found more cached out
+      kept_landed = record {
+        right = record { one = kept.right.one; table = table; held = right_then };
+        same = kept.same;
+        stand = kept.stand;
+        decodable = kept.decodable;
+        used = used_then;
+        stored = kept.stored;
+        jobs = kept.jobs;
+      }
+
+      -- what is held afterwards is what was held, and the key
+      pub held_landed : (other : Key) → Contains (keys_for keys (numbers_held more)) other
+          ↔ (Contains (keys_for keys (numbers_held places)) other ⊎ (other ≡ key_for keys number))
+      held_landed other = (
+        λ is.
+            let source : (n : ℕ) × Contains (numbers_held more) n × (key_for keys n ≡ other) =
+            for_contains keys (numbers_held more) other is in
+            let held : (shown : Picture) × (place_at more source.0 ≡ Some (Some shown)) =
+            held_found more table source.0 source.1 in
+            elim (held_then source.0 held.0 held.1) [
+              | inl same ↦ inr (sym source.2 ∙ ap (key_for keys) (sym same.0))
+              | inr before ↦ inl (subst (Contains (keys_for keys (numbers_held places))) source.2
+                  (contains_for keys (numbers_held places) source.0 (found_held places kept.right.table source.0 held.0 before)))
+            ],
+        λ is. elim is [
+          | inl was ↦
+              let source : (n : ℕ) × Contains (numbers_held places) n × (key_for keys n ≡ other) =
+              for_contains keys (numbers_held places) other was in
+              let held : (shown : Picture) × (place_at places source.0 ≡ Some (Some shown)) =
+              held_found places kept.right.table source.0 source.1 in
+              let still : (shown : Picture) × ((if number == source.0 then Some (Some picture) else place_at places source.0) ≡ Some (Some shown)) =
+              stays_held (number == source.0) source.0 held.0 held.1 in
+              subst (Contains (keys_for keys (numbers_held more))) source.2
+              (contains_for keys (numbers_held more) source.0
+              (found_held more table source.0 still.0 (put source.0 ∙ still.1)))
+          | inr new ↦
+              subst (Contains (keys_for keys (numbers_held more))) (sym new)
+              (contains_for keys (numbers_held more) number (found_held more table number picture put_there))
+        ],
+      )
+
+-- what stands at the place of a unit
+got_keys : (keys : Trees) (found : List (Option ℕ)) (trees : List (Option Key)) → AllStandFor keys found trees
+    → (at : ℕ) (number : Option ℕ) → at < length found → number ≡ slice_index_or found at number
+    → (tree : Option Key) × (slice_get trees at ≡ Some tree) × StandsFor keys number tree
+got_keys keys [] [] all at number within is = absurd (omega (arith, within))
+got_keys keys [] (tree ∷ trees) all at number within is = absurd all
+got_keys keys (first ∷ found) [] all at number within is = absurd all
+got_keys keys (first ∷ found) (tree ∷ trees) all zero number within is =
+    (tree, refl, subst (λ (n : Option ℕ). StandsFor keys n tree) (sym is) all.0)
+got_keys keys (first ∷ found) (tree ∷ trees) all (suc at) number within is =
+    got_keys keys found trees all.1 at number (omega (arith, within)) is
+
+-- there is a number for each key
+pub stand_length : (keys : Trees) (found : List (Option ℕ)) (trees : List (Option Key)) → AllStandFor keys found trees
+    → length found ≡ length trees
+stand_length keys [] [] all = refl
+stand_length keys [] (tree ∷ trees) all = absurd all
+stand_length keys (first ∷ found) [] all = absurd all
+stand_length keys (first ∷ found) (tree ∷ trees) all = ap suc (stand_length keys found trees all.1)
+
+-- there is a key, or nothing, for each unit
+length-keys_after : (known : Known) (units : List (ℕ × Outcome)) → length (keys_after known units) ≡ length units
+length-keys_after known [] = refl
+length-keys_after known (unit ∷ units) =
+    ap suc (length-keys_after (known_with known unit.0 (key_of_outcome known unit.1)) units)
+
+pub length-zip_same : {A B : Type 0} (xs : List A) (ys : List B) → length xs ≡ length ys → length (zip xs ys) ≡ length xs
+length-zip_same [] [] same = refl
+length-zip_same [] (y ∷ ys) same = refl
+length-zip_same (x ∷ xs) [] same = absurd (omega (arith, same))
+length-zip_same (x ∷ xs) (y ∷ ys) same = ap suc (length-zip_same xs ys (omega (arith, same)))
+
+module _ (keys : Trees) (ids : List ℕ) (outcomes : List Outcome) (found : List (Option ℕ)) (places : PlacesValue)
+    (cached : List (ℕ × Picture)) (room : ℕ) (out : List JobOut) (given : ℕ)
+    (kept : IsKept keys ids outcomes found places cached out) where
+  -- each unit has a number, or nothing
+  pub found_length : length found ≡ length ids
+  found_length =
+      stand_length keys found (keys_of (zip ids outcomes)) kept.stand
+      ∙ length-keys_after [] (zip ids outcomes)
+      ∙ length-zip_same ids outcomes kept.same
+
+  module _ (at : ℕ) (within : at < length found) where
+    no_key : (tree : Option Key) → slice_get (keys_of (zip ids outcomes)) at ≡ Some tree → tree ≡ None
+        → (key : Key) → slice_get (keys_of (zip ids outcomes)) at ≡ Some (Some key) → ⊥
+    no_key tree is none key has = cc
+
+    one_key : (first second : Key) → slice_get (keys_of (zip ids outcomes)) at ≡ Some (Some first)
+        → slice_get (keys_of (zip ids outcomes)) at ≡ Some (Some second) → first ≡ second
+    one_key first second is has = cc
+
+    some_key : (number : ℕ) (tree : Option Key) → StandsFor keys (Some number) tree
+        → (key : Key) × (tree ≡ Some key) × (tree_at keys number ≡ Some key)
+    some_key number None stands = absurd stands
+    some_key number (Some key) stands = (key, refl, stands)
+
+    -- a unit without a key shows no picture
+    pub shows_none : None ≡ slice_index_or found at None
+        → IsPictureAt (viewed keys ids outcomes places cached room out given) at None
+    shows_none is key has held =
+        let got : (tree : Option Key) × (slice_get (keys_of (zip ids outcomes)) at ≡ Some tree) × StandsFor keys None tree =
+        got_keys keys found (keys_of (zip ids outcomes)) kept.stand at None within is in
+        no_key got.0 got.1 got.2 key has
+
+    module _ (number : ℕ) (is : Some number ≡ slice_index_or found at (Some number)) where
+      pub keyed : (key : Key) × (slice_get (keys_of (zip ids outcomes)) at ≡ Some (Some key)) × (tree_at keys number ≡ Some key)
+      keyed =
+          let got : (tree : Option Key) × (slice_get (keys_of (zip ids outcomes)) at ≡ Some tree) × StandsFor keys (Some number) tree =
+          got_keys keys found (keys_of (zip ids outcomes)) kept.stand at (Some number) within is in
+          let some : (key : Key) × (got.0 ≡ Some key) × (tree_at keys number ≡ Some key) = some_key number got.0 got.2 in
+          (some.0, got.1 ∙ ap Some some.1, some.2)
+
+      -- a picture that is held is shown
+      pub shows_held : (picture : Picture) → place_at places number ≡ Some (Some picture)
+          → IsPictureAt (viewed keys ids outcomes places cached room out given) at (Some picture)
+      shows_held picture held =
+          let right : IsRight keys number picture = kept.right.held number picture held in
+          let same : key_for keys number ≡ keyed.0 = key_is keys number keyed.0 keyed.2 in (
+            keyed.0,
+            keyed.1,
+            subst (Contains (keys_for keys (numbers_held places))) same
+                (contains_for keys (numbers_held places) number (found_held places kept.right.table number picture held)),
+            right.2 ∙ ap picture_of_key (sym (key_is keys number right.0 right.1) ∙ same),
+          )
+
+      -- else none is
+      pub shows_waited : ((picture : Picture) → place_at places number ≡ Some (Some picture) → ⊥)
+          → IsPictureAt (viewed keys ids outcomes places cached room out given) at None
+      shows_waited not key has held =
+          let same : keyed.0 ≡ key = one_key keyed.0 key keyed.1 has in
+          let source : (n : ℕ) × Contains (numbers_held places) n × (key_for keys n ≡ key) =
+          for_contains keys (numbers_held places) key held in
+          let there : (picture : Picture) × (place_at places source.0 ≡ Some (Some picture)) =
+          held_found places kept.right.table source.0 source.1 in
+          let right : IsRight keys source.0 there.0 = kept.right.held source.0 there.0 there.1 in
+          let tree : tree_at keys source.0 ≡ Some keyed.0 =
+          right.1 ∙ ap Some (sym (key_is keys source.0 right.0 right.1) ∙ source.2 ∙ sym same) in
+          let one : source.0 ≡ number = kept.right.one.trees source.0 number keyed.0 tree keyed.2 in
+          not there.0 (subst (λ n. place_at places n ≡ Some (Some there.0)) one there.1)
+
+      no_picture : (o : Option (Option Picture)) (picture : Picture) → o ≡ None → o ≡ Some (Some picture) → ⊥
+      no_picture o picture none some = cc
+
+      no_inner : (o : Option (Option Picture)) (picture : Picture) → o ≡ Some None → o ≡ Some (Some picture) → ⊥
+      no_inner o picture none some = cc
+
+      -- what stands at the key's place is shown
+      pub shows_place : (shown : Option Picture) → place_at places number ≡ Some shown
+          → IsPictureAt (viewed keys ids outcomes places cached room out given) at shown
+      shows_place None is = shows_waited (λ picture held. no_inner (place_at places number) picture is held)
+      shows_place (Some picture) is = shows_held picture is
+
+      -- where the key has no place, none is
+      pub shows_unused : place_at places number ≡ None
+          → IsPictureAt (viewed keys ids outcomes places cached room out given) at None
+      shows_unused is = shows_waited (λ picture held. no_picture (place_at places number) picture is held)

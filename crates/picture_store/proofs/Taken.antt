@@ -1,0 +1,243 @@
+-- Which key is due, and what a store becomes where its job is taken.
+use Rattle.std.proofs.Common.{◌≡◌, refl, ap, sym, ◌∙◌, subst, ℕ, suc, ◌<◌, ◌+◌, List, [], ◌∷◌, ◌++◌, length, map, take, drop, Option, None, Some, IsSome, IsTrue, IfSome, arith, rules}
+use Rattle.std.specs.Prelude.{All, Contains, slice_get, slice_index_or}
+use Rattle.std.specs.List.{zip}
+use Rattle.std.proofs.lemmas.List.{map-append}
+use Rattle.std.proofs.lemmas.List.Elements.{All-contains, All-push}
+use Rattle.outcomes.specs.declared.outcome.Outcome.{Outcome}
+use Rattle.outcomes.specs.declared.outcome.Outcome.TheVariants.{Plan as Planned, Fault as Faulty}
+use Rattle.dep_keys.specs.KeyMaps.{tree_at}
+use Rattle.stand_in_device.specs.declared.picture.Picture.{Picture}
+use Rattle.stand_in_device.specs.Inputs.{InputValue, is_whole}
+use Rattle.picture_keys.specs.Keys.{Key}
+use Rattle.picture_keys.specs.Known.{Known, key_of, key_of_outcome, known_after, keys_after, keys_of}
+use Rattle.picture_keys.specs.Numbered.{AllStandFor}
+use Rattle.picture_keys.specs.KeyPictures.{picture_of_key}
+use Rattle.stand_in_device.specs.Pictures.{picture_of}
+use Rattle.picture_keys.proofs.Pictured.{shows_its_key}
+use Rattle.picture_store.specs.declared.job_out.JobOut.{JobOut}
+use Rattle.picture_store.specs.Stores.{OutValue, IsReady}
+use Rattle.picture_store.specs.Jobs.{IsDue, IsAnyDue, Takes}
+use Rattle.picture_store.specs.Places.{PlacesValue, place_at, numbers_held}
+use Rattle.picture_store.specs.Due.{IsDueNumber, IsNotDue}
+use Rattle.picture_store.specs.Inputs.{HasKnown, IsInputOf}
+use Rattle.picture_store.specs.Kept.{Trees, key_for, keys_for, jobs_for, numbers_out, IsRight, IsJobRight, IsKept}
+use Rattle.picture_store.proofs.Members.{among_map, among_source, All-from_contains}
+use Rattle.picture_store.proofs.Viewed.{seen, viewed}
+use Rattle.picture_store.proofs.Stays.{key_is, stand_live, stand_number}
+use Rattle.picture_store.proofs.Tables.{none_not_some}
+use Rattle.picture_store.proofs.Landed.{awaited_for, held_for, found_length, keyed, length-zip_same}
+use Rattle.picture_store.proofs.Units.{IsAt, unit_at, second_at, stand_take}
+
+module _ (keys : Trees) (ids : List ℕ) (outcomes : List Outcome) (found : List (Option ℕ)) (places : PlacesValue)
+    (cached : List (ℕ × Picture)) (room : ℕ) (out : List JobOut) (given : ℕ)
+    (kept : IsKept keys ids outcomes found places cached out) where
+  -- a job's key is among those of the jobs that are seen
+  out_seen_key : (number : ℕ) → Contains (numbers_out out) number
+      → Contains (map (λ (job : OutValue). job.key) (jobs_for keys out)) (key_for keys number)
+  out_seen_key number is =
+      let source : (job : JobOut) × Contains out job × (job.key ≡ number) =
+      among_source (λ (job : JobOut). job.key) out number is in
+      subst (λ n. Contains (map (λ (job : OutValue). job.key) (jobs_for keys out)) (key_for keys n)) source.2
+      (among_map (λ (job : OutValue). job.key) (jobs_for keys out) (seen keys source.0)
+      (among_map (seen keys) out source.0 source.1))
+
+  -- and the other way round, where the number is live
+  seen_out_key : (number : ℕ) (key : Key) → tree_at keys number ≡ Some key
+      → Contains (map (λ (job : OutValue). job.key) (jobs_for keys out)) key → Contains (numbers_out out) number
+  seen_out_key number key live is =
+      let outer : (job : OutValue) × Contains (jobs_for keys out) job × (job.key ≡ key) =
+      among_source (λ (job : OutValue). job.key) (jobs_for keys out) key is in
+      let inner : (job : JobOut) × Contains out job × (seen keys job ≡ outer.0) =
+      among_source (seen keys) out outer.0 outer.1 in
+      let right : IsJobRight keys inner.0 = All-contains (IsJobRight keys) out inner.0 kept.jobs inner.1 in
+      let same : key_for keys inner.0.key ≡ key = ap (λ (job : OutValue). job.key) inner.2 ∙ outer.2 in
+      let tree : tree_at keys inner.0.key ≡ Some key =
+      right.1 ∙ ap Some (sym (key_is keys inner.0.key right.0 right.1) ∙ same) in
+      subst (λ n. Contains (numbers_out out) n) (kept.right.one.trees inner.0.key number key tree live)
+      (among_map (λ (job : JobOut). job.key) out inner.0 inner.1)
+
+  -- a number that is due is that of a key that is
+  pub due_for : (number : ℕ) (key : Key) → tree_at keys number ≡ Some key → Contains found (Some number)
+      → IsDueNumber keys places out number
+      → IsDue (viewed keys ids outcomes places cached room out given) key
+  due_for number key live unit due =
+      let same : key_for keys number ≡ key = key_is keys number key live in
+      let tree : (k : Key) × (tree_at keys number ≡ Some k) × Contains (keys_of (zip ids outcomes)) (Some k) =
+      stand_live keys found (keys_of (zip ids outcomes)) kept.stand number unit in
+      record {
+        in_use =
+            subst (λ (k : Key). Contains (keys_of (zip ids outcomes)) (Some k))
+            (sym (key_is keys number tree.0 tree.1) ∙ same) tree.2;
+        awaited = λ held.
+            awaited_for keys ids outcomes found places cached out kept number key live due.awaited
+            (subst (Contains (keys_for keys (numbers_held places))) (sym same) held);
+        free = λ is. due.free (seen_out_key number key live is);
+        ready =
+            subst (IsReady (keys_for keys (numbers_held places)))
+            (sym (key_is keys number due.key due.tree) ∙ same) due.ready;
+      }
+
+  awaits : (number : ℕ) (key : Key) → tree_at keys number ≡ Some key
+      → (Contains (keys_for keys (numbers_held places)) key → ⊥) → (place : Option (Option Picture))
+      → place ≡ place_at places number → IsSome (place_at places number) → place_at places number ≡ Some None
+  awaits number key live not None same some = absurd (none_not_some (place_at places number) (sym same) some)
+  awaits number key live not (Some None) same some = sym same
+  awaits number key live not (Some (Some picture)) same some =
+      absurd (not
+      (subst (Contains (keys_for keys (numbers_held places))) (key_is keys number key live)
+      (held_for keys ids outcomes found places cached out kept number key live picture (sym same))))
+
+  -- a key that is due has a number that is
+  pub due_from : (key : Key) → IsDue (viewed keys ids outcomes places cached room out given) key
+      → (number : ℕ) × Contains found (Some number) × (tree_at keys number ≡ Some key)
+      × IsDueNumber keys places out number
+  due_from key due =
+      let unit : (n : ℕ) × Contains found (Some n) × (tree_at keys n ≡ Some key) =
+      stand_number keys found (keys_of (zip ids outcomes)) kept.stand key due.in_use in (
+        unit.0,
+        unit.1,
+        unit.2,
+        record {
+          awaited =
+              awaits unit.0 key unit.2 due.awaited (place_at places unit.0) refl ((kept.used unit.0).1 unit.1);
+          free = λ is.
+              due.free (subst (Contains (map (λ (job : OutValue). job.key) (jobs_for keys out))) (key_is keys unit.0 key unit.2)
+              (out_seen_key unit.0 is));
+          key = key;
+          tree = unit.2;
+          ready = due.ready;
+        },
+      )
+
+  -- where no unit's number is due, no key is
+  pub none_due : All (IsNotDue keys places out) found
+      → IsAnyDue (viewed keys ids outcomes places cached room out given) → ⊥
+  none_due none any =
+      let from : (number : ℕ) × Contains found (Some number) × (tree_at keys number ≡ Some any.0)
+      × IsDueNumber keys places out number = due_from any.0 any.1 in
+      All-contains (IsNotDue keys places out) found (Some from.0) none from.1 from.3
+
+  module _ (at : ℕ) (within : at < length found) (number : ℕ) (is : Some number ≡ slice_index_or found at (Some number))
+      (due : IsDueNumber keys places out number) where
+    in_units : at < length (zip ids outcomes)
+    in_units = omega (
+      arith,
+      within,
+      found_length keys ids outcomes found places cached room out given kept,
+      length-zip_same ids outcomes kept.same,
+    )
+
+    -- the unit at the place
+    pub unit : (unit : ℕ × Outcome) × IsAt [] (zip ids outcomes) at unit
+    unit = unit_at [] (zip ids outcomes) at in_units
+
+    -- the keys that are known before it
+    abbrev pub known : Known
+    known = known_after [] (take at (zip ids outcomes))
+
+    one_key : (first : Key) (second : Option Key) → slice_get (keys_of (zip ids outcomes)) at ≡ Some (Some first)
+        → slice_get (keys_of (zip ids outcomes)) at ≡ Some second → Some first ≡ second
+    one_key first second is_first is_second = cc
+
+    -- the number is that of the unit's key
+    tree_is : tree_at keys number ≡ key_of_outcome known unit.0.1
+    tree_is =
+        let has : (key : Key) × (slice_get (keys_of (zip ids outcomes)) at ≡ Some (Some key)) × (tree_at keys number ≡ Some key) =
+        keyed keys ids outcomes found places cached room out given kept at within number is in
+        has.2 ∙ one_key has.0 (key_of_outcome known unit.0.1) has.1 unit.1.key
+
+    pub has_known : (outcome : Outcome) → unit.0.1 ≡ outcome → HasKnown keys outcome number known
+    has_known outcome same =
+        subst (λ o. HasKnown keys o number known) same
+        (record { tree = tree_is; decodes = unit.1.can kept.decodable })
+
+    contained : Contains found (Some number)
+    contained = (at, within, sym is)
+
+    -- some key is due
+    pub any_due : IsAnyDue (viewed keys ids outcomes places cached room out given)
+    any_due = (due.key, due_for number due.key due.tree contained due)
+
+    none_before : All (IsNotDue keys places out) (take at found) → (key : Option Key)
+        → Contains (keys_after [] (take at (zip ids outcomes))) key
+        → IfSome key (λ k. IsDue (viewed keys ids outcomes places cached room out given) k → ⊥)
+    none_before none None among = search rules
+    none_before none (Some key) among = λ key_due.
+        let before : AllStandFor keys (take at found) (keys_after [] (take at (zip ids outcomes))) =
+        subst (AllStandFor keys (take at found)) unit.1.before
+        (stand_take keys found (keys_of (zip ids outcomes)) at kept.stand) in
+        let first : (n : ℕ) × Contains (take at found) (Some n) × (tree_at keys n ≡ Some key) =
+        stand_number keys (take at found) (keys_after [] (take at (zip ids outcomes))) before key among in
+        let from : (n : ℕ) × Contains found (Some n) × (tree_at keys n ≡ Some key) × IsDueNumber keys places out n =
+        due_from key key_due in
+        let same : from.0 ≡ first.0 = kept.right.one.trees from.0 first.0 key from.2 first.2 in
+        All-contains (IsNotDue keys places out) (take at found) (Some first.0) none first.1
+        (subst (IsDueNumber keys places out) same from.3)
+
+    -- the job of the unit is taken
+    pub taken : (outcome : Outcome) → unit.0.1 ≡ outcome → All (IsNotDue keys places out) (take at found)
+        → (input : InputValue) → IsInputOf known outcome input → (next : ℕ) → next ≡ given + 1
+        → (more : List JobOut) → more ≡ out ++ (record { number = next; key = number; input = input }) ∷ []
+        → Takes (viewed keys ids outcomes places cached room out given) (record { number = next; input = input })
+        (viewed keys ids outcomes places cached room more next)
+    taken (Faulty fault) same none input made next next_is more more_is = absurd made
+    taken (Planned plan) same none input made next next_is more more_is =
+        let tree : tree_at keys number ≡ Some (key_of known plan.requests) =
+        tree_is ∙ ap (key_of_outcome known) same in
+        let key_same : key_for keys number ≡ key_of known plan.requests =
+        key_is keys number (key_of known plan.requests) tree in
+        record {
+          before = take at (zip ids outcomes);
+          id = unit.0.0;
+          plan = plan;
+          after = drop (suc at) (zip ids outcomes);
+          stands =
+              unit.1.parts
+              ∙ ap (λ o. take at (zip ids outcomes) ++ (unit.0.0, o) ∷ drop (suc at) (zip ids outcomes)) same;
+          due = due_for number (key_of known plan.requests) tree contained due;
+          earliest = All-from_contains (keys_after [] (take at (zip ids outcomes))) (none_before none);
+          number_is = next_is;
+          requests_are = made.0;
+          shows = made.1;
+          new_is =
+              ap (λ (jobs : List OutValue). record (viewed keys ids outcomes places cached room out given) { out = jobs; given = next })
+              (ap (jobs_for keys) more_is
+              ∙ map-append (seen keys) out ((record { number = next; key = number; input = input }) ∷ [])
+              ∙ ap (λ (key : Key). jobs_for keys out ++ (record { number = next; key = key; input = input }) ∷ []) key_same);
+        }
+
+    -- what is stored then
+    pub kept_taken : (outcome : Outcome) → unit.0.1 ≡ outcome → (input : InputValue) → IsInputOf known outcome input
+        → (next : ℕ) (more : List JobOut) → more ≡ out ++ (record { number = next; key = number; input = input }) ∷ []
+        → IsKept keys ids outcomes found places cached more
+    kept_taken (Faulty fault) same input made next more more_is = absurd made
+    kept_taken (Planned plan) same input made next more more_is =
+        let tree : tree_at keys number ≡ Some (key_of known plan.requests) =
+        tree_is ∙ ap (key_of_outcome known) same in
+        let right : IsRight keys number (picture_of input) = (
+          key_of known plan.requests,
+          tree,
+          shows_its_key known input made.1 ∙ ap (λ requests. picture_of_key (key_of known requests)) made.0,
+        ) in
+        subst (IsKept keys ids outcomes found places cached) (sym more_is)
+        (record {
+          right = kept.right;
+          same = kept.same;
+          stand = kept.stand;
+          decodable = kept.decodable;
+          used = kept.used;
+          stored = kept.stored;
+          jobs = All-push (IsJobRight keys) out (record { number = next; key = number; input = input }) kept.jobs right;
+        })
+
+    -- what becomes of the unit is what is stored at its place
+    pub outcome_same : (outcome : Outcome) → outcome ≡ slice_index_or outcomes at outcome → unit.0.1 ≡ outcome
+    outcome_same outcome there =
+        second_at ids outcomes at unit.0 outcome unit.1.got there
+        (omega (arith, within, found_length keys ids outcomes found places cached room out given kept, kept.same))
+
+    -- what a job is given is whole
+    pub whole_of : (outcome : Outcome) (input : InputValue) → IsInputOf known outcome input → IsTrue (is_whole input)
+    whole_of (Planned plan) input made = made.2
+    whole_of (Faulty fault) input made = absurd made

@@ -1,0 +1,30 @@
+-- A store as contracts see it, from what it stores.
+use Rattle.std.proofs.Common.{ℕ, List, OnErr, Result, Ok, Err, rules}
+use Rattle.std.specs.Map.{keys_of as numbers_of}
+use Rattle.outcomes.specs.declared.outcome.Outcome.{Outcome}
+use Rattle.stand_in_device.specs.declared.picture.Picture.{Picture}
+use Rattle.picture_store.specs.declared.job_out.JobOut.{JobOut}
+use Rattle.picture_store.specs.Stores.{OutValue, StoreValue}
+use Rattle.picture_store.specs.Places.{PlacesValue, numbers_held}
+use Rattle.picture_store.specs.Kept.{Trees, key_for, keys_for, jobs_for}
+
+-- a job that is out as contracts see it
+abbrev pub seen : Trees → JobOut → OutValue
+seen keys job = record { number = job.number; key = key_for keys job.key; input = job.input }
+
+-- a store as contracts see it
+abbrev pub viewed : Trees → List ℕ → List Outcome → PlacesValue → List (ℕ × Picture) → ℕ → List JobOut → ℕ → StoreValue
+viewed keys ids outcomes places cached room out given = record {
+  ids = ids;
+  outcomes = outcomes;
+  room = room;
+  held = keys_for keys (numbers_held places);
+  cached = keys_for keys (numbers_of cached);
+  out = jobs_for keys out;
+  given = given;
+}
+
+-- what holds anyhow holds where a call wanted memory
+pub on_any_err : {T E P : Type 0} (r : Result T E) → P → OnErr r P
+on_any_err (Ok x) p = search rules
+on_any_err (Err e) p = p

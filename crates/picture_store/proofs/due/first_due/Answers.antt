@@ -1,0 +1,18 @@
+use Rattle.std.proofs.Common.{subst, All}
+use Rattle.std.proofs.lemmas.List.{take_all}
+use Rattle.std.proofs.lemmas.List.Elements.{All-more}
+use Rattle.picture_store.specs.Due.{IsNotDue}
+use Rattle.picture_store.proofs.due.first_due.Goals as goal
+
+pub loop-at-preserved : goal.loop-at-preserved
+loop-at-preserved g c =
+    let found = c.args.found.now in
+    let other = IsNotDue c.args.keys.now c.args.places.now c.args.out.now in
+    All-more other found c.loop-at.at c.index-found-at.result c.loop-at-test.true c.loop-at.invariant
+    (subst other c.index-found-at.is (c.has_due.ensures.other (λ yes. cc)))
+
+pub returns : goal.returns
+returns g c =
+    let found = c.args.found.now in
+    let other = IsNotDue c.args.keys.now c.args.places.now c.args.out.now in
+    subst (λ xs. All other xs) (take_all c.loop-at.at found c.loop-at-test.false) c.loop-at.invariant

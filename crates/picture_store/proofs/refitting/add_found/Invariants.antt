@@ -1,0 +1,9 @@
+use Rattle.std.proofs.Common.{ℕ, Contains, Some, take}
+use Rattle.picture_store.proofs.refitting.add_found.Given as goal
+
+abbrev pub invariant-loop-key : goal.invariant-loop-key
+invariant-loop-key l =
+    record {
+      old : (number : ℕ) → Contains l.initial.roots.items number → Contains l.roots.items number;
+      added : (number : ℕ) → Contains (take l.key-index l.found) (Some number) → Contains l.roots.items number;
+    }

@@ -1,0 +1,29 @@
+use Rattle.std.proofs.Common.{refl}
+use Rattle.picture_store.proofs.Viewed.{seen}
+use Rattle.picture_store.proofs.Landed.{foreign_for, kept_without, out_seen, seen_without}
+use Rattle.picture_store.proofs.store.PictureStore.give_back.Goals as goal
+
+pub invariant_of-self : goal.invariant_of-self
+invariant_of-self c =
+    rw (c.remove.ensures.items)
+    (kept_without c.self.inside.keys c.self.inside.ids.items c.self.inside.outcomes.items c.self.inside.found.items
+    c.self.inside.places c.self.inside.cache.pairs c.self.inside.out.items c.self.invariant c.in-Some.at)
+
+pub returns-in-Some : goal.returns-in-Some
+returns-in-Some c =
+    let found = rw (c.deref.ensures.value, c.into_parts-number.ensures) at c.in-Some.ensures in
+    rw (← c.self.view_is) (
+      c.in-Some.at,
+      seen c.self.inside.keys c.remove.result,
+      out_seen c.self.inside.keys c.self.inside.ids.items c.self.inside.outcomes.items c.self.inside.places
+          c.self.inside.cache.pairs c.self.inside.cache.capacity c.self.inside.out.items c.self.inside.given c.in-Some.at
+          c.args.job c.remove.result found.0 c.remove.ensures.value found.1 found.2,
+      seen_without c.self.inside.keys c.self.inside.ids.items c.self.inside.outcomes.items c.self.inside.places
+          c.self.inside.cache.pairs c.self.inside.cache.capacity c.self.inside.out.items c.remove.new.self.items
+          c.self.inside.given c.in-Some.at c.remove.ensures.items,
+    )
+
+pub returns : goal.returns
+returns c =
+    let none = rw (c.deref.ensures.value, c.into_parts-number.ensures) at c.in-None.ensures in
+    rw (← c.self.view_is) (foreign_for c.self.inside.keys c.self.inside.out.items c.args.job none, refl)

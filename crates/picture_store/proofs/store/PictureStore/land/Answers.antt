@@ -1,0 +1,28 @@
+use Rattle.std.proofs.Common.{refl}
+use Rattle.picture_store.proofs.Landed.{foreign_for}
+use Rattle.picture_store.proofs.Filled.{landed, kept_filled}
+use Rattle.picture_store.proofs.store.PictureStore.land.Goals as goal
+
+pub returns-in_default : goal.returns-in_default
+returns-in_default c =
+    let none = rw (c.deref.ensures.value, c.into_parts-number.ensures) at c.in_default.ensures in
+    rw (← c.self.view_is) (foreign_for c.self.inside.keys c.self.inside.out.items c.args.finished none, refl)
+
+pub invariant_of-self : goal.invariant_of-self
+invariant_of-self c =
+    let s = c.self.inside in
+    let found = rw (c.deref.ensures.value, c.into_parts-number.ensures) at c.in-Some.ensures in
+    let filled = rw (c.into_parts-number.ensures) at c.fill.ensures in
+    kept_filled s.keys s.ids.items s.outcomes.items s.found.items s.places s.cache.pairs s.cache.capacity s.out.items s.given
+    c.self.invariant c.args.finished c.in-Some.at found.0 c.remove-job.result c.remove-job.ensures.value found.1 found.2
+    c.fill.result c.fill.new.places c.remove-job.new.self.items c.remove-job.ensures.items filled
+
+pub returns : goal.returns
+returns c =
+    let s = c.self.inside in
+    let found = rw (c.deref.ensures.value, c.into_parts-number.ensures) at c.in-Some.ensures in
+    let filled = rw (c.into_parts-number.ensures) at c.fill.ensures in
+    rw (← c.self.view_is)
+    (landed s.keys s.ids.items s.outcomes.items s.found.items s.places s.cache.pairs s.cache.capacity s.out.items s.given
+    c.self.invariant c.args.finished c.in-Some.at found.0 c.remove-job.result c.remove-job.ensures.value found.1 found.2
+    c.fill.result c.fill.new.places c.remove-job.new.self.items c.remove-job.ensures.items filled)

@@ -1,0 +1,97 @@
+-- Jobs that are taken, that land, and that are given back.
+use Rattle.std.specs.Prelude.{◌≡◌, ℕ, ◌+◌, ◌<◌, List, [], ◌∷◌, ◌++◌, ◌↔◌, ◌⊎◌, map, remove, slice_get, All, Contains, Option, None, Some, IfSome, Result, Ok, Err}
+use Rattle.outcomes.specs.declared.outcome.Outcome.{Outcome}
+use Rattle.outcomes.specs.declared.outcome.Outcome.TheVariants as outcomes
+use Rattle.outcomes.specs.declared.outcome.Plan.{Plan}
+use Rattle.stand_in_device.specs.Jobs.{JobValue}
+use Rattle.picture_keys.specs.Keys.{Key}
+use Rattle.picture_keys.specs.Known.{key_of, keys_of, known_after}
+use Rattle.picture_keys.specs.KeyPictures.{ShowsKnown}
+use Rattle.picture_store.specs.declared.refusals.TakeRefused.{TakeRefused}
+use Rattle.picture_store.specs.declared.refusals.TakeRefused.TheVariants.{JobsSpent, Memory}
+use Rattle.picture_store.specs.declared.answers.Landing.{Landing}
+use Rattle.picture_store.specs.declared.answers.Landing.TheVariants as landings
+use Rattle.picture_store.specs.declared.answers.Returning.{Returning}
+use Rattle.picture_store.specs.declared.answers.Returning.TheVariants as returnings
+use Rattle.picture_store.specs.Stores.{OutValue, StoreValue, units_of, IsInUse, IsReady}
+
+-- how many numbers of jobs there are
+abbrev pub most_jobs : ℕ
+most_jobs = 18446744073709551615
+
+-- the key is due: it is in use, its picture isn't held, it is in no job that is out, and the pictures at its own entries
+-- are held
+pub record IsDue (store : StoreValue) (key : Key) : Type 0 where
+  pub in_use : IsInUse store key
+  pub awaited : Contains store.held key → ⊥
+  pub free : Contains (map (λ job. job.key) store.out) key → ⊥
+  pub ready : IsReady store.held key
+
+-- some key is due
+abbrev pub IsAnyDue : StoreValue → Type 0
+IsAnyDue store = (key : Key) × IsDue store key
+
+-- a job is taken: it is that of the due key whose unit stands earliest, under the next number, with the requests of that
+-- unit and the pictures of their references
+pub record Takes (old : StoreValue) (job : JobValue) (new : StoreValue) : Type 0 where
+  pub before : List (ℕ × Outcome)
+  pub id : ℕ
+  pub plan : Plan
+  pub after : List (ℕ × Outcome)
+  pub stands : units_of old ≡ before ++ (id, outcomes.Plan plan) ∷ after
+  pub due : IsDue old (key_of (known_after [] before) plan.requests)
+  pub earliest : All (λ key. IfSome key (λ key. IsDue old key → ⊥)) (keys_of before)
+  pub number_is : job.number ≡ old.given + 1
+  pub requests_are : job.input.requests ≡ plan.requests
+  pub shows : ShowsKnown (known_after [] before) job.input
+  pub new_is : new ≡ record old {
+    out = old.out ++ (record {
+      number = job.number;
+      key = key_of (known_after [] before) plan.requests;
+      input = job.input;
+    }) ∷ [];
+    given = job.number;
+  }
+
+-- what `take` answers: a job, that none is due, or why none is given though one is due
+abbrev pub AnswersTake : StoreValue → Result (Option JobValue) TakeRefused → StoreValue → Type 0
+AnswersTake old (Ok (Some job)) new = Takes old job new
+AnswersTake old (Ok None) new = (IsAnyDue old → ⊥) × (new ≡ old)
+AnswersTake old (Err JobsSpent) new = IsAnyDue old × (old.given ≡ most_jobs) × (new ≡ old)
+AnswersTake old (Err Memory) new = IsAnyDue old × (old.given < most_jobs) × (new ≡ old)
+
+-- the job that is out has this number and was given this to decode
+abbrev pub IsOf : JobValue → OutValue → Type 0
+IsOf job out = (out.number ≡ job.number) × (out.input ≡ job.input)
+
+-- no job that is out is this one
+abbrev pub IsForeign : StoreValue → JobValue → Type 0
+IsForeign store job = All (λ out. IsOf job out → ⊥) store.out
+
+-- this job is out, at a place among them
+pub record IsOut (store : StoreValue) (job : JobValue) (at : ℕ) (out : OutValue) : Type 0 where
+  pub stands : slice_get store.out at ≡ Some out
+  pub is : IsOf job out
+
+-- without the job at the place
+abbrev pub without : StoreValue → ℕ → StoreValue
+without store at = record store { out = remove store.out at }
+
+-- a result lands: that of no job that is out changes nothing; else the job is out no more, and its picture is held where
+-- its key is in use and waits for it
+abbrev pub AnswersLand : StoreValue → JobValue → Landing → StoreValue → Type 0
+AnswersLand old job landings.Foreign new = IsForeign old job × (new ≡ old)
+AnswersLand old job landings.Stale new =
+    (at : ℕ) × (out : OutValue) × IsOut old job at out
+    × ((IsInUse old out.key → ⊥) ⊎ Contains old.held out.key) × (new ≡ without old at)
+AnswersLand old job landings.Taken new =
+    (at : ℕ) × (out : OutValue) × IsOut old job at out
+    × IsInUse old out.key × (Contains old.held out.key → ⊥)
+    × ((key : Key) → Contains new.held key ↔ (Contains old.held key ⊎ (key ≡ out.key)))
+    × (new ≡ record (without old at) { held = new.held })
+
+-- a job is given back: one that isn't out changes nothing; else it is out no more
+abbrev pub AnswersGiveBack : StoreValue → JobValue → Returning → StoreValue → Type 0
+AnswersGiveBack old job returnings.Foreign new = IsForeign old job × (new ≡ old)
+AnswersGiveBack old job returnings.Returned new =
+    (at : ℕ) × (out : OutValue) × IsOut old job at out × (new ≡ without old at)

@@ -1,0 +1,11 @@
+pub mod Stores
+pub mod Changes
+pub mod Jobs
+pub mod Places
+pub mod Kept
+pub mod Numbers
+pub mod Naming
+pub mod Filling
+pub mod Due
+pub mod Inputs
+pub mod Showing

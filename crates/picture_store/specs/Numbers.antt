@@ -1,0 +1,9 @@
+-- The numbers of refusals.
+use Rattle.std.specs.Prelude.{ℕ}
+use Rattle.picture_store.specs.declared.refusals.TakeRefused.{TakeRefused}
+use Rattle.picture_store.specs.declared.refusals.TakeRefused.TheVariants.{JobsSpent, Memory}
+
+-- the number of the refusal of a job
+abbrev pub number_of : TakeRefused → ℕ
+number_of JobsSpent = 1
+number_of Memory = 2

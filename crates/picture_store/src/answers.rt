@@ -1,0 +1,21 @@
+//! What becomes of jobs that come back.
+
+/// What becomes of a result.
+#[derive(Clone, Copy, Debug, PartialEq, Eq, Hash)]
+pub enum Landing {
+    /// Its picture is held from now on.
+    Taken,
+    /// Its key is no longer in use, or its picture is held already.
+    Stale,
+    /// It is of no job that is out.
+    Foreign,
+}
+
+/// What becomes of a job that is given back.
+#[derive(Clone, Copy, Debug, PartialEq, Eq, Hash)]
+pub enum Returning {
+    /// It is out no more.
+    Returned,
+    /// It isn't out.
+    Foreign,
+}

@@ -1,0 +1,95 @@
+//! Which key is due: its picture is wanted, no job makes it, and the pictures that it refers to are held.
+
+ghost use Rattle.std.specs.Prelude.{◌≡◌, ◌<◌, ◌↔◌, ℕ, Option, Some, None, length, take, All, IfSome, IsSome, IsTrue, MatchOption, slice_index_or};
+ghost use Rattle.picture_store.specs.Kept.{AreRight};
+ghost use Rattle.picture_store.specs.Places.{place_at};
+ghost use Rattle.picture_store.specs.Due.{AreHeld, IsDueNumber, IsHeld, IsNotDue};
+
+use crate::job_out::{JobOut, is_out};
+use crate::places::Places;
+use dep_keys::{Fingerprint, KeyId, Keys};
+use picture_keys::Works;
+
+/// The place of the first unit whose key is due.
+pub(crate) fn first_due<F: Fingerprint<Works>>(
+    keys: &Keys<Works, F>,
+    places: &Places,
+    out: &[JobOut],
+    found: &[Option<KeyId>],
+) -> Option<usize>
+    requires { AreRight keys.now places.now }
+    ensures { MatchOption result (All (IsNotDue keys.now places.now out.now) found.now)
+        (λ at. (at < length found.now)
+        × ((other : Option ℕ) → IfSome (slice_index_or found.now at other) (IsDueNumber keys.now places.now out.now))
+        × All (IsNotDue keys.now places.now out.now) (take at found.now)
+        × ((other : Option ℕ) → IsSome (slice_index_or found.now at other))) }
+{
+    for at in 0..found.len() {
+        if has_due(keys, places, out, found[at]) {
+            return Some(at);
+        }
+    }
+    None
+}
+
+/// Whether a unit has a key that is due.
+fn has_due<F: Fingerprint<Works>>(
+    keys: &Keys<Works, F>,
+    places: &Places,
+    out: &[JobOut],
+    key: Option<KeyId>,
+) -> bool
+    requires { AreRight keys.now places.now }
+    ensures due { IsTrue result → IfSome key (IsDueNumber keys.now places.now out.now) }
+    ensures some { IsTrue result → IsSome key }
+    ensures other { (IsTrue result → ⊥) → IsNotDue keys.now places.now out.now key }
+{
+    match key {
+        Some(key) => is_due(keys, places, out, key),
+        None => false,
+    }
+}
+
+/// Whether the key is due.
+fn is_due<F: Fingerprint<Works>>(
+    keys: &Keys<Works, F>,
+    places: &Places,
+    out: &[JobOut],
+    key: KeyId,
+) -> bool
+    requires { AreRight keys.now places.now }
+    ensures { IsTrue result ↔ IsDueNumber keys.now places.now out.now key }
+{
+    let Some(node) = keys.node(key) else {
+        return false;
+    };
+    is_awaited(places, key) && !is_out(out, key) && are_held(places, node.entries())
+}
+
+/// Whether the key has a place without a picture.
+pub(crate) fn is_awaited(places: &Places, key: KeyId) -> bool
+    ensures { IsTrue result ↔ (place_at places.now key ≡ Some None) }
+{
+    matches!(places.get(key), Some(None))
+}
+
+/// Whether the pictures of the keys at these entries are held.
+fn are_held(places: &Places, entries: &[Option<KeyId>]) -> bool
+    ensures { IsTrue result ↔ AreHeld places.now entries.now }
+{
+    for entry in entries {
+        if let Some(key) = entry
+            && !is_held(places, *key)
+        {
+            return false;
+        }
+    }
+    true
+}
+
+/// Whether the picture of a key is held.
+fn is_held(places: &Places, key: KeyId) -> bool
+    ensures { IsTrue result ↔ IsHeld places.now key }
+{
+    matches!(places.get(key), Some(Some(_)))
+}

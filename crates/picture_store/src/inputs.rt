@@ -1,0 +1,55 @@
+//! What a job is given to decode.
+
+ghost use Rattle.std.specs.Prelude.{◌≡◌, Some, IfOk};
+ghost use Rattle.dep_keys.specs.KeyMaps.{tree_at};
+ghost use Rattle.picture_keys.specs.Keys.{Key};
+ghost use Rattle.picture_keys.specs.Known.{Known};
+ghost use Rattle.picture_store.specs.Stores.{IsReady};
+ghost use Rattle.picture_store.specs.Places.{numbers_held};
+ghost use Rattle.picture_store.specs.Kept.{keys_for, AreRight};
+ghost use Rattle.picture_store.specs.Inputs.{HasKnown, IsInputOf};
+
+use crate::naming::references_of;
+use crate::places::Places;
+use dep_keys::{Fingerprint, KeyId, Keys};
+use h264_controls::Request;
+use outcomes::Outcome;
+use picture_keys::{Works, units_named};
+use stand_in_device::Input;
+use std::alloc::{AllocError, Global};
+
+/// The requests of a unit with this key, and the pictures that they refer to, each of which is held.
+pub(crate) fn input_of<F: Fingerprint<Works>>(
+    alloc: Global,
+    keys: &Keys<Works, F>,
+    places: &Places,
+    outcome: &Outcome,
+    key: KeyId,
+) -> Result<Input, AllocError>
+    requires right { AreRight keys.now places.now }
+    requires ready { (tree : Key) × (tree_at keys.now key ≡ Some tree)
+        × IsReady (keys_for keys.now (numbers_held places.now)) tree }
+    requires known { (known : Known) × HasKnown keys.now outcome.now key known }
+    ensures { IfOk result (λ input. (known : Known) → HasKnown keys.now outcome.now key known
+        → IsInputOf known outcome.now input) }
+{
+    // A key that is due is live, and that of a valid unit.
+    let (Outcome::Plan(plan), Some(node)) = (outcome, keys.node(key)) else {
+        return Err(AllocError);
+    };
+    let requests = plan.requests.as_slice();
+    let units = units_named(alloc, requests)?;
+    let references = references_of(alloc, places, &units, node.entries())?;
+    Ok(Input::new(copies(alloc, requests)?, references))
+}
+
+/// The same requests.
+fn copies(alloc: Global, requests: &[Request]) -> Result<Vec<Request>, AllocError>
+    ensures { IfOk result (λ copies. copies.items ≡ requests.now) }
+{
+    let mut copies = Vec::with_capacity(alloc, requests.len())?;
+    for request in requests {
+        copies.push(request.copy()?)?;
+    }
+    Ok(copies)
+}

@@ -1,0 +1,42 @@
+//! Jobs that are out.
+
+ghost use Rattle.std.specs.Prelude.{◌≡◌, ◌<◌, ◌==◌, ◌↔◌, length, map, All, Contains, IsTrue, MatchOption, slice_index_or};
+ghost use Rattle.picture_store.specs.declared.job_out.JobOut.{JobOut as Out};
+ghost use Rattle.picture_store.specs.Kept.{numbers_out};
+
+use dep_keys::KeyId;
+use stand_in_device::Input;
+
+/// A job that is out: its number, the number of its key, and what it was given to decode.
+#[derive(Debug, Drop)]
+pub(crate) struct JobOut {
+    pub(crate) number: u64,
+    pub(crate) key: KeyId,
+    pub(crate) input: Input,
+}
+
+/// Whether a job of this key is out.
+pub(crate) fn is_out(jobs: &[JobOut], key: KeyId) -> bool
+    ensures { IsTrue result ↔ Contains (numbers_out jobs.now) key }
+{
+    jobs.iter().any(
+        |job| -> bool
+            ensures { result ≡ (job.now.key == key) }
+        { job.key == key },
+    )
+}
+
+/// The place of the first job of this number that was given this to decode.
+pub(crate) fn place_of(jobs: &[JobOut], number: u64, input: &Input) -> Option<usize>
+    ensures { MatchOption result
+        (All (λ job. (job.number ≡ number) × (job.input ≡ input.now) → ⊥) jobs.now)
+        (λ at. (at < length jobs.now) × ((other : Out) → (slice_index_or jobs.now at other).number ≡ number)
+        × ((other : Out) → (slice_index_or jobs.now at other).input ≡ input.now)) }
+{
+    for (at, job) in jobs.iter().enumerate() {
+        if job.number == number && job.input.is_same(input) {
+            return Some(at);
+        }
+    }
+    None
+}

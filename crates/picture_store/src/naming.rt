@@ -1,0 +1,85 @@
+//! The pictures of the units that requests name.
+
+ghost use Rattle.std.specs.Prelude.{◌≡◌, ℕ, [], ◌∷◌, ◌++◌, ◌⊎◌, All, Option, IsSome, IfSome, is_some, ◌==◌, ◌≤◌, length, IfOk, OnOk};
+ghost use Rattle.h264_controls.specs.References.{timestamp};
+ghost use Rattle.stand_in_device.specs.declared.picture.Picture.{Picture as Shown};
+ghost use Rattle.stand_in_device.specs.Inputs.{picture_at};
+ghost use Rattle.picture_store.specs.Naming.{AddsAtMostEntry, AreCovered, AreShown, AreThere, IsShown, picture_in};
+
+use crate::places::Places;
+use dep_keys::KeyId;
+use pictures::AuId;
+use stand_in_device::{Picture, Reference};
+use std::alloc::{AllocError, Global};
+
+/// The pictures of the units that are named, each once, by the numbers of the keys that stand at the same entries.
+pub(crate) fn references_of(
+    alloc: Global,
+    places: &Places,
+    units: &[Option<AuId>],
+    entries: &[Option<KeyId>],
+) -> Result<Vec<Reference>, AllocError>
+    requires covered { AreCovered places.now units.now entries.now }
+    requires least { length units.now ≤ length entries.now }
+    ensures shown { IfOk result (λ references. (shown : ℕ → Option Shown)
+        → AreShown places.now shown units.now entries.now → All (IsShown shown) references.items) }
+    ensures there { IfOk result (λ references. AreThere references.items units.now) }
+{
+    let mut references = Vec::new(alloc);
+    for at in 0..units.len() {
+        add_named(&mut references, places, units[at], entries[at])?;
+    }
+    Ok(references)
+}
+
+/// Adds the picture of an entry for the unit that is named there, if one is.
+fn add_named(
+    references: &mut Vec<Reference>,
+    places: &Places,
+    unit: Option<AuId>,
+    entry: Option<KeyId>,
+) -> Result<(), AllocError>
+    requires { IfSome unit (λ _. IsSome (picture_in places.now entry)) }
+    ensures there { OnOk result (IfSome unit (λ unit. IsSome (picture_at references.new.items (timestamp unit)))) }
+    ensures items { OnOk result (AddsAtMostEntry references.old.items places.now unit entry references.new.items) }
+{
+    match unit {
+        Some(unit) => match picture_in(places, entry) {
+            Some(picture) => add(references, unit, picture),
+            None => Ok(()),
+        },
+        None => Ok(()),
+    }
+}
+
+/// The picture of an entry, where it is held.
+fn picture_in(places: &Places, entry: Option<KeyId>) -> Option<Picture>
+    ensures { result ≡ picture_in places.now entry }
+{
+    places.get(entry?)?
+}
+
+/// Adds the picture of a unit, unless it is there.
+fn add(references: &mut Vec<Reference>, unit: AuId, picture: Picture) -> Result<(), AllocError>
+    ensures there { OnOk result (IsSome (picture_at references.new.items (timestamp unit))) }
+    ensures items { OnOk result ((references.new.items ≡ references.old.items)
+        ⊎ (references.new.items
+        ≡ references.old.items ++ (record { timestamp = timestamp unit; picture = picture }) ∷ [])) }
+{
+    let timestamp = unit.timestamp();
+    if !has_picture(references, timestamp) {
+        references.push(Reference { timestamp, picture })?;
+    }
+    Ok(())
+}
+
+/// Whether the picture of a timestamp is there.
+fn has_picture(references: &[Reference], timestamp: u64) -> bool
+    ensures { result ≡ is_some (picture_at references.now timestamp) }
+{
+    references.iter().any(
+        |reference| -> bool
+            ensures { result ≡ (reference.now.timestamp == timestamp) }
+        { reference.timestamp == timestamp },
+    )
+}

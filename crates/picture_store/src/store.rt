@@ -1,0 +1,196 @@
+//! The store: pictures that are held or cached, and jobs that are out.
+
+ghost use Rattle.std.specs.Prelude.{◌≡◌, ◌≤◌, ◌<◌, length, IfOk, OnOk, OnErr};
+ghost use Rattle.std.specs.List.{zip};
+ghost use Rattle.std.specs.Prelude.{[]};
+ghost use Rattle.picture_keys.specs.Decodable.{AllCanDecode};
+ghost use Rattle.picture_store.specs.Stores.{empty};
+ghost use Rattle.picture_store.specs.Changes.{Refits};
+ghost use Rattle.picture_store.specs.Jobs.{AnswersGiveBack, AnswersLand, AnswersTake};
+ghost use Rattle.picture_store.specs.Filling.{IsFilled};
+ghost use Rattle.picture_store.specs.Showing.{IsPictureAt};
+
+use crate::answers::{Landing, Returning};
+use crate::due::{first_due, is_awaited};
+use crate::inputs::input_of;
+use crate::job_out::{JobOut, place_of};
+use crate::naming::references_of;
+use crate::places::{Places, places_of, take_out};
+use crate::refitting::{numbers_of, sweep};
+use crate::refusals::TakeRefused;
+use dep_keys::{KeyId, Keys, Sha256Fingerprint};
+use outcomes::Outcome;
+use picture_cache::PictureCache;
+use picture_keys::Works;
+use pictures::AuId;
+use stand_in_device::{Finished, Input, Job, Picture};
+use std::alloc::{AllocError, Global};
+use std::marker::Model;
+
+/// The pictures of a stream's units. Clauses see the units, each with its id and what becomes of it; the keys whose
+/// pictures are held, and those whose pictures are cached after they went out of use; and the jobs that are out.
+#[derive(Debug, Drop)]
+pub struct PictureStore {
+    alloc: Global,
+    keys: Keys<Works, Sha256Fingerprint>,
+    ids: Vec<AuId>,
+    outcomes: Vec<Outcome>,
+    found: Vec<Option<KeyId>>,
+    places: Places,
+    cache: PictureCache<KeyId, Picture>,
+    out: Vec<JobOut>,
+    given: u64,
+}
+
+impl Model for PictureStore {
+    ghost use Rattle.std.specs.Coded.{codes};
+    ghost use Rattle.std.specs.Map.{keys_of as numbers_of};
+    ghost use Rattle.dep_keys.specs.Trees.{tree_code};
+    ghost use Rattle.picture_keys.specs.contracts.works.Works as works;
+    ghost use Rattle.picture_store.specs.Stores.{StoreValue};
+
+    ghost Value = { StoreValue };
+
+    ghost coded = { Prim.hlevel (codes, tree_code works.the_row.coded) };
+
+    ghost use Rattle.picture_store.specs.Places.{numbers_held};
+    ghost use Rattle.picture_store.specs.Kept.{keys_for, jobs_for, IsKept};
+
+    ghost view = { λ s. record {
+      ids = s.ids.items;
+      outcomes = s.outcomes.items;
+      room = s.cache.capacity;
+      held = keys_for s.keys (numbers_held s.places);
+      cached = keys_for s.keys (numbers_of s.cache.pairs);
+      out = jobs_for s.keys s.out.items;
+      given = s.given;
+    } };
+
+    ghost invariant = { λ s. IsKept s.keys s.ids.items s.outcomes.items s.found.items s.places s.cache.pairs s.out.items };
+}
+
+impl PictureStore {
+    /// A store for an empty stream, which caches so many pictures at most.
+    pub fn new(alloc: Global, room: u16) -> Result<PictureStore, AllocError>
+        requires least { 1 ≤ room }
+        requires most { room ≤ 4096 }
+        ensures { IfOk result (λ store. store ≡ empty room) }
+    {
+        Ok(PictureStore {
+            alloc,
+            keys: Keys::new(alloc),
+            ids: Vec::new(alloc),
+            outcomes: Vec::new(alloc),
+            found: Vec::new(alloc),
+            places: Places::new(alloc),
+            cache: PictureCache::new(alloc, room)?,
+            out: Vec::new(alloc),
+            given: 0,
+        })
+    }
+
+    /// What becomes of each unit, in the order of the stream.
+    pub fn outcomes(&self) -> &[Outcome]
+        ensures { result.now ≡ self.now.outcomes }
+    {
+        self.outcomes.as_slice()
+    }
+
+    /// Takes the units of a changed stream: their ids, and what becomes of each. A picture whose key stays in use stays
+    /// held, and one that is cached is held again where its key comes into use. Where memory is wanted, nothing changes;
+    /// but a picture whose key goes out of use is cached only where memory is found for it.
+    pub fn refit(&mut self, ids: Vec<AuId>, outcomes: Vec<Outcome>) -> Result<(), AllocError>
+        requires same { length ids.items ≡ length outcomes.items }
+        requires decodable { AllCanDecode [] (zip ids.items outcomes.items) }
+        ensures ok { OnOk result (Refits self.old ids.items outcomes.items self.new) }
+        ensures err { OnErr result (self.new ≡ self.old) }
+    {
+        sweep(
+            self.alloc,
+            &mut self.keys,
+            &self.found,
+            &self.cache,
+            &self.out,
+        )?;
+        let found = numbers_of(self.alloc, &mut self.keys, &ids, &outcomes)?;
+        let places = places_of(self.alloc, &found, &self.places, &self.cache)?;
+        take_out(&mut self.cache, &found);
+        self.places.put_away(&places, &mut self.cache);
+        self.ids = ids;
+        self.outcomes = outcomes;
+        self.found = found;
+        self.places = places;
+        Ok(())
+    }
+
+    /// The picture of the unit at a place of the stream, where it is held.
+    pub fn picture(&self, at: usize) -> Option<Picture>
+        requires { at < length self.now.ids }
+        ensures { IsPictureAt self.now at result }
+    {
+        self.places.get(self.found[at]?)?
+    }
+
+    /// Gives the earliest picture that is due to be decoded, under the next number.
+    pub fn take(&mut self) -> Result<Option<Job>, TakeRefused>
+        ensures { AnswersTake self.old result self.new }
+    {
+        let Some(at) = first_due(&self.keys, &self.places, &self.out, &self.found) else {
+            return Ok(None);
+        };
+        let Some(key) = self.found[at] else {
+            return Ok(None);
+        };
+        let Some(number) = self.given.checked_add(1) else {
+            return Err(TakeRefused::JobsSpent);
+        };
+        let outcome = &self.outcomes[at];
+        let input = input_of(self.alloc, &self.keys, &self.places, outcome, key)?;
+        self.out.reserve(1)?;
+        let given = input.copy(self.alloc)?;
+        self.out.push_reserved(JobOut {
+            number,
+            key,
+            input: given,
+        });
+        self.given = number;
+        Ok(Some(Job::new(number, input)))
+    }
+
+    /// Takes the result of a job. It takes no memory.
+    pub fn land(&mut self, finished: Finished) -> Landing
+        ensures { AnswersLand self.old finished result self.new }
+    {
+        let (number, input, picture) = finished.into_parts();
+        let Some(at) = place_of(&self.out, number, &input) else {
+            return Landing::Foreign;
+        };
+        let job = self.out.remove(at);
+        fill(&mut self.places, job.key, picture)
+    }
+
+    /// Takes a job back that wasn't decoded. It takes no memory.
+    pub fn give_back(&mut self, job: Job) -> Returning
+        ensures { AnswersGiveBack self.old job result self.new }
+    {
+        let (number, input) = job.into_parts();
+        match place_of(&self.out, number, &input) {
+            Some(at) => {
+                drop(self.out.remove(at));
+                Returning::Returned
+            }
+            None => Returning::Foreign,
+        }
+    }
+}
+
+/// Puts the picture of a result into the place of its key, where that waits for one.
+fn fill(places: &mut Places, key: KeyId, picture: Picture) -> Landing
+    ensures { IsFilled places.old key picture result places.new }
+{
+    if !is_awaited(places, key) {
+        return Landing::Stale;
+    }
+    let _ = places.put(key, Some(picture));
+    Landing::Taken
+}

@@ -15,9 +15,6 @@ use Rattle.edit_engine.specs.Streams.{Stream}
 use Rattle.edit_engine.specs.Edits.{Register, no_units, Makes, Replays, most_units}
 use Rattle.edit_engine.specs.Refusals.{IsRefused, IsSplittable, TakesMemory}
 use Rattle.edit_engine.specs.Changes.{IsFor, IsInside, stream_after, id_of, after}
-use Rattle.edit_engine.specs.Kept.{IsKept, IsPrepared}
-use Rattle.edit_engine.specs.declared.preparing.Prepared.{Prepared}
-use Rattle.outcomes.specs.declared.outcome.Outcome.{Outcome}
 
 -- an accepted edit after others
 pub Replays-push : (from : Register) (edits : List Edit) (between : Register) (edit : Edit) (id : ℕ) (to : Register)
@@ -61,14 +58,3 @@ Replace-refused old id text refused memory is = ⊎_elim (λ (wants : refused �
 pub refusal_of_text-other : (refused : Refused) → (refused ≡ texts.Memory → ⊥) → refusals.Unit refused ≡ refusal_of_text refused
 refusal_of_text-other texts.Memory other = absurd (other refl)
 refusal_of_text-other refused other = refl
-
--- what is prepared may be stored next
-pub IsKept-after : (journal : List Edit) (old : Register) (outcomes : List Outcome) (positions : List (Option ℕ)) (edit : Edit) (prepared : Prepared)
-    → IsKept journal old outcomes positions → IsPrepared old edit prepared
-    → IsKept (journal ++ edit ∷ []) (after prepared.change old) prepared.outcomes.items prepared.positions.items
-IsKept-after journal old outcomes positions edit prepared kept is = record {
-  folded = is.folded;
-  placed = is.placed;
-  bounded = length-after prepared.change old.stream is.comes_to.inside kept.bounded;
-  replayed = Replays-push no_units journal old edit (id_of prepared.change) (after prepared.change old) kept.replayed is.comes_to.makes;
-}

@@ -1,10 +1,11 @@
 -- The fold over units one after the other.
-use Rattle.std.proofs.Common.{◌≡◌, suc, ◌++◌, List, [], ◌∷◌, length, length-append, append_assoc, refl, ap, sym, ◌∙◌, arith}
+use Rattle.std.proofs.Common.{◌≡◌, ℕ, suc, ◌++◌, List, [], ◌∷◌, length, length-append, append_assoc, refl, ap, sym, ◌∙◌, arith}
+use Rattle.std.proofs.lemmas.List.{map-append}
 use Rattle.outcomes.specs.declared.outcome.Outcome.{Outcome}
 use Rattle.request_core.specs.States.{FoldState, no_units}
 use Rattle.request_core.specs.Fold.{fold_step, outcomes_from}
 use Rattle.edit_engine.specs.declared.folding.Fold.{Fold}
-use Rattle.edit_engine.specs.Streams.{Stream}
+use Rattle.edit_engine.specs.Streams.{Stream, ids_of}
 use Rattle.edit_engine.specs.Folding.{state_after, FoldsOn, IsFoldOf}
 
 -- the state after units and others after them
@@ -31,6 +32,11 @@ pub FoldsOn-append : (old between new : Fold) (units others : Stream)
 FoldsOn-append old between new units others first second = record {
   state_is =
       second.state_is ∙ (ap (λ state. state_after state others) first.state_is ∙ sym (state_after-append old.state units others));
+  ids_are =
+      second.ids_are
+      ∙ (ap (λ (done : List ℕ). done ++ ids_of others) first.ids_are
+      ∙ (append_assoc old.ids.items (ids_of units) (ids_of others)
+      ∙ ap (λ (more : List ℕ). old.ids.items ++ more) (sym (map-append (λ (unit : ℕ × List (List ℕ)). unit.0) units others))));
   outcomes_are =
       second.outcomes_are
       ∙ (ap (λ (done : List Outcome). done ++ outcomes_from between.state others) first.outcomes_are
@@ -41,9 +47,10 @@ FoldsOn-append old between new units others first second = record {
 }
 
 -- from the first unit on it is the whole fold
-pub FoldsOn-whole : (old new : Fold) (units : Stream) → old.state ≡ no_units → old.outcomes.items ≡ [] → old.steps ≡ 0
+pub FoldsOn-whole : (old new : Fold) (units : Stream) → old.state ≡ no_units → old.ids.items ≡ [] → old.outcomes.items ≡ [] → old.steps ≡ 0
     → FoldsOn old units new → IsFoldOf units new
-FoldsOn-whole old new units state outcomes steps on = record {
+FoldsOn-whole old new units state ids outcomes steps on = record {
+  ids_are = on.ids_are ∙ ap (λ (done : List ℕ). done ++ ids_of units) ids;
   outcomes_are =
       on.outcomes_are
       ∙ (ap (λ (done : List Outcome). done ++ outcomes_from old.state units) outcomes

@@ -3,3 +3,7 @@ pub mod Edited
 pub mod Looked
 pub mod Ran
 pub mod GivenIds
+pub mod Accepted
+pub mod Pictured
+pub mod Stored
+pub mod Seen

@@ -2,6 +2,8 @@ pub mod Streams
 pub mod Edits
 pub mod Refusals
 pub mod Machines
+pub mod Jobs
+pub mod Showing
 pub mod Names
 pub mod Numbers
 pub mod Changes

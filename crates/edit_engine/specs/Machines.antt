@@ -1,28 +1,54 @@
--- A session as contracts see it, and its steps.
+-- A session as contracts see it, and its edits.
 use Rattle.std.specs.Prelude.{◌≡◌, ℕ, ◌-◌, List, [], ◌∷◌, ◌++◌, length, option_map, slice_get, Result, Ok, Err}
+use Rattle.request_core.specs.Fold.{outcomes_of}
+use Rattle.picture_keys.specs.Keys.{Key}
+use Rattle.picture_store.specs.Stores.{OutValue, StoreValue}
+use Rattle.picture_store.specs.Changes.{Refits}
 use Rattle.edit_engine.specs.declared.edits.Edit.{Edit}
 use Rattle.edit_engine.specs.declared.receipts.Receipt.{Receipt}
 use Rattle.edit_engine.specs.declared.receipts.Last.{Last}
 use Rattle.edit_engine.specs.declared.refusals.EditRefused.{EditRefused}
-use Rattle.edit_engine.specs.Streams.{Stream}
+use Rattle.edit_engine.specs.Streams.{Stream, ids_of}
 use Rattle.edit_engine.specs.Edits.{Register, no_units, Makes}
 use Rattle.edit_engine.specs.Refusals.{IsRefused}
 
--- the room of the cache, the accepted edits in order, and what they leave
+-- the room of the cache; the accepted edits in order, and what they leave; the keys whose pictures are held, and those
+-- whose pictures are cached, the one put last first; the jobs that are out; and how many numbers of jobs were given
 pub record Machine : Type 0 where
   pub room : ℕ
   pub journal : List Edit
   pub register : Register
+  pub held : List Key
+  pub cached : List Key
+  pub out : List OutValue
+  pub jobs : ℕ
 
 -- before the first edit
 abbrev pub empty : ℕ → Machine
-empty room = record { room = room; journal = []; register = no_units }
+empty room =
+    record { room = room; journal = []; register = no_units; held = []; cached = []; out = []; jobs = 0 }
+
+-- the pictures of the units, as they are stored: those of the stream's ids and of what becomes of each unit
+abbrev pub store_of : Machine → StoreValue
+store_of machine = record {
+  ids = ids_of machine.register.stream;
+  outcomes = outcomes_of machine.register.stream;
+  room = machine.room;
+  held = machine.held;
+  cached = machine.cached;
+  out = machine.out;
+  given = machine.jobs;
+}
+
+-- the pictures after the stream has changed to this one
+abbrev pub RefitsTo : StoreValue → Stream → StoreValue → Type 0
+RefitsTo old stream new = Refits old (ids_of stream) (outcomes_of stream) new
 
 -- the edit is accepted with the receipt
 pub record Edits (old : Machine) (edit : Edit) (receipt : Receipt) (new : Machine) : Type 0 where
   pub made : Makes old.register edit receipt.id new.register
   pub journaled : new.journal ≡ old.journal ++ edit ∷ []
-  pub room_stays : new.room ≡ old.room
+  pub refits : RefitsTo (store_of old) new.register.stream (store_of new)
   pub number_is : receipt.number ≡ length new.journal
   pub steps_are : receipt.steps ≡ length new.register.stream
 

@@ -1,5 +1,5 @@
 -- A stream of access units, and what the plain fold says of a unit of it.
-use Rattle.std.specs.Prelude.{ℕ, ◌+◌, ◌==◌, Bool, List, Option, Some, position, slice_get, option_and_then, option_map}
+use Rattle.std.specs.Prelude.{ℕ, ◌+◌, ◌==◌, Bool, List, Option, Some, map, position, slice_get, option_and_then, option_map}
 use Rattle.outcomes.specs.declared.outcome.Outcome.{Outcome}
 use Rattle.request_core.specs.Fold.{outcomes_of}
 use Rattle.output_order.specs.OutputOrder.{positions_of}
@@ -9,6 +9,10 @@ use Rattle.edit_engine.specs.declared.edits.Place.TheVariants.{First, After}
 -- access units under their ids, in decoding order; each is the list of its NAL units
 abbrev pub Stream : Type 0
 Stream = List (ℕ × List (List ℕ))
+
+-- the ids of the units
+abbrev pub ids_of : Stream → List ℕ
+ids_of stream = map (λ unit. unit.0) stream
 
 -- whether the unit has the id
 abbrev pub has_id : ℕ → ℕ × List (List ℕ) → Bool

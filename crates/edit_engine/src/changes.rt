@@ -1,6 +1,7 @@
 //! What an edit comes to once its text is read and its places are found.
 
-ghost use Rattle.std.specs.Prelude.{◌≡◌, IfOk, IfErr, OnOk, OnErr};
+ghost use Rattle.std.specs.Prelude.{◌≡◌, ◌<◌, vec_len, IfOk, IfErr, OnOk};
+ghost use Rattle.std.specs.Vec.{vec_capacity};
 ghost use Rattle.edit_engine.specs.declared.edits.Edit.TheVariants.{Insert, Delete, Replace};
 ghost use Rattle.edit_engine.specs.Changes.{IsFor, IsInside, id_of, stream_after, given_after};
 ghost use Rattle.edit_engine.specs.Refusals.{IsRefused};
@@ -11,7 +12,7 @@ use crate::refusals::EditRefused;
 use access_unit::{Unit, read_shared};
 use bytes::Bytes;
 use pictures::AuId;
-use std::alloc::{AllocError, Global};
+use std::alloc::Global;
 
 /// The most units of a stream.
 const MOST_UNITS: usize = 65_536;
@@ -126,17 +127,20 @@ impl Change {
         }
     }
 
-    /// Makes the change.
-    pub(crate) fn make(self, units: &mut Vec<(AuId, Unit)>) -> Result<(), AllocError>
-        requires { IsInside self units.old.items }
-        ensures ok { OnOk result (units.new.items ≡ stream_after self units.old.items) }
-        ensures err { OnErr result (units.new.items ≡ units.old.items) }
+    /// Makes the change, for which there is room.
+    pub(crate) fn make(self, units: &mut Vec<(AuId, Unit)>)
+        requires inside { IsInside self units.old.items }
+        requires room { vec_len units.old < vec_capacity units.old }
+        ensures { units.new.items ≡ stream_after self units.old.items }
     {
         match self {
-            Change::Insertion { at, id, unit } => units.insert(at, (id, unit))?,
+            Change::Insertion { at, id, unit } => {
+                let Ok(()) = units.insert(at, (id, unit)) else {
+                    unreachable!()
+                };
+            }
             Change::Deletion { at, .. } => drop(units.remove(at)),
             Change::Replacement { at, id, unit } => units[at] = (id, unit),
         }
-        Ok(())
     }
 }

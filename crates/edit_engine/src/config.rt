@@ -1,8 +1,10 @@
 //! What a session is made with.
 
 ghost use Rattle.std.specs.Prelude.{◌≡◌};
+ghost use Rattle.edit_engine.specs.declared.config.ConfigFault.TheVariants.{Memory};
 ghost use Rattle.edit_engine.specs.Numbers.{number_of_config};
 
+use std::alloc::AllocError;
 use thiserror::Error;
 
 /// What a session is made with.
@@ -32,5 +34,13 @@ impl ConfigFault {
             ConfigFault::Cache => 1,
             ConfigFault::Memory => 2,
         }
+    }
+}
+
+impl From<AllocError> for ConfigFault {
+    ghost from_gives = { λ error fault. fault ≡ Memory };
+
+    fn from(_: AllocError) -> ConfigFault {
+        ConfigFault::Memory
     }
 }

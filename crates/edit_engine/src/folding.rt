@@ -10,10 +10,11 @@ use pictures::AuId;
 use request_core::{State, Steps, step};
 use std::alloc::{AllocError, Global};
 
-/// A fold under way: the state after the units so far, what became of them, and how many steps were made.
+/// A fold under way: the state after the units so far, their ids, what became of them, and how many steps were made.
 #[derive(Debug, Drop)]
 pub(crate) struct Fold {
     state: State,
+    pub(crate) ids: Vec<AuId>,
     pub(crate) outcomes: Vec<Outcome>,
     pub(crate) steps: Steps,
 }
@@ -55,11 +56,13 @@ impl Fold {
     /// Before the first unit.
     fn new(alloc: Global) -> Result<Fold, AllocError>
         ensures state { IfOk result (λ fold. fold.state ≡ no_units) }
+        ensures ids { IfOk result (λ fold. fold.ids.items ≡ []) }
         ensures outcomes { IfOk result (λ fold. fold.outcomes.items ≡ []) }
         ensures steps { IfOk result (λ fold. fold.steps ≡ 0) }
     {
         Ok(Fold {
             state: State::new(alloc)?,
+            ids: Vec::new(alloc),
             outcomes: Vec::new(alloc),
             steps: Steps::new(),
         })
@@ -83,6 +86,7 @@ impl Fold {
     {
         let (state, outcome) = step(alloc, &self.state, id, unit, &mut self.steps)?;
         self.state = state;
+        self.ids.push(id)?;
         self.outcomes.push(outcome)?;
         Ok(())
     }

@@ -1,9 +1,10 @@
 //! A session over a stream of access units under edits.
 //!
 //! `Session` keeps a stream; `edit` inserts, deletes and replaces units, given as bytes, and answers a receipt or a
-//! refusal that changes nothing. What `outcome` and `position` answer is the plain fold over the stream as it is. A
-//! `Runner` follows commands on a session, one at a time, and `run` a list of them. Below is request_core, whose step
-//! is made for each unit; above, the program.
+//! refusal that changes nothing. What `outcome` and `position` answer is the plain fold over the stream as it is. `take`
+//! gives a job to decode and `land` takes its result, late or twice, and `show` answers the picture of a unit as the
+//! stream is now. A `Runner` follows commands on a session, one at a time, and `run` a list of them. Below are
+//! request_core, whose step is made for each unit, and picture_store, which keeps the pictures; above, the program.
 #![tactic(auto)]
 
 mod changes;
@@ -19,16 +20,20 @@ mod refusals;
 mod replies;
 mod runner;
 mod session;
+mod showing;
 
 pub use commands::Command;
 pub use config::{Config, ConfigFault};
 pub use edits::{Edit, Place};
 pub use laws::ids_differ;
+pub use picture_store::{Landing, Returning, TakeRefused};
 pub use receipts::{Last, Receipt};
 pub use refusals::{EditRefused, NoSuchUnit};
 pub use replies::{Reply, UnitReport};
 pub use runner::{Runner, run};
 pub use session::Session;
+pub use showing::Shown;
+pub use stand_in_device::{Finished, Job, Picture};
 
 #[cfg(test)]
 mod tests;

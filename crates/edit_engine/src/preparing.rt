@@ -1,6 +1,7 @@
 //! What an edit needs before anything is changed.
 
-ghost use Rattle.std.specs.Prelude.{◌≡◌, ◌≤◌, ◌∷◌, [], ◌++◌, length, IfOk, IfErr, OnOk, OnErr};
+ghost use Rattle.std.specs.Prelude.{◌≡◌, ◌<◌, ◌≤◌, ◌∷◌, [], ◌++◌, length, vec_len, IfOk, IfErr, OnOk};
+ghost use Rattle.std.specs.Vec.{vec_capacity};
 ghost use Rattle.edit_engine.specs.Edits.{most_units};
 ghost use Rattle.edit_engine.specs.Refusals.{IsRefused};
 ghost use Rattle.edit_engine.specs.Changes.{IsInside, stream_after};
@@ -17,10 +18,11 @@ use output_order::positions;
 use pictures::AuId;
 use std::alloc::{AllocError, Global};
 
-/// A change of a stream, with what becomes of each unit after it.
+/// A change of a stream, with the ids of the units after it and what becomes of each.
 #[derive(Debug, Drop)]
 pub(crate) struct Prepared {
     pub(crate) change: Change,
+    pub(crate) ids: Vec<AuId>,
     pub(crate) outcomes: Vec<Outcome>,
     pub(crate) positions: Vec<Option<usize>>,
     pub(crate) steps: u64,
@@ -43,6 +45,7 @@ pub(crate) fn prepare(
     Ok(Prepared {
         change,
         steps: fold.steps.count(),
+        ids: fold.ids,
         outcomes: fold.outcomes,
         positions,
     })
@@ -65,21 +68,34 @@ fn refold(alloc: Global, units: &[(AuId, Unit)], change: &Change) -> Result<Fold
     }
 }
 
-/// Makes the change, and writes the edit into the journal; or neither.
+/// Makes room for a unit and an edit more.
+pub(crate) fn make_room(
+    units: &mut Vec<(AuId, Unit)>,
+    journal: &mut Vec<Edit>,
+) -> Result<(), AllocError>
+    ensures units { units.new.items ≡ units.old.items }
+    ensures journal { journal.new.items ≡ journal.old.items }
+    ensures units_room { OnOk result (vec_len units.new < vec_capacity units.new) }
+    ensures journal_room { OnOk result (vec_len journal.new < vec_capacity journal.new) }
+{
+    journal.reserve(1)?;
+    units.reserve(1)?;
+    Ok(())
+}
+
+/// Makes the change, and writes the edit into the journal; there is room for both.
 pub(crate) fn enter(
     units: &mut Vec<(AuId, Unit)>,
     journal: &mut Vec<Edit>,
     change: Change,
     edit: Edit,
-) -> Result<(), AllocError>
-    requires { IsInside change units.old.items }
-    ensures ok { OnOk result ((units.new.items ≡ stream_after change units.old.items)
-        × (journal.new.items ≡ journal.old.items ++ edit ∷ [])) }
-    ensures err { OnErr result ((units.new.items ≡ units.old.items)
-        × (journal.new.items ≡ journal.old.items)) }
+)
+    requires inside { IsInside change units.old.items }
+    requires units_room { vec_len units.old < vec_capacity units.old }
+    requires journal_room { vec_len journal.old < vec_capacity journal.old }
+    ensures units { units.new.items ≡ stream_after change units.old.items }
+    ensures journal { journal.new.items ≡ journal.old.items ++ edit ∷ [] }
 {
-    journal.reserve(1)?;
-    change.make(units)?;
+    change.make(units);
     journal.push_reserved(edit);
-    Ok(())
 }

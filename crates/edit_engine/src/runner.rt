@@ -20,9 +20,14 @@ pub struct Runner {
 }
 
 impl Model for Runner {
+    ghost use Rattle.std.specs.Coded.{codes};
+    ghost use Rattle.dep_keys.specs.Trees.{tree_code};
+    ghost use Rattle.picture_keys.specs.contracts.works.Works as works;
     ghost use Rattle.edit_engine.specs.Machines.{Machine};
 
     ghost Value = { Machine };
+
+    ghost coded = { Prim.hlevel (codes, tree_code works.the_row.coded) };
 
     ghost view = { λ runner. runner.session };
 }

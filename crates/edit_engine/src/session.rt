@@ -1,49 +1,55 @@
-//! The session: a stream under edits.
+//! The session: a stream under edits, and the pictures of its units.
 
-ghost use Rattle.std.specs.Prelude.{◌≡◌, ◌≤◌, List, Some, None, IfOk, IsErrOf, IsOk, MatchResult};
+ghost use Rattle.std.specs.Prelude.{◌≡◌, ◌≤◌, ◌↔◌, Some, None, IfOk, IsErrOf, MatchResult};
 ghost use Rattle.edit_engine.specs.Streams.{place_of, outcome_in, position_in};
 ghost use Rattle.edit_engine.specs.Edits.{no_units, Replays};
 ghost use Rattle.edit_engine.specs.Machines.{empty, AnswersEdit, last_of};
+ghost use Rattle.edit_engine.specs.Jobs.{AnswersGiveBack, AnswersLand, AnswersTake};
+ghost use Rattle.edit_engine.specs.Showing.{Shows};
 
 use crate::config::{Config, ConfigFault};
 use crate::edits::Edit;
 use crate::places::place_of;
-use crate::preparing::{enter, prepare};
+use crate::preparing::{enter, make_room, prepare};
 use crate::receipts::{Last, Receipt};
 use crate::refusals::{EditRefused, NoSuchUnit};
+use crate::showing::Shown;
 use access_unit::Unit;
 use outcomes::Outcome;
+use picture_store::{Landing, PictureStore, Returning, TakeRefused};
 use pictures::AuId;
+use stand_in_device::{Finished, Job};
 use std::alloc::Global;
 use std::marker::Model;
 
-/// A stream of access units under edits, with what becomes of each unit. Clauses see the accepted edits and what they
-/// leave.
+/// A stream of access units under edits, with what becomes of each unit, and with pictures, which jobs bring. Clauses see
+/// the accepted edits and what they leave, the keys whose pictures are held or cached, and the jobs that are out.
 #[derive(Debug, Drop)]
 pub struct Session {
     alloc: Global,
-    room: u16,
     journal: Vec<Edit>,
     given: u32,
     units: Vec<(AuId, Unit)>,
-    outcomes: Vec<Outcome>,
     positions: Vec<Option<usize>>,
+    store: PictureStore,
 }
 
 impl Model for Session {
+    ghost use Rattle.std.specs.Coded.{codes};
+    ghost use Rattle.dep_keys.specs.Trees.{tree_code};
+    ghost use Rattle.picture_keys.specs.contracts.works.Works as works;
     ghost use Rattle.edit_engine.specs.Machines.{Machine};
-    ghost use Rattle.edit_engine.specs.Kept.{IsKept};
 
     ghost Value = { Machine };
 
-    ghost view = { λ s. record {
-      room = s.room;
-      journal = s.journal.items;
-      register = record { given = s.given; stream = s.units.items };
-    } };
+    ghost coded = { Prim.hlevel (codes, tree_code works.the_row.coded) };
+
+    ghost use Rattle.edit_engine.specs.Kept.{IsKept, machine_of};
+
+    ghost view = { λ s. machine_of s.journal.items (record { given = s.given; stream = s.units.items }) s.store };
 
     ghost invariant = { λ s. IsKept s.journal.items (record { given = s.given; stream = s.units.items })
-        s.outcomes.items s.positions.items };
+        s.store s.positions.items };
 }
 
 /// The greatest room of a cache.
@@ -53,21 +59,19 @@ impl Session {
     /// A session with an empty stream.
     pub fn new(alloc: Global, config: Config) -> Result<Session, ConfigFault>
         ensures ok { IfOk result (λ session. session ≡ empty config.cache) }
-        ensures in_range { 1 ≤ config.cache → config.cache ≤ 4096 → IsOk result }
-        ensures cache { IfOk result (λ _. (1 ≤ config.cache) × (config.cache ≤ 4096)) }
-        ensures only { IsErrOf result ConfigFault.Memory → ⊥ }
+        ensures cache { IsErrOf result ConfigFault.Cache
+            ↔ ((1 ≤ config.cache) × (config.cache ≤ 4096) → ⊥) }
     {
         if config.cache == 0 || config.cache > MOST_ROOM {
             return Err(ConfigFault::Cache);
         }
         Ok(Session {
             alloc,
-            room: config.cache,
             journal: Vec::new(alloc),
             given: 0,
             units: Vec::new(alloc),
-            outcomes: Vec::new(alloc),
             positions: Vec::new(alloc),
+            store: PictureStore::new(alloc, config.cache)?,
         })
     }
 
@@ -77,21 +81,65 @@ impl Session {
     /// text that isn't too long and splits into NAL units is read into memory before its units and the edit's place
     /// are looked at, so where that memory is refused, nothing is said of them. A text that is too long or doesn't
     /// split, and a deletion of a unit that isn't there, are never answered Memory.
+    ///
+    /// A picture stays held where nothing that it is made of changes. One whose unit is gone or is made of something
+    /// else is cached while there is room, and held again at once where a unit is made of the same once more.
     pub fn edit(&mut self, edit: Edit) -> Result<Receipt, EditRefused>
         ensures { AnswersEdit self.old edit result self.new }
     {
         let prepared = prepare(self.alloc, &self.units, self.given, &edit)?;
         let id = prepared.change.id();
         let given = prepared.change.given(self.given);
-        enter(&mut self.units, &mut self.journal, prepared.change, edit)?;
+        make_room(&mut self.units, &mut self.journal)?;
+        self.store.refit(prepared.ids, prepared.outcomes)?;
+        enter(&mut self.units, &mut self.journal, prepared.change, edit);
         self.given = given;
-        self.outcomes = prepared.outcomes;
         self.positions = prepared.positions;
         Ok(Receipt {
             number: self.journal.len() as u64,
             id,
             steps: prepared.steps,
         })
+    }
+
+    /// Gives a picture to decode: the earliest one of the stream that isn't held and isn't out as a job, and whose
+    /// references' pictures are all held. `None` where there is no such picture.
+    ///
+    /// The job isn't bound to its unit: its result is taken wherever the same picture is wanted when it lands.
+    pub fn take(&mut self) -> Result<Option<Job>, TakeRefused>
+        ensures { AnswersTake self.old result self.new }
+    {
+        self.store.take()
+    }
+
+    /// Takes the result of a job, in any order and at any time. It takes no memory.
+    pub fn land(&mut self, finished: Finished) -> Landing
+        ensures { AnswersLand self.old finished result self.new }
+    {
+        self.store.land(finished)
+    }
+
+    /// Takes a job back that wasn't decoded, so that its picture is given to decode again. It takes no memory.
+    pub fn give_back(&mut self, job: Job) -> Returning
+        ensures { AnswersGiveBack self.old job result self.new }
+    {
+        self.store.give_back(job)
+    }
+
+    /// What is shown of the unit that has the id. It takes no memory.
+    pub fn show(&self, id: AuId) -> Shown
+        ensures { Shows self.now id result }
+    {
+        let Some(place) = place_of(&self.units, id) else {
+            return Shown::NoSuchUnit;
+        };
+        match &self.store.outcomes()[place] {
+            Outcome::Fault(fault) => Shown::Fault(*fault),
+            Outcome::Plan(_) => match self.store.picture(place) {
+                Some(picture) => Shown::Ready(picture),
+                None => Shown::Pending,
+            },
+        }
     }
 
     /// What becomes of the unit that has the id.
@@ -101,7 +149,7 @@ impl Session {
             (λ _. place_of self.now.register.stream id ≡ None) }
     {
         match place_of(&self.units, id) {
-            Some(place) => Ok(&self.outcomes[place]),
+            Some(place) => Ok(&self.store.outcomes()[place]),
             None => Err(NoSuchUnit),
         }
     }

@@ -10,7 +10,7 @@ returns c =
     subst P (append_assoc c.args.before.now ((c.args.id, c.args.unit.now) ∷ []) c.args.after.now)
     (FoldsOn-whole c.in_ok-fold.fold c.go_over-2.new.self
     (c.args.before.now ++ (c.args.id, c.args.unit.now) ∷ [] ++ c.args.after.now)
-    c.in_ok-fold.ensures.state c.in_ok-fold.ensures.outcomes c.in_ok-fold.ensures.steps
+    c.in_ok-fold.ensures.state c.in_ok-fold.ensures.ids c.in_ok-fold.ensures.outcomes c.in_ok-fold.ensures.steps
     (FoldsOn-append c.in_ok-fold.fold c.go_on.new.self c.go_over-2.new.self
     (c.args.before.now ++ (c.args.id, c.args.unit.now) ∷ []) c.args.after.now
     (FoldsOn-append c.in_ok-fold.fold c.go_over.new.self c.go_on.new.self

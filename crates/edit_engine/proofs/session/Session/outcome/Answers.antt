@@ -1,29 +1,30 @@
-use Rattle.std.proofs.Common.{◌<◌, length, ap, sym, arith}
+use Rattle.std.proofs.Common.{◌<◌, length, ap, sym, ◌∙◌, arith}
 use Rattle.edit_engine.proofs.Looked.{length-outcomes_of, outcome_found}
 use Rattle.edit_engine.proofs.session.Session.outcome.Goals as goal
 
-pub index-requires : goal.index-requires
-index-requires c =
+pub bounds-outcomes-place : goal.bounds-outcomes-place
+bounds-outcomes-place c =
     omega (
       arith,
       c.in-Some.ensures.inside,
       ap length c.deref.ensures.value,
+      ap length c.outcomes.ensures,
       ap length c.self.invariant.folded,
       length-outcomes_of c.self.inside.units.items,
-      c.self.inside.outcomes.ok.0,
     )
 
 pub returns-in-Some : goal.returns-in-Some
 returns-in-Some c =
     let stands = sym (rw c.deref.ensures.value at c.in-Some.ensures.value) in
-    let within : c.in-Some.place < length c.self.inside.outcomes.items =
+    let within : c.in-Some.place < length c.outcomes.result.now =
     omega (
       arith,
       c.in-Some.ensures.inside,
       ap length c.deref.ensures.value,
+      ap length c.outcomes.ensures,
       ap length c.self.invariant.folded,
       length-outcomes_of c.self.inside.units.items,
     ) in
     rw (← c.self.view_is)
-    (outcome_found c.self.inside.units.items c.args.id c.in-Some.place c.self.inside.outcomes.items c.index.result.now stands
-    c.self.invariant.folded within c.index.ensures)
+    (outcome_found c.self.inside.units.items c.args.id c.in-Some.place c.outcomes.result.now c.index-outcomes-place.result stands
+    (c.outcomes.ensures ∙ c.self.invariant.folded) within c.index-outcomes-place.is)

@@ -1,0 +1,154 @@
+-- The pictures of a session are those that it stores.
+use Rattle.std.proofs.Common.{◌≡◌, ℕ, zero, suc, ◌<◌, List, [], ◌∷◌, length, map, Option, None, Some, ap, sym, ◌∙◌, subst, arith, refl}
+use Rattle.std.specs.Prelude.{slice_get, option_and_then, Result, Ok, Err}
+use Rattle.std.specs.List.{zip}
+use Rattle.outcomes.specs.declared.outcome.Outcome.{Outcome}
+use Rattle.outcomes.specs.declared.outcome.Outcome.TheVariants as outcomes
+use Rattle.outcomes.specs.declared.outcome.Plan.{Plan}
+use Rattle.request_core.specs.Fold.{outcomes_of}
+use Rattle.stand_in_device.specs.Jobs.{JobValue}
+use Rattle.picture_keys.specs.Keys.{Key}
+use Rattle.picture_keys.specs.Known.{Known, key_of_outcome, known_with, keys_after, keys_of}
+use Rattle.picture_store.specs.declared.refusals.TakeRefused.{TakeRefused}
+use Rattle.picture_store.specs.declared.refusals.TakeRefused.TheVariants.{JobsSpent, Memory}
+use Rattle.picture_store.specs.declared.answers.Landing.{Landing}
+use Rattle.picture_store.specs.declared.answers.Landing.TheVariants as landings
+use Rattle.picture_store.specs.declared.answers.Returning.{Returning}
+use Rattle.picture_store.specs.declared.answers.Returning.TheVariants as returnings
+use Rattle.picture_store.specs.Stores.{StoreValue, unit_keys}
+use Rattle.picture_store.specs.Changes.{Refits}
+use Rattle.picture_store.specs.Jobs as pictures
+use Rattle.edit_engine.specs.declared.edits.Edit.{Edit}
+use Rattle.edit_engine.specs.Streams.{Stream, ids_of, place_of}
+use Rattle.edit_engine.specs.Edits.{Register}
+use Rattle.edit_engine.specs.Machines.{Machine, store_of, RefitsTo}
+use Rattle.edit_engine.specs.Kept.{IsKept, machine_of}
+use Rattle.edit_engine.specs.Jobs.{AnswersTake, AnswersLand, AnswersGiveBack}
+use Rattle.edit_engine.specs.Showing.{keys_in, HasKey}
+
+-- what is stored of a stream is of that stream
+pub record IsOf (stream : Stream) (store : StoreValue) : Type 0 where
+  pub identified : store.ids ≡ ids_of stream
+  pub folded : store.outcomes ≡ outcomes_of stream
+
+-- what is kept is of the stream
+pub IsOf-kept : (journal : List Edit) (register : Register) (store : StoreValue) (positions : List (Option ℕ))
+    → IsKept journal register store positions → IsOf register.stream store
+IsOf-kept journal register store positions kept = record { identified = kept.identified; folded = kept.folded }
+
+-- what contracts see of the pictures is what is stored
+pub store_is : (journal : List Edit) (register : Register) (store : StoreValue) → IsOf register.stream store
+    → store_of (machine_of journal register store) ≡ store
+store_is journal register store is =
+    ap (λ (ids : List ℕ). record store { ids = ids; outcomes = outcomes_of register.stream }) (sym is.identified)
+    ∙ ap (λ (outcomes : List Outcome). record store { outcomes = outcomes }) (sym is.folded)
+
+-- what holds of stores holds of what contracts see of them
+both_seen : (Holds : StoreValue → StoreValue → Type 0) (journal edited : List Edit) (old new : Register) (before after : StoreValue)
+    → IsOf old.stream before → IsOf new.stream after → Holds before after
+    → Holds (store_of (machine_of journal old before)) (store_of (machine_of edited new after))
+both_seen Holds journal edited old new before after was is holds =
+    subst (λ (store : StoreValue). Holds store (store_of (machine_of edited new after))) (sym (store_is journal old before was))
+    (subst (λ (store : StoreValue). Holds before store) (sym (store_is edited new after is)) holds)
+
+-- the pictures after an edit
+pub RefitsTo-stored : (journal : List Edit) (old : Register) (store : StoreValue) (edited : List Edit) (new : Register) (ids : List ℕ) (outcomes : List Outcome) (after : StoreValue)
+    → IsOf old.stream store → ids ≡ ids_of new.stream → outcomes ≡ outcomes_of new.stream → Refits store ids outcomes after
+    → RefitsTo (store_of (machine_of journal old store)) new.stream (store_of (machine_of edited new after))
+RefitsTo-stored journal old store edited new ids outcomes after is ids_are outcomes_are refits =
+    both_seen (λ (before after : StoreValue). RefitsTo before new.stream after) journal edited old new store after is
+    (record { identified = refits.ids_are ∙ ids_are; folded = refits.outcomes_are ∙ outcomes_are })
+    (subst (λ (other : List ℕ). Refits store other (outcomes_of new.stream) after) ids_are
+    (subst (λ (other : List Outcome). Refits store ids other after) outcomes_are refits))
+
+-- the units stay
+pub record UnitsStay (old new : StoreValue) : Type 0 where
+  pub ids_stay : new.ids ≡ old.ids
+  pub outcomes_stay : new.outcomes ≡ old.outcomes
+
+-- where one store is the other but for its pictures
+same_units : (old new other : StoreValue) → new ≡ other → other.ids ≡ old.ids → other.outcomes ≡ old.outcomes → UnitsStay old new
+same_units old new other same ids outcomes = record {
+  ids_stay = ap (λ (store : StoreValue). store.ids) same ∙ ids;
+  outcomes_stay = ap (λ (store : StoreValue). store.outcomes) same ∙ outcomes;
+}
+
+-- where a job is taken
+pub UnitsStay-take : (old : StoreValue) (answer : Result (Option JobValue) TakeRefused) (new : StoreValue)
+    → pictures.AnswersTake old answer new → UnitsStay old new
+UnitsStay-take old (Ok (Some job)) new takes = same_units old new _ takes.new_is refl refl
+UnitsStay-take old (Ok None) new is = same_units old new old is.1 refl refl
+UnitsStay-take old (Err JobsSpent) new is = same_units old new old is.2 refl refl
+UnitsStay-take old (Err Memory) new is = same_units old new old is.2 refl refl
+
+-- where a result lands
+pub UnitsStay-land : (old : StoreValue) (job : JobValue) (answer : Landing) (new : StoreValue)
+    → pictures.AnswersLand old job answer new → UnitsStay old new
+UnitsStay-land old job landings.Foreign new is = same_units old new old is.1 refl refl
+UnitsStay-land old job landings.Stale new is = same_units old new _ is.4 refl refl
+UnitsStay-land old job landings.Taken new is = same_units old new _ is.6 refl refl
+
+-- where a job is given back
+pub UnitsStay-give_back : (old : StoreValue) (job : JobValue) (answer : Returning) (new : StoreValue)
+    → pictures.AnswersGiveBack old job answer new → UnitsStay old new
+UnitsStay-give_back old job returnings.Foreign new is = same_units old new old is.1 refl refl
+UnitsStay-give_back old job returnings.Returned new is = same_units old new _ is.3 refl refl
+
+-- a store whose units stay is still of the stream
+pub IsOf-stays : (stream : Stream) (old new : StoreValue) → IsOf stream old → UnitsStay old new → IsOf stream new
+IsOf-stays stream old new is stay = record {
+  identified = stay.ids_stay ∙ is.identified;
+  folded = stay.outcomes_stay ∙ is.folded;
+}
+
+module _ (journal : List Edit) (register : Register) (old new : StoreValue) (is : IsOf register.stream old) where
+  -- a job is taken
+  pub take_seen : (answer : Result (Option JobValue) TakeRefused) → pictures.AnswersTake old answer new
+      → AnswersTake (machine_of journal register old) answer (machine_of journal register new)
+  take_seen answer answers = (
+    both_seen (λ (before after : StoreValue). pictures.AnswersTake before answer after) journal journal register register old new is
+        (IsOf-stays register.stream old new is (UnitsStay-take old answer new answers)) answers,
+    (refl, refl),
+  )
+
+  -- a result lands
+  pub land_seen : (job : JobValue) (answer : Landing) → pictures.AnswersLand old job answer new
+      → AnswersLand (machine_of journal register old) job answer (machine_of journal register new)
+  land_seen job answer answers = (
+    both_seen (λ (before after : StoreValue). pictures.AnswersLand before job answer after) journal journal register register old new is
+        (IsOf-stays register.stream old new is (UnitsStay-land old job answer new answers)) answers,
+    (refl, refl),
+  )
+
+  -- a job is given back
+  pub give_back_seen : (job : JobValue) (answer : Returning) → pictures.AnswersGiveBack old job answer new
+      → AnswersGiveBack (machine_of journal register old) job answer (machine_of journal register new)
+  give_back_seen job answer answers = (
+    both_seen (λ (before after : StoreValue). pictures.AnswersGiveBack before job answer after) journal journal register register old new is
+        (IsOf-stays register.stream old new is (UnitsStay-give_back old job answer new answers)) answers,
+    (refl, refl),
+  )
+
+-- and is kept
+pub IsKept-stays : (journal : List Edit) (register : Register) (old new : StoreValue) (positions : List (Option ℕ))
+    → IsKept journal register old positions → UnitsStay old new → IsKept journal register new positions
+IsKept-stays journal register old new positions kept stay = record {
+  identified = stay.ids_stay ∙ kept.identified;
+  folded = stay.outcomes_stay ∙ kept.folded;
+  placed = kept.placed;
+  bounded = kept.bounded;
+  replayed = kept.replayed;
+}
+
+-- a valid unit's picture has a key
+pub key_of_plan : (known : Known) (ids : List ℕ) (became : List Outcome) (at : ℕ) (plan : Plan) → length ids ≡ length became
+    → slice_get became at ≡ Some (outcomes.Plan plan)
+    → (key : Key) × (slice_get (keys_after known (zip ids became)) at ≡ Some (Some key))
+key_of_plan known [] [] at plan same stands = absurd (cc)
+key_of_plan known [] (outcome ∷ others) at plan same stands = absurd (omega arith)
+key_of_plan known (id ∷ ids) [] at plan same stands = absurd (omega arith)
+key_of_plan known (id ∷ ids) (outcome ∷ others) zero plan same stands =
+    let is : outcome ≡ outcomes.Plan plan = cc in
+    (_, ap (λ (other : Outcome). Some (key_of_outcome known other)) is)
+key_of_plan known (id ∷ ids) (outcome ∷ others) (suc at) plan same stands =
+    key_of_plan (known_with known id (key_of_outcome known outcome)) ids others at plan (omega arith) stands

@@ -1,0 +1,62 @@
+-- What is shown of a unit is what is stored at its place.
+use Rattle.std.proofs.Common.{◌≡◌, ℕ, List, [], length, Option, None, Some, ap, sym, ◌∙◌}
+use Rattle.std.specs.Prelude.{slice_get, option_and_then}
+use Rattle.std.specs.List.{zip}
+use Rattle.std.proofs.lemmas.List.{length-map}
+use Rattle.outcomes.specs.declared.outcome.Outcome.{Outcome}
+use Rattle.outcomes.specs.declared.outcome.Outcome.TheVariants as outcomes
+use Rattle.outcomes.specs.declared.outcome.Plan.{Plan}
+use Rattle.outcomes.specs.declared.validity_fault.ValidityFault.{ValidityFault}
+use Rattle.request_core.specs.Fold.{outcomes_of}
+use Rattle.stand_in_device.specs.declared.picture.Picture.{Picture}
+use Rattle.picture_keys.specs.Keys.{Key}
+use Rattle.picture_keys.specs.Known.{keys_of}
+use Rattle.picture_store.specs.Stores.{StoreValue, unit_keys}
+use Rattle.picture_store.specs.Showing.{IsPictureAt}
+use Rattle.edit_engine.specs.declared.edits.Edit.{Edit}
+use Rattle.edit_engine.specs.declared.showing.Shown.TheVariants as shown
+use Rattle.edit_engine.specs.Streams.{Stream, ids_of, place_of}
+use Rattle.edit_engine.specs.Edits.{Register}
+use Rattle.edit_engine.specs.Kept.{machine_of}
+use Rattle.edit_engine.specs.Showing.{keys_in, HasKey, Shows}
+use Rattle.edit_engine.proofs.Looked.{length-outcomes_of}
+use Rattle.edit_engine.proofs.Pictured.{IsOf, key_of_plan}
+
+-- a stream's units are stored with as many ids as outcomes
+pub length-stored : (stream : Stream) (store : StoreValue) → IsOf stream store → length store.ids ≡ length stream
+length-stored stream store is = ap length is.identified ∙ length-map stream (λ (unit : ℕ × List (List ℕ)). unit.0)
+
+-- and with as many outcomes
+pub length-folded : (stream : Stream) (store : StoreValue) → IsOf stream store → length store.outcomes ≡ length stream
+length-folded stream store is = ap length is.folded ∙ length-outcomes_of stream
+
+module _ (journal : List Edit) (register : Register) (store : StoreValue) (id place : ℕ) where
+  -- the key at the place of the unit is the unit's
+  key_found : IsOf register.stream store → place_of register.stream id ≡ Some place → (key : Key)
+      → slice_get (unit_keys store) place ≡ Some (Some key) → HasKey register.stream id key
+  key_found is stands key found =
+      ap (option_and_then (slice_get (keys_in register.stream))) stands
+      ∙ (ap (λ (ids : List ℕ). slice_get (keys_of (zip ids (outcomes_of register.stream))) place) (sym is.identified)
+      ∙ (ap (λ (outcomes : List Outcome). slice_get (keys_of (zip store.ids outcomes)) place) (sym is.folded) ∙ found))
+
+  -- a picture that is held
+  pub shows_ready : IsOf register.stream store → place_of register.stream id ≡ Some place → (picture : Picture)
+      → IsPictureAt store place (Some picture) → Shows (machine_of journal register store) id (shown.Ready picture)
+  shows_ready is stands picture held = (held.0, key_found is stands held.0 held.1, held.2, held.3)
+
+  -- a picture that isn't held
+  pub shows_pending : IsOf register.stream store → place_of register.stream id ≡ Some place → (plan : Plan)
+      → slice_get store.outcomes place ≡ Some (outcomes.Plan plan)
+      → IsPictureAt store place None → Shows (machine_of journal register store) id shown.Pending
+  shows_pending is stands plan outcome awaited =
+      let found = key_of_plan [] store.ids store.outcomes place plan
+      (length-stored register.stream store is ∙ sym (length-folded register.stream store is)) outcome in
+      (found.0, key_found is stands found.0 found.1, awaited found.0 found.1)
+
+  -- a unit with a fault
+  pub shows_fault : IsOf register.stream store → place_of register.stream id ≡ Some place → (fault : ValidityFault)
+      → slice_get store.outcomes place ≡ Some (outcomes.Fault fault)
+      → Shows (machine_of journal register store) id (shown.Fault fault)
+  shows_fault is stands fault outcome =
+      ap (option_and_then (slice_get (outcomes_of register.stream))) stands
+      ∙ (ap (λ (outcomes : List Outcome). slice_get outcomes place) (sym is.folded) ∙ outcome)

@@ -1,0 +1,30 @@
+-- What is shown of a unit.
+use Rattle.std.specs.Prelude.{◌≡◌, ℕ, List, Option, None, Some, Contains, slice_get, option_and_then}
+use Rattle.std.specs.List.{zip}
+use Rattle.outcomes.specs.declared.outcome.Outcome.TheVariants as outcomes
+use Rattle.request_core.specs.Fold.{outcomes_of}
+use Rattle.picture_keys.specs.Keys.{Key}
+use Rattle.picture_keys.specs.Known.{keys_of}
+use Rattle.picture_keys.specs.KeyPictures.{picture_of_key}
+use Rattle.edit_engine.specs.declared.showing.Shown.{Shown}
+use Rattle.edit_engine.specs.declared.showing.Shown.TheVariants as shown
+use Rattle.edit_engine.specs.Streams.{Stream, ids_of, place_of, outcome_in}
+use Rattle.edit_engine.specs.Machines.{Machine}
+
+-- the key of each unit's picture, nothing for a unit with a fault
+abbrev pub keys_in : Stream → List (Option Key)
+keys_in stream = keys_of (zip (ids_of stream) (outcomes_of stream))
+
+-- the unit that has the id is valid, and its picture has the key
+abbrev pub HasKey : Stream → ℕ → Key → Type 0
+HasKey stream id key = option_and_then (slice_get (keys_in stream)) (place_of stream id) ≡ Some (Some key)
+
+-- what is shown of the unit that has the id: the picture of its key where that is held, that it isn't, the unit's fault,
+-- or that there is no such unit
+abbrev pub Shows : Machine → ℕ → Shown → Type 0
+Shows machine id (shown.Ready picture) =
+    (key : Key) × HasKey machine.register.stream id key × Contains machine.held key × (picture ≡ picture_of_key key)
+Shows machine id shown.Pending =
+    (key : Key) × HasKey machine.register.stream id key × (Contains machine.held key → ⊥)
+Shows machine id (shown.Fault fault) = outcome_in machine.register.stream id ≡ Some (outcomes.Fault fault)
+Shows machine id shown.NoSuchUnit = place_of machine.register.stream id ≡ None

@@ -1,0 +1,17 @@
+//! What is shown of a unit.
+
+use outcomes::ValidityFault;
+use stand_in_device::Picture;
+
+/// What is shown of a unit.
+#[derive(Clone, Copy, Debug, PartialEq, Eq)]
+pub enum Shown {
+    /// Its picture: that of the unit as the stream is now, whatever was decoded before.
+    Ready(Picture),
+    /// It is valid, and its picture isn't held: no result of a job for it has landed.
+    Pending,
+    /// It has this fault, so that it has no picture.
+    Fault(ValidityFault),
+    /// No unit has the id.
+    NoSuchUnit,
+}

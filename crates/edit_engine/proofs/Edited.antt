@@ -1,5 +1,5 @@
 -- What follows from an edit that is accepted or refused.
-use Rattle.std.proofs.Common.{◌≡◌, ℕ, ◌≤◌, List, [], ◌∷◌, ◌++◌, length, length-set, Option, ⊎_elim, refl, sym, arith, ◌⊎◌}
+use Rattle.std.proofs.Common.{◌≡◌, ℕ, ◌≤◌, List, [], ◌∷◌, ◌++◌, length, length-set, ⊎_elim, refl, sym, arith, ◌⊎◌}
 use Rattle.std.proofs.lemmas.List.Edits.{length-insert, length-remove}
 use Rattle.access_unit.specs.declared.refused.Refused.{Refused}
 use Rattle.access_unit.specs.declared.refused.Refused.TheVariants as texts
@@ -12,9 +12,9 @@ use Rattle.edit_engine.specs.declared.edits.Place.{Place}
 use Rattle.edit_engine.specs.declared.refusals.EditRefused.TheVariants as refusals
 use Rattle.edit_engine.specs.Numbers.{refusal_of_text}
 use Rattle.edit_engine.specs.Streams.{Stream}
-use Rattle.edit_engine.specs.Edits.{Register, no_units, Makes, Replays, most_units}
+use Rattle.edit_engine.specs.Edits.{Register, Makes, Replays, most_units}
 use Rattle.edit_engine.specs.Refusals.{IsRefused, IsSplittable, TakesMemory}
-use Rattle.edit_engine.specs.Changes.{IsFor, IsInside, stream_after, id_of, after}
+use Rattle.edit_engine.specs.Changes.{IsFor, IsInside, stream_after}
 
 -- an accepted edit after others
 pub Replays-push : (from : Register) (edits : List Edit) (between : Register) (edit : Edit) (id : ℕ) (to : Register)

@@ -1,6 +1,6 @@
 -- The pictures of a session are those that it stores.
-use Rattle.std.proofs.Common.{◌≡◌, ℕ, zero, suc, ◌<◌, List, [], ◌∷◌, length, map, Option, None, Some, ap, sym, ◌∙◌, subst, arith, refl}
-use Rattle.std.specs.Prelude.{slice_get, option_and_then, Result, Ok, Err}
+use Rattle.std.proofs.Common.{◌≡◌, ℕ, zero, suc, List, [], ◌∷◌, length, Option, None, Some, ap, sym, ◌∙◌, subst, arith, refl}
+use Rattle.std.specs.Prelude.{slice_get, Result, Ok, Err}
 use Rattle.std.specs.List.{zip}
 use Rattle.outcomes.specs.declared.outcome.Outcome.{Outcome}
 use Rattle.outcomes.specs.declared.outcome.Outcome.TheVariants as outcomes
@@ -8,23 +8,22 @@ use Rattle.outcomes.specs.declared.outcome.Plan.{Plan}
 use Rattle.request_core.specs.Fold.{outcomes_of}
 use Rattle.stand_in_device.specs.Jobs.{JobValue}
 use Rattle.picture_keys.specs.Keys.{Key}
-use Rattle.picture_keys.specs.Known.{Known, key_of_outcome, known_with, keys_after, keys_of}
+use Rattle.picture_keys.specs.Known.{Known, key_of_outcome, known_with, keys_after}
 use Rattle.picture_store.specs.declared.refusals.TakeRefused.{TakeRefused}
 use Rattle.picture_store.specs.declared.refusals.TakeRefused.TheVariants.{JobsSpent, Memory}
 use Rattle.picture_store.specs.declared.answers.Landing.{Landing}
 use Rattle.picture_store.specs.declared.answers.Landing.TheVariants as landings
 use Rattle.picture_store.specs.declared.answers.Returning.{Returning}
 use Rattle.picture_store.specs.declared.answers.Returning.TheVariants as returnings
-use Rattle.picture_store.specs.Stores.{StoreValue, unit_keys}
+use Rattle.picture_store.specs.Stores.{StoreValue}
 use Rattle.picture_store.specs.Changes.{Refits}
 use Rattle.picture_store.specs.Jobs as pictures
 use Rattle.edit_engine.specs.declared.edits.Edit.{Edit}
-use Rattle.edit_engine.specs.Streams.{Stream, ids_of, place_of}
+use Rattle.edit_engine.specs.Streams.{Stream, ids_of}
 use Rattle.edit_engine.specs.Edits.{Register}
-use Rattle.edit_engine.specs.Machines.{Machine, store_of, RefitsTo}
+use Rattle.edit_engine.specs.Machines.{store_of, RefitsTo}
 use Rattle.edit_engine.specs.Kept.{IsKept, machine_of}
 use Rattle.edit_engine.specs.Jobs.{AnswersTake, AnswersLand, AnswersGiveBack}
-use Rattle.edit_engine.specs.Showing.{keys_in, HasKey}
 
 -- what is stored of a stream is of that stream
 pub record IsOf (stream : Stream) (store : StoreValue) : Type 0 where

@@ -1,5 +1,5 @@
 -- What is shown of a unit is what is stored at its place.
-use Rattle.std.proofs.Common.{◌≡◌, ℕ, List, [], length, Option, None, Some, ap, sym, ◌∙◌}
+use Rattle.std.proofs.Common.{◌≡◌, ℕ, List, [], length, None, Some, ap, sym, ◌∙◌}
 use Rattle.std.specs.Prelude.{slice_get, option_and_then}
 use Rattle.std.specs.List.{zip}
 use Rattle.std.proofs.lemmas.List.{length-map}
@@ -15,7 +15,7 @@ use Rattle.picture_store.specs.Stores.{StoreValue, unit_keys}
 use Rattle.picture_store.specs.Showing.{IsPictureAt}
 use Rattle.edit_engine.specs.declared.edits.Edit.{Edit}
 use Rattle.edit_engine.specs.declared.showing.Shown.TheVariants as shown
-use Rattle.edit_engine.specs.Streams.{Stream, ids_of, place_of}
+use Rattle.edit_engine.specs.Streams.{Stream, place_of}
 use Rattle.edit_engine.specs.Edits.{Register}
 use Rattle.edit_engine.specs.Kept.{machine_of}
 use Rattle.edit_engine.specs.Showing.{keys_in, HasKey, Shows}

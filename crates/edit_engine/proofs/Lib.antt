@@ -7,3 +7,4 @@ pub mod Accepted
 pub mod Pictured
 pub mod Stored
 pub mod Seen
+pub mod Taking

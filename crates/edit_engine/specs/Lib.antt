@@ -4,6 +4,7 @@ pub mod Refusals
 pub mod Machines
 pub mod Jobs
 pub mod Showing
+pub mod Taken
 pub mod Names
 pub mod Numbers
 pub mod Changes

@@ -1,21 +1,57 @@
 -- Commands to a session: the reply to one, and the replies to a list of them.
-use Rattle.std.specs.Prelude.{◌≡◌, ℕ, List, [], ◌∷◌, Some, None, Result, Ok, Err}
+use Rattle.std.specs.Prelude.{◌≡◌, ℕ, List, [], ◌∷◌, All, Contains, Option, Some, None, Result, Ok, Err}
+use Rattle.stand_in_device.specs.Jobs.{JobValue}
+use Rattle.picture_store.specs.declared.refusals.TakeRefused.{TakeRefused}
+use Rattle.picture_store.specs.declared.refusals.TakeRefused.TheVariants.{JobsSpent, Memory}
+use Rattle.picture_store.specs.declared.answers.Landing.{Landing}
+use Rattle.picture_store.specs.declared.answers.Returning.{Returning}
 use Rattle.edit_engine.specs.declared.commands.Command.{Command}
 use Rattle.edit_engine.specs.declared.commands.Command.TheVariants as commands
 use Rattle.edit_engine.specs.declared.receipts.Receipt.{Receipt}
 use Rattle.edit_engine.specs.declared.refusals.EditRefused.{EditRefused}
 use Rattle.edit_engine.specs.declared.refusals.NoSuchUnit.{NoSuchUnit}
+use Rattle.edit_engine.specs.declared.refusals.NotOut.{NotOut}
+use Rattle.edit_engine.specs.declared.showing.Shown.{Shown}
 use Rattle.edit_engine.specs.declared.replies.Reply.{Reply}
 use Rattle.edit_engine.specs.declared.replies.Reply.TheVariants as replies
 use Rattle.edit_engine.specs.declared.replies.UnitReport.{UnitReport}
 use Rattle.edit_engine.specs.Streams.{Stream, place_of, outcome_in, position_in}
 use Rattle.edit_engine.specs.Machines.{Machine, empty, AnswersEdit}
+use Rattle.edit_engine.specs.Jobs.{AnswersTake, AnswersLand, AnswersGiveBack}
+use Rattle.edit_engine.specs.Showing.{Shows}
+use Rattle.edit_engine.specs.Taken.{taken_of}
 
 -- what is reported of a unit of the stream: its outcome and its position, or that it isn't there
 abbrev pub Reports : Stream → ℕ → Result UnitReport NoSuchUnit → Type 0
 Reports stream id (Ok report) =
     (outcome_in stream id ≡ Some report.outcome) × (position_in stream id ≡ Some report.position)
 Reports stream id (Err none) = place_of stream id ≡ None
+
+-- a job is taken, and its number given; want of memory ends a run, and is no reply
+abbrev pub TakesJob : Machine → Result (Option ℕ) TakeRefused → Machine → Type 0
+TakesJob old (Ok (Some number)) new = (job : JobValue) × (job.number ≡ number) × AnswersTake old (Ok (Some job)) new
+TakesJob old (Ok None) new = AnswersTake old (Ok None) new
+TakesJob old (Err JobsSpent) new = AnswersTake old (Err JobsSpent) new
+TakesJob old (Err Memory) new = ⊥
+
+-- no job of the number is out, and nothing changes
+abbrev pub IsNotOut : Machine → ℕ → Machine → Type 0
+IsNotOut old number new = All (λ job. job.number ≡ number → ⊥) (taken_of old) × (new ≡ old)
+
+-- the job of the number was taken
+abbrev pub IsTaken : Machine → ℕ → JobValue → Type 0
+IsTaken machine number job = (job.number ≡ number) × Contains (taken_of machine) job
+
+-- the job of the number is decoded as it was taken, and its result lands
+abbrev pub LandsJob : Machine → ℕ → Result Landing NotOut → Machine → Type 0
+LandsJob old number (Ok landing) new = (job : JobValue) × IsTaken old number job × AnswersLand old job landing new
+LandsJob old number (Err none) new = IsNotOut old number new
+
+-- the job of the number is given back
+abbrev pub GivesJobBack : Machine → ℕ → Result Returning NotOut → Machine → Type 0
+GivesJobBack old number (Ok returning) new =
+    (job : JobValue) × IsTaken old number job × AnswersGiveBack old job returning new
+GivesJobBack old number (Err none) new = IsNotOut old number new
 
 -- the reply to a command, from the state before it to the state after it: a line for each command, which says what its
 -- reply is
@@ -25,6 +61,14 @@ Answers old (commands.Edit edit) reply new =
 Answers old (commands.Unit id) reply new =
     (answer : Result UnitReport NoSuchUnit) × (reply ≡ replies.Unit answer) × Reports old.register.stream id answer
     × (new ≡ old)
+Answers old commands.Take reply new =
+    (answer : Result (Option ℕ) TakeRefused) × (reply ≡ replies.Take answer) × TakesJob old answer new
+Answers old (commands.Land number) reply new =
+    (answer : Result Landing NotOut) × (reply ≡ replies.Land answer) × LandsJob old number answer new
+Answers old (commands.GiveBack number) reply new =
+    (answer : Result Returning NotOut) × (reply ≡ replies.GiveBack answer) × GivesJobBack old number answer new
+Answers old (commands.Show id) reply new =
+    (answer : Shown) × (reply ≡ replies.Show answer) × Shows old id answer × (new ≡ old)
 
 -- each command has its reply, in turn
 abbrev pub Runs : Machine → List Command → List Reply → Machine → Type 0

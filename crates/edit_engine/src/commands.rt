@@ -13,6 +13,14 @@ pub enum Command {
     Edit(Edit),
     /// To say what becomes of the unit of this id.
     Unit(AuId),
+    /// To give a picture to decode.
+    Take,
+    /// To decode the job of this number, which is out, and to take its result.
+    Land(u64),
+    /// To take the job of this number back undone.
+    GiveBack(u64),
+    /// To show the unit of this id.
+    Show(AuId),
 }
 
 impl Command {
@@ -23,6 +31,10 @@ impl Command {
         match self {
             Command::Edit(edit) => Ok(Command::Edit(edit.copy()?)),
             Command::Unit(id) => Ok(Command::Unit(*id)),
+            Command::Take => Ok(Command::Take),
+            Command::Land(number) => Ok(Command::Land(*number)),
+            Command::GiveBack(number) => Ok(Command::GiveBack(*number)),
+            Command::Show(id) => Ok(Command::Show(*id)),
         }
     }
 }

@@ -89,3 +89,8 @@ impl<T: Drop> From<AllocFailed<T>> for EditRefused {
 #[derive(Clone, Copy, Debug, PartialEq, Eq, Hash, Error)]
 #[error("no unit has the id")]
 pub struct NoSuchUnit;
+
+/// No job that is out has the number.
+#[derive(Clone, Copy, Debug, PartialEq, Eq, Hash, Error)]
+#[error("no job of the number is out")]
+pub struct NotOut;

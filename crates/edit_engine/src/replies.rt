@@ -1,8 +1,10 @@
 //! Replies to commands.
 
 use crate::receipts::Receipt;
-use crate::refusals::{EditRefused, NoSuchUnit};
+use crate::refusals::{EditRefused, NoSuchUnit, NotOut};
+use crate::showing::Shown;
 use outcomes::Outcome;
+use picture_store::{Landing, Returning, TakeRefused};
 
 /// What a command is answered, by the variant of the command's name.
 #[derive(Debug, Drop)]
@@ -11,6 +13,14 @@ pub enum Reply {
     Edit(Result<Receipt, EditRefused>),
     /// What becomes of the unit.
     Unit(Result<UnitReport, NoSuchUnit>),
+    /// The number of the job, `None` where no picture is due, or that all numbers of jobs were given.
+    Take(Result<Option<u64>, TakeRefused>),
+    /// What became of the job's result.
+    Land(Result<Landing, NotOut>),
+    /// What became of the job.
+    GiveBack(Result<Returning, NotOut>),
+    /// What is shown of the unit.
+    Show(Shown),
 }
 
 /// What becomes of a unit, and its position in output order where it is valid.

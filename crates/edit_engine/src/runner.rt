@@ -1,10 +1,12 @@
 //! Commands followed on a session.
 
-ghost use Rattle.std.specs.Prelude.{◌≡◌, ◌≤◌, IfOk, OnErr};
+ghost use Rattle.std.specs.Prelude.{◌≡◌, ◌≤◌, [], IfOk, OnErr};
 ghost use Rattle.edit_engine.specs.Runs.{Answers, IsRun, Reports};
 
 use crate::commands::Command;
 use crate::config::Config;
+use crate::held_job::HeldJob;
+use crate::jobs::{give_back, land, take};
 use crate::refusals::NoSuchUnit;
 use crate::replies::{Reply, UnitReport};
 use crate::session::Session;
@@ -12,11 +14,12 @@ use pictures::AuId;
 use std::alloc::{AllocError, Global};
 use std::marker::Model;
 
-/// A session that follows commands, one at a time. Clauses see it as the session.
+/// A session that follows commands, one at a time, with the jobs that are out. Clauses see it as the session.
 #[derive(Debug, Drop)]
 pub struct Runner {
     alloc: Global,
     session: Session,
+    jobs: Vec<HeldJob>,
 }
 
 impl Model for Runner {
@@ -29,15 +32,24 @@ impl Model for Runner {
 
     ghost coded = { Prim.hlevel (codes, tree_code works.the_row.coded) };
 
+    ghost use Rattle.edit_engine.specs.Taken.{AreOut};
+
     ghost view = { λ runner. runner.session };
+
+    ghost invariant = { λ runner. AreOut runner.jobs.items runner.session };
 }
 
 impl Runner {
-    /// A runner that goes on with the session.
+    /// A runner that goes on with the session, of which no job is out.
     pub fn new(alloc: Global, session: Session) -> Runner
+        requires { session.out ≡ [] }
         ensures { result ≡ session }
     {
-        Runner { alloc, session }
+        Runner {
+            alloc,
+            session,
+            jobs: Vec::new(alloc),
+        }
     }
 
     /// Follows a command and answers it. An edit that wants memory is answered so; where anything else wants memory,
@@ -49,6 +61,16 @@ impl Runner {
         match command {
             Command::Edit(edit) => Ok(Reply::Edit(self.session.edit(edit))),
             Command::Unit(id) => Ok(Reply::Unit(report(self.alloc, &self.session, id)?)),
+            Command::Take => Ok(Reply::Take(take(&mut self.session, &mut self.jobs)?)),
+            Command::Land(number) => {
+                let landed = land(self.alloc, &mut self.session, &mut self.jobs, number)?;
+                Ok(Reply::Land(landed))
+            }
+            Command::GiveBack(number) => {
+                let given = give_back(&mut self.session, &mut self.jobs, number);
+                Ok(Reply::GiveBack(given))
+            }
+            Command::Show(id) => Ok(Reply::Show(self.session.show(id))),
         }
     }
 

@@ -1,0 +1,23 @@
+-- The jobs that a runner has taken.
+use Rattle.std.specs.Prelude.{◌≡◌, ℕ, ◌<◌, ◌≤◌, List, [], ◌∷◌, map}
+use Rattle.stand_in_device.specs.Jobs.{JobValue}
+use Rattle.picture_store.specs.Stores.{OutValue}
+use Rattle.edit_engine.specs.Machines.{Machine}
+
+-- a job that is out, as it was taken
+abbrev pub as_taken : OutValue → JobValue
+as_taken job = record { number = job.number; input = job.input }
+
+-- the jobs that are out, as they were taken
+abbrev pub taken_of : Machine → List JobValue
+taken_of machine = map as_taken machine.out
+
+-- the numbers of jobs rise: the first is above one number, and the last isn't above another
+abbrev pub AreRising : ℕ → List JobValue → ℕ → Type 0
+AreRising least [] most = least ≤ most
+AreRising least (job ∷ jobs) most = (least < job.number) × AreRising job.number jobs most
+
+-- a runner has the jobs that are out, whose numbers rise
+pub record AreOut (jobs : List JobValue) (machine : Machine) : Type 0 where
+  pub same : jobs ≡ taken_of machine
+  pub rising : AreRising 0 jobs machine.jobs

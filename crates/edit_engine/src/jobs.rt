@@ -1,0 +1,106 @@
+//! Jobs that a runner takes, lands and gives back.
+
+ghost use Rattle.std.specs.Prelude.{◌≡◌, ◌<◌, length, All, IfOk, OnErr, MatchOption, slice_index_or};
+ghost use Rattle.stand_in_device.specs.Jobs.{JobValue};
+ghost use Rattle.edit_engine.specs.Runs.{GivesJobBack, LandsJob, TakesJob};
+ghost use Rattle.edit_engine.specs.Taken.{AreOut};
+
+use crate::held_job::HeldJob;
+use crate::refusals::NotOut;
+use crate::session::Session;
+use picture_store::{Landing, Returning, TakeRefused};
+use stand_in_device::{Device, Finished, Job, Undone};
+use std::alloc::{AllocError, Global};
+
+/// Takes a job, and gives its number.
+pub(crate) fn take(
+    session: &mut Session,
+    jobs: &mut Vec<HeldJob>,
+) -> Result<Result<Option<u64>, TakeRefused>, AllocError>
+    requires { AreOut jobs.old.items session.old }
+    ensures out { AreOut jobs.new.items session.new }
+    ensures ok { IfOk result (λ answer. TakesJob session.old answer session.new) }
+    ensures err { OnErr result (session.new ≡ session.old) }
+{
+    jobs.reserve(1)?;
+    match session.take() {
+        Ok(Some(job)) => {
+            let number = job.number();
+            jobs.push_reserved(HeldJob::new(job));
+            Ok(Ok(Some(number)))
+        }
+        Ok(None) => Ok(Ok(None)),
+        Err(TakeRefused::JobsSpent) => Ok(Err(TakeRefused::JobsSpent)),
+        Err(TakeRefused::Memory) => Err(AllocError),
+    }
+}
+
+/// Decodes the job of this number, if it is out, and lands its result.
+pub(crate) fn land(
+    alloc: Global,
+    session: &mut Session,
+    jobs: &mut Vec<HeldJob>,
+    number: u64,
+) -> Result<Result<Landing, NotOut>, AllocError>
+    requires { AreOut jobs.old.items session.old }
+    ensures out { AreOut jobs.new.items session.new }
+    ensures ok { IfOk result (λ answer. LandsJob session.old number answer session.new) }
+    ensures err { OnErr result (session.new ≡ session.old) }
+{
+    let Some(at) = place_of(jobs, number) else {
+        return Ok(Err(NotOut));
+    };
+    let finished = decode(alloc, jobs[at].copy(alloc)?)?;
+    drop(jobs.remove(at));
+    Ok(Ok(session.land(finished)))
+}
+
+/// Gives the job of this number back, if it is out.
+pub(crate) fn give_back(
+    session: &mut Session,
+    jobs: &mut Vec<HeldJob>,
+    number: u64,
+) -> Result<Returning, NotOut>
+    requires { AreOut jobs.old.items session.old }
+    ensures out { AreOut jobs.new.items session.new }
+    ensures gives { GivesJobBack session.old number result session.new }
+{
+    match place_of(jobs, number) {
+        Some(at) => Ok(session.give_back(jobs.remove(at).into_job())),
+        None => Err(NotOut),
+    }
+}
+
+/// The place of the first job of this number.
+fn place_of(jobs: &[HeldJob], number: u64) -> Option<usize>
+    ensures { MatchOption result
+        (All (λ job. job.number ≡ number → ⊥) jobs.now)
+        (λ at. (at < length jobs.now)
+        × ((other : JobValue) → (slice_index_or jobs.now at other).number ≡ number)) }
+{
+    for (at, job) in jobs.iter().enumerate() {
+        if job.number() == number {
+            return Some(at);
+        }
+    }
+    None
+}
+
+/// Decodes a job.
+fn decode(alloc: Global, job: Job) -> Result<Finished, AllocError>
+    ensures { IfOk result (λ finished. finished ≡ job) }
+{
+    let mut device = Device::new(alloc);
+    match device.decode(alloc, job) {
+        Ok(finished) => Ok(finished),
+        Err(undone) => Err(cause_of(undone)),
+    }
+}
+
+/// Why a job is undone; the job is spent.
+fn cause_of(undone: Undone) -> AllocError {
+    let Undone { job, cause } = undone;
+    let (_, input) = job.into_parts();
+    drop(input);
+    cause
+}

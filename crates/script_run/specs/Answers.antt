@@ -1,5 +1,5 @@
 -- The lines that answer the commands of a script (docs/OUTPUT.md).
-use Rattle.std.specs.Prelude.{ℕ, ◌++◌, List, codes, decimal, Result, Ok, Err}
+use Rattle.std.specs.Prelude.{ℕ, ◌++◌, List, [], codes, decimal, Result, Ok, Err}
 use Rattle.edit_engine.specs.declared.receipts.Receipt.{Receipt}
 use Rattle.edit_engine.specs.declared.refusals.EditRefused.{EditRefused}
 use Rattle.edit_engine.specs.declared.refusals.NoSuchUnit.{NoSuchUnit}
@@ -39,7 +39,9 @@ abbrev pub report_lines : ℕ → Result UnitReport NoSuchUnit → List ℕ
 report_lines number (Ok report) = outcome_lines (id_of number) report.position report.outcome
 report_lines number (Err none) = no_unit_line number
 
--- the lines of a session's reply; that of a unit names the number that was asked for
+-- the lines of a session's reply; that of a unit names the number that was asked for, and to what no line of a script
+-- asks for there are none
 abbrev pub reply_lines : ℕ → Reply → List ℕ
 reply_lines number (replies.Edit answer) = edit_line answer
 reply_lines number (replies.Unit report) = report_lines number report
+reply_lines number reply = []

@@ -66,7 +66,7 @@ fn insert_last(alloc: Global, unit: &Unit, runner: &mut Runner) -> Result<Receip
     let edit = Edit::Insert(place, text_of(alloc, unit.nals())?);
     match runner.step(Told::Edit(edit))? {
         Reply::Edit(answer) => answer,
-        Reply::Unit(_) => unreachable!(),
+        _ => unreachable!(),
     }
 }
 

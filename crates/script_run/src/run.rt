@@ -139,6 +139,10 @@ fn follow(alloc: Global, runner: &mut Runner, told: Told, number: u64) -> Result
         Reply::Edit(Ok(receipt)) => AcceptedLine(receipt).to_string(alloc),
         Reply::Edit(Err(refused)) => RefusedLine(refused).to_string(alloc),
         Reply::Unit(report) => report_lines(alloc, number, &report),
+        // No line of a script asks for these.
+        Reply::Take(_) | Reply::Land(_) | Reply::GiveBack(_) | Reply::Show(_) => {
+            Ok(String::new(alloc))
+        }
     }
 }
 

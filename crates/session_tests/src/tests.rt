@@ -1,4 +1,8 @@
+ghost use Rattle.std.specs.Prelude.{◌≡◌};
+ghost use Rattle.edit_engine.specs.Machines.{empty};
+
 mod edits;
+mod jobs;
 mod limits;
 mod random;
 mod refused;
@@ -32,8 +36,17 @@ fn row_holds(rt: &impl Abort, row: usize, holds: bool) {
 }
 
 /// A session with an empty stream.
-fn empty_session(rt: &(impl Abort + AllocGlobal)) -> Session {
-    match Session::new(rt.alloc(), Config { cache: 64 }) {
+fn empty_session(rt: &(impl Abort + AllocGlobal)) -> Session
+    ensures { result ≡ empty 64 }
+{
+    session_of(rt, 64)
+}
+
+/// A session with an empty stream, and with room for so many pictures in its cache.
+fn session_of(rt: &(impl Abort + AllocGlobal), cache: u16) -> Session
+    ensures { result ≡ empty cache }
+{
+    match Session::new(rt.alloc(), Config { cache }) {
         Ok(session) => session,
         Err(_) => panic!(rt; "no session is made"),
     }

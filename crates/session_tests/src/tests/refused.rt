@@ -97,6 +97,7 @@ fn is_answer_of_run(reply: &Reply) -> bool {
         Reply::Edit(Err(refused)) => *refused == EditRefused::Memory,
         Reply::Edit(Ok(receipt)) => receipt.steps <= 2,
         Reply::Unit(_) => true,
+        _ => false,
     }
 }
 

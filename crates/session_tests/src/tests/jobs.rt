@@ -1,0 +1,273 @@
+//! Jobs, results and pictures, through a runner.
+
+use super::{A, I, P1, P2, Told, edit_of, row_holds, session_of};
+use edit_engine::{Command, Landing, NotOut, Picture, Reply, Returning, Runner, Shown};
+use pictures::AuId;
+use std::alloc::AllocError;
+use std::test::Fail;
+
+/// P1 with one byte more of slice data.
+const P1X: &[u8] = &[0, 0, 1, 0x41, 0x9A, 0x23, 0x80];
+
+/// A P picture with frame_num 2 that is no reference, and the same with other slice data.
+const NON_REFERENCE: &[u8] = &[0, 0, 1, 0x01, 0x9A, 0x47];
+const OTHER_NON_REFERENCE: &[u8] = &[0, 0, 1, 0x01, 0x9A, 0x46];
+
+/// A with other slice data, twice.
+const A1: &[u8] = &[
+    0, 0, 1, 0x67, 0x42, 0x00, 0x0A, 0xDA, 0x79, 0, 0, 1, 0x68, 0xCE, 0x38, 0x80, 0, 0, 1, 0x65,
+    0x88, 0x84, 0x81,
+];
+const A2: &[u8] = &[
+    0, 0, 1, 0x67, 0x42, 0x00, 0x0A, 0xDA, 0x79, 0, 0, 1, 0x68, 0xCE, 0x38, 0x80, 0, 0, 1, 0x65,
+    0x88, 0x84, 0x82,
+];
+
+/// The picture of A alone: the SHA-256 of 2,055 bytes put together by hand, by Python's hashlib.
+const PICTURE_OF_A: [u8; 32] = [
+    0x0A, 0xC6, 0xF5, 0xC6, 0xBC, 0x06, 0x4C, 0x43, 0x63, 0x09, 0xC1, 0x8B, 0x3D, 0x1B, 0x60, 0x5A,
+    0xD6, 0x0F, 0x7D, 0xE3, 0x72, 0x40, 0x81, 0xB8, 0x4F, 0xF0, 0x1A, 0xAC, 0x2C, 0x39, 0x54, 0xCF,
+];
+
+/// What a runner is told, and what it has to answer.
+#[derive(Clone, Copy)]
+enum Act {
+    /// An edit that is accepted.
+    Edit(Told),
+    Take(u64),
+    TakesNone,
+    Land(u64, Landing),
+    LandsNone(u64),
+    Give(u64),
+    GivesNone(u64),
+    Ready(u32),
+    Pending(u32),
+    Fault(u32, u8),
+    Gone(u32),
+    /// Jobs are taken and landed until none is due.
+    Settle,
+}
+
+/// A unit in the middle is deleted, and inserted again: what comes after it has its picture again.
+const DELETE_AND_REPAIR: &[Act] = &[
+    Act::Edit(Told::First(A)),
+    Act::Edit(Told::After(1, P1)),
+    Act::Edit(Told::After(2, P2)),
+    Act::Settle,
+    Act::Ready(1),
+    Act::Ready(2),
+    Act::Ready(3),
+    Act::Edit(Told::Delete(2)),
+    Act::Gone(2),
+    Act::Fault(3, 11),
+    Act::Edit(Told::After(1, P1)),
+    Act::Ready(3),
+    Act::Ready(4),
+];
+
+/// A unit with other slice data, and what refers to it.
+const REPLACE: &[Act] = &[
+    Act::Edit(Told::First(A)),
+    Act::Edit(Told::After(1, P1)),
+    Act::Edit(Told::After(2, P2)),
+    Act::Settle,
+    Act::Edit(Told::Replace(2, P1X)),
+    Act::Ready(1),
+    Act::Pending(2),
+    Act::Pending(3),
+    Act::Settle,
+    Act::Ready(3),
+];
+
+/// A picture that nothing refers to changes alone.
+const NON_REFERENCES: &[Act] = &[
+    Act::Edit(Told::First(A)),
+    Act::Edit(Told::After(1, P1)),
+    Act::Edit(Told::After(2, NON_REFERENCE)),
+    Act::Edit(Told::After(3, P2)),
+    Act::Settle,
+    Act::Edit(Told::Replace(3, OTHER_NON_REFERENCE)),
+    Act::Ready(1),
+    Act::Ready(2),
+    Act::Pending(3),
+    Act::Ready(4),
+];
+
+/// Results that come late, for what is no longer there and for what is there again.
+const STALE_AND_LATE: &[Act] = &[
+    Act::Edit(Told::First(A)),
+    Act::Edit(Told::After(1, P1)),
+    Act::Take(1),
+    Act::TakesNone,
+    Act::Land(1, Landing::Taken),
+    Act::Take(2),
+    Act::Edit(Told::Replace(2, P1X)),
+    Act::Land(2, Landing::Stale),
+    Act::Pending(2),
+    Act::Take(3),
+    Act::Edit(Told::Replace(2, P1)),
+    Act::Edit(Told::Replace(2, P1X)),
+    Act::Land(3, Landing::Taken),
+    Act::Ready(2),
+    Act::LandsNone(3),
+];
+
+/// Two units with one picture.
+const EQUAL_UNITS: &[Act] = &[
+    Act::Edit(Told::First(A)),
+    Act::Edit(Told::After(1, I)),
+    Act::Take(1),
+    Act::TakesNone,
+    Act::Pending(1),
+    Act::Pending(2),
+    Act::Land(1, Landing::Taken),
+    Act::Ready(1),
+    Act::Ready(2),
+    Act::TakesNone,
+];
+
+/// A job that is given back is given again, under another number.
+const GIVEN_BACK: &[Act] = &[
+    Act::TakesNone,
+    Act::Gone(1),
+    Act::Edit(Told::First(A)),
+    Act::Take(1),
+    Act::Give(1),
+    Act::Take(2),
+    Act::GivesNone(1),
+    Act::LandsNone(1),
+    Act::Land(2, Landing::Taken),
+    Act::Ready(1),
+];
+
+/// With room for one picture in the cache, the one that went last is still there.
+const CACHE_OF_ONE: &[Act] = &[
+    Act::Edit(Told::First(A)),
+    Act::Settle,
+    Act::Edit(Told::Replace(1, A1)),
+    Act::Settle,
+    Act::Edit(Told::Replace(1, A2)),
+    Act::Settle,
+    Act::Edit(Told::Replace(1, A)),
+    Act::Pending(1),
+    Act::Edit(Told::Replace(1, A1)),
+    Act::Pending(1),
+    Act::Edit(Told::Replace(1, A2)),
+    Act::Ready(1),
+];
+
+/// What runners are told, and for how many pictures their caches have room.
+const ROWS: &[(u16, &[Act])] = &[
+    (64, DELETE_AND_REPAIR),
+    (64, REPLACE),
+    (64, NON_REFERENCES),
+    (64, STALE_AND_LATE),
+    (64, EQUAL_UNITS),
+    (64, GIVEN_BACK),
+    (1, CACHE_OF_ONE),
+];
+
+/// The command of an act that is one command.
+fn command_of(act: Act) -> Command {
+    match act {
+        Act::Edit(told) => Command::Edit(edit_of(told)),
+        Act::Take(_) | Act::TakesNone | Act::Settle => Command::Take,
+        Act::Land(number, _) | Act::LandsNone(number) => Command::Land(number),
+        Act::Give(number) | Act::GivesNone(number) => Command::GiveBack(number),
+        Act::Ready(id) | Act::Pending(id) | Act::Fault(id, _) | Act::Gone(id) => {
+            Command::Show(AuId::new(id))
+        }
+    }
+}
+
+/// The reply is the one that the act has to have.
+fn is_reply(reply: &Reply, act: Act) -> bool {
+    match (reply, act) {
+        (Reply::Edit(answer), Act::Edit(_)) => answer.is_ok(),
+        (Reply::Take(Ok(taken)), Act::Take(number)) => *taken == Some(number),
+        (Reply::Take(Ok(taken)), Act::TakesNone) => taken.is_none(),
+        (Reply::Land(Ok(landing)), Act::Land(_, wanted)) => *landing == wanted,
+        (Reply::Land(Err(NotOut)), Act::LandsNone(_)) => true,
+        (Reply::GiveBack(Ok(returning)), Act::Give(_)) => *returning == Returning::Returned,
+        (Reply::GiveBack(Err(NotOut)), Act::GivesNone(_)) => true,
+        (Reply::Show(shown), act) => is_shown(*shown, act),
+        _ => false,
+    }
+}
+
+/// What is shown is what the act has to have.
+fn is_shown(shown: Shown, act: Act) -> bool {
+    match (shown, act) {
+        (Shown::Ready(_), Act::Ready(_)) => true,
+        (Shown::Pending, Act::Pending(_)) => true,
+        (Shown::Fault(fault), Act::Fault(_, number)) => fault.number() == number,
+        (Shown::NoSuchUnit, Act::Gone(_)) => true,
+        _ => false,
+    }
+}
+
+/// Takes and lands jobs until none is due, at most a hundred; whether that came to its end.
+fn settle(runner: &mut Runner) -> Result<bool, AllocError> {
+    for _ in 0..100 {
+        let Some(number) = taken(runner)? else {
+            return Ok(true);
+        };
+        runner.step(Command::Land(number))?;
+    }
+    Ok(false)
+}
+
+/// The number of the job that is taken, if one is.
+fn taken(runner: &mut Runner) -> Result<Option<u64>, AllocError> {
+    match runner.step(Command::Take)? {
+        Reply::Take(Ok(taken)) => Ok(taken),
+        _ => Ok(None),
+    }
+}
+
+/// The runner answers the act so.
+fn holds(runner: &mut Runner, act: Act) -> Result<bool, AllocError> {
+    match act {
+        Act::Settle => settle(runner),
+        _ => Ok(is_reply(&runner.step(command_of(act))?, act)),
+    }
+}
+
+/// The runner answers all acts so.
+fn all_hold(mut runner: Runner, acts: &[Act]) -> Result<bool, AllocError> {
+    for act in acts {
+        if !holds(&mut runner, *act)? {
+            return Ok(false);
+        }
+    }
+    Ok(true)
+}
+
+#[test]
+fn jobs_and_pictures(rt: HostRuntime) -> Result<(), Fail> {
+    for (row, (room, acts)) in ROWS.iter().enumerate() {
+        let runner = Runner::new(rt.alloc(), session_of(&rt, *room));
+        row_holds(&rt, row, all_hold(runner, acts)?);
+    }
+    Ok(())
+}
+
+/// Whether the picture of A, decoded, is this one.
+fn shows_a(mut runner: Runner, picture: Picture) -> Result<bool, AllocError> {
+    runner.step(Command::Edit(edit_of(Told::First(A))))?;
+    settle(&mut runner)?;
+    match runner.step(Command::Show(AuId::new(1)))? {
+        Reply::Show(shown) => Ok(shown == Shown::Ready(picture)),
+        _ => Ok(false),
+    }
+}
+
+#[test]
+fn shows_the_picture_of_an_idr_picture(rt: HostRuntime) -> Result<(), Fail> {
+    let runner = Runner::new(rt.alloc(), session_of(&rt, 64));
+    let picture = Picture {
+        digest: PICTURE_OF_A,
+    };
+    assert!(rt; shows_a(runner, picture)?);
+    Ok(())
+}

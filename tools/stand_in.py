@@ -102,8 +102,8 @@ def scaling_list(deltas, size):
     return entries
 
 
-def scaling_lists(traced_set, behind):
-    """The eight lists of a set that has some; those behind it take the place of what falls back."""
+def scaling_lists(traced_set, after):
+    """The eight lists of a set that has some; those after it take the place of what falls back."""
     sent, deltas = {}, None
     for name, value, _, _ in traced_set.fields:
         flag = re.match(r"(?:seq|pic)_scaling_list_present_flag\[(\d+)\]", name)
@@ -119,7 +119,7 @@ def scaling_lists(traced_set, behind):
         elif index in (1, 2, 4, 5):
             lists.append(lists[-1])
         else:
-            lists.append(behind[index])
+            lists.append(after[index])
     return lists, sent
 
 

@@ -12,16 +12,16 @@ module _ (text unit : List ℕ) (units : List (List ℕ)) (left : HasRest text (
   abbrev zeros : ℕ
   zeros = left.zeros
 
-  abbrev behind : List ℕ
-  behind = replicate left.rest_is.1.zeros 0 ++ left.rest_is.0
+  abbrev after : List ℕ
+  after = replicate left.rest_is.1.zeros 0 ++ left.rest_is.0
 
   -- they begin with a start code and the first of them
   pub text_is : text ≡ replicate left.zeros 0 ++ (start_code ++ (unit ++ (replicate left.rest_is.1.zeros 0 ++ left.rest_is.0)))
   text_is = left.text_is ∙ ap (λ l. replicate left.zeros 0 ++ l) left.rest_is.1.bytes_are
 
-  past_zeros : drop zeros text ≡ (start_code ++ unit) ++ behind
+  past_zeros : drop zeros text ≡ (start_code ++ unit) ++ after
   past_zeros =
-      ap (drop zeros) text_is ∙ drop_at (replicate zeros 0) (start_code ++ (unit ++ behind)) zeros (length-replicate {A = ℕ} zeros 0)
+      ap (drop zeros) text_is ∙ drop_at (replicate zeros 0) (start_code ++ (unit ++ after)) zeros (length-replicate {A = ℕ} zeros 0)
 
   coded_length : length (start_code ++ unit) ≡ 3 + length unit
   coded_length = length-append start_code unit
@@ -30,21 +30,21 @@ module _ (text unit : List ℕ) (units : List (List ℕ)) (left : HasRest text (
   zeros_in_range = omega (
     arith,
     ap length text_is,
-    length-append (replicate zeros 0) (start_code ++ (unit ++ behind)),
+    length-append (replicate zeros 0) (start_code ++ (unit ++ after)),
     length-replicate {A = ℕ} zeros 0,
   )
 
   pub coded_in_range : 3 + length unit ≤ length (drop left.zeros text)
-  coded_in_range = omega (arith, ap length past_zeros, length-append (start_code ++ unit) behind, coded_length)
+  coded_in_range = omega (arith, ap length past_zeros, length-append (start_code ++ unit) after, coded_length)
 
   pub coded_is : take (3 + length unit) (drop left.zeros text) ≡ start_code ++ unit
-  coded_is = ap (take (3 + length unit)) past_zeros ∙ take_at (start_code ++ unit) behind (3 + length unit) coded_length
+  coded_is = ap (take (3 + length unit)) past_zeros ∙ take_at (start_code ++ unit) after (3 + length unit) coded_length
 
   pub rest_is : HasRest (drop (3 + length unit) (drop left.zeros text)) units
   rest_is = record {
     zeros = left.rest_is.1.zeros;
     rest = left.rest_is.0;
-    text_is = ap (drop (3 + length unit)) past_zeros ∙ drop_at (start_code ++ unit) behind (3 + length unit) coded_length;
+    text_is = ap (drop (3 + length unit)) past_zeros ∙ drop_at (start_code ++ unit) after (3 + length unit) coded_length;
     rest_is = left.rest_is.2;
   }
 
@@ -66,14 +66,14 @@ zero_before zero rest (suc (suc at)) here = absurd (omega arith)
 zero_before (suc zeros) rest zero here = refl
 zero_before (suc zeros) rest (suc at) here = zero_before zeros rest at (omega arith)
 
-one_behind : (zeros : ℕ) (rest : List ℕ) → get_or (replicate zeros 0 ++ (start_code ++ rest)) (suc (suc zeros)) 0 ≡ 1
-one_behind zero rest = refl
-one_behind (suc zeros) rest = one_behind zeros rest
+one_after : (zeros : ℕ) (rest : List ℕ) → get_or (replicate zeros 0 ++ (start_code ++ rest)) (suc (suc zeros)) 0 ≡ 1
+one_after zero rest = refl
+one_after (suc zeros) rest = one_after zeros rest
 
 -- the first byte that isn't 0 ends the start code
 module _ (text : List ℕ) (zeros : ℕ) (rest : List ℕ) (text_is : text ≡ replicate zeros 0 ++ (start_code ++ rest)) where
   one_at : get_or text (suc (suc zeros)) 0 ≡ 1
-  one_at = ap (λ l. get_or l (suc (suc zeros)) 0) text_is ∙ one_behind zeros rest
+  one_at = ap (λ l. get_or l (suc (suc zeros)) 0) text_is ∙ one_after zeros rest
 
   one_in_range : zeros + 2 < length text
   one_in_range = omega (

@@ -104,7 +104,8 @@ fn read_parts(
         .map(
             |range: &Range<usize>| -> Result<Unit, Refused>
                 requires { HasUnitsAt nals.now range.now }
-                ensures { IsReadAs (joined (slice_range nals.entry.now range.now.start range.now.end)) result }
+                ensures { IsReadAs
+                    (joined (slice_range nals.entry.now range.now.start range.now.end)) result }
             { read_part(alloc, &nals[range.start..range.end]) },
         )
         .collect(rt, alloc)

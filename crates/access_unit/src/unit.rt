@@ -97,7 +97,8 @@ pub fn read_shared(alloc: Global, text: &Bytes) -> Result<Unit, Refused>
 fn nals_of(alloc: Global, text: &[u8]) -> Result<Vec<Nal<'_>>, Refused>
     ensures ok { IfOk result (λ nals. IsShortText text.now nals.items) }
     ensures err { IfErr result (λ refused. (refused ≡ Memory) ⊎ IsRefused text.now refused) }
-    ensures memory { IsErrOf result Refused.Memory → (units : List (List ℕ)) × IsShortText text.now units }
+    ensures memory { IsErrOf result Refused.Memory → (units : List (List ℕ))
+        × IsShortText text.now units }
 {
     if text.len() > MOST_BYTES {
         return Err(Refused::TooLarge);

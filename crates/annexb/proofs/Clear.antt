@@ -104,7 +104,7 @@ module _ (unit rest : List ℕ) (count : ℕ) (is_unit : IsUnit unit) (ends : En
   clear_piece (suc (suc zero)) below = record { allowed = refl; filled = refl }
   clear_piece (suc (suc (suc place))) below = ⊎_elim
       (λ inside. clear_in_unit unit (IsTail-from_unit unit is_unit) place inside)
-      (λ behind. let past = place - length unit in
+      (λ after. let past = place - length unit in
       let there : length unit + past ≡ place = omega arith in
       rw there at (rw (drop-drop past (length unit) (unit ++ (replicate count 0 ++ rest))) at (rw (← (drop_at unit (replicate count 0 ++ rest) (length unit) refl)) at (clear_in_zeros rest ends count past (omega arith)))))
       (cases_lt place (length unit))
@@ -122,9 +122,9 @@ drop_piece unit rest count =
     ∙ drop_at piece rest (3 + length unit + count) (omega (arith, length-append unit (replicate count 0), length-replicate {A = ℕ} count 0))
 
 -- what stands after a front is clear from its own front on
-clear_behind : (front bytes : List ℕ) (size place : ℕ) → drop size front ≡ bytes → size ≤ place
+clear_after : (front bytes : List ℕ) (size place : ℕ) → drop size front ≡ bytes → size ≤ place
     → ((past : ℕ) → IsClear (drop past bytes)) → IsClear (drop place front)
-clear_behind front bytes size place e behind clear =
+clear_after front bytes size place e after clear =
     let past = place - size in
     let there : size + past ≡ place = omega arith in
     rw there at (rw (drop-drop past size front) at (rw (← e) at (clear past)))
@@ -133,13 +133,13 @@ pub clear_units : (bytes : List ℕ) (units : List (List ℕ)) → AreUnits byte
 clear_units bytes [] h place = rw (h, drop_all {X = ℕ} place [] (omega arith)) (record { allowed = refl; filled = refl })
 clear_units bytes (unit ∷ units) (rest, begins, more) place = ⊎_elim
     (λ inside. rw begins.bytes_are (clear_piece unit rest begins.zeros begins.unit_is (EndsZeros-units rest units more) place inside))
-    (λ behind. clear_behind bytes rest (3 + length unit + begins.zeros) place (ap (drop (3 + length unit + begins.zeros)) begins.bytes_are ∙ drop_piece unit rest begins.zeros) behind (clear_units rest units more))
+    (λ after. clear_after bytes rest (3 + length unit + begins.zeros) place (ap (drop (3 + length unit + begins.zeros)) begins.bytes_are ∙ drop_piece unit rest begins.zeros) after (clear_units rest units more))
     (cases_lt place (3 + length unit + begins.zeros))
 
 pub clear_text : (text : List ℕ) (units : List (List ℕ)) → HasUnits text units → (place : ℕ) → IsClear (drop place text)
 clear_text text units h place = ⊎_elim
     (λ inside. rw h.text_is (clear_in_zeros h.rest (EndsZeros-units h.rest units h.rest_is) h.zeros place inside))
-    (λ behind. clear_behind text h.rest h.zeros place (ap (drop h.zeros) h.text_is ∙ drop_at (replicate h.zeros 0) h.rest h.zeros (length-replicate h.zeros 0)) behind (clear_units h.rest units h.rest_is))
+    (λ after. clear_after text h.rest h.zeros place (ap (drop h.zeros) h.text_is ∙ drop_at (replicate h.zeros 0) h.rest h.zeros (length-replicate h.zeros 0)) after (clear_units h.rest units h.rest_is))
     (cases_lt place h.zeros)
 
 -- and it begins with zeros or none and a start code

@@ -37,7 +37,7 @@ begins_with unit part (next ∷ units) = ⊎_elim
 IsWhole-push : (part : List (List ℕ)) (unit : List ℕ) → IsWhole part → is_boundary part unit ≡ false → IsWhole (part ++ unit ∷ [])
 IsWhole-push part unit whole none at below = ⊎_elim
     (λ inside. rw (take-append-le at part (unit ∷ []) (omega arith), get_or_append_left part (unit ∷ []) [] at inside) (whole at inside))
-    (λ behind. let last : length part ≡ at = omega (arith, length-append part (unit ∷ [])) in
+    (λ after. let last : length part ≡ at = omega (arith, length-append part (unit ∷ [])) in
     rw (take_at part (unit ∷ []) at last, get_or_at part unit [] [] at last) none)
     (cases_lt at (length part))
 

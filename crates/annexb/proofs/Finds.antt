@@ -10,13 +10,13 @@ use Rattle.annexb.specs.Search.{IsScanned, EndsUnit, IsFoundAt, IsFaultFrom}
 use Rattle.annexb.proofs.Tails.{IsUnit-from_scanned}
 use Rattle.annexb.proofs.ZeroRuns.{ends_unit-end, ends_unit-code}
 
-module _ (text : List ℕ) (at : ℕ) (behind : FollowsStartCode text at) where
+module _ (text : List ℕ) (at : ℕ) (after : FollowsStartCode text at) where
   -- the byte before the place is the 01 of the start code
   one_before : (before : ℕ) → before + 1 ≡ at → get_or text before 0 ≢ 0
   one_before before e zero_there =
-      let third : get_or text (behind.start + 2) 0 ≡ 1 = sym (get_or-drop behind.start text 2 0) ∙ ap (λ l. get_or l 2 0) behind.code in
-      let there : before ≡ behind.start + 2 = omega (arith, behind.place) in
-      let both : get_or text (behind.start + 2) 0 ≡ 0 = rw there at zero_there in
+      let third : get_or text (after.start + 2) 0 ≡ 1 = sym (get_or-drop after.start text 2 0) ∙ ap (λ l. get_or l 2 0) after.code in
+      let there : before ≡ after.start + 2 = omega (arith, after.place) in
+      let both : get_or text (after.start + 2) 0 ≡ 0 = rw there at zero_there in
       omega arith
 
   -- a forbidden run past scanned bytes

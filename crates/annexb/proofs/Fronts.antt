@@ -82,12 +82,12 @@ module _ (bytes : List ℕ) (limit : ℕ) where
       (λ k below escaped. let there = in_front k (omega arith) escaped in
       first.before k (omega arith) below (OccursAt-from_drop front (0 ∷ 0 ∷ 3 ∷ []) there.0 k (omega arith) there.1)) e in
       let past : at + 2 + 1 ≡ at + 3 = omega arith in
-      let behind : drop (at + 3) bytes ≡ rest = sym (drop-drop 3 at bytes) ∙ ap (drop 3) e in
+      let after : drop (at + 3) bytes ≡ rest = sym (drop-drop 3 at bytes) ∙ ap (drop 3) e in
       record {
         below = omega arith;
         in_range = omega arith;
         begins = (payload_of rest, whole);
-        left_out = λ _ _. rw (past, behind) whole;
+        left_out = λ _ _. rw (past, after) whole;
         ends = λ end. absurd (omega arith);
       }
 

@@ -113,22 +113,22 @@ one_fault text Memory (EmptyUnit b) (units, h) (here, allowed, sound) = absurd (
 one_fault text Memory Memory h h' = refl
 
 -- after a start code, before which the text is clear
-module _ (text : List ℕ) (at : ℕ) (behind : FollowsStartCode text at) (clear : (place : ℕ) → place + 3 < at → IsClear (drop place text)) where
+module _ (text : List ℕ) (at : ℕ) (after : FollowsStartCode text at) (clear : (place : ℕ) → place + 3 < at → IsClear (drop place text)) where
   -- the bytes from a place of the start code on
-  in_code : (ahead : ℕ) → drop (behind.start + ahead) text ≡ drop ahead (start_code ++ drop at text)
-  in_code ahead = sym (drop-drop ahead behind.start text) ∙ ap (drop ahead) behind.code
+  in_code : (ahead : ℕ) → drop (after.start + ahead) text ≡ drop ahead (start_code ++ drop at text)
+  in_code ahead = sym (drop-drop ahead after.start text) ∙ ap (drop ahead) after.code
 
   -- each place before ours is before the start code, or one of its three
-  module _ (P : List ℕ → Type 0) (before : (place : ℕ) → place < behind.start → P (drop place text)) where
+  module _ (P : List ℕ → Type 0) (before : (place : ℕ) → place < after.start → P (drop place text)) where
     each_before : ((ahead : ℕ) → ahead < 3 → P (drop ahead (start_code ++ drop at text))) → (place : ℕ) → place < at → P (drop place text)
     each_before inside place below = ⊎_elim (before place) (λ from.
-        let ahead = place - behind.start in
-        let there : behind.start + ahead ≡ place = omega arith in
-        rw there at (rw (← in_code ahead) at (inside ahead (omega (arith, behind.place)))))
-        (cases_lt place behind.start)
+        let ahead = place - after.start in
+        let there : after.start + ahead ≡ place = omega arith in
+        rw there at (rw (← in_code ahead) at (inside ahead (omega (arith, after.place)))))
+        (cases_lt place after.start)
 
-  clear_before : (place : ℕ) → place < behind.start → IsClear (drop place text)
-  clear_before place below = clear place (omega (arith, behind.place))
+  clear_before : (place : ℕ) → place < after.start → IsClear (drop place text)
+  clear_before place below = clear place (omega (arith, after.place))
 
   -- no forbidden run stands before the place
   allowed_before : (place : ℕ) → place < at → begins_forbidden_run (drop place text) ≡ false
@@ -169,7 +169,7 @@ module _ (text : List ℕ) (at : ℕ) (behind : FollowsStartCode text at) (clear
         },
       )
   IsFaultOf-from_fault (EmptyUnit place) begins (same, here) = (
-    record { code = rw same behind; empty = rw same here },
+    record { code = rw same after; empty = rw same here },
     λ fault. both_ways _ (ends_unit-forbidden (drop at text) (rw same at fault.forbidden)) here,
     record {
       begins = begins;

@@ -56,7 +56,7 @@ module _ (bytes : List ℕ) (from : ℕ) (scanned : IsScanned bytes from) where
   scanned_to : (at : ℕ) → from ≤ at → at ≤ length bytes → NoZeros at → ((last : ℕ) → last + 1 ≡ at → from < at → get_or bytes last 0 ≢ 0) → IsScanned bytes at
   scanned_to at past in_range none ends = record {
     in_range = in_range;
-    allowed = λ place below. ⊎_elim (λ before. scanned.allowed place before) (λ behind. begins_forbidden-plain (drop place bytes) (none place behind below)) (cases_lt place from);
+    allowed = λ place below. ⊎_elim (λ before. scanned.allowed place before) (λ after. begins_forbidden-plain (drop place bytes) (none place after below)) (cases_lt place from);
     ends = λ last e zero_there. ⊎_elim (λ same. scanned.ends last (e ∙ same) zero_there) (λ other. ends last e (omega arith) zero_there) (cases_eq at from);
   }
 

@@ -14,7 +14,7 @@ pub record IsSplitTo (text : List ℕ) (next : Option ℕ) (is_stored : Bool) (i
   pub stored : is_stored ≡ true → items ≡ found
   pub whole : (more : List (List ℕ)) → AreUnits (from_code text next) more → HasUnits text (found ++ more)
   pub begins : begins_with_start_code text ≡ true
-  pub behind : IfSome next (FollowsStartCode text)
+  pub after : IfSome next (FollowsStartCode text)
   pub clear : IfSome next (λ at. (place : ℕ) → place + 3 < at → IsClear (drop place text))
 
 -- how much of the text is left
@@ -51,7 +51,7 @@ module _ (text : List ℕ) (first : ℕ) (h : IsFirstUnit text (Some first)) whe
     stored = λ _. refl;
     whole = λ more units. record { zeros = zero_run text - 2; rest = start_code ++ drop first text; text_is = text_split; rest_is = units; filled = filled_units (drop first text) more units };
     begins = h.0;
-    behind = record {
+    after = record {
       start = zero_run text - 2;
       place = omega (arith, enough, h.1);
       code = ap (drop (zero_run text - 2)) text_split ∙ drop_at (replicate (zero_run text - 2) 0) (start_code ++ drop first text) (zero_run text - 2) (length-replicate (zero_run text - 2) 0);
@@ -70,16 +70,16 @@ module _ (text : List ℕ) (at : ℕ) (is_stored : Bool) (items : List (List ℕ
       → BeginsWithUnit (start_code ++ drop at text) unit (start_code ++ drop next text) → (place : ℕ) → place + 3 < next
       → IsClear (drop place text)
   clear_more unit next in_range begins place below =
-      let start = split.behind.start in
+      let start = split.after.start in
       let rest = start_code ++ drop next text in
       let size : length (drop at text) ≡ length unit + begins.zeros + 3 + length (drop next text) =
       omega (arith, ap length begins.bytes_are, length-append unit (replicate begins.zeros 0 ++ rest), length-append (replicate begins.zeros 0) rest, length-replicate {A = ℕ} begins.zeros 0) in
-      let end : next ≡ at + length unit + begins.zeros + 3 = omega (arith, length-drop at text, length-drop next text, code_in_range text at split.behind) in
+      let end : next ≡ at + length unit + begins.zeros + 3 = omega (arith, length-drop at text, length-drop next text, code_in_range text at split.after) in
       ⊎_elim (split.clear place) (λ from.
       let ahead = place - start in
-      let there : start + ahead ≡ place = omega (arith, split.behind.place) in
-      let inside : ahead < 3 + length unit + begins.zeros = omega (arith, split.behind.place) in
-      rw there at (rw drop-drop at (rw (← split.behind.code) at (rw (← begins.bytes_are) at (clear_piece unit rest begins.zeros begins.unit_is a_code ahead inside)))))
+      let there : start + ahead ≡ place = omega (arith, split.after.place) in
+      let inside : ahead < 3 + length unit + begins.zeros = omega (arith, split.after.place) in
+      rw there at (rw drop-drop at (rw (← split.after.code) at (rw (← begins.bytes_are) at (clear_piece unit rest begins.zeros begins.unit_is a_code ahead inside)))))
       (cases_lt (place + 3) at)
 
   pub IsSplitTo-more : (unit : List ℕ) (next : Option ℕ) (is_stored' : Bool) (items' : List (List ℕ))
@@ -90,7 +90,7 @@ module _ (text : List ℕ) (at : ℕ) (is_stored : Bool) (items : List (List ℕ
     stored = λ yes. let both = stores yes in both.1 ∙ ap (λ l. l ++ unit ∷ []) (split.stored both.0);
     whole = λ more units. whole_more unit [] more found.begins units;
     begins = split.begins;
-    behind = tt;
+    after = tt;
     clear = tt;
   }
   IsSplitTo-more unit (Some next) is_stored' items' found stores = record {
@@ -98,7 +98,7 @@ module _ (text : List ℕ) (at : ℕ) (is_stored : Bool) (items : List (List ℕ
     stored = λ yes. let both = stores yes in both.1 ∙ ap (λ l. l ++ unit ∷ []) (split.stored both.0);
     whole = λ more units. whole_more unit (start_code ++ drop next text) more found.begins units;
     begins = split.begins;
-    behind = found.follows.1;
+    after = found.follows.1;
     clear = clear_more unit next (code_in_range text next found.follows.1) found.begins;
   }
 

@@ -25,7 +25,7 @@ zeros_split (suc n ∷ bytes) = refl
 
 -- a start code stands within the text
 pub code_in_range : (text : List ℕ) (at : ℕ) → FollowsStartCode text at → at ≤ length text
-code_in_range text at behind = omega (arith, behind.place, length-drop behind.start text, ap length behind.code)
+code_in_range text at after = omega (arith, after.place, length-drop after.start text, ap length after.code)
 
 -- two of the zeros stand at the end of their run
 two_zeros_last : (count : ℕ) (bytes : List ℕ) → replicate (suc (suc count)) 0 ++ bytes ≡ replicate count 0 ++ 0 ∷ 0 ∷ bytes

@@ -167,7 +167,8 @@ impl<S: Drop> Checkpoints<S> {
     pub fn shift(&mut self, from: usize, change: LengthChange)
         requires above { 0 < from }
         requires apart { CanShift from change (keys_of self.old.states) }
-        ensures after { self.new ≡ record self.old { states = shifted from change self.old.states } }
+        ensures after { self.new
+            ≡ record self.old { states = shifted from change self.old.states } }
         ensures in_order { IsInOrder self.new.states }
     {
         move_places(&mut self.places, from, change);

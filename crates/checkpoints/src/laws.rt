@@ -13,7 +13,8 @@ ghost use Rattle.checkpoints.specs.Spacing.{AreSpaced, HasNear};
 
 /// Places up to the end of a stream are spaced exactly where each place before the end has one of them near.
 pub fn spaced_where_near()
-    ensures { (n end : ℕ) (places : List ℕ) → StartsAtZero places → AreRising places → All (λ p. p ≤ end) places
+    ensures { (n end : ℕ) (places : List ℕ) → StartsAtZero places → AreRising places
+        → All (λ p. p ≤ end) places
         → (AreSpaced n places end ↔ ((k : ℕ) → k < end → HasNear n places k)) }
 {}
 
@@ -44,16 +45,19 @@ pub fn stored_after_shift<S>()
     ensures only { (from : ℕ) (change : Change) (states : List (ℕ × S)) (q : ℕ) (state : S)
         → IsStoredAt (shifted from change states) q state
         → (place : ℕ) × IsStoredAt states place state × (moved from change place ≡ q) }
-    ensures each { (from : ℕ) (change : Change) (states : List (ℕ × S)) (place : ℕ) (state : S) → 0 < from
+    ensures each { (from : ℕ) (change : Change) (states : List (ℕ × S)) (place : ℕ) (state : S)
+        → 0 < from
         → IsInOrder states → CanShift from change (keys_of states) → IsStoredAt states place state
         → IsStoredAt (shifted from change states) (moved from change place) state }
 {}
 
 /// With one more state, each place has a place near that had one, and those from the new one on.
 pub fn near_after_put<S>()
-    ensures had { (states : List (ℕ × S)) (place : ℕ) (state : S) (n k : ℕ) → HasNear n (keys_of states) k
+    ensures had { (states : List (ℕ × S)) (place : ℕ) (state : S) (n k : ℕ)
+        → HasNear n (keys_of states) k
         → HasNear n (keys_of (insert_entry nat_cmp states place state)) k }
-    ensures new { (states : List (ℕ × S)) (place : ℕ) (state : S) (n k : ℕ) → place ≤ k → k < place + n
+    ensures new { (states : List (ℕ × S)) (place : ℕ) (state : S) (n k : ℕ) → place ≤ k
+        → k < place + n
         → HasNear n (keys_of (insert_entry nat_cmp states place state)) k }
 {}
 
@@ -82,6 +86,7 @@ pub fn can_shift_after_cut<S>()
 
 /// States may go up as far as the last one has a place to go to.
 pub fn can_shift_up<S>()
-    ensures { (states : List (ℕ × S)) (from by last : ℕ) (state : S) → IsLast states last state → last + by < 2 ^ 64
+    ensures { (states : List (ℕ × S)) (from by last : ℕ) (state : S) → IsLast states last state
+        → last + by < 2 ^ 64
         → CanShift from (Longer by) (keys_of states) }
 {}

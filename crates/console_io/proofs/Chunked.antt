@@ -27,9 +27,9 @@ front-wider a b bytes more front =
     (front.0, omega (arith, front.1, length-append bytes more), rw same front.2)
 
 -- a front after what is there
-pub front-behind : (a b c : Option (List ℕ)) (bytes more : List ℕ)
+pub front-after : (a b c : Option (List ℕ)) (bytes more : List ℕ)
     → Appends a b bytes → AppendsFront b c more → AppendsFront a c (bytes ++ more)
-front-behind a b c bytes more appends front =
+front-after a b c bytes more appends front =
     let count = length bytes + front.0 in
     let taken : take count (bytes ++ more) ≡ bytes ++ take front.0 more =
     take-add (length bytes) front.0 (bytes ++ more)
@@ -65,14 +65,14 @@ adds-front x y a b bytes adds =
     rw (sym adds.waits) (front-wider a b adds.passed (waiting_of y) (front-all a b adds.passed adds.got))
 
 -- and of a text after it
-pub adds-behind : (x y : Chunks) (a b c : Option (List ℕ)) (bytes more : List ℕ) → Adds x a bytes y b
+pub adds-after : (x y : Chunks) (a b c : Option (List ℕ)) (bytes more : List ℕ) → Adds x a bytes y b
     → AppendsFront b c (waiting_of y ++ more) → AppendsFront a c (waiting_of x ++ (bytes ++ more))
-adds-behind x y a b c bytes more adds front =
-    let behind = front-behind a b c adds.passed (waiting_of y ++ more) adds.got front in
+adds-after x y a b c bytes more adds front =
+    let after = front-after a b c adds.passed (waiting_of y ++ more) adds.got front in
     let all : adds.passed ++ (waiting_of y ++ more) ≡ waiting_of x ++ (bytes ++ more) =
     sym (append_assoc adds.passed (waiting_of y) more)
     ∙ (ap (λ l. l ++ more) adds.waits ∙ append_assoc (waiting_of x) bytes more) in
-    rw (sym all) behind
+    rw (sym all) after
 
 -- where a text isn't printed, the writer has got a front of it
 pub front-of_fault : {T : Type 0} (a b : Option (List ℕ)) (bytes : List ℕ) (fault : PrintFault)
@@ -90,7 +90,7 @@ adds-all x y a b c bytes none adds rest =
 -- what waits is passed on, or a front of it
 pub adds-rest : (x y : Chunks) (a b c : Option (List ℕ)) (bytes : List ℕ) → Adds x a bytes y b
     → AppendsFront b c (waiting_of y) → AppendsFront a c (waiting_of x ++ bytes)
-adds-rest x y a b c bytes adds front = rw (sym adds.waits) (front-behind a b c adds.passed (waiting_of y) adds.got front)
+adds-rest x y a b c bytes adds front = rw (sym adds.waits) (front-after a b c adds.passed (waiting_of y) adds.got front)
 
 -- all or a front was written
 pub front-either : {T E : Type 0} (result : Result T E) (a b : Option (List ℕ)) (bytes : List ℕ)

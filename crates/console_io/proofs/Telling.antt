@@ -7,7 +7,7 @@ use Rattle.console_io.specs.declared.chunks.PrintFault.{PrintFault}
 use Rattle.console_io.specs.declared.chunks.PrintFault.TheVariants.{Unwritten}
 use Rattle.console_io.specs.Chunks.{AppendsFront}
 use Rattle.console_io.specs.Messages.{Tells}
-use Rattle.console_io.proofs.Chunked.{front-all, front-behind}
+use Rattle.console_io.proofs.Chunked.{front-all, front-after}
 
 -- a front at least was written
 pub tells-front : {T : Type 0} (told : Result T PrintFault) (R : Type 0) (a b : Option (List ℕ)) (bytes : List ℕ)
@@ -16,12 +16,12 @@ tells-front (Ok x) R a b bytes tells = front-all a b bytes tells
 tells-front (Err fault) R a b bytes tells = tells.2
 
 -- after what is written
-pub tells-behind : {T : Type 0} (told : Result T PrintFault) (R : Type 0) (a b c : Option (List ℕ)) (bytes more : List ℕ)
+pub tells-after : {T : Type 0} (told : Result T PrintFault) (R : Type 0) (a b c : Option (List ℕ)) (bytes more : List ℕ)
     → Appends a b bytes → OnOk told (Appends b c more) → OnErr told (AppendsFront b c more) → OnErr told R
     → IsOkUnless told Unwritten → Tells told R a c (bytes ++ more)
-tells-behind (Ok x) R a b c bytes more appends all front refused fault = Appends-trans a b c bytes more appends all
-tells-behind (Err it) R a b c bytes more appends all front refused fault =
-    (fault, refused, front-behind a b c bytes more appends front)
+tells-after (Ok x) R a b c bytes more appends all front refused fault = Appends-trans a b c bytes more appends all
+tells-after (Err it) R a b c bytes more appends all front refused fault =
+    (fault, refused, front-after a b c bytes more appends front)
 
 -- a message is cut
 pub tells-cut : {T : Type 0} (told : Result T PrintFault) (it : PrintFault) (R : Type 0) (a b : Option (List ℕ)) (bytes : List ℕ)

@@ -14,7 +14,8 @@ pub trait Source {
 
     /// The whole bytes of the file of this name.
     fn whole_file(&mut self, alloc: Global, name: &str) -> Result<Vec<u8>, InputFault>
-        ensures known { IfOk result (λ text. IfSome (file self.old name.now) (λ bytes. text.items ≡ bytes)) }
+        ensures known { IfOk result (λ text. IfSome (file self.old name.now) (λ bytes. text.items
+            ≡ bytes)) }
         ensures kept { (other : List ℕ) → file self.new other ≡ file self.old other };
 }
 

@@ -48,7 +48,8 @@ impl Model for Session {
 
     ghost view = { λ s. machine_of s.journal.items (record { given = s.given; stream = s.units.items }) s.store };
 
-    ghost invariant = { λ s. IsKept s.journal.items (record { given = s.given; stream = s.units.items })
+    ghost invariant = { λ s. IsKept s.journal.items
+        (record { given = s.given; stream = s.units.items })
         s.store s.positions.items };
 }
 

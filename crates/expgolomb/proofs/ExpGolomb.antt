@@ -103,8 +103,8 @@ all_zeros p all few =
     few_zeros p n all few ∙ ap before (fixed_short (n + 1) (skip n p) left)
 
 -- after zeros and a 1: what stands there is the value's successor
-pub read_behind : (p : Place) (n : ℕ) → IsZeros p.rest n → ue_at p ≡ before (fixed_at (n + 1) (skip n p))
-read_behind p n z = few_zeros p n (sym z.zeros) z.few
+pub read_after : (p : Place) (n : ℕ) → IsZeros p.rest n → ue_at p ≡ before (fixed_at (n + 1) (skip n p))
+read_after p n z = few_zeros p n (sym z.zeros) z.few
 
 ends_in_zeros : (p : Place) → prefix_len not p.rest < 32 → p.rest ≡ replicate (prefix_len not p.rest) false → EndsInZeros p
 ends_in_zeros p few zeros =
@@ -113,22 +113,22 @@ ends_in_zeros p few zeros =
     record { n = n; few = few; bits = zeros; read = few_zeros p n refl few ∙ ap before (fixed_short (n + 1) (skip n p) left) }
 
 -- what stands after n zeros
-behind_zeros : (n : ℕ) (bits tail : List Bool) → bits ≡ replicate n false ++ true ∷ tail → drop n bits ≡ true ∷ tail
-behind_zeros n bits tail is = ap (drop n) is ∙ drop_at (replicate n false) (true ∷ tail) n (length-replicate n false)
+after_zeros : (n : ℕ) (bits tail : List Bool) → bits ≡ replicate n false ++ true ∷ tail → drop n bits ≡ true ∷ tail
+after_zeros n bits tail is = ap (drop n) is ∙ drop_at (replicate n false) (true ∷ tail) n (length-replicate n false)
 
 ends_in_text : (p : Place) (tail : List Bool) → prefix_len not p.rest < 32 → p.rest ≡ replicate (prefix_len not p.rest) false ++ true ∷ tail → length tail < prefix_len not p.rest → EndsInText p
 ends_in_text p tail few is short =
     let n = prefix_len not p.rest in
-    let left : length (drop n p.rest) < n + 1 = rw (behind_zeros n p.rest tail is) (omega arith) in
+    let left : length (drop n p.rest) < n + 1 = rw (after_zeros n p.rest tail is) (omega arith) in
     record { n = n; few = few; tail = tail; bits = is; short = short; read = few_zeros p n refl few ∙ ap before (fixed_short (n + 1) (skip n p) left) }
 
 begins_with_code : (p : Place) (tail : List Bool) → prefix_len not p.rest < 32 → p.rest ≡ replicate (prefix_len not p.rest) false ++ true ∷ tail → prefix_len not p.rest ≤ length tail → BeginsWithCode p
 begins_with_code p tail few is whole =
     let n = prefix_len not p.rest in
-    let behind = behind_zeros n p.rest tail is in
-    let left : n + 1 ≤ length (drop n p.rest) = rw behind (omega arith) in
-    let text : take (n + 1) (drop n p.rest) ≡ true ∷ take n tail = rw (behind, add-one) refl in
-    let rest : drop (n + 1) (drop n p.rest) ≡ drop n tail = rw (behind, add-one) refl in
+    let after = after_zeros n p.rest tail is in
+    let left : n + 1 ≤ length (drop n p.rest) = rw after (omega arith) in
+    let text : take (n + 1) (drop n p.rest) ≡ true ∷ take n tail = rw (after, add-one) refl in
+    let rest : drop (n + 1) (drop n p.rest) ≡ drop n tail = rw (after, add-one) refl in
     record {
       n = n;
       few = few;
@@ -149,12 +149,12 @@ successor_is p n x z is =
       | inl zeros ↦ absurd (omega (arith, z.zeros, z.one, ap length zeros, length-replicate {A = Bool} (prefix_len not p.rest) false))
       | inr one ↦
           let bits : p.rest ≡ replicate n false ++ true ∷ one.0 = rw z.zeros one.1 in
-          let behind = behind_zeros n p.rest one.0 bits in
+          let after = after_zeros n p.rest one.0 bits in
           elim (cases_lt (length (drop n p.rest)) (n + 1)) [
             | inl short ↦ let no = fixed_short (n + 1) (skip n p) short in cc
             | inr left ↦
                 let value : number (take (n + 1) (drop n p.rest)) ≡ x.0 = ap (λ (y : ℕ × Place). y.0) (ok_is _ x (sym (fixed_long (n + 1) (skip n p) left) ∙ is)) in
-                let text : take (n + 1) (drop n p.rest) ≡ true ∷ take n one.0 = rw (behind, add-one) refl in (
+                let text : take (n + 1) (drop n p.rest) ≡ true ∷ take n one.0 = rw (after, add-one) refl in (
                   omega (arith, ap number text, pow_pos (length (take n one.0))),
                   omega (arith, front-lt (drop n p.rest) (n + 1) left, pow-le-pow_right {n = 2} (omega arith) {i = n + 1} {j = 32} (omega (arith, z.few))),
                 )
@@ -291,11 +291,11 @@ ue_only word v p new code follows =
     let c = parts_of word v code in
     let bits : p.rest ≡ replicate c.n false ++ true ∷ (c.tail ++ new.rest) = follows.bits ∙ (ap (λ xs. xs ++ new.rest) c.bits ∙ append_assoc (replicate c.n false) (true ∷ c.tail) new.rest) in
     let zeros : prefix_len not p.rest ≡ c.n = rw bits (prefix_len-code c.n (c.tail ++ new.rest)) in
-    let behind = behind_zeros c.n p.rest (c.tail ++ new.rest) bits in
-    let left : c.n + 1 ≤ length (drop c.n p.rest) = rw (behind, length-append) (omega (arith, c.long)) in
+    let after = after_zeros c.n p.rest (c.tail ++ new.rest) bits in
+    let left : c.n + 1 ≤ length (drop c.n p.rest) = rw (after, length-append) (omega (arith, c.long)) in
     let text : take (c.n + 1) (drop c.n p.rest) ≡ true ∷ c.tail =
-    rw (behind, add-one) (ap (λ xs. true ∷ xs) (take_at c.tail new.rest c.n c.long)) in
-    let rest : drop (c.n + 1) (drop c.n p.rest) ≡ new.rest = rw (behind, add-one) (drop_at c.tail new.rest c.n c.long) in
+    rw (after, add-one) (ap (λ xs. true ∷ xs) (take_at c.tail new.rest c.n c.long)) in
+    let rest : drop (c.n + 1) (drop c.n p.rest) ≡ new.rest = rw (after, add-one) (drop_at c.tail new.rest c.n c.long) in
     let long : length word ≡ c.n + (c.n + 1) =
     ap length c.bits ∙ rw (length-append, length-replicate {A = Bool} c.n false) (omega (arith, c.long)) in
     let value : number (take (c.n + 1) (drop c.n p.rest)) - 1 ≡ v = rw text (omega (arith, c.value)) in
@@ -347,11 +347,11 @@ pub ue_long : (r : Result ℕ CodeFault) (old new : Place) → Gives (λ v. v) r
 ue_long (Ok v) old new gives = (λ is. cc, λ long. let no = is_long old long in cc)
 ue_long (Err e) old new gives = (λ is. long_is old cc, λ long. let yes = is_long old long in cc)
 
-pub ue_answer : (r : Result ℕ CodeFault) (old new : Place) → Gives (λ v. v) r old new (ue_at old) → (word : List Bool) (v : ℕ) (behind : Place) → IsUe word v → Follows word old behind → (r ≡ Ok v) × (new ≡ behind)
-ue_answer (Ok w) old new gives word v behind code follows =
-    let same = ok_is (w, new) (v, behind) (sym gives ∙ ue_only word v old behind code follows) in
+pub ue_answer : (r : Result ℕ CodeFault) (old new : Place) → Gives (λ v. v) r old new (ue_at old) → (word : List Bool) (v : ℕ) (after : Place) → IsUe word v → Follows word old after → (r ≡ Ok v) × (new ≡ after)
+ue_answer (Ok w) old new gives word v after code follows =
+    let same = ok_is (w, new) (v, after) (sym gives ∙ ue_only word v old after code follows) in
     (ap (λ (x : ℕ × Place). Ok x.0) same, ap (λ (x : ℕ × Place). x.1) same)
-ue_answer (Err e) old new gives word v behind code follows = let read = ue_only word v old behind code follows in cc
+ue_answer (Err e) old new gives word v after code follows = let read = ue_only word v old after code follows in cc
 
 -- a code has at most 63 bits
 pub ue_near : (p : Place) (x : ℕ × Place) → ue_at p ≡ Ok x → x.1.before ≤ p.before + 63

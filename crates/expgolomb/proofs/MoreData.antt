@@ -34,29 +34,29 @@ number-low byte k h le =
 -- a 1 after k bits of a byte and the bytes after it
 pub one_past : (byte k : ℕ) (more : List ℕ) → byte < 256 → k ≤ 8 → (0 < byte % 2 ^ (8 - k)) ⊎ Contains (bits_of more) true → Contains (drop k (byte_bits byte ++ bits_of more)) true
 one_past byte k more h le (inl low) = rw (drop-append-le k (byte_bits byte) (bits_of more) le) (Contains-append_left (drop k (byte_bits byte)) (bits_of more) true (one_in (drop k (byte_bits byte)) (rw (number-low byte k h le) low)))
-one_past byte k more h le (inr behind) = rw (drop-append-le k (byte_bits byte) (bits_of more) le) (Contains-append_right (drop k (byte_bits byte)) (bits_of more) true behind)
+one_past byte k more h le (inr after) = rw (drop-append-le k (byte_bits byte) (bits_of more) le) (Contains-append_right (drop k (byte_bits byte)) (bits_of more) true after)
 
 pub past_one : (byte k : ℕ) (more : List ℕ) → byte < 256 → k ≤ 8 → Contains (drop k (byte_bits byte ++ bits_of more)) true → (0 < byte % 2 ^ (8 - k)) ⊎ Contains (bits_of more) true
 past_one byte k more h le one =
     elim (Contains-append_cases (drop k (byte_bits byte)) (bits_of more) true (rw (drop-append-le k (byte_bits byte) (bits_of more) le) at one)) [
       | inl low ↦ inl (let some = positive (drop k (byte_bits byte)) low.0 low.1 low.2 in omega (arith, number-low byte k h le))
-      | inr behind ↦ inr behind
+      | inr after ↦ inr after
     ]
 
 -- a byte that isn't 0 has a 1
 pub any_one : (bytes : List ℕ) → AreBytes bytes → (list_any (λ byte. not (eqb byte 0)) bytes ≡ true → Contains (bits_of bytes) true) × (Contains (bits_of bytes) true → list_any (λ byte. not (eqb byte 0)) bytes ≡ true)
 any_one [] are = (λ is. cc, λ one. absurd (omega (arith, one.1)))
 any_one (byte ∷ bytes) are =
-    let behind = any_one bytes (λ i. are (suc i)) in (
+    let after = any_one bytes (λ i. are (suc i)) in (
       λ is. one_past byte 0 bytes (are 0) (omega arith)
           (elim (cases_eq byte 0) [
-            | inl none ↦ inr (behind.0 (rw (eq-eqb byte 0 none) at is))
+            | inl none ↦ inr (after.0 (rw (eq-eqb byte 0 none) at is))
             | inr some ↦ inl (omega (arith, are 0, some))
           ]),
       λ one. elim (past_one byte 0 bytes (are 0) (omega arith) one) [
         | inl low ↦ rw (ne_eqb byte 0 (λ none. omega arith)) refl
         | inr more ↦ elim (cases_eq byte 0) [
-          | inl none ↦ rw (eq-eqb byte 0 none) (behind.1 more)
+          | inl none ↦ rw (eq-eqb byte 0 none) (after.1 more)
           | inr some ↦ rw (ne_eqb byte 0 some) refl
         ]
       ],
@@ -74,7 +74,7 @@ pub more_one : (bytes : List ℕ) (bit low : ℕ) (answer : Bool) → AreBytes b
 more_one [] bit low answer are some h is none told = absurd (omega arith)
 more_one (byte ∷ bytes) bit low answer are some h is none told =
     let left : 8 - (bit + 1) ≡ 7 - bit = omega arith in
-    let behind = any_one bytes (λ i. are (suc i)) in (
-      λ yes. one_past byte (bit + 1) bytes (are 0) (omega arith) (inr (behind.0 (sym told ∙ yes))),
-      λ one. elim (past_one byte (bit + 1) bytes (are 0) (omega arith) one) [ inl low' ↦ absurd (omega (arith, rw left at low')) | inr more ↦ told ∙ behind.1 more ],
+    let after = any_one bytes (λ i. are (suc i)) in (
+      λ yes. one_past byte (bit + 1) bytes (are 0) (omega arith) (inr (after.0 (sym told ∙ yes))),
+      λ one. elim (past_one byte (bit + 1) bytes (are 0) (omega arith) one) [ inl low' ↦ absurd (omega (arith, rw left at low')) | inr more ↦ told ∙ after.1 more ],
     )

@@ -44,12 +44,12 @@ pub se_is_not : (p : Place) (e : CodeFault) → ue_at p ≡ Err e → se_at p �
 unfolding se_at
 se_is_not p e is = ap with_sign is
 
-pub se_answer : (r : Result ℤ CodeFault) (old new : Place) → Gives (λ v. v) r old new (se_at old) → (word : List Bool) (v : ℤ) (behind : Place) → IsSe word v → Follows word old behind → (r ≡ Ok v) × (new ≡ behind)
-se_answer (Ok w) old new gives word v behind code follows =
-    let read = se_is old code.k behind (ue_only word code.k old behind code.code follows) in
-    let same = ok_is (w, new) (v, behind) (sym gives ∙ (read ∙ ap (λ (z : ℤ). Ok (z, behind)) code.value)) in
+pub se_answer : (r : Result ℤ CodeFault) (old new : Place) → Gives (λ v. v) r old new (se_at old) → (word : List Bool) (v : ℤ) (after : Place) → IsSe word v → Follows word old after → (r ≡ Ok v) × (new ≡ after)
+se_answer (Ok w) old new gives word v after code follows =
+    let read = se_is old code.k after (ue_only word code.k old after code.code follows) in
+    let same = ok_is (w, new) (v, after) (sym gives ∙ (read ∙ ap (λ (z : ℤ). Ok (z, after)) code.value)) in
     (ap (λ (x : ℤ × Place). Ok x.0) same, ap (λ (x : ℤ × Place). x.1) same)
-se_answer (Err e) old new gives word v behind code follows = let read = se_is old code.k behind (ue_only word code.k old behind code.code follows) in cc
+se_answer (Err e) old new gives word v after code follows = let read = se_is old code.k after (ue_only word code.k old after code.code follows) in cc
 
 pub se_advance : (r : Result ℤ CodeFault) (old new : Place) → Gives (λ v. v) r old new (se_at old) → new.before ≤ old.before + 63
 unfolding se_at

@@ -37,16 +37,16 @@ window_is bytes bit h within =
     let padded : word ≡ take 64 all =
     sym (take-bits_of 8 (bytes ++ replicate 8 0)) ∙ ap (λ bits. take 64 bits) (bits_of-append bytes (replicate 8 0)) in
     let long : length word ≡ 64 = ap length padded ∙ length-take-le 64 all (rw (length-append, length-replicate) (omega arith)) in
-    let behind : length (drop bit word) ≡ 64 - bit = length-drop bit word ∙ ap (λ n. n - bit) long in
+    let after : length (drop bit word) ≡ 64 - bit = length-drop bit word ∙ ap (λ n. n - bit) long in
     let split : 64 ≡ bit + (64 - bit) = omega arith in
     let inner : drop bit word ≡ take (64 - bit) (drop bit all) =
     ap (drop bit) (padded ∙ ap (λ n. take n all) split) ∙ drop-take bit (64 - bit) all in
     record {
       bits = drop bit word ++ replicate bit false;
-      long = rw (length-append, length-replicate) (omega (arith, behind));
+      long = rw (length-append, length-replicate) (omega (arith, after));
       value = shifted word bit long (omega arith);
       front =
-          take-append-le 57 (drop bit word) (replicate bit false) (omega (arith, behind))
+          take-append-le 57 (drop bit word) (replicate bit false) (omega (arith, after))
           ∙ (ap (take 57) inner
           ∙ (take-take 57 (64 - bit) (drop bit all) (omega arith)
           ∙ ap (take 57) (drop-append-le bit (bits_of bytes) (replicate 64 false) (rw length-bits_of within))));

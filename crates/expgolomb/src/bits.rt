@@ -55,7 +55,8 @@ impl<'a> Bits<'a> {
         ensures cut { IsErrOf result CodeFault.Cut ↔ (self.old.rest ≡ []) }
         ensures too_long { IsErrOf result CodeFault.TooLong → ⊥ }
         ensures unchanged { OnErr result (self.new ≡ self.old) }
-        ensures exact { Gives (λ bit. if bit then 1 else 0) result self.old self.new (fixed_at 1 self.old) }
+        ensures exact { Gives (λ bit. if bit then 1 else 0) result self.old self.new
+            (fixed_at 1 self.old) }
     {
         Ok(self.fixed(1)? == 1)
     }
@@ -64,7 +65,8 @@ impl<'a> Bits<'a> {
     pub fn fixed(&mut self, n: u8) -> Result<u32, CodeFault>
         requires some { 1 ≤ n }
         requires few { n ≤ 32 }
-        ensures found { IfOk result (λ v. (word : List Bool) × IsFixed n word v × Follows word self.old self.new) }
+        ensures found { IfOk result (λ v. (word : List Bool) × IsFixed n word v
+            × Follows word self.old self.new) }
         ensures cut { IsErrOf result CodeFault.Cut ↔ (length self.old.rest < n) }
         ensures too_long { IsErrOf result CodeFault.TooLong → ⊥ }
         ensures unchanged { OnErr result (self.new ≡ self.old) }
@@ -78,9 +80,11 @@ impl<'a> Bits<'a> {
 
     /// Reads an unsigned Exp-Golomb code, ue(v).
     pub fn ue(&mut self) -> Result<u32, CodeFault>
-        ensures found { IfOk result (λ v. (word : List Bool) × IsUe word v × Follows word self.old self.new) }
-        ensures only { (word : List Bool) (v : ℕ) (behind : Place) → IsUe word v → Follows word self.old behind →
-            (result ≡ Ok v) × (self.new ≡ behind) }
+        ensures found { IfOk result (λ v. (word : List Bool) × IsUe word v
+            × Follows word self.old self.new) }
+        ensures only { (word : List Bool) (v : ℕ) (after : Place) → IsUe word v
+            → Follows word self.old after →
+            (result ≡ Ok v) × (self.new ≡ after) }
         ensures cut { IsErrOf result CodeFault.Cut ↔ IsCut self.old.rest }
         ensures too_long { IsErrOf result CodeFault.TooLong ↔ IsTooLong self.old.rest }
         ensures unchanged { OnErr result (self.new ≡ self.old) }
@@ -94,9 +98,11 @@ impl<'a> Bits<'a> {
 
     /// Reads a signed Exp-Golomb code, se(v).
     pub fn se(&mut self) -> Result<i32, CodeFault>
-        ensures found { IfOk result (λ v. (word : List Bool) × IsSe word v × Follows word self.old self.new) }
-        ensures only { (word : List Bool) (v : ℤ) (behind : Place) → IsSe word v → Follows word self.old behind →
-            (result ≡ Ok v) × (self.new ≡ behind) }
+        ensures found { IfOk result (λ v. (word : List Bool) × IsSe word v
+            × Follows word self.old self.new) }
+        ensures only { (word : List Bool) (v : ℤ) (after : Place) → IsSe word v
+            → Follows word self.old after →
+            (result ≡ Ok v) × (self.new ≡ after) }
         ensures cut { IsErrOf result CodeFault.Cut ↔ IsCut self.old.rest }
         ensures too_long { IsErrOf result CodeFault.TooLong ↔ IsTooLong self.old.rest }
         ensures unchanged { OnErr result (self.new ≡ self.old) }
@@ -164,24 +170,24 @@ impl<'a> Bits<'a> {
         ensures below { IfOk result (λ read. read.0 < 2 ^ 32 - 1) }
     {
         let zeros = self.zeros()?;
-        let (successor, behind) = self.ahead(zeros).fixed_code(zeros + 1)?;
-        Ok((successor - 1, behind))
+        let (successor, after) = self.ahead(zeros).fixed_code(zeros + 1)?;
+        Ok((successor - 1, after))
     }
 
     // The next se(v) value, and a reader after its code.
     fn se_code(&self) -> Result<(i32, Bits<'a>), CodeFault>
         ensures { result ≡ se_at self.now }
     {
-        let (k, behind) = self.ue_code()?;
-        Ok((signed(k), behind))
+        let (k, after) = self.ue_code()?;
+        Ok((signed(k), after))
     }
 
     // Goes after a code that was read.
     fn take<V>(&mut self, code: Result<(V, Bits<'a>), CodeFault>) -> Result<V, CodeFault>
         ensures { Gives (λ v. v) result self.old self.new code.entry }
     {
-        let (value, behind) = code?;
-        *self = behind;
+        let (value, after) = code?;
+        *self = after;
         Ok(value)
     }
 

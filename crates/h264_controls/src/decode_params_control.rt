@@ -94,7 +94,8 @@ fn dpb_entry(sps: &Sps, frame_num: u16, frame: &Frame) -> V4l2H264DpbEntry
 
 /// PicNum of a short-term frame, LongTermPicNum of a long-term one.
 fn pic_num(sps: &Sps, frame_num: u16, frame: &Frame) -> i32
-    ensures { result ≡ number_in (frame_num_wrap sps.now frame_num frame.now.frame_num) frame.now.term }
+    ensures { result
+        ≡ number_in (frame_num_wrap sps.now frame_num frame.now.frame_num) frame.now.term }
 {
     match frame.term {
         Term::LongTerm {

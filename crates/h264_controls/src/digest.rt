@@ -16,7 +16,8 @@ use std::alloc::AllocError;
 pub fn digest_form(controls: &Controls, form: &mut Vec<u8>) -> Result<(), AllocError>
     ensures written { OnOk result (form.new.items ≡ form.old.items ++ digest_form controls.now) }
     ensures size { OnOk result (vec_len form.new ≡ vec_len form.old + digest_size controls.now) }
-    ensures room { vec_len form.old + digest_size controls.now ≤ vec_capacity form.old → IsOk result }
+    ensures room { vec_len form.old + digest_size controls.now ≤ vec_capacity form.old
+        → IsOk result }
     ensures unchanged { OnErr result (form.new.items ≡ form.old.items) }
 {
     form.reserve(digest_size(controls))?;
@@ -43,7 +44,8 @@ pub fn sets_form(sets: &SetControls, form: &mut Vec<u8>) -> Result<(), AllocErro
 pub fn slice_form(controls: &Controls, form: &mut Vec<u8>) -> Result<(), AllocError>
     ensures written { OnOk result (form.new.items ≡ form.old.items ++ slice_form controls.now) }
     ensures size { OnOk result (vec_len form.new ≡ vec_len form.old + slice_size controls.now) }
-    ensures room { vec_len form.old + slice_size controls.now ≤ vec_capacity form.old → IsOk result }
+    ensures room { vec_len form.old + slice_size controls.now ≤ vec_capacity form.old
+        → IsOk result }
     ensures unchanged { OnErr result (form.new.items ≡ form.old.items) }
 {
     form.reserve(slice_size(controls))?;

@@ -6,5 +6,6 @@ ghost use Rattle.h264_controls.specs.DigestForm.{digest_form, sets_form, slice_f
 
 /// The digest form is that of what the parameter sets decide, and the rest after it.
 pub fn digest_in_two_parts()
-    ensures { (controls : Controls) → digest_form controls ≡ sets_form controls.sets ++ slice_form controls }
+    ensures { (controls : Controls)
+        → digest_form controls ≡ sets_form controls.sets ++ slice_form controls }
 {}

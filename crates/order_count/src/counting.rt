@@ -20,7 +20,8 @@ use set_types::{PicOrderCntType, Sps};
 #[tactic(auto, unfolding(crate::specs::Counting::counts_of))]
 pub fn count(anchor: &Anchor, sps: &Sps, header: &SliceHeader) -> Result<Counts, OrderRange>
     ensures exact { result ≡ counts_of anchor.now sps.now header.now }
-    ensures kept { IfOk result (λ counts. IsTrue (are_in_range (counts_after_reset header.now counts))) }
+    ensures kept { IfOk result (λ counts. IsTrue
+        (are_in_range (counts_after_reset header.now counts))) }
 {
     let counts = match sps.pic_order_cnt_type {
         PicOrderCntType::Zero => type_zero(anchor, sps, header),

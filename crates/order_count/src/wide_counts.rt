@@ -17,7 +17,8 @@ pub(crate) struct WideCounts {
 impl WideCounts {
     // The counts, where both are in range.
     pub(crate) fn in_range(self) -> Result<Counts, OrderRange>
-        ensures { result ≡ (if are_in_range (plain self) then Ok (plain self) else Err (record {})) }
+        ensures { result
+            ≡ (if are_in_range (plain self) then Ok (plain self) else Err (record {})) }
     {
         match (i32::try_from(self.top), i32::try_from(self.bottom)) {
             (Ok(top), Ok(bottom)) => Ok(Counts { top, bottom }),

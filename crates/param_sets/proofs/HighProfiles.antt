@@ -10,7 +10,7 @@ use Rattle.param_sets.specs.SpsSyntax.{ScalingList, take, has_matrix, high_rows,
 use Rattle.set_types.specs.Profiles.{is_high}
 use Rattle.set_types.specs.declared.sps.Sps.{Sps}
 use Rattle.syntax_tables.proofs.Tables.{rows_absent}
-use Rattle.syntax_tables.proofs.Loops.{behind_ok}
+use Rattle.syntax_tables.proofs.Loops.{after_ok}
 use Rattle.syntax_tables.proofs.Parts.{mapped, part_absent, part_read}
 use Rattle.param_sets.proofs.Refusals.{refused_by}
 
@@ -22,7 +22,7 @@ lists_absent s p none = part_absent take ScalingList (λ (t : Sps). t.scaling_li
 -- all rows of the high profiles are absent
 pub high_absent : (s : Sps) (p : Place) → is_high s ≡ false → rows_at take high_rows s p ≡ Ok (s, p)
 high_absent s p plain =
-    behind_ok take high_fields scaling_rows s p s p (rows_absent take high_fields s p (plain, (plain, (plain, (plain, (plain, tt)))))) ∙ lists_absent s p (rw plain refl)
+    after_ok take high_fields scaling_rows s p s p (rows_absent take high_fields s p (plain, (plain, (plain, (plain, (plain, tt)))))) ∙ lists_absent s p (rw plain refl)
 
 -- the set with these lists
 abbrev pub with_lists : Sps → List Deltas → Sps

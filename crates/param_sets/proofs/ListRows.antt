@@ -6,9 +6,9 @@ use Rattle.expgolomb.specs.Bits.{Place}
 use Rattle.param_sets.specs.declared.fault.SetFault.{SetFault}
 use Rattle.param_sets.specs.Answer.{Refuses}
 use Rattle.syntax_tables.specs.Reading.{field_at, rows_at}
-use Rattle.set_types.specs.ScaleSteps.{Deltas, list_size, next_scale, scale_behind}
+use Rattle.set_types.specs.ScaleSteps.{Deltas, list_size, next_scale, scale_after}
 use Rattle.param_sets.specs.Scaling.{take_list, present_row, delta_row, list_rows, is_reading, goes_on, add_delta}
-use Rattle.syntax_tables.proofs.Loops.{rows_step, rows_stop, rows_none, repeat_step, repeat_stop, repeat_absent, behind_ok, behind_err}
+use Rattle.syntax_tables.proofs.Loops.{rows_step, rows_stop, rows_none, repeat_step, repeat_stop, repeat_absent, after_ok, after_err}
 use Rattle.param_sets.proofs.Refusals.{refused_by}
 
 -- the last list is the one that is read
@@ -47,9 +47,9 @@ delta_end lists ds n p is = repeat_absent take_list (delta_row (length lists)) n
 pub delta_all : (lists : List Deltas) (ds : List ℤ) (n : ℕ) (p : Place) → n ≡ 0 → rows_at take_list (replicate n (delta_row (length lists))) (lists ++ Some ds ∷ []) p ≡ Ok (lists ++ Some ds ∷ [], p)
 delta_all lists ds n p none = rw none (rows_none take_list (lists ++ Some ds ∷ []) p)
 
-pub scale_more : (ds after : List ℤ) (delta : ℤ) (next : ℕ) → next_scale ds ≡ next → after ≡ ds ++ delta ∷ [] → next_scale after ≡ scale_behind next delta
+pub scale_more : (ds after : List ℤ) (delta : ℤ) (next : ℕ) → next_scale ds ≡ next → after ≡ ds ++ delta ∷ [] → next_scale after ≡ scale_after next delta
 scale_more ds after delta next is pushed =
-    ap next_scale pushed ∙ fold_push scale_behind 8 ds delta ∙ ap (λ (n : ℕ). scale_behind n delta) is
+    ap next_scale pushed ∙ fold_push scale_after 8 ds delta ∙ ap (λ (n : ℕ). scale_after n delta) is
 
 -- a list that is present, and one that isn't
 pub list_there : (lists : List Deltas) (n : ℕ) (p q : Place) → field_at present_row lists p ≡ Ok (pos 1, q) → rows_at take_list (present_row ∷ replicate n (delta_row (length lists))) lists p ≡ rows_at take_list (replicate n (delta_row (length lists))) (lists ++ Some [] ∷ []) q
@@ -67,14 +67,14 @@ pub lists_further : (lists after : List Deltas) (list : Deltas) (j size n m : �
 unfolding list_rows
 lists_further lists after list j size n m p q is sized rest read pushed =
     let known = rw (sized, is) at read in
-    rw (rest, add-one, pushed) (behind_ok take_list (present_row ∷ replicate (list_size j) (delta_row j)) (list_rows (suc j) n) lists p (lists ++ list ∷ []) q known)
+    rw (rest, add-one, pushed) (after_ok take_list (present_row ∷ replicate (list_size j) (delta_row j)) (list_rows (suc j) n) lists p (lists ++ list ∷ []) q known)
 
 -- a list that can't be read
 pub lists_stop : (lists : List Deltas) (e : SetFault) (j size n m : ℕ) (p : Place) → length lists ≡ j → size ≡ list_size j → m ≡ suc n → Refuses e (rows_at take_list (present_row ∷ replicate size (delta_row (length lists))) lists p) → Refuses e (rows_at take_list (list_rows j m) lists p)
 unfolding list_rows
 lists_stop lists e j size n m p is sized rest fault =
     let known = rw (sized, is) at fault in
-    rw rest (refused_by e (rows_at take_list (present_row ∷ replicate (list_size j) (delta_row j)) lists p) (rows_at take_list (present_row ∷ (replicate (list_size j) (delta_row j) ++ list_rows (suc j) n)) lists p) (λ h. behind_err take_list (present_row ∷ replicate (list_size j) (delta_row j)) (list_rows (suc j) n) lists p e h) known)
+    rw rest (refused_by e (rows_at take_list (present_row ∷ replicate (list_size j) (delta_row j)) lists p) (rows_at take_list (present_row ∷ (replicate (list_size j) (delta_row j) ++ list_rows (suc j) n)) lists p) (λ h. after_err take_list (present_row ∷ replicate (list_size j) (delta_row j)) (list_rows (suc j) n) lists p e h) known)
 
 -- no list is left
 pub lists_done : (lists : List Deltas) (j n : ℕ) (p : Place) → n ≡ 0 → rows_at take_list (list_rows j n) lists p ≡ Ok (lists, p)

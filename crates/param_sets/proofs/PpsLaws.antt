@@ -8,7 +8,7 @@ use Rattle.param_sets.specs.declared.fault.SetFault.TheVariants.{Cut}
 use Rattle.set_types.specs.declared.pps.Pps.{Pps}
 use Rattle.param_sets.specs.Answer.{Stores}
 use Rattle.syntax_tables.specs.Reading.{rows_at, value_at}
-use Rattle.syntax_tables.specs.Payloads.{behind_first}
+use Rattle.syntax_tables.specs.Payloads.{after_first}
 use Rattle.param_sets.specs.Sets.{first_of, IsPps, PpsHasFault, pps_at, Answers}
 use Rattle.param_sets.specs.PpsSyntax.{PpsSoFar, so_far, take, no_pps, id_row, pps_rows}
 use Rattle.syntax_tables.proofs.Tables.{rows_found, rows_only, rows_fault, fault_rows}
@@ -18,34 +18,34 @@ use Rattle.param_sets.proofs.SetLaws.{first_ok, first_err}
 pub pps_found : (payload : List ℕ) (set : Pps) → pps_at payload ≡ Ok set → IsPps payload set
 unfolding pps_at
 pps_found payload set is =
-    let read = first_ok (rows_at take pps_rows no_pps (behind_first payload)) (λ (s : PpsSoFar). s.pps) set is in
-    let rows = rows_found take pps_rows no_pps (behind_first payload) read.0 read.1 in
-    record { header = rows.0; behind = read.0.1; rows = rows.1; values = ap (λ (s : PpsSoFar). s.pps) rows.2 ∙ read.2 }
+    let read = first_ok (rows_at take pps_rows no_pps (after_first payload)) (λ (s : PpsSoFar). s.pps) set is in
+    let rows = rows_found take pps_rows no_pps (after_first payload) read.0 read.1 in
+    record { header = rows.0; after = read.0.1; rows = rows.1; values = ap (λ (s : PpsSoFar). s.pps) rows.2 ∙ read.2 }
 
 pub pps_only : (payload : List ℕ) (set : Pps) → IsPps payload set → pps_at payload ≡ Ok set
 unfolding pps_at
 pps_only payload set is =
-    ap (first_of (λ (s : PpsSoFar). s.pps)) (rows_only take pps_rows no_pps (behind_first payload) is.header is.behind is.rows) ∙ ap Ok is.values
+    ap (first_of (λ (s : PpsSoFar). s.pps)) (rows_only take pps_rows no_pps (after_first payload) is.header is.after is.rows) ∙ ap Ok is.values
 
 pub pps_fault : (payload : List ℕ) (e : SetFault) → pps_at payload ≡ Err e → PpsHasFault payload e
 unfolding pps_at
 pps_fault payload e is =
-    rows_fault take pps_rows no_pps (behind_first payload) e (first_err (rows_at take pps_rows no_pps (behind_first payload)) (λ (s : PpsSoFar). s.pps) e is)
+    rows_fault take pps_rows no_pps (after_first payload) e (first_err (rows_at take pps_rows no_pps (after_first payload)) (λ (s : PpsSoFar). s.pps) e is)
 
 pub pps_refused : (payload : List ℕ) (e : SetFault) → PpsHasFault payload e → pps_at payload ≡ Err e
 unfolding pps_at
 pps_refused payload e has =
-    ap (first_of (λ (s : PpsSoFar). s.pps)) (fault_rows take pps_rows no_pps (behind_first payload) e has)
+    ap (first_of (λ (s : PpsSoFar). s.pps)) (fault_rows take pps_rows no_pps (after_first payload) e has)
 
 -- the reader's answer is the set's
-pub pps_answer : (payload : List ℕ) (more : Bool) (r : Result Pps SetFault) (q : Place) → Stores (so_far more) r q (rows_at take pps_rows no_pps (behind_first payload)) → Answers r (pps_at payload)
+pub pps_answer : (payload : List ℕ) (more : Bool) (r : Result Pps SetFault) (q : Place) → Stores (so_far more) r q (rows_at take pps_rows no_pps (after_first payload)) → Answers r (pps_at payload)
 unfolding pps_at
 pps_answer payload more (Ok s) q read = ap (first_of (λ (t : PpsSoFar). t.pps)) read
 pps_answer payload more (Err e) q read =
-    refused_by e (rows_at take pps_rows no_pps (behind_first payload)) (first_of (λ (t : PpsSoFar). t.pps) (rows_at take pps_rows no_pps (behind_first payload))) (λ h. ap (first_of (λ (t : PpsSoFar). t.pps)) h) read
+    refused_by e (rows_at take pps_rows no_pps (after_first payload)) (first_of (λ (t : PpsSoFar). t.pps) (rows_at take pps_rows no_pps (after_first payload))) (λ h. ap (first_of (λ (t : PpsSoFar). t.pps)) h) read
 
 -- no bit is after the header
-pub pps_empty : (payload : List ℕ) → (behind_first payload).rest ≡ [] → pps_at payload ≡ Err Cut
+pub pps_empty : (payload : List ℕ) → (after_first payload).rest ≡ [] → pps_at payload ≡ Err Cut
 unfolding pps_at pps_rows value_at ue_at
 pps_empty payload none =
-    ap (first_of (λ (s : PpsSoFar). s.pps)) (rows_stop take id_row _ no_pps (behind_first payload) Cut refl (rw none refl))
+    ap (first_of (λ (s : PpsSoFar). s.pps)) (rows_stop take id_row _ no_pps (after_first payload) Cut refl (rw none refl))

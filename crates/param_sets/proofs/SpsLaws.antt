@@ -7,7 +7,7 @@ use Rattle.param_sets.specs.declared.fault.SetFault.TheVariants.{Cut}
 use Rattle.set_types.specs.declared.sps.Sps.{Sps}
 use Rattle.param_sets.specs.Answer.{Stores}
 use Rattle.syntax_tables.specs.Reading.{unsigned, checked, value_at, rows_at}
-use Rattle.syntax_tables.specs.Payloads.{behind_first}
+use Rattle.syntax_tables.specs.Payloads.{after_first}
 use Rattle.param_sets.specs.Sets.{first_of, IsSps, SpsHasFault, sps_at, Answers}
 use Rattle.param_sets.specs.SpsSyntax.{take, no_sps, profile_row, profile_range, sps_rows}
 use Rattle.syntax_tables.proofs.Tables.{rows_found, rows_only, rows_fault, fault_rows}
@@ -18,35 +18,35 @@ use Rattle.param_sets.proofs.SetLaws.{first_ok, first_err}
 pub sps_found : (payload : List ℕ) (set : Sps) → sps_at payload ≡ Ok set → IsSps payload set
 unfolding sps_at
 sps_found payload set is =
-    let read = first_ok (rows_at take sps_rows no_sps (behind_first payload)) (λ (s : Sps). s) set is in
-    let rows = rows_found take sps_rows no_sps (behind_first payload) read.0 read.1 in
-    record { header = rows.0; behind = read.0.1; rows = rows.1; values = rows.2 ∙ read.2 }
+    let read = first_ok (rows_at take sps_rows no_sps (after_first payload)) (λ (s : Sps). s) set is in
+    let rows = rows_found take sps_rows no_sps (after_first payload) read.0 read.1 in
+    record { header = rows.0; after = read.0.1; rows = rows.1; values = rows.2 ∙ read.2 }
 
 pub sps_only : (payload : List ℕ) (set : Sps) → IsSps payload set → sps_at payload ≡ Ok set
 unfolding sps_at
 sps_only payload set is =
-    ap (first_of (λ (s : Sps). s)) (rows_only take sps_rows no_sps (behind_first payload) is.header is.behind is.rows) ∙ ap Ok is.values
+    ap (first_of (λ (s : Sps). s)) (rows_only take sps_rows no_sps (after_first payload) is.header is.after is.rows) ∙ ap Ok is.values
 
 pub sps_fault : (payload : List ℕ) (e : SetFault) → sps_at payload ≡ Err e → SpsHasFault payload e
 unfolding sps_at
 sps_fault payload e is =
-    rows_fault take sps_rows no_sps (behind_first payload) e (first_err (rows_at take sps_rows no_sps (behind_first payload)) (λ (s : Sps). s) e is)
+    rows_fault take sps_rows no_sps (after_first payload) e (first_err (rows_at take sps_rows no_sps (after_first payload)) (λ (s : Sps). s) e is)
 
 pub sps_refused : (payload : List ℕ) (e : SetFault) → SpsHasFault payload e → sps_at payload ≡ Err e
 unfolding sps_at
 sps_refused payload e has =
-    ap (first_of (λ (s : Sps). s)) (fault_rows take sps_rows no_sps (behind_first payload) e has)
+    ap (first_of (λ (s : Sps). s)) (fault_rows take sps_rows no_sps (after_first payload) e has)
 
 -- the reader's answer is the set's
-pub sps_answer : (payload : List ℕ) (r : Result Sps SetFault) (q : Place) → Stores (λ s. s) r q (rows_at take sps_rows no_sps (behind_first payload)) → Answers r (sps_at payload)
+pub sps_answer : (payload : List ℕ) (r : Result Sps SetFault) (q : Place) → Stores (λ s. s) r q (rows_at take sps_rows no_sps (after_first payload)) → Answers r (sps_at payload)
 unfolding sps_at
 sps_answer payload (Ok s) q read = ap (first_of (λ (s : Sps). s)) read
 sps_answer payload (Err e) q read =
-    refused_by e (rows_at take sps_rows no_sps (behind_first payload)) (first_of (λ (s : Sps). s) (rows_at take sps_rows no_sps (behind_first payload))) (λ h. ap (first_of (λ (s : Sps). s)) h) read
+    refused_by e (rows_at take sps_rows no_sps (after_first payload)) (first_of (λ (s : Sps). s) (rows_at take sps_rows no_sps (after_first payload))) (λ h. ap (first_of (λ (s : Sps). s)) h) read
 
 -- no bit is after the header
-pub sps_empty : (payload : List ℕ) → (behind_first payload).rest ≡ [] → sps_at payload ≡ Err Cut
+pub sps_empty : (payload : List ℕ) → (after_first payload).rest ≡ [] → sps_at payload ≡ Err Cut
 unfolding sps_at sps_rows value_at
 sps_empty payload none =
-    let short : length (behind_first payload).rest < 8 = omega (arith, ap length none) in
-    ap (first_of (λ (s : Sps). s)) (rows_stop take profile_row _ no_sps (behind_first payload) Cut refl (ap (λ r. checked Cut Cut profile_range (unsigned r)) (fixed_short 8 (behind_first payload) short)))
+    let short : length (after_first payload).rest < 8 = omega (arith, ap length none) in
+    ap (first_of (λ (s : Sps). s)) (rows_stop take profile_row _ no_sps (after_first payload) Cut refl (ap (λ r. checked Cut Cut profile_range (unsigned r)) (fixed_short 8 (after_first payload) short)))

@@ -6,7 +6,7 @@ use Rattle.syntax_tables.specs.Reading.{rows_at}
 use Rattle.param_sets.specs.SpsSyntax.{take, no_sps, SpsRow, beginning_rows, high_rows, count_rows, typed_rows, frame_rows, size_rows, sps_rows}
 use Rattle.param_sets.specs.declared.fault.SetFault.{SetFault}
 use Rattle.set_types.specs.declared.sps.Sps.{Sps}
-use Rattle.syntax_tables.proofs.Loops.{behind_ok, behind_err}
+use Rattle.syntax_tables.proofs.Loops.{after_ok, after_err}
 use Rattle.param_sets.proofs.Refusals.{refused, refused_by}
 
 -- the sections from the types of counts on
@@ -22,20 +22,20 @@ Left rows p s q = rows_at take sps_rows no_sps p ≡ rows_at take rows s q
 
 pub begun : (s : Sps) (p q : Place) → rows_at take beginning_rows no_sps p ≡ Ok (s, q) → Left (high_rows ++ from_counts) p s q
 unfolding sps_rows
-begun s p q read = behind_ok take beginning_rows (high_rows ++ from_counts) no_sps p s q read
+begun s p q read = after_ok take beginning_rows (high_rows ++ from_counts) no_sps p s q read
 
 pub not_begun : (p : Place) (e : SetFault) → rows_at take beginning_rows no_sps p ≡ Err e → Refuses e (rows_at take sps_rows no_sps p)
 unfolding sps_rows
-not_begun p e read = refused e (rows_at take sps_rows no_sps p) (behind_err take beginning_rows (high_rows ++ from_counts) no_sps p e read)
+not_begun p e read = refused e (rows_at take sps_rows no_sps p) (after_err take beginning_rows (high_rows ++ from_counts) no_sps p e read)
 
 -- a section was read
 pub further : (xs ys : List SpsRow) (s t : Sps) (p q r : Place) → Left (xs ++ ys) p s q → rows_at take xs s q ≡ Ok (t, r) → Left ys p t r
-further xs ys s t p q r left read = left ∙ behind_ok take xs ys s q t r read
+further xs ys s t p q r left read = left ∙ after_ok take xs ys s q t r read
 
 -- a section shows a fault
 pub stopped : (xs ys : List SpsRow) (s : Sps) (p q : Place) (e : SetFault) → Left (xs ++ ys) p s q → Refuses e (rows_at take xs s q) → Refuses e (rows_at take sps_rows no_sps p)
 stopped xs ys s p q e left fault =
-    refused_by e (rows_at take xs s q) (rows_at take sps_rows no_sps p) (λ h. left ∙ behind_err take xs ys s q e h) fault
+    refused_by e (rows_at take xs s q) (rows_at take sps_rows no_sps p) (λ h. left ∙ after_err take xs ys s q e h) fault
 
 -- the last section
 pub stopped_last : (xs : List SpsRow) (s : Sps) (p q : Place) (e : SetFault) → Left xs p s q → Refuses e (rows_at take xs s q) → Refuses e (rows_at take sps_rows no_sps p)

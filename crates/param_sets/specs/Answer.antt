@@ -11,5 +11,5 @@ Refuses e read = read ≡ Err e
 
 -- what was read was stored, and the reader is past it, unless memory ran out
 abbrev pub Stores : {X Y : Type 0} → (X → Y) → Result X SetFault → Place → Result (Y × Place) SetFault → Type 0
-Stores view (Ok x) behind read = read ≡ Ok (view x, behind)
-Stores view (Err e) behind read = Refuses e read
+Stores view (Ok x) after read = read ≡ Ok (view x, after)
+Stores view (Err e) after read = Refuses e read

@@ -7,7 +7,7 @@ use Rattle.set_types.specs.declared.sps.Sps.{Sps}
 use Rattle.set_types.specs.declared.pps.Pps.{Pps}
 use Rattle.syntax_tables.specs.Grammar.{Header, values, HasRows, HasFault}
 use Rattle.syntax_tables.specs.Reading.{rows_at}
-use Rattle.syntax_tables.specs.Payloads.{behind_first}
+use Rattle.syntax_tables.specs.Payloads.{after_first}
 use Rattle.param_sets.specs.Answer.{Refuses}
 use Rattle.param_sets.specs.SpsSyntax as sps
 use Rattle.param_sets.specs.PpsSyntax as pps
@@ -15,22 +15,22 @@ use Rattle.param_sets.specs.PpsSyntax as pps
 -- the payload has this sequence parameter set: its header says so
 pub record IsSps (payload : List ℕ) (set : Sps) : Type 0 where
   pub header : Header sps.SpsField
-  pub behind : Place
-  pub rows : HasRows sps.take sps.sps_rows sps.no_sps (behind_first payload) header behind
+  pub after : Place
+  pub rows : HasRows sps.take sps.sps_rows sps.no_sps (after_first payload) header after
   pub values : values sps.take sps.no_sps header ≡ set
 
 abbrev pub SpsHasFault : List ℕ → SetFault → Type 0
-SpsHasFault payload fault = HasFault sps.take sps.sps_rows sps.no_sps (behind_first payload) fault
+SpsHasFault payload fault = HasFault sps.take sps.sps_rows sps.no_sps (after_first payload) fault
 
 -- the payload has this picture parameter set
 pub record IsPps (payload : List ℕ) (set : Pps) : Type 0 where
   pub header : Header pps.PpsField
-  pub behind : Place
-  pub rows : HasRows pps.take pps.pps_rows pps.no_pps (behind_first payload) header behind
+  pub after : Place
+  pub rows : HasRows pps.take pps.pps_rows pps.no_pps (after_first payload) header after
   pub values : (values pps.take pps.no_pps header).pps ≡ set
 
 abbrev pub PpsHasFault : List ℕ → SetFault → Type 0
-PpsHasFault payload fault = HasFault pps.take pps.pps_rows pps.no_pps (behind_first payload) fault
+PpsHasFault payload fault = HasFault pps.take pps.pps_rows pps.no_pps (after_first payload) fault
 
 -- the same as functions of the payload
 abbrev pub first_of : {A B : Type 0} → (A → B) → Result (A × Place) SetFault → Result B SetFault
@@ -38,10 +38,10 @@ first_of view (Ok x) = Ok (view x.0)
 first_of view (Err e) = Err e
 
 unfoldable pub sps_at : List ℕ → Result Sps SetFault
-sps_at payload = first_of (λ s. s) (rows_at sps.take sps.sps_rows sps.no_sps (behind_first payload))
+sps_at payload = first_of (λ s. s) (rows_at sps.take sps.sps_rows sps.no_sps (after_first payload))
 
 unfoldable pub pps_at : List ℕ → Result Pps SetFault
-pps_at payload = first_of (λ s. s.pps) (rows_at pps.take pps.pps_rows pps.no_pps (behind_first payload))
+pps_at payload = first_of (λ s. s.pps) (rows_at pps.take pps.pps_rows pps.no_pps (after_first payload))
 
 -- a call answers what reading gives, unless memory ran out
 abbrev pub Answers : {A : Type 0} → Result A SetFault → Result A SetFault → Type 0

@@ -11,7 +11,7 @@ ghost use Rattle.set_types.specs.declared.pps.Pps.{Pps};
 
 use crate::fault::{SetFault, SetField};
 use crate::scaling_list::scaling_lists;
-use crate::set_fields::{behind_header, bounded, more_data, small};
+use crate::set_fields::{after_header, bounded, more_data, small};
 use base_types::AtMost;
 use expgolomb::Bits;
 use set_types::{Pps, ScalingLists, WeightedBipred};
@@ -58,7 +58,8 @@ fn beginning(alloc: Global, bits: &mut Bits<'_>) -> Result<Pps, SetFault>
 
 #[tactic(auto, unfolding(syntax_tables::specs::Reading::rows_at))]
 fn coding(bits: &mut Bits<'_>, pps: &mut Pps) -> Result<(), SetFault>
-    ensures exact { Reads (λ _. so_far false pps.new) result bits.new (rows_at take coding_rows (so_far false pps.old) bits.old) }
+    ensures exact { Reads (λ _. so_far false pps.new) result bits.new
+        (rows_at take coding_rows (so_far false pps.old) bits.old) }
     ensures same { pps.new.scaling_lists ≡ pps.old.scaling_lists }
 {
     pps.entropy_coding_mode_flag = flag(bits, SetFault::Cut)?;
@@ -69,7 +70,8 @@ fn coding(bits: &mut Bits<'_>, pps: &mut Pps) -> Result<(), SetFault>
 
 #[tactic(auto, unfolding(syntax_tables::specs::Reading::rows_at))]
 fn prediction(bits: &mut Bits<'_>, pps: &mut Pps) -> Result<(), SetFault>
-    ensures exact { Reads (λ _. so_far false pps.new) result bits.new (rows_at take prediction_rows (so_far false pps.old) bits.old) }
+    ensures exact { Reads (λ _. so_far false pps.new) result bits.new
+        (rows_at take prediction_rows (so_far false pps.old) bits.old) }
     ensures same { pps.new.scaling_lists ≡ pps.old.scaling_lists }
 {
     let wrong = SetFault::Range {
@@ -91,7 +93,8 @@ fn prediction(bits: &mut Bits<'_>, pps: &mut Pps) -> Result<(), SetFault>
 
 #[tactic(auto, unfolding(syntax_tables::specs::Reading::rows_at))]
 fn quantisation(bits: &mut Bits<'_>, pps: &mut Pps) -> Result<(), SetFault>
-    ensures exact { Reads (λ _. so_far false pps.new) result bits.new (rows_at take quantisation_rows (so_far false pps.old) bits.old) }
+    ensures exact { Reads (λ _. so_far false pps.new) result bits.new
+        (rows_at take quantisation_rows (so_far false pps.old) bits.old) }
     ensures same { pps.new.scaling_lists ≡ pps.old.scaling_lists }
 {
     let wrong = SetFault::Range {
@@ -112,7 +115,8 @@ fn quantisation(bits: &mut Bits<'_>, pps: &mut Pps) -> Result<(), SetFault>
 
 #[tactic(auto, unfolding(syntax_tables::specs::Reading::rows_at))]
 fn slices(bits: &mut Bits<'_>, pps: &mut Pps) -> Result<(), SetFault>
-    ensures exact { Reads (λ _. so_far false pps.new) result bits.new (rows_at take slice_rows (so_far false pps.old) bits.old) }
+    ensures exact { Reads (λ _. so_far false pps.new) result bits.new
+        (rows_at take slice_rows (so_far false pps.old) bits.old) }
     ensures same { pps.new.scaling_lists ≡ pps.old.scaling_lists }
 {
     pps.deblocking_filter_control_present_flag = flag(bits, SetFault::Cut)?;
@@ -124,7 +128,8 @@ fn slices(bits: &mut Bits<'_>, pps: &mut Pps) -> Result<(), SetFault>
 // Whether there is more data, and what it has before the scaling lists.
 #[tactic(auto, unfolding(syntax_tables::specs::Reading::rows_at))]
 fn transform(bits: &mut Bits<'_>, pps: &mut Pps) -> Result<bool, SetFault>
-    ensures exact { Reads (λ more. so_far more pps.new) result bits.new (rows_at take transform_rows (so_far false pps.old) bits.old) }
+    ensures exact { Reads (λ more. so_far more pps.new) result bits.new
+        (rows_at take transform_rows (so_far false pps.old) bits.old) }
     ensures same { pps.new.scaling_lists ≡ pps.old.scaling_lists }
 {
     if !more_data(bits) {
@@ -137,7 +142,8 @@ fn transform(bits: &mut Bits<'_>, pps: &mut Pps) -> Result<bool, SetFault>
 
 #[tactic(auto, unfolding(syntax_tables::specs::Reading::rows_at))]
 fn second_offset(bits: &mut Bits<'_>, pps: &mut Pps) -> Result<(), SetFault>
-    ensures { Reads (λ _. so_far true pps.new) result bits.new (rows_at take second_offset_rows (so_far true pps.old) bits.old) }
+    ensures { Reads (λ _. so_far true pps.new) result bits.new
+        (rows_at take second_offset_rows (so_far true pps.old) bits.old) }
 {
     let wrong = SetFault::Range {
         field: SetField::ChromaOffset,
@@ -149,7 +155,8 @@ fn second_offset(bits: &mut Bits<'_>, pps: &mut Pps) -> Result<(), SetFault>
 // The scaling lists, where there is more data.
 fn pic_scaling_lists(alloc: Global, bits: &mut Bits<'_>, pps: &mut Pps) -> Result<(), SetFault>
     requires { pps.old.scaling_lists ≡ [] }
-    ensures { Stores (λ _. so_far true pps.new) result bits.new (rows_at take pic_list_rows (so_far true pps.old) bits.old) }
+    ensures { Stores (λ _. so_far true pps.new) result bits.new
+        (rows_at take pic_list_rows (so_far true pps.old) bits.old) }
 {
     if pps.pic_scaling_matrix_present_flag {
         pps.scaling_lists = scaling_lists(alloc, bits, list_count(pps))?;
@@ -167,7 +174,9 @@ fn list_count(pps: &Pps) -> u8
 // What stands after the first part.
 fn more(alloc: Global, bits: &mut Bits<'_>, pps: &mut Pps) -> Result<(), SetFault>
     requires { pps.old.scaling_lists ≡ [] }
-    ensures { (more : Bool) × Stores (λ _. so_far more pps.new) result bits.new (rows_at take more_rows (so_far false pps.old) bits.old) }
+    ensures { (more : Bool)
+        × Stores (λ _. so_far more pps.new) result bits.new
+        (rows_at take more_rows (so_far false pps.old) bits.old) }
 {
     if transform(bits, pps)? {
         pic_scaling_lists(alloc, bits, pps)?;
@@ -178,7 +187,8 @@ fn more(alloc: Global, bits: &mut Bits<'_>, pps: &mut Pps) -> Result<(), SetFaul
 
 // A set after the payload's first byte.
 fn pic_parameter_set_rbsp(alloc: Global, bits: &mut Bits<'_>) -> Result<Pps, SetFault>
-    ensures { (more : Bool) × Stores (so_far more) result bits.new (rows_at take pps_rows no_pps bits.old) }
+    ensures { (more : Bool)
+        × Stores (so_far more) result bits.new (rows_at take pps_rows no_pps bits.old) }
 {
     let mut pps = beginning(alloc, bits)?;
     coding(bits, &mut pps)?;
@@ -193,7 +203,7 @@ fn pic_parameter_set_rbsp(alloc: Global, bits: &mut Bits<'_>) -> Result<Pps, Set
 fn pps_of(alloc: Global, payload: &[u8]) -> Result<Pps, SetFault>
     ensures { Answers result (pps_at payload.now) }
 {
-    let mut bits = behind_header(payload)?;
+    let mut bits = after_header(payload)?;
     pic_parameter_set_rbsp(alloc, &mut bits)
 }
 
@@ -203,7 +213,8 @@ pub fn read_pps(alloc: Global, payload: &[u8]) -> Result<Pps, SetFault>
     ensures found { IfOk result (λ set. IsPps payload.now set) }
     ensures only { (set : Pps) → IsPps payload.now set → Answers result (Ok set) }
     ensures shown { IfErr result (λ fault. IsShown (PpsHasFault payload.now) fault) }
-    ensures refused { (fault : SetFault) → PpsHasFault payload.now fault → Answers result (Err fault) }
+    ensures refused { (fault : SetFault) → PpsHasFault payload.now fault
+        → Answers result (Err fault) }
 {
     pps_of(alloc, payload)
 }

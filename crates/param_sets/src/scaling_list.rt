@@ -9,7 +9,7 @@ ghost use Rattle.param_sets.specs.Scaling.{take_list, present_row, delta_row, li
 use crate::fault::{SetFault, SetField};
 use crate::set_fields::small;
 use expgolomb::Bits;
-use set_types::{ScalingList, ScalingLists, scale_behind};
+use set_types::{ScalingList, ScalingLists, scale_after};
 use std::alloc::Global;
 use syntax_tables::flag;
 
@@ -19,7 +19,8 @@ pub fn scaling_lists(
     bits: &mut Bits<'_>,
     count: u8,
 ) -> Result<ScalingLists, SetFault>
-    ensures { Stores (λ lists. lists) result bits.new (rows_at take_list (list_rows 0 count) [] bits.old) }
+    ensures { Stores (λ lists. lists) result bits.new
+        (rows_at take_list (list_rows 0 count) [] bits.old) }
 {
     let mut lists = ScalingLists::new(alloc);
     for j in 0..count {
@@ -36,7 +37,8 @@ fn scaling_list(
     size: u8,
 ) -> Result<Option<ScalingList>, SetFault>
     ensures { (lists : List Deltas) → Stores (λ list. lists ++ list ∷ []) result bits.new
-        (rows_at take_list (present_row ∷ replicate size (delta_row (length lists))) lists bits.old) }
+        (rows_at take_list (present_row ∷ replicate size
+        (delta_row (length lists))) lists bits.old) }
 {
     if flag(bits, SetFault::Cut)? {
         Ok(Some(deltas(alloc, bits, size)?))
@@ -48,7 +50,8 @@ fn scaling_list(
 // The deltas of a list of this size.
 fn deltas(alloc: Global, bits: &mut Bits<'_>, size: u8) -> Result<ScalingList, SetFault>
     ensures { (lists : List Deltas) → Stores (λ list. lists ++ Some list ∷ []) result bits.new
-        (rows_at take_list (replicate size (delta_row (length lists))) (lists ++ Some [] ∷ []) bits.old) }
+        (rows_at take_list (replicate size (delta_row (length lists)))
+        (lists ++ Some [] ∷ []) bits.old) }
 {
     let wrong = SetFault::Range {
         field: SetField::Delta,
@@ -61,7 +64,7 @@ fn deltas(alloc: Global, bits: &mut Bits<'_>, size: u8) -> Result<ScalingList, S
         }
         let delta = small(bits, -128, 127, wrong)?;
         list.push(delta)?;
-        next = scale_behind(next, delta);
+        next = scale_after(next, delta);
     }
     Ok(list)
 }

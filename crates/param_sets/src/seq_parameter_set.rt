@@ -13,7 +13,7 @@ ghost use Rattle.set_types.specs.declared.sps.Sps.{Sps};
 
 use crate::fault::{SetFault, SetField};
 use crate::scaling_list::scaling_lists;
-use crate::set_fields::{behind_header, bounded};
+use crate::set_fields::{after_header, bounded};
 use base_types::AtMost;
 use expgolomb::Bits;
 use set_types::{ChromaFormat, Offsets, PicOrderCntType, ScalingLists, Sps};
@@ -23,7 +23,8 @@ use syntax_tables::{fixed, flag, se_any, ue, ue_any};
 // profile_idc.
 #[tactic(auto, using(syntax_tables::proofs::FieldLaws::narrow_ok, syntax_tables::proofs::FieldLaws::narrow_err))]
 fn profile_idc(bits: &mut Bits<'_>) -> Result<u8, SetFault>
-    ensures { Reads pos result bits.new (value_at (Fixed 8) SetFault.Cut SetFault.Cut profile_range bits.old) }
+    ensures { Reads pos result bits.new (value_at
+        (Fixed 8) SetFault.Cut SetFault.Cut profile_range bits.old) }
 {
     let profile = fixed(bits, 8, SetFault::Cut)? as u8;
     match profile {
@@ -34,7 +35,9 @@ fn profile_idc(bits: &mut Bits<'_>) -> Result<u8, SetFault>
 
 // constraint_set0_flag to constraint_set5_flag.
 fn constraint_set_flags(bits: &mut Bits<'_>) -> Result<[bool; 6], SetFault>
-    ensures { (s : Sps) → Reads (λ flags. record s { constraint_set_flags = flags }) result bits.new (rows_at take constraint_rows (record s { constraint_set_flags = [] }) bits.old) }
+    ensures { (s : Sps)
+        → Reads (λ flags. record s { constraint_set_flags = flags }) result bits.new
+        (rows_at take constraint_rows (record s { constraint_set_flags = [] }) bits.old) }
 {
     let mut flags = [false; 6];
     for i in 0..6 {
@@ -46,7 +49,9 @@ fn constraint_set_flags(bits: &mut Bits<'_>) -> Result<[bool; 6], SetFault>
 // Two bits that aren't tested, level_idc and seq_parameter_set_id.
 #[tactic(auto, unfolding(syntax_tables::specs::Reading::rows_at))]
 fn level_and_id(bits: &mut Bits<'_>) -> Result<(u8, AtMost<31>), SetFault>
-    ensures { (s : Sps) → Reads (λ x. record s { level_idc = x.0; seq_parameter_set_id = x.1 }) result bits.new (rows_at take level_rows s bits.old) }
+    ensures { (s : Sps)
+        → Reads (λ x. record s { level_idc = x.0; seq_parameter_set_id = x.1 }) result bits.new
+        (rows_at take level_rows s bits.old) }
 {
     let _reserved_zero_2bits = fixed(bits, 2, SetFault::Cut)?;
     let level_idc = fixed(bits, 8, SetFault::Cut)? as u8;
@@ -113,7 +118,8 @@ fn chroma_format_idc(bits: &mut Bits<'_>) -> Result<u32, SetFault>
 #[tactic(auto, unfolding(syntax_tables::specs::Reading::rows_at))]
 fn chroma_and_depths(bits: &mut Bits<'_>, sps: &mut Sps) -> Result<(), SetFault>
     requires { is_high sps.old ≡ true }
-    ensures exact { Reads (λ _. sps.new) result bits.new (rows_at take high_fields sps.old bits.old) }
+    ensures exact { Reads (λ _. sps.new) result bits.new
+        (rows_at take high_fields sps.old bits.old) }
     ensures high { is_high sps.new ≡ true }
     ensures none { sps.new.scaling_lists ≡ sps.old.scaling_lists }
     ensures same { sps.new.offset_for_ref_frame ≡ sps.old.offset_for_ref_frame }
@@ -137,7 +143,8 @@ fn chroma_and_depths(bits: &mut Bits<'_>, sps: &mut Sps) -> Result<(), SetFault>
 fn seq_scaling_lists(alloc: Global, bits: &mut Bits<'_>, sps: &mut Sps) -> Result<(), SetFault>
     requires high { is_high sps.old ≡ true }
     requires none { sps.old.scaling_lists ≡ [] }
-    ensures exact { Stores (λ _. sps.new) result bits.new (rows_at take scaling_rows sps.old bits.old) }
+    ensures exact { Stores (λ _. sps.new) result bits.new
+        (rows_at take scaling_rows sps.old bits.old) }
     ensures same { sps.new.offset_for_ref_frame ≡ sps.old.offset_for_ref_frame }
 {
     if sps.seq_scaling_matrix_present_flag {
@@ -149,7 +156,8 @@ fn seq_scaling_lists(alloc: Global, bits: &mut Bits<'_>, sps: &mut Sps) -> Resul
 // What the high profiles have.
 fn high(alloc: Global, bits: &mut Bits<'_>, sps: &mut Sps) -> Result<(), SetFault>
     requires { sps.old.scaling_lists ≡ [] }
-    ensures exact { Stores (λ _. sps.new) result bits.new (rows_at take high_rows sps.old bits.old) }
+    ensures exact { Stores (λ _. sps.new) result bits.new
+        (rows_at take high_rows sps.old bits.old) }
     ensures same { sps.new.offset_for_ref_frame ≡ sps.old.offset_for_ref_frame }
 {
     if sps.is_high() {
@@ -161,7 +169,8 @@ fn high(alloc: Global, bits: &mut Bits<'_>, sps: &mut Sps) -> Result<(), SetFaul
 
 #[tactic(auto, unfolding(syntax_tables::specs::Reading::rows_at))]
 fn frame_num_and_count_type(bits: &mut Bits<'_>, sps: &mut Sps) -> Result<(), SetFault>
-    ensures exact { Reads (λ _. sps.new) result bits.new (rows_at take count_rows sps.old bits.old) }
+    ensures exact { Reads (λ _. sps.new) result bits.new
+        (rows_at take count_rows sps.old bits.old) }
     ensures same { sps.new.offset_for_ref_frame ≡ sps.old.offset_for_ref_frame }
 {
     sps.log2_max_frame_num_minus4 = bounded(
@@ -185,7 +194,8 @@ fn frame_num_and_count_type(bits: &mut Bits<'_>, sps: &mut Sps) -> Result<(), Se
 #[tactic(auto, unfolding(syntax_tables::specs::Reading::rows_at))]
 fn type_zero(bits: &mut Bits<'_>, sps: &mut Sps) -> Result<(), SetFault>
     requires { sps.old.pic_order_cnt_type ≡ PicOrderCntType.Zero }
-    ensures exact { Reads (λ _. sps.new) result bits.new (rows_at take type_zero_rows sps.old bits.old) }
+    ensures exact { Reads (λ _. sps.new) result bits.new
+        (rows_at take type_zero_rows sps.old bits.old) }
     ensures same { sps.new.pic_order_cnt_type ≡ PicOrderCntType.Zero }
 {
     let wrong = SetFault::Range {
@@ -199,7 +209,8 @@ fn type_zero(bits: &mut Bits<'_>, sps: &mut Sps) -> Result<(), SetFault>
 #[tactic(auto, unfolding(syntax_tables::specs::Reading::rows_at))]
 fn type_one(bits: &mut Bits<'_>, sps: &mut Sps) -> Result<(), SetFault>
     requires { sps.old.pic_order_cnt_type ≡ PicOrderCntType.One }
-    ensures exact { Reads (λ _. sps.new) result bits.new (rows_at take type_one_rows sps.old bits.old) }
+    ensures exact { Reads (λ _. sps.new) result bits.new
+        (rows_at take type_one_rows sps.old bits.old) }
     ensures same { sps.new.pic_order_cnt_type ≡ PicOrderCntType.One }
     ensures none { sps.new.offset_for_ref_frame ≡ sps.old.offset_for_ref_frame }
 {
@@ -219,7 +230,8 @@ fn type_one(bits: &mut Bits<'_>, sps: &mut Sps) -> Result<(), SetFault>
 // The offsets of a cycle of this length.
 fn cycle(alloc: Global, bits: &mut Bits<'_>, length: u8) -> Result<Offsets, SetFault>
     ensures { (s : Sps) → IsCycleOf s length →
-        Stores (with_offsets s) result bits.new (rows_at take offset_rows (with_offsets s []) bits.old) }
+        Stores (with_offsets s) result bits.new
+        (rows_at take offset_rows (with_offsets s []) bits.old) }
 {
     let wrong = SetFault::Range {
         field: SetField::Offset,
@@ -281,7 +293,8 @@ fn size(bits: &mut Bits<'_>, sps: &mut Sps) -> Result<(), SetFault>
 // frame_mbs_only_flag, which is 1.
 #[tactic(auto, using(syntax_tables::proofs::FieldLaws::narrow_ok, syntax_tables::proofs::FieldLaws::narrow_err))]
 fn frame_mbs_only_flag(bits: &mut Bits<'_>) -> Result<bool, SetFault>
-    ensures { Reads flag_value result bits.new (value_at (Fixed 1) SetFault.Cut SetFault.Cut frames_only bits.old) }
+    ensures { Reads flag_value result bits.new
+        (value_at (Fixed 1) SetFault.Cut SetFault.Cut frames_only bits.old) }
 {
     if flag(bits, SetFault::Cut)? {
         Ok(true)
@@ -307,7 +320,7 @@ fn seq_parameter_set_data(alloc: Global, bits: &mut Bits<'_>) -> Result<Sps, Set
 fn sps_of(alloc: Global, payload: &[u8]) -> Result<Sps, SetFault>
     ensures { Answers result (sps_at payload.now) }
 {
-    let mut bits = behind_header(payload)?;
+    let mut bits = after_header(payload)?;
     seq_parameter_set_data(alloc, &mut bits)
 }
 
@@ -319,7 +332,8 @@ pub fn read_sps(alloc: Global, payload: &[u8]) -> Result<Sps, SetFault>
     ensures found { IfOk result (λ set. IsSps payload.now set) }
     ensures only { (set : Sps) → IsSps payload.now set → Answers result (Ok set) }
     ensures shown { IfErr result (λ fault. IsShown (SpsHasFault payload.now) fault) }
-    ensures refused { (fault : SetFault) → SpsHasFault payload.now fault → Answers result (Err fault) }
+    ensures refused { (fault : SetFault) → SpsHasFault payload.now fault
+        → Answers result (Err fault) }
 {
     sps_of(alloc, payload)
 }

@@ -4,7 +4,7 @@ ghost use Rattle.std.specs.Prelude.{◌≡◌, pos, [], Ok, IfOk, IfErr};
 ghost use Rattle.syntax_tables.specs.Grammar.{Unsigned, Signed, MoreData};
 ghost use Rattle.syntax_tables.specs.Reading.{value_at};
 ghost use Rattle.syntax_tables.specs.Ranges.{any, at_most, between};
-ghost use Rattle.syntax_tables.specs.Payloads.{behind_first};
+ghost use Rattle.syntax_tables.specs.Payloads.{after_first};
 ghost use Rattle.syntax_tables.specs.Answer.{Reads, flag_value};
 
 use crate::fault::SetFault;
@@ -13,9 +13,10 @@ use expgolomb::Bits;
 use syntax_tables::{se, ue};
 
 /// A reader of a payload after its first byte, the unit's header.
-pub fn behind_header(payload: &[u8]) -> Result<Bits<'_>, SetFault>
-    ensures found { IfOk result (λ bits. bits ≡ behind_first payload.now) }
-    ensures empty { IfErr result (λ fault. (fault ≡ SetFault.Cut) × ((behind_first payload.now).rest ≡ [])) }
+pub fn after_header(payload: &[u8]) -> Result<Bits<'_>, SetFault>
+    ensures found { IfOk result (λ bits. bits ≡ after_first payload.now) }
+    ensures empty { IfErr result (λ fault. (fault ≡ SetFault.Cut)
+        × ((after_first payload.now).rest ≡ [])) }
 {
     let mut bits = Bits::new(payload);
     match bits.fixed(8) {
@@ -26,7 +27,8 @@ pub fn behind_header(payload: &[u8]) -> Result<Bits<'_>, SetFault>
 
 /// Reads a signed number of at most 8 bits, se(v).
 pub fn small(bits: &mut Bits<'_>, least: i8, most: i8, wrong: SetFault) -> Result<i8, SetFault>
-    ensures { Reads (λ v. v) result bits.new (value_at Signed SetFault.Cut wrong (between least most wrong) bits.old) }
+    ensures { Reads (λ v. v) result bits.new
+        (value_at Signed SetFault.Cut wrong (between least most wrong) bits.old) }
 {
     let value = se(
         bits,
@@ -40,7 +42,8 @@ pub fn small(bits: &mut Bits<'_>, least: i8, most: i8, wrong: SetFault) -> Resul
 
 /// Whether more_rbsp_data() holds.
 pub fn more_data(bits: &Bits<'_>) -> bool
-    ensures { value_at MoreData SetFault.Cut SetFault.Cut any bits.now ≡ Ok (flag_value result, bits.now) }
+    ensures { value_at MoreData SetFault.Cut SetFault.Cut any bits.now
+        ≡ Ok (flag_value result, bits.now) }
 {
     bits.more_data()
 }
@@ -50,7 +53,8 @@ pub fn bounded<const MOST: u8>(
     bits: &mut Bits<'_>,
     wrong: SetFault,
 ) -> Result<AtMost<MOST>, SetFault>
-    ensures { Reads pos result bits.new (value_at Unsigned SetFault.Cut wrong (at_most MOST wrong) bits.old) }
+    ensures { Reads pos result bits.new (value_at Unsigned SetFault.Cut wrong
+        (at_most MOST wrong) bits.old) }
 {
     let value = ue(bits, u32::from(MOST), SetFault::Cut, wrong)?;
     Ok(AtMost::new(value as u8))

@@ -26,7 +26,8 @@ impl<K: Eq + Hash, P> Model for PictureCache<K, P> {
 
     ghost view = { λ c. record { pairs = c.cache.entries; capacity = c.cache.cap } };
 
-    ghost invariant = { λ c. IsStructural K.eq × IsBounded K.eq (record { pairs = c.cache.entries; capacity = c.cache.cap }) };
+    ghost invariant = { λ c. IsStructural K.eq
+        × IsBounded K.eq (record { pairs = c.cache.entries; capacity = c.cache.cap }) };
 }
 
 impl<K: Eq + Hash + Drop, P: Drop> PictureCache<K, P> {

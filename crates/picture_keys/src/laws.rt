@@ -20,10 +20,13 @@ pub fn picture_is_that_of_its_key()
 /// Where numbers stand for the keys that are known, the node that is made over them names live keys alone, and its tree
 /// is the key.
 pub fn node_is_that_of_its_key()
-    ensures tree { (keys : KeyMap (List Work)) (numbers : Numbers) (known : Known) (requests : List Request)
+    ensures tree { (keys : KeyMap (List Work)) (numbers : Numbers) (known : Known)
+        (requests : List Request)
         → AreNumbered keys numbers known
-        → tree_of keys (record { work = works_of requests; entries = numbers_named numbers requests })
+        → tree_of keys
+        (record { work = works_of requests; entries = numbers_named numbers requests })
         ≡ key_of known requests }
-    ensures live { (keys : KeyMap (List Work)) (numbers : Numbers) (known : Known) (requests : List Request)
+    ensures live { (keys : KeyMap (List Work)) (numbers : Numbers) (known : Known)
+        (requests : List Request)
         → AreNumbered keys numbers known → AreLive keys (numbers_named numbers requests) }
 {}

@@ -34,7 +34,8 @@ fn add_list(
     list: &[Option<u8>],
     units: &mut Vec<Option<AuId>>,
 ) -> Result<(), AllocError>
-    ensures { OnOk result (units.new.items ≡ units.old.items ++ map (unit_named references.now) list.now) }
+    ensures { OnOk result (units.new.items
+        ≡ units.old.items ++ map (unit_named references.now) list.now) }
 {
     for entry in list {
         units.push(unit_of(references, *entry))?;

@@ -111,7 +111,8 @@ fn intern<F: Fingerprint<Works>>(
     requires { AreLive keys.old (numbers_named numbers.old requests.now) }
     ensures stay { Extends keys.old keys.new }
     ensures one { IsKeyMap keys.old → IsKeyMap keys.new }
-    ensures few { AddsAtMostKey keys.old (tree_of keys.old (node_over numbers.old requests.now)) keys.new }
+    ensures few { AddsAtMostKey keys.old (tree_of keys.old
+        (node_over numbers.old requests.now)) keys.new }
     ensures there { IfOk result (λ key. tree_at keys.new key
         ≡ Some (tree_of keys.old (node_over numbers.old requests.now))) }
     ensures put { IfOk result (λ key. (other : ℕ) → number_at numbers.new other

@@ -20,7 +20,8 @@ pub(crate) fn first_due<F: Fingerprint<Works>>(
     requires { AreRight keys.now places.now }
     ensures { MatchOption result (All (IsNotDue keys.now places.now out.now) found.now)
         (λ at. (at < length found.now)
-        × ((other : Option ℕ) → IfSome (slice_index_or found.now at other) (IsDueNumber keys.now places.now out.now))
+        × ((other : Option ℕ)
+        → IfSome (slice_index_or found.now at other) (IsDueNumber keys.now places.now out.now))
         × All (IsNotDue keys.now places.now out.now) (take at found.now)
         × ((other : Option ℕ) → IsSome (slice_index_or found.now at other))) }
 {

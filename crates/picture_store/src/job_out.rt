@@ -30,7 +30,8 @@ pub(crate) fn is_out(jobs: &[JobOut], key: KeyId) -> bool
 pub(crate) fn place_of(jobs: &[JobOut], number: u64, input: &Input) -> Option<usize>
     ensures { MatchOption result
         (All (λ job. (job.number ≡ number) × (job.input ≡ input.now) → ⊥) jobs.now)
-        (λ at. (at < length jobs.now) × ((other : Out) → (slice_index_or jobs.now at other).number ≡ number)
+        (λ at. (at < length jobs.now)
+        × ((other : Out) → (slice_index_or jobs.now at other).number ≡ number)
         × ((other : Out) → (slice_index_or jobs.now at other).input ≡ input.now)) }
 {
     for (at, job) in jobs.iter().enumerate() {

@@ -40,8 +40,10 @@ fn add_named(
     entry: Option<KeyId>,
 ) -> Result<(), AllocError>
     requires { IfSome unit (λ _. IsSome (picture_in places.now entry)) }
-    ensures there { OnOk result (IfSome unit (λ unit. IsSome (picture_at references.new.items (timestamp unit)))) }
-    ensures items { OnOk result (AddsAtMostEntry references.old.items places.now unit entry references.new.items) }
+    ensures there { OnOk result (IfSome unit (λ unit. IsSome
+        (picture_at references.new.items (timestamp unit)))) }
+    ensures items { OnOk result
+        (AddsAtMostEntry references.old.items places.now unit entry references.new.items) }
 {
     match unit {
         Some(unit) => match picture_in(places, entry) {
@@ -64,7 +66,8 @@ fn add(references: &mut Vec<Reference>, unit: AuId, picture: Picture) -> Result<
     ensures there { OnOk result (IsSome (picture_at references.new.items (timestamp unit))) }
     ensures items { OnOk result ((references.new.items ≡ references.old.items)
         ⊎ (references.new.items
-        ≡ references.old.items ++ (record { timestamp = timestamp unit; picture = picture }) ∷ [])) }
+        ≡ references.old.items ++
+        (record { timestamp = timestamp unit; picture = picture }) ∷ [])) }
 {
     let timestamp = unit.timestamp();
     if !has_picture(references, timestamp) {

@@ -65,7 +65,8 @@ impl Places {
             (keys_of cache.old.pairs) (keys_of cache.new.pairs) }
         ensures room { cache.new.capacity ≡ cache.old.capacity }
         ensures those { (number : ℕ) (picture : Shown) → Contains cache.new.pairs (number, picture)
-            → Contains cache.old.pairs (number, picture) ⊎ Contains self.now (number, Some picture) }
+            → Contains cache.old.pairs (number, picture)
+            ⊎ Contains self.now (number, Some picture) }
     {
         for (key, picture) in &self.places {
             put_unused(cache, used, *key, *picture);
@@ -122,7 +123,8 @@ pub(crate) fn take_out(cache: &mut PictureCache<KeyId, Picture>, keys: &[Option<
 
 /// Takes the picture of a key, where there is one, out of a cache.
 fn take_named(cache: &mut PictureCache<KeyId, Picture>, key: Option<KeyId>)
-    ensures left { IsLeft (λ number. key ≡ Some number) (keys_of cache.old.pairs) (keys_of cache.new.pairs) }
+    ensures left { IsLeft (λ number. key
+        ≡ Some number) (keys_of cache.old.pairs) (keys_of cache.new.pairs) }
     ensures room { cache.new.capacity ≡ cache.old.capacity }
     ensures those { (number : ℕ) (picture : Shown) → Contains cache.new.pairs (number, picture)
         → Contains cache.old.pairs (number, picture) }
@@ -134,7 +136,8 @@ fn take_named(cache: &mut PictureCache<KeyId, Picture>, key: Option<KeyId>)
 
 /// Takes the picture of a key out of a cache.
 fn take_one(cache: &mut PictureCache<KeyId, Picture>, key: KeyId)
-    ensures left { IsLeft (λ number. number ≡ key) (keys_of cache.old.pairs) (keys_of cache.new.pairs) }
+    ensures left { IsLeft (λ number. number
+        ≡ key) (keys_of cache.old.pairs) (keys_of cache.new.pairs) }
     ensures room { cache.new.capacity ≡ cache.old.capacity }
     ensures those { (number : ℕ) (picture : Shown) → Contains cache.new.pairs (number, picture)
         → Contains cache.old.pairs (number, picture) }
@@ -168,7 +171,8 @@ fn add_place(
     old: &Places,
     cache: &PictureCache<KeyId, Picture>,
 ) -> Result<(), AllocError>
-    ensures placed { OnOk result ((number : ℕ) → IsAdded key old.now cache.now.pairs places.old places.new number) }
+    ensures placed { OnOk result ((number : ℕ)
+        → IsAdded key old.now cache.now.pairs places.old places.new number) }
     ensures table { IsTable places.old → IsTable places.new }
 {
     match key {

@@ -26,7 +26,8 @@ pub(crate) fn numbers_of<F: Fingerprint<Works>>(
     requires same { length ids.now ≡ length outcomes.now }
     ensures stay { Extends keys.old keys.new }
     ensures one { IsKeyMap keys.old → IsKeyMap keys.new }
-    ensures ok { IfOk result (λ found. AllStandFor keys.new found.items (keys_of (zip ids.now outcomes.now))) }
+    ensures ok { IfOk result (λ found. AllStandFor keys.new found.items
+        (keys_of (zip ids.now outcomes.now))) }
 {
     let mut units = UnitKeys::new(alloc);
     for at in 0..ids.len() {
@@ -68,8 +69,10 @@ fn roots(
 
 /// Adds the keys of units.
 fn add_found(roots: &mut Vec<KeyId>, found: &[Option<KeyId>]) -> Result<(), AllocError>
-    ensures old { OnOk result ((number : ℕ) → Contains roots.old.items number → Contains roots.new.items number) }
-    ensures added { OnOk result ((number : ℕ) → Contains found.now (Some number) → Contains roots.new.items number) }
+    ensures old { OnOk result ((number : ℕ) → Contains roots.old.items number
+        → Contains roots.new.items number) }
+    ensures added { OnOk result ((number : ℕ) → Contains found.now (Some number)
+        → Contains roots.new.items number) }
 {
     for key in found {
         if let Some(key) = key {

@@ -34,7 +34,8 @@ pub fn plan_on<R: Read, W: Sink, E: Sink>(
     writer: &mut W,
     errors: &mut E,
 ) -> Ended
-    ensures done { result.status ≡ Status.Success → Keeps (E.contents errors.old) (E.contents errors.new) }
+    ensures done { result.status ≡ Status.Success
+        → Keeps (E.contents errors.old) (E.contents errors.new) }
     // What is written at success is the plain fold of the stream that was read.
     ensures planned { result.status ≡ Status.Success → IfSome (R.remaining reader.old) (λ text.
         WritesPlan text (W.contents writer.old) (W.contents writer.new)) }
@@ -75,7 +76,8 @@ fn plan_text<W: Sink>(
     text: &[u8],
     writer: &mut W,
 ) -> Result<(), PlanFault>
-    ensures planned { OnOk result (WritesPlan text.now (W.contents writer.old) (W.contents writer.new)) }
+    ensures planned { OnOk result (WritesPlan text.now (W.contents writer.old)
+        (W.contents writer.new)) }
     ensures ends { IfErr result (λ fault.
         EndsBy text.now fault (W.refuses writer.new) (W.contents writer.old) (W.contents writer.new)) }
 {
@@ -91,8 +93,10 @@ fn plan_text<W: Sink>(
 
 /// Prints why the stream is refused.
 fn print_refusal<W: Sink>(alloc: Global, refusal: Refusal, writer: &mut W) -> Result<(), PrintFault>
-    ensures ok { OnOk result (Appends (W.contents writer.old) (W.contents writer.new) (refusal_text refusal)) }
-    ensures written { AppendsFront (W.contents writer.old) (W.contents writer.new) (refusal_text refusal) }
+    ensures ok { OnOk result (Appends (W.contents writer.old) (W.contents writer.new)
+        (refusal_text refusal)) }
+    ensures written { AppendsFront (W.contents writer.old) (W.contents writer.new)
+        (refusal_text refusal) }
     ensures refused { IsErrOf result PrintFault.Unwritten → W.refuses writer.new }
 {
     let line = RefusalLine(refusal).to_string(alloc)?;
@@ -104,7 +108,8 @@ fn print_units<W: Sink>(alloc: Global, units: Vec<Unit>, writer: &mut W) -> Resu
     requires { vec_len units ≤ most_units }
     ensures ok { OnOk result
         (Appends (W.contents writer.old) (W.contents writer.new) (stream_text (numbered_from 1 units.items))) }
-    ensures written { AppendsFront (W.contents writer.old) (W.contents writer.new) (stream_text (numbered_from 1 units.items)) }
+    ensures written { AppendsFront (W.contents writer.old) (W.contents writer.new)
+        (stream_text (numbered_from 1 units.items)) }
     ensures refused { IsErrOf result PrintFault.Unwritten → W.refuses writer.new }
 {
     let stream = numbered(alloc, units)?;
@@ -123,8 +128,10 @@ fn print_all<W: Sink>(
 ) -> Result<(), PrintFault>
     requires folded { outcomes.now ≡ outcomes_of stream.now }
     requires placed { positions.now ≡ positions_of outcomes.now }
-    ensures ok { OnOk result (Appends (W.contents writer.old) (W.contents writer.new) (stream_text stream.now)) }
-    ensures written { AppendsFront (W.contents writer.old) (W.contents writer.new) (stream_text stream.now) }
+    ensures ok { OnOk result (Appends (W.contents writer.old) (W.contents writer.new)
+        (stream_text stream.now)) }
+    ensures written { AppendsFront (W.contents writer.old) (W.contents writer.new)
+        (stream_text stream.now) }
     ensures refused { IsErrOf result PrintFault.Unwritten → W.refuses writer.new }
 {
     let mut chunks = Chunks::new(alloc);

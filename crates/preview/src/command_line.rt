@@ -33,7 +33,8 @@ pub fn words(rt: &HostRuntime) -> io::Result<Vec<String>> {
 
 /// What the words ask for, or clap's answer to them.
 pub fn parse<'a, S: AsStr>(alloc: Global, words: &'a [S]) -> Result<Asked<'a>, Error>
-    ensures ok { IfOk result (λ asked. wanted_in (map S.text words.entry.now) ≡ Some (wanted_of asked)) }
+    ensures ok { IfOk result (λ asked. wanted_in (map S.text words.entry.now)
+        ≡ Some (wanted_of asked)) }
     ensures faults { FailsBy (faults_of (map S.text words.entry.now)) result }
 {
     let mut preview = preview_command(alloc)?;

@@ -34,19 +34,22 @@ pub fn run<D: Directory, I: Read + Drop, W: Sink, E: Sink>(
     output: &mut W,
     errors: &mut E,
 ) -> Ended
-    ensures done { result.status ≡ Status.Success → Keeps (E.contents errors.old) (E.contents errors.new) }
+    ensures done { result.status ≡ Status.Success
+        → Keeps (E.contents errors.old) (E.contents errors.new) }
     // At success what the words ask for was done, on what they name.
     ensures right { result.status ≡ Status.Success → IsOkAnd words (λ words.
         Succeeds (D.bytes directory.now) (I.remaining standard) (map string_bytes words.items)
         (W.contents output.old) (W.contents output.new)) }
     ensures fails { result.status ≡ Status.Failure → MatchResult words (λ words.
-        Fails (D.bytes directory.now) (I.remaining standard) (map string_bytes words.items) result.told
+        Fails (D.bytes directory.now) (I.remaining standard)
+        (map string_bytes words.items) result.told
         (W.refuses output.new) (W.contents output.old) (W.contents output.new)
         (E.refuses errors.new) (E.contents errors.old) (E.contents errors.new))
         (λ error. (error_kind error ≡ OutOfMemory) × WantsMemory result.told
         (W.contents output.old) (W.contents output.new)
         (E.refuses errors.new) (E.contents errors.old) (E.contents errors.new)) }
-    ensures usage { result.status ≡ Status.Usage → Keeps (W.contents output.old) (W.contents output.new) }
+    ensures usage { result.status ≡ Status.Usage
+        → Keeps (W.contents output.old) (W.contents output.new) }
     ensures wrong { result.status ≡ Status.Usage → MatchResult words
         (λ words. AreMistaken (map string_bytes words.items))
         (λ error. error_kind error ≢ OutOfMemory) }
@@ -81,7 +84,8 @@ pub fn run_on<T: AsStr, D: Directory, I: Read + Drop, W: Sink, E: Sink>(
     output: &mut W,
     errors: &mut E,
 ) -> Ended
-    ensures done { result.status ≡ Status.Success → Keeps (E.contents errors.old) (E.contents errors.new) }
+    ensures done { result.status ≡ Status.Success
+        → Keeps (E.contents errors.old) (E.contents errors.new) }
     ensures right { result.status ≡ Status.Success
         → Succeeds (D.bytes directory.now) (I.remaining standard) (map T.text words.now)
         (W.contents output.old) (W.contents output.new) }
@@ -89,10 +93,12 @@ pub fn run_on<T: AsStr, D: Directory, I: Read + Drop, W: Sink, E: Sink>(
         → Fails (D.bytes directory.now) (I.remaining standard) (map T.text words.now) result.told
         (W.refuses output.new) (W.contents output.old) (W.contents output.new)
         (E.refuses errors.new) (E.contents errors.old) (E.contents errors.new) }
-    ensures usage { result.status ≡ Status.Usage → Keeps (W.contents output.old) (W.contents output.new) }
+    ensures usage { result.status ≡ Status.Usage
+        → Keeps (W.contents output.old) (W.contents output.new) }
     ensures wrong { result.status ≡ Status.Usage → AreMistaken (map T.text words.now) }
     ensures told { result.status ≡ Status.Usage → (text : List ℕ)
-        × Tells result.told (E.refuses errors.new) (E.contents errors.old) (E.contents errors.new) text }
+        × Tells result.told (E.refuses errors.new) (E.contents errors.old)
+        (E.contents errors.new) text }
 {
     match parse(alloc, words) {
         Ok(Asked::Plan { file }) => {
@@ -115,11 +121,15 @@ fn plan_named<D: Directory, I: Read + Drop, W: Sink, E: Sink>(
     output: &mut W,
     errors: &mut E,
 ) -> Ended
-    ensures done { result.status ≡ Status.Success → Keeps (E.contents errors.old) (E.contents errors.new) }
-    ensures right { result.status ≡ Status.Success → IsDone (D.bytes directory.now) (I.remaining standard)
+    ensures done { result.status ≡ Status.Success
+        → Keeps (E.contents errors.old) (E.contents errors.new) }
+    ensures right { result.status ≡ Status.Success
+        → IsDone (D.bytes directory.now) (I.remaining standard)
         (plan name.now) (W.contents output.old) (W.contents output.new) }
-    ensures fails { result.status ≡ Status.Failure → FailsAt (D.bytes directory.now) (I.remaining standard)
-        (plan name.now) result.told (W.refuses output.new) (W.contents output.old) (W.contents output.new)
+    ensures fails { result.status ≡ Status.Failure
+        → FailsAt (D.bytes directory.now) (I.remaining standard)
+        (plan name.now) result.told (W.refuses output.new) (W.contents output.old)
+        (W.contents output.new)
         (E.refuses errors.new) (E.contents errors.old) (E.contents errors.new) }
     ensures usage { result.status ≢ Status.Usage }
 {
@@ -139,10 +149,13 @@ fn run_named<D: Directory, I: Read + Drop, W: Sink, E: Sink>(
     output: &mut W,
     errors: &mut E,
 ) -> Ended
-    ensures done { result.status ≡ Status.Success → Keeps (E.contents errors.old) (E.contents errors.new) }
-    ensures right { result.status ≡ Status.Success → IsDone (D.bytes directory.now) (I.remaining standard)
+    ensures done { result.status ≡ Status.Success
+        → Keeps (E.contents errors.old) (E.contents errors.new) }
+    ensures right { result.status ≡ Status.Success
+        → IsDone (D.bytes directory.now) (I.remaining standard)
         (run_of options.entry.name.now options.entry.cache) (W.contents output.old) (W.contents output.new) }
-    ensures fails { result.status ≡ Status.Failure → FailsAt (D.bytes directory.now) (I.remaining standard)
+    ensures fails { result.status ≡ Status.Failure
+        → FailsAt (D.bytes directory.now) (I.remaining standard)
         (run_of options.entry.name.now options.entry.cache) result.told
         (W.refuses output.new) (W.contents output.old) (W.contents output.new)
         (E.refuses errors.new) (E.contents errors.old) (E.contents errors.new) }
@@ -172,7 +185,8 @@ fn answer<W: Sink, E: Sink>(alloc: Global, error: &Error, output: &mut W, errors
     ensures wrong { result.status ≡ Status.Usage → IsMistake (kind_of error.now)
         × Keeps (W.contents output.old) (W.contents output.new)
         × ((text : List ℕ)
-        × Tells result.told (E.refuses errors.new) (E.contents errors.old) (E.contents errors.new) text) }
+        × Tells result.told (E.refuses errors.new) (E.contents errors.old)
+        (E.contents errors.new) text) }
     ensures fails { result.status ≡ Status.Failure → WantsMemory result.told
         (W.contents output.old) (W.contents output.new)
         (E.refuses errors.new) (E.contents errors.old) (E.contents errors.new)

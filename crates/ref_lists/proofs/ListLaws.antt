@@ -125,10 +125,10 @@ module _ (marks : Marked) where
   All-put_named : (index : ℕ) (place : Option ℕ) (entries : Entries) → P place → All P entries → All P (put_named index place entries)
   All-put_named index None entries here all = all
   All-put_named index (Some place) entries here all =
-      let behind = filter (λ entry. not (is_entry_of place entry)) (drop index entries) in
-      All-take P (length entries) (take index entries ++ Some place ∷ behind)
-      (All-append P (take index entries) (Some place ∷ behind) (All-take P index entries all)
-      (All-cons P (Some place) behind here (All-filter (λ entry. not (is_entry_of place entry)) P (drop index entries) (All-drop P index entries all))))
+      let after = filter (λ entry. not (is_entry_of place entry)) (drop index entries) in
+      All-take P (length entries) (take index entries ++ Some place ∷ after)
+      (All-append P (take index entries) (Some place ∷ after) (All-take P index entries all)
+      (All-cons P (Some place) after here (All-filter (λ entry. not (is_entry_of place entry)) P (drop index entries) (All-drop P index entries all))))
 
   IsMarked-position : (p : Frame → Bool) → P (position p marks.frames)
   IsMarked-position p = by (position p marks.frames) refl

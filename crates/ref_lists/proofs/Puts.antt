@@ -83,8 +83,8 @@ module _ {X : Type 0} (p : X → Bool) where
 insert_between : {X : Type 0} (front rest : List X) (index : ℕ) (x : X) → length front ≡ index → insert (front ++ rest) index x ≡ front ++ x ∷ rest
 insert_between front rest index x long = rw (take_at front rest index long, drop_at front rest index long) refl
 
-remove_behind : {X : Type 0} (front rest : List X) (index k : ℕ) → length front ≡ index → remove (front ++ rest) (index + k) ≡ front ++ remove rest k
-remove_behind front rest index k long =
+remove_after : {X : Type 0} (front rest : List X) (index k : ℕ) → length front ≡ index → remove (front ++ rest) (index + k) ≡ front ++ remove rest k
+remove_after front rest index k long =
     let same : index + k - index ≡ k = omega arith in
     remove-append_right front rest index (index + k) long (omega arith) ∙ ap (λ i. front ++ remove rest i) same
 
@@ -111,14 +111,14 @@ module _ (index place : ℕ) (entries : List (Option ℕ)) (inside : index < len
   long_rest = omega (arith, length-drop index entries)
 
   -- what stands in the list from the index on
-  put-behind : put index place entries ≡ front ++ take (length rest) (Some place ∷ without is rest)
-  put-behind =
+  put-after : put index place entries ≡ front ++ take (length rest) (Some place ∷ without is rest)
+  put-after =
       let long : length front + length rest ≡ length entries = omega (arith, long_front, long_rest) in
       ap (λ n. take n (front ++ Some place ∷ without is rest)) (sym long) ∙ take-append-add front (Some place ∷ without is rest) (length rest)
 
   pub length-put : count_by is rest ≤ 1 → length (put index place entries) ≡ length entries
   length-put once =
-      ap length put-behind ∙ omega (
+      ap length put-after ∙ omega (
         arith,
         length-append front (take (length rest) (Some place ∷ without is rest)),
         long_front,
@@ -133,21 +133,21 @@ module _ (index place : ℕ) (entries : List (Option ℕ)) (inside : index < len
       let last = length rest - 1 in
       let some : length rest ≡ suc last = omega (arith, long_rest) in
       let entered = take (length rest) (Some place ∷ without is rest) in
-      let behind : drop (index + 1) (put index place entries) ≡ take last (without is rest) =
-      ap (drop (index + 1)) put-behind ∙ ap (λ n. drop (n + 1) (front ++ entered)) (sym long_front) ∙ drop-append-add front entered 1
+      let after : drop (index + 1) (put index place entries) ≡ take last (without is rest) =
+      ap (drop (index + 1)) put-after ∙ ap (λ n. drop (n + 1) (front ++ entered)) (sym long_front) ∙ drop-append-add front entered 1
       ∙ ap (λ n. drop 1 (take n (Some place ∷ without is rest))) some in
-      rw behind (count_by-take_without is q last rest)
+      rw after (count_by-take_without is q last rest)
 
   -- the frame stood there
   pub put-moved : count_by is rest ≤ 1 → position_or_len is rest < length rest
       → insert (remove entries (index + position_or_len is rest)) index (Some place) ≡ put index place entries
   put-moved once there =
       let k = position_or_len is rest in
-      let out : remove entries (index + k) ≡ front ++ remove rest k = ap (λ l. remove l (index + k)) (sym split) ∙ remove_behind front rest index k long_front in
+      let out : remove entries (index + k) ≡ front ++ remove rest k = ap (λ l. remove l (index + k)) (sym split) ∙ remove_after front rest index k long_front in
       let shorter = length-remove rest k there in
       ap (λ l. insert l index (Some place)) out ∙ insert_between front (remove rest k) index (Some place) long_front
       ∙ ap (λ l. front ++ l) (sym (take_all (length rest) (Some place ∷ remove rest k) (omega arith)))
-      ∙ ap (λ l. front ++ take (length rest) (Some place ∷ l)) (sym (without_one is rest once there)) ∙ sym put-behind
+      ∙ ap (λ l. front ++ take (length rest) (Some place ∷ l)) (sym (without_one is rest once there)) ∙ sym put-after
 
   -- it didn't, and the last entry falls out
   pub put-added : length rest ≤ position_or_len is rest → insert (remove entries (length entries - 1)) index (Some place) ≡ put index place entries
@@ -156,8 +156,8 @@ module _ (index place : ℕ) (entries : List (Option ℕ)) (inside : index < len
       let some : length rest ≡ suc last = omega (arith, long_rest) in
       let end : length entries - 1 ≡ index + last = omega (arith, long_rest) in
       let out : remove entries (length entries - 1) ≡ front ++ take last rest =
-      ap (remove entries) end ∙ ap (λ l. remove l (index + last)) (sym split) ∙ remove_behind front rest index last long_front
+      ap (remove entries) end ∙ ap (λ l. remove l (index + last)) (sym split) ∙ remove_after front rest index last long_front
       ∙ ap (λ l. front ++ l) (remove_last rest last some) in
       ap (λ l. insert l index (Some place)) out ∙ insert_between front (take last rest) index (Some place) long_front
       ∙ ap (λ n. front ++ take n (Some place ∷ rest)) (sym some)
-      ∙ ap (λ l. front ++ take (length rest) (Some place ∷ l)) (sym (without_missing is rest missing)) ∙ sym put-behind
+      ∙ ap (λ l. front ++ take (length rest) (Some place ∷ l)) (sym (without_missing is rest missing)) ∙ sym put-after

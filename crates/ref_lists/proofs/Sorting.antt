@@ -43,9 +43,9 @@ Less-from_is_lt Greater test = absurd (false≢true test)
 module _ (cmp : ℕ → ℕ → Ordering) (total : IsTotalOrder cmp) where
   -- one place isn't before the other and after it
   not_both : (place other : ℕ) → cmp place other ≡ Less → cmp other place ≡ Less → ⊥
-  not_both place other before behind =
+  not_both place other before after =
       let turned = total.antisymm place other in
-      let back = ap ordering_reverse behind in
+      let back = ap ordering_reverse after in
       cc
 
   not_itself : (place : ℕ) → cmp place place ≡ Less → ⊥
@@ -94,7 +94,7 @@ module _ (cmp : ℕ → ℕ → Ordering) (total : IsTotalOrder cmp) where
   module _ (exact : (place other : ℕ) → cmp place other ≡ Equal → place ≡ other) where
     -- where one place isn't before another, that one is before it
     pub turned : (place other : ℕ) → is_lt (cmp place other) ≡ false → (place ≡ other → ⊥) → cmp other place ≡ Less
-    turned place other behind apart = by (cmp place other) refl behind
+    turned place other after apart = by (cmp place other) refl after
       where
         by : (o : Ordering) → cmp place other ≡ o → is_lt o ≡ false → cmp other place ≡ Less
         by Less is test = absurd (false≢true (sym test))
@@ -109,7 +109,7 @@ module _ (cmp : ℕ → ℕ → Ordering) (total : IsTotalOrder cmp) where
     Among-inserted place [] other h = h
     Among-inserted place (first ∷ places) other h = ⊎_elim
         (λ before. rw before at h)
-        (λ behind. elim (rw behind at h) [
+        (λ after. elim (rw after at h) [
           | inl is ↦ inr (inl is)
           | inr there ↦ elim (Among-inserted place places other there) [ inl is ↦ inl is | inr rest ↦ inr (inr rest) ]
         ])
@@ -119,7 +119,7 @@ module _ (cmp : ℕ → ℕ → Ordering) (total : IsTotalOrder cmp) where
     inserted_among place [] other h = h
     inserted_among place (first ∷ places) other h = ⊎_elim
         (λ before. rw before h)
-        (λ behind. rw behind (elim h [
+        (λ after. rw after (elim h [
           | inl is ↦ inr (inserted_among place places other (inl is))
           | inr (inl is) ↦ inl is
           | inr (inr there) ↦ inr (inserted_among place places other (inr there))
@@ -134,9 +134,9 @@ module _ (cmp : ℕ → ℕ → Ordering) (total : IsTotalOrder cmp) where
           | inl is ↦ rw is at less
           | inr there ↦ total.trans place first other less (head_before first places other sorted there)
         ]) sorted))
-        (λ behind. let after = turned place first behind (λ is. new (inl (sym is))) in
-        rw behind (cons_sorted first (inserted precedes place places) (λ other h. elim (Among-inserted place places other h) [
-          | inl is ↦ rw is at after
+        (λ after. let later = turned place first after (λ is. new (inl (sym is))) in
+        rw after (cons_sorted first (inserted precedes place places) (λ other h. elim (Among-inserted place places other h) [
+          | inl is ↦ rw is at later
           | inr there ↦ head_before first places other sorted there
         ]) (sorted-inserted place places (tail_sorted first places sorted) (λ there. new (inr there)))))
         (cases_Bool (precedes place first))

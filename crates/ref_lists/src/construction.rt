@@ -40,16 +40,20 @@ pub fn lists(
     ensures exact { result ≡ lists_of marks.now sps.now header.now counts }
 
     // The first of these is answered, and else the lists.
-    ensures order_tie { (result ≡ Err OrderTie) ↔ IsTrue (has_order_tie marks.now header.now counts) }
+    ensures order_tie { (result ≡ Err OrderTie)
+        ↔ IsTrue (has_order_tie marks.now header.now counts) }
     ensures no_reference { (result ≡ Err NoReference)
-        ↔ (IsFalse (has_order_tie marks.now header.now counts) × IsTrue (lacks_reference marks.now header.now)) }
+        ↔ (IsFalse (has_order_tie marks.now header.now counts)
+        × IsTrue (lacks_reference marks.now header.now)) }
     ensures bad_modification { (result ≡ Err BadModification)
-        ↔ (IsFalse (has_order_tie marks.now header.now counts) × IsFalse (lacks_reference marks.now header.now)
+        ↔ (IsFalse (has_order_tie marks.now header.now counts)
+        × IsFalse (lacks_reference marks.now header.now)
         × IsTrue (has_bad_modification marks.now sps.now header.now)) }
 
     // As many entries as are active, each missing or the place of a frame.
     ensures lengths { IfOk result
-        (λ lists. (length lists.0 ≡ active_l0 header.now) × (length lists.1 ≡ active_l1 header.now)) }
+        (λ lists. (length lists.0 ≡ active_l0 header.now)
+        × (length lists.1 ≡ active_l1 header.now)) }
     ensures marked { IfOk result
         (λ lists. All (IsMarked marks.now) lists.0 × All (IsMarked marks.now) lists.1) }
 {

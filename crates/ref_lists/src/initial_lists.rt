@@ -121,7 +121,8 @@ fn standings(
 ) -> ArrayVec<Standing, 16>
     requires { length frames.now ≤ 16 }
     ensures { result.items
-        ≡ map (standing_at sps.now frame_num order frames.now) (range_with_len 0 (length frames.now)) }
+        ≡ map (standing_at sps.now frame_num order frames.now)
+        (range_with_len 0 (length frames.now)) }
 {
     let mut standings = ArrayVec::new();
     for (place, frame) in frames.iter().enumerate() {

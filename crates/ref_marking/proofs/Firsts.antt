@@ -6,7 +6,7 @@ use Rattle.std.proofs.lemmas.List.Elements.{All-nil, All-cons, All-head, All-tai
 use Rattle.std.proofs.lemmas.Option.{same_Some}
 use Rattle.pictures.specs.declared.frames.Frame.{Frame}
 use Rattle.ref_marking.specs.Steps.{Place, IsFirst}
-use Rattle.ref_marking.specs.MarksAfter.{first, behind}
+use Rattle.ref_marking.specs.MarksAfter.{first, after_frame}
 
 -- the test says of each frame whether it is so
 abbrev pub Agrees : (Frame → Bool) → (Frame → Type 0) → List Frame → Type 0
@@ -16,40 +16,40 @@ not_so : {P : Type 0} (passes : Bool) → Decides passes P → ¬ P → passes �
 not_so true decides never = absurd (never (decides.0 refl))
 not_so false decides never = refl
 
-some_behind : (IsSo : Frame → Type 0) (x : Frame) (xs : List Frame) (place : Place) (passes : Bool) → Decides passes (IsSo x) → (found : Option Place)
+some_after : (IsSo : Frame → Type 0) (x : Frame) (xs : List Frame) (place : Place) (passes : Bool) → Decides passes (IsSo x) → (found : Option Place)
     → ((inner : Place) → found ≡ Some inner → IsFirst IsSo xs inner)
-    → cond passes (Some (let here : Place = record { earlier = []; frame = x; later = xs } in here)) (option_map (behind x) found) ≡ Some place → IsFirst IsSo (x ∷ xs) place
-some_behind IsSo x xs place true decides found inner is =
+    → cond passes (Some (let here : Place = record { earlier = []; frame = x; later = xs } in here)) (option_map (after_frame x) found) ≡ Some place → IsFirst IsSo (x ∷ xs) place
+some_after IsSo x xs place true decides found inner is =
     let here : Place = record { earlier = []; frame = x; later = xs } in
     let at_front : IsFirst IsSo (x ∷ xs) here = record { frames_are = refl; is_so = decides.0 refl; none_before = All-nil (λ frame. ¬ IsSo frame) } in
     subst (IsFirst IsSo (x ∷ xs)) (same_Some here place is) at_front
-some_behind IsSo x xs place false decides None inner is = cc
-some_behind IsSo x xs place false decides (Some later) inner is =
+some_after IsSo x xs place false decides None inner is = cc
+some_after IsSo x xs place false decides (Some later) inner is =
     let h = inner later refl in
-    let further : IsFirst IsSo (x ∷ xs) (behind x later) = record {
+    let further : IsFirst IsSo (x ∷ xs) (after_frame x later) = record {
       frames_are = ap (λ frames. x ∷ frames) h.frames_are;
       is_so = h.is_so;
       none_before = All-cons (λ frame. ¬ IsSo frame) x later.earlier (not_from_Decides false decides refl) h.none_before;
     } in
-    subst (IsFirst IsSo (x ∷ xs)) (same_Some (behind x later) place is) further
+    subst (IsFirst IsSo (x ∷ xs)) (same_Some (after_frame x later) place is) further
 
 pub first_some : (passes : Frame → Bool) (IsSo : Frame → Type 0) (frames : List Frame) (place : Place) → Agrees passes IsSo frames → first passes frames ≡ Some place → IsFirst IsSo frames place
 first_some passes IsSo [] place agrees is = cc
 first_some passes IsSo (x ∷ xs) place agrees is =
-    some_behind IsSo x xs place (passes x) (All-head (λ frame. Decides (passes frame) (IsSo frame)) x xs agrees) (first passes xs)
+    some_after IsSo x xs place (passes x) (All-head (λ frame. Decides (passes frame) (IsSo frame)) x xs agrees) (first passes xs)
     (λ inner found. first_some passes IsSo xs inner (All-tail (λ frame. Decides (passes frame) (IsSo frame)) x xs agrees) found) is
 
-none_behind : (IsSo : Frame → Type 0) (x : Frame) (xs : List Frame) (passes : Bool) → Decides passes (IsSo x) → (found : Option Place)
+none_after : (IsSo : Frame → Type 0) (x : Frame) (xs : List Frame) (passes : Bool) → Decides passes (IsSo x) → (found : Option Place)
     → (found ≡ None → All (λ frame. ¬ IsSo frame) xs)
-    → cond passes (Some (let here : Place = record { earlier = []; frame = x; later = xs } in here)) (option_map (behind x) found) ≡ None → All (λ frame. ¬ IsSo frame) (x ∷ xs)
-none_behind IsSo x xs true decides found inner is = cc
-none_behind IsSo x xs false decides None inner is = All-cons (λ frame. ¬ IsSo frame) x xs (not_from_Decides false decides refl) (inner refl)
-none_behind IsSo x xs false decides (Some later) inner is = cc
+    → cond passes (Some (let here : Place = record { earlier = []; frame = x; later = xs } in here)) (option_map (after_frame x) found) ≡ None → All (λ frame. ¬ IsSo frame) (x ∷ xs)
+none_after IsSo x xs true decides found inner is = cc
+none_after IsSo x xs false decides None inner is = All-cons (λ frame. ¬ IsSo frame) x xs (not_from_Decides false decides refl) (inner refl)
+none_after IsSo x xs false decides (Some later) inner is = cc
 
 pub first_none : (passes : Frame → Bool) (IsSo : Frame → Type 0) (frames : List Frame) → Agrees passes IsSo frames → first passes frames ≡ None → All (λ frame. ¬ IsSo frame) frames
 first_none passes IsSo [] agrees is = All-nil (λ frame. ¬ IsSo frame)
 first_none passes IsSo (x ∷ xs) agrees is =
-    none_behind IsSo x xs (passes x) (All-head (λ frame. Decides (passes frame) (IsSo frame)) x xs agrees) (first passes xs)
+    none_after IsSo x xs (passes x) (All-head (λ frame. Decides (passes frame) (IsSo frame)) x xs agrees) (first passes xs)
     (λ found. first_none passes IsSo xs (All-tail (λ frame. Decides (passes frame) (IsSo frame)) x xs agrees) found) is
 
 first_at : (passes : Frame → Bool) (IsSo : Frame → Type 0) (earlier : List Frame) (frame : Frame) (later : List Frame) → Agrees passes IsSo (earlier ++ frame ∷ later)
@@ -59,7 +59,7 @@ first_at passes IsSo [] frame later agrees so none =
 first_at passes IsSo (x ∷ earlier) frame later agrees so none =
     let decides = All-head (λ other. Decides (passes other) (IsSo other)) x (earlier ++ frame ∷ later) agrees in
     let e : passes x ≡ false = not_so (passes x) decides (All-head (λ other. ¬ IsSo other) x earlier none) in
-    rw e (ap (option_map (behind x)) (first_at passes IsSo earlier frame later (All-tail (λ other. Decides (passes other) (IsSo other)) x (earlier ++ frame ∷ later) agrees) so (All-tail (λ other. ¬ IsSo other) x earlier none)))
+    rw e (ap (option_map (after_frame x)) (first_at passes IsSo earlier frame later (All-tail (λ other. Decides (passes other) (IsSo other)) x (earlier ++ frame ∷ later) agrees) so (All-tail (λ other. ¬ IsSo other) x earlier none)))
 
 pub first_only : (passes : Frame → Bool) (IsSo : Frame → Type 0) (frames : List Frame) (place : Place) → Agrees passes IsSo frames → IsFirst IsSo frames place → first passes frames ≡ Some place
 first_only passes IsSo frames place agrees h =
@@ -70,4 +70,4 @@ pub none_only : (passes : Frame → Bool) (IsSo : Frame → Type 0) (frames : Li
 none_only passes IsSo [] agrees none = refl
 none_only passes IsSo (x ∷ xs) agrees none =
     let e : passes x ≡ false = not_so (passes x) (All-head (λ other. Decides (passes other) (IsSo other)) x xs agrees) (All-head (λ other. ¬ IsSo other) x xs none) in
-    rw e (ap (option_map (behind x)) (none_only passes IsSo xs (All-tail (λ other. Decides (passes other) (IsSo other)) x xs agrees) (All-tail (λ other. ¬ IsSo other) x xs none)))
+    rw e (ap (option_map (after_frame x)) (none_only passes IsSo xs (All-tail (λ other. Decides (passes other) (IsSo other)) x xs agrees) (All-tail (λ other. ¬ IsSo other) x xs none)))

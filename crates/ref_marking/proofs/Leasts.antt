@@ -15,17 +15,17 @@ use Rattle.ref_marking.proofs.Firsts.{Agrees}
 use Rattle.ref_marking.proofs.Decisions.{number_decides}
 
 -- what holds of the numbers holds of each frame that has one
-all_behind : (number : Frame → Option ℤ) (P : ℤ → Type 0) (x : Frame) (xs : List Frame) (numbers : List ℤ) (found : Option ℤ) → number x ≡ found
+all_after : (number : Frame → Option ℤ) (P : ℤ → Type 0) (x : Frame) (xs : List Frame) (numbers : List ℤ) (found : Option ℤ) → number x ≡ found
     → (All P numbers → All (λ frame. IfSome (number frame) P) xs) → All P (cons_option found numbers) → All (λ frame. IfSome (number frame) P) (x ∷ xs)
-all_behind number P x xs numbers None is others all =
+all_after number P x xs numbers None is others all =
     let here : IfSome (number x) P = rw is tt in All-cons (λ frame. IfSome (number frame) P) x xs here (others all)
-all_behind number P x xs numbers (Some n) is others all =
+all_after number P x xs numbers (Some n) is others all =
     let here : IfSome (number x) P = rw is (All-head P n numbers all) in
     All-cons (λ frame. IfSome (number frame) P) x xs here (others (All-tail P n numbers all))
 
 pub all_numbered : (number : Frame → Option ℤ) (P : ℤ → Type 0) (frames : List Frame) → All P (filter_map number frames) → All (λ frame. IfSome (number frame) P) frames
 all_numbered number P [] all = All-nil (λ frame. IfSome (number frame) P)
-all_numbered number P (x ∷ xs) all = all_behind number P x xs (filter_map number xs) (number x) refl (all_numbered number P xs) all
+all_numbered number P (x ∷ xs) all = all_after number P x xs (filter_map number xs) (number x) refl (all_numbered number P xs) all
 
 -- an element of a list is the first, or one after it
 among : {A : Type 0} (x : A) (xs : List A) (y : A) → Contains (x ∷ xs) y → (x ≡ y) ⊎ Contains xs y
@@ -43,17 +43,17 @@ pub record Has (number : Frame → Option ℤ) (frames : List Frame) (n : ℤ) :
 has_more : (number : Frame → Option ℤ) (x : Frame) (xs : List Frame) (n : ℤ) → Has number xs n → Has number (x ∷ xs) n
 has_more number x xs n h = record { frame = h.frame; among_them = Contains-append_right (x ∷ []) xs h.frame h.among_them; numbered = h.numbered }
 
-has_behind : (number : Frame → Option ℤ) (x : Frame) (xs : List Frame) (numbers : List ℤ) (n : ℤ) (found : Option ℤ) → number x ≡ found
+has_after : (number : Frame → Option ℤ) (x : Frame) (xs : List Frame) (numbers : List ℤ) (n : ℤ) (found : Option ℤ) → number x ≡ found
     → (Contains numbers n → Has number xs n) → Contains (cons_option found numbers) n → Has number (x ∷ xs) n
-has_behind number x xs numbers n None is others there = has_more number x xs n (others there)
-has_behind number x xs numbers n (Some m) is others there = elim (among m numbers n there) [
+has_after number x xs numbers n None is others there = has_more number x xs n (others there)
+has_after number x xs numbers n (Some m) is others there = elim (among m numbers n there) [
   | inl same ↦ record { frame = x; among_them = Contains-append_left (x ∷ []) xs x (Contains-push [] x); numbered = is ∙ ap (λ (z : ℤ). Some z) same }
   | inr later ↦ has_more number x xs n (others later)
 ]
 
 pub has_numbered : (number : Frame → Option ℤ) (frames : List Frame) (n : ℤ) → Contains (filter_map number frames) n → Has number frames n
 has_numbered number [] n there = absurd (omega (arith, there.1))
-has_numbered number (x ∷ xs) n there = has_behind number x xs (filter_map number xs) n (number x) refl (has_numbered number xs n) there
+has_numbered number (x ∷ xs) n there = has_after number x xs (filter_map number xs) n (number x) refl (has_numbered number xs n) there
 
 -- the least of some numbers bounds them, and is one of them
 least_bounds : (numbers : List ℤ) (least : ℤ) → reduce int_min numbers ≡ Some least → All (λ n. least ≤ℤ n) numbers × Contains numbers least

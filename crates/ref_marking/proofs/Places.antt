@@ -18,20 +18,20 @@ use Rattle.pictures.specs.declared.frames.Term.TheVariants.{ShortTerm, LongTerm}
 use Rattle.pictures.specs.MarkedFrames.{Marked, holds, without_idx, as_long_term}
 use Rattle.pictures.specs.PicNums.{pic_num_of}
 use Rattle.ref_marking.specs.Steps.{Place}
-use Rattle.ref_marking.specs.MarksAfter.{first, behind, freed, without_at, has_pic_num, assigned}
+use Rattle.ref_marking.specs.MarksAfter.{first, after_frame, freed, without_at, has_pic_num, assigned}
 
 -- one more element in front
 one_more : (m n : ℕ) → cond (ltb (1 + m) (suc n)) (Some (1 + m)) None ≡ option_map suc (cond (ltb m n) (Some m) None)
 one_more m n = by_test (ltb m n) (Decides-ltb m n) (ltb (1 + m) (suc n)) (Decides-ltb (1 + m) (suc n))
   where
-    by_test : (here : Bool) → Decides here (m < n) → (behind : Bool) → Decides behind (1 + m < suc n) → cond behind (Some (1 + m)) None ≡ option_map suc (cond here (Some m) None)
+    by_test : (here : Bool) → Decides here (m < n) → (after_frame : Bool) → Decides after_frame (1 + m < suc n) → cond after_frame (Some (1 + m)) None ≡ option_map suc (cond here (Some m) None)
     by_test true h true b = ap Some (omega arith)
     by_test true h false b = let t : m < n = h.0 refl in absurd (false≢true (b.1 (omega arith)))
     by_test false h true b = let t : 1 + m < suc n = b.0 refl in absurd (false≢true (h.1 (omega arith)))
     by_test false h false b = refl
 
-pub position_behind : (passes : Frame → Bool) (x : Frame) (xs : List Frame) → position passes (x ∷ xs) ≡ cond (passes x) (Some 0) (option_map suc (position passes xs))
-position_behind passes x xs = by_test (passes x)
+pub position_after : (passes : Frame → Bool) (x : Frame) (xs : List Frame) → position passes (x ∷ xs) ≡ cond (passes x) (Some 0) (option_map suc (position passes xs))
+position_after passes x xs = by_test (passes x)
   where
     by_test : (b : Bool) → cond (ltb (cond (not b) (1 + position_or_len passes xs) 0) (length (x ∷ xs))) (Some (cond (not b) (1 + position_or_len passes xs) 0)) None ≡ cond b (Some 0) (option_map suc (position passes xs))
     by_test true = grind (arith, nat_tests)
@@ -41,16 +41,16 @@ position_behind passes x xs = by_test (passes x)
 abbrev pub place_at : List Frame → Frame → ℕ → Place
 place_at frames other i = record { earlier = take i frames; frame = get_or frames i other; later = drop (suc i) frames }
 
-first_behind : (passes : Frame → Bool) (x : Frame) (xs : List Frame) (other : Frame) (found : Option ℕ) → first passes xs ≡ option_map (place_at xs other) found → (b : Bool)
-    → cond b (Some (let here : Place = record { earlier = []; frame = x; later = xs } in here)) (option_map (behind x) (first passes xs)) ≡ option_map (place_at (x ∷ xs) other) (cond b (Some 0) (option_map suc found))
-first_behind passes x xs other found is true = refl
-first_behind passes x xs other None is false = ap (option_map (behind x)) is
-first_behind passes x xs other (Some i) is false = ap (option_map (behind x)) is
+first_after : (passes : Frame → Bool) (x : Frame) (xs : List Frame) (other : Frame) (found : Option ℕ) → first passes xs ≡ option_map (place_at xs other) found → (b : Bool)
+    → cond b (Some (let here : Place = record { earlier = []; frame = x; later = xs } in here)) (option_map (after_frame x) (first passes xs)) ≡ option_map (place_at (x ∷ xs) other) (cond b (Some 0) (option_map suc found))
+first_after passes x xs other found is true = refl
+first_after passes x xs other None is false = ap (option_map (after_frame x)) is
+first_after passes x xs other (Some i) is false = ap (option_map (after_frame x)) is
 
 pub first_is : (passes : Frame → Bool) (frames : List Frame) (other : Frame) → first passes frames ≡ option_map (place_at frames other) (position passes frames)
 first_is passes [] other = refl
 first_is passes (x ∷ xs) other =
-    rw (position_behind passes x xs) (first_behind passes x xs other (position passes xs) (first_is passes xs other) (passes x))
+    rw (position_after passes x xs) (first_after passes x xs other (position passes xs) (first_is passes xs other) (passes x))
 
 -- any frame
 other_frame : Frame
@@ -74,24 +74,24 @@ short_term_left fault marked sps frame_num computed number is =
 abbrev pub kept : (Frame → Bool) → Place → Place
 kept stays place = record { earlier = filter stays place.earlier; frame = place.frame; later = filter stays place.later }
 
-behind_kept : (stays : Frame → Bool) (x : Frame) → stays x ≡ true → (found : Option Place) → option_map (behind x) (option_map (kept stays) found) ≡ option_map (kept stays) (option_map (behind x) found)
-behind_kept stays x is None = refl
-behind_kept stays x is (Some place) = rw is refl
+after_kept : (stays : Frame → Bool) (x : Frame) → stays x ≡ true → (found : Option Place) → option_map (after_frame x) (option_map (kept stays) found) ≡ option_map (kept stays) (option_map (after_frame x) found)
+after_kept stays x is None = refl
+after_kept stays x is (Some place) = rw is refl
 
-left_out_kept : (stays : Frame → Bool) (x : Frame) → stays x ≡ false → (found : Option Place) → option_map (kept stays) found ≡ option_map (kept stays) (option_map (behind x) found)
+left_out_kept : (stays : Frame → Bool) (x : Frame) → stays x ≡ false → (found : Option Place) → option_map (kept stays) found ≡ option_map (kept stays) (option_map (after_frame x) found)
 left_out_kept stays x is None = refl
 left_out_kept stays x is (Some place) = rw is refl
 
-kept_behind : (passes stays : Frame → Bool) (x : Frame) (xs : List Frame) → (passes x ≡ true → stays x ≡ true) → first passes (filter stays xs) ≡ option_map (kept stays) (first passes xs)
+kept_after : (passes stays : Frame → Bool) (x : Frame) (xs : List Frame) → (passes x ≡ true → stays x ≡ true) → first passes (filter stays xs) ≡ option_map (kept stays) (first passes xs)
     → (p s : Bool) → passes x ≡ p → stays x ≡ s → first passes (filter stays (x ∷ xs)) ≡ option_map (kept stays) (first passes (x ∷ xs))
-kept_behind passes stays x xs each so true s is stay = let keeps : stays x ≡ true = each is in rw (keeps, is) refl
-kept_behind passes stays x xs each so false true is stay = rw (stay, is) (ap (option_map (behind x)) so ∙ behind_kept stays x stay (first passes xs))
-kept_behind passes stays x xs each so false false is stay = rw (stay, is) (so ∙ left_out_kept stays x stay (first passes xs))
+kept_after passes stays x xs each so true s is stay = let keeps : stays x ≡ true = each is in rw (keeps, is) refl
+kept_after passes stays x xs each so false true is stay = rw (stay, is) (ap (option_map (after_frame x)) so ∙ after_kept stays x stay (first passes xs))
+kept_after passes stays x xs each so false false is stay = rw (stay, is) (so ∙ left_out_kept stays x stay (first passes xs))
 
 -- a filter that keeps what passes keeps the first frame that passes
 pub first_kept : (passes stays : Frame → Bool) → ((x : Frame) → passes x ≡ true → stays x ≡ true) → (frames : List Frame) → first passes (filter stays frames) ≡ option_map (kept stays) (first passes frames)
 first_kept passes stays each [] = refl
-first_kept passes stays each (x ∷ xs) = kept_behind passes stays x xs (each x) (first_kept passes stays each xs) (passes x) (stays x) refl refl
+first_kept passes stays each (x ∷ xs) = kept_after passes stays x xs (each x) (first_kept passes stays each xs) (passes x) (stays x) refl refl
 
 -- a frame that has a PicNum holds no index
 stays_short : (sps : Sps) (frame_num : ℕ) (number : ℤ) (idx : ℕ) (term : Term) (wrap : ℤ) → option_eq int_eq (pic_num_of term wrap) (Some number) ≡ true → not (holds idx term) ≡ true

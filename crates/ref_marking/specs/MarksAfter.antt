@@ -25,15 +25,15 @@ use Rattle.ref_marking.specs.Operations.{pic_num_x, max_idx, is_below}
 use Rattle.ref_marking.specs.Marking.{current_frame, idr_marked, contradict, current_idx}
 
 -- a place after one more frame
-abbrev pub behind : Frame → Place → Place
-behind frame place = record place { earlier = frame ∷ place.earlier }
+abbrev pub after_frame : Frame → Place → Place
+after_frame frame place = record place { earlier = frame ∷ place.earlier }
 
 -- the first frame in decode order that passes the test
 abbrev pub first : (Frame → Bool) → List Frame → Option Place
 first passes [] = None
 first passes (frame ∷ frames) =
     if passes frame then Some (record { earlier = []; frame = frame; later = frames })
-    else option_map (behind frame) (first passes frames)
+    else option_map (after_frame frame) (first passes frames)
 
 -- the frame has this PicNum
 abbrev pub has_pic_num : Sps → ℕ → ℤ → Frame → Bool

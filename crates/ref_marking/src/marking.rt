@@ -117,7 +117,8 @@ fn mark_adaptively(
     operations: &[Operation],
     current: Frame,
 ) -> Result<Marks, MarkFault>
-    ensures { result ≡ adaptively_marked sps.now frame_num operations.now (with_term current) marks }
+    ensures { result
+        ≡ adaptively_marked sps.now frame_num operations.now (with_term current) marks }
 {
     if contradict(operations) {
         return Err(MarkFault::BadMarking);

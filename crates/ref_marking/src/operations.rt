@@ -22,7 +22,8 @@ fn free_short_term(
     difference_of_pic_nums_minus1: u32,
 ) -> Result<Marks, MarkFault>
     ensures step { FreesShortTerm sps.now frame_num difference_of_pic_nums_minus1 marks result }
-    ensures exact { result ≡ short_term_freed sps.now frame_num difference_of_pic_nums_minus1 marks }
+    ensures exact { result
+        ≡ short_term_freed sps.now frame_num difference_of_pic_nums_minus1 marks }
 {
     let number = pic_num_x(frame_num, difference_of_pic_nums_minus1);
     let place = short_term_place(&marks, sps, frame_num, number);

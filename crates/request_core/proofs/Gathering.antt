@@ -6,7 +6,7 @@ use Rattle.std.proofs.lemmas.Bool.{le-leb, lt-leb, cases_lt}
 use Rattle.outcomes.specs.declared.validity_fault.ValidityFault.{ValidityFault}
 use Rattle.outcomes.specs.Numbers.{number_of}
 use Rattle.request_core.specs.Numbers.{lower, joined, gathered}
-use Rattle.request_core.specs.Gathering.{behind}
+use Rattle.request_core.specs.Gathering.{gathered_after}
 
 -- the first is kept, or the second
 lower_kept : (a b : ValidityFault) → number_of a ≤ number_of b → lower a b ≡ a
@@ -33,26 +33,26 @@ lower-assoc a b c = ⊎_elim (λ ba. ⊎_elim (down ba) (mixed ba) (cases_lt (nu
     up : number_of a ≤ number_of b → number_of b ≤ number_of c → lower a (lower b c) ≡ lower (lower a b) c
     up ab bc = ap (lower a) (lower_kept b c bc) ∙ (lower_kept a b ab ∙ (sym (lower_kept a c (omega arith)) ∙ ap (λ t. lower t c) (sym (lower_kept a b ab))))
 
-joined-behind : {A : Type 0} (x : Result A ValidityFault) (between : Result (List A) ValidityFault) (last : Result A ValidityFault)
-    → joined x (behind between last) ≡ behind (joined x between) last
-joined-behind (Ok x) (Ok xs) (Ok y) = refl
-joined-behind (Ok x) (Ok xs) (Err g) = refl
-joined-behind (Ok x) (Err f) (Ok y) = refl
-joined-behind (Ok x) (Err f) (Err g) = refl
-joined-behind (Err e) (Ok xs) (Ok y) = refl
-joined-behind (Err e) (Ok xs) (Err g) = refl
-joined-behind (Err e) (Err f) (Ok y) = refl
-joined-behind (Err e) (Err f) (Err g) = ap Err (lower-assoc e f g)
+joined-after : {A : Type 0} (x : Result A ValidityFault) (between : Result (List A) ValidityFault) (last : Result A ValidityFault)
+    → joined x (gathered_after between last) ≡ gathered_after (joined x between) last
+joined-after (Ok x) (Ok xs) (Ok y) = refl
+joined-after (Ok x) (Ok xs) (Err g) = refl
+joined-after (Ok x) (Err f) (Ok y) = refl
+joined-after (Ok x) (Err f) (Err g) = refl
+joined-after (Err e) (Ok xs) (Ok y) = refl
+joined-after (Err e) (Ok xs) (Err g) = refl
+joined-after (Err e) (Err f) (Ok y) = refl
+joined-after (Err e) (Err f) (Err g) = ap Err (lower-assoc e f g)
 
 -- one answer more
 pub gathered-more : {A : Type 0} (answers : List (Result A ValidityFault)) (last : Result A ValidityFault)
-    → gathered (answers ++ last ∷ []) ≡ behind (gathered answers) last
+    → gathered (answers ++ last ∷ []) ≡ gathered_after (gathered answers) last
 gathered-more [] (Ok x) = refl
 gathered-more [] (Err f) = refl
 gathered-more (answer ∷ answers) last =
-    ap (joined answer) (gathered-more answers last) ∙ joined-behind answer (gathered answers) last
+    ap (joined answer) (gathered-more answers last) ∙ joined-after answer (gathered answers) last
 
 -- what one item more gives
 pub gathered-map-more : {A B : Type 0} (f : A → Result B ValidityFault) (items : List A) (last : A)
-    → gathered (map f (items ++ last ∷ [])) ≡ behind (gathered (map f items)) (f last)
+    → gathered (map f (items ++ last ∷ [])) ≡ gathered_after (gathered (map f items)) (f last)
 gathered-map-more f items last = ap gathered (map-append f items (last ∷ [])) ∙ gathered-more (map f items) (f last)

@@ -15,7 +15,7 @@ use Rattle.request_core.specs.Numbers.{gathered}
 use Rattle.request_core.specs.Slices.{SliceRead}
 use Rattle.request_core.specs.Faults.{first_shown, picture_rows}
 use Rattle.request_core.specs.Requests.{ListedSlice}
-use Rattle.request_core.specs.Fold.{passes, counted, listed, marked, state_after, plan_of, picture_behind}
+use Rattle.request_core.specs.Fold.{passes, counted, listed, marked, state_after, plan_of, picture_after}
 
 bind-ok : {A B E : Type 0} {read : Result A E} {x : A} (f : A → Result B E) → read ≡ Ok x → (read >>= f) ≡ f x
 bind-ok f is = ap (λ read. read >>= f) is
@@ -25,8 +25,8 @@ pub picture-is : (state : FoldState) (id : ℕ) (first : SliceRead) (slices : Li
     → counted (counts_of state.anchor first.sps first.header) ≡ Ok counts
     → gathered (map (listed state.marks counts) slices) ≡ Ok with_lists
     → marked (marks_after state.marks id first.sps first.header counts) ≡ Ok marks
-    → picture_behind state id first slices ≡ Ok (state_after state first counts marks, plan_of state id first counts with_lists)
-unfolding picture_behind
+    → picture_after state id first slices ≡ Ok (state_after state first counts marks, plan_of state id first counts with_lists)
+unfolding picture_after
 picture-is state id first slices counts with_lists marks followed counts_are lists_are marks_are =
     bind-ok _ followed ∙ (bind-ok _ counts_are ∙ (bind-ok _ lists_are ∙ bind-ok _ marks_are))
 
@@ -43,21 +43,21 @@ passed Memory says x f is stops = record {}
 
 module _ (state : FoldState) (id : ℕ) (first : SliceRead) (slices : List SliceRead) (end : Stop) where
   pub ends-followed : Ends end (passes (first_shown (picture_rows state first.sps first.header)))
-      → Ends end (picture_behind state id first slices)
-  unfolding picture_behind
+      → Ends end (picture_after state id first slices)
+  unfolding picture_after
   ends-followed is = stopped end _ _ is
 
   pub ends-counted : passes (first_shown (picture_rows state first.sps first.header)) ≡ Ok record {}
       → Ends end (counted (counts_of state.anchor first.sps first.header))
-      → Ends end (picture_behind state id first slices)
-  unfolding picture_behind
+      → Ends end (picture_after state id first slices)
+  unfolding picture_after
   ends-counted followed is = passed end _ _ _ followed (stopped end _ _ is)
 
   pub ends-listed : (counts : Counts) → passes (first_shown (picture_rows state first.sps first.header)) ≡ Ok record {}
       → counted (counts_of state.anchor first.sps first.header) ≡ Ok counts
       → Ends end (gathered (map (listed state.marks counts) slices))
-      → Ends end (picture_behind state id first slices)
-  unfolding picture_behind
+      → Ends end (picture_after state id first slices)
+  unfolding picture_after
   ends-listed counts followed counts_are is = passed end _ _ _ followed (passed end _ _ _ counts_are (stopped end _ _ is))
 
   pub ends-marked : (counts : Counts) (with_lists : List ListedSlice)
@@ -65,7 +65,7 @@ module _ (state : FoldState) (id : ℕ) (first : SliceRead) (slices : List Slice
       → counted (counts_of state.anchor first.sps first.header) ≡ Ok counts
       → gathered (map (listed state.marks counts) slices) ≡ Ok with_lists
       → Ends end (marked (marks_after state.marks id first.sps first.header counts))
-      → Ends end (picture_behind state id first slices)
-  unfolding picture_behind
+      → Ends end (picture_after state id first slices)
+  unfolding picture_after
   ends-marked counts with_lists followed counts_are lists_are is =
       passed end _ _ _ followed (passed end _ _ _ counts_are (passed end _ _ _ lists_are (stopped end _ _ is)))

@@ -85,8 +85,8 @@ plan_of state id first counts slices = record {
 }
 
 -- what a picture leads to whose slices agree: the state after it and its plan, or the first fault
-unfoldable pub picture_behind : FoldState → ℕ → SliceRead → List SliceRead → Result (FoldState × Plan) ValidityFault
-picture_behind state id first slices =
+unfoldable pub picture_after : FoldState → ℕ → SliceRead → List SliceRead → Result (FoldState × Plan) ValidityFault
+picture_after state id first slices =
     passes (first_shown (picture_rows state first.sps first.header)) >>= λ passed.
     counted (counts_of state.anchor first.sps first.header) >>= λ counts.
     gathered (map (listed state.marks counts) slices) >>= λ slices.
@@ -97,7 +97,7 @@ picture_behind state id first slices =
 abbrev pub picture_of : FoldState → ℕ → List SliceRead → Result (FoldState × Plan) ValidityFault
 picture_of state id [] = Err MissingPps
 picture_of state id (first ∷ others) =
-    passes (first_shown (slice_rows first others)) >>= λ passed. picture_behind state id first (first ∷ others)
+    passes (first_shown (slice_rows first others)) >>= λ passed. picture_after state id first (first ∷ others)
 
 -- the state in which a unit's sets are put
 abbrev pub with_sets : FoldState → List (List ℕ) → FoldState

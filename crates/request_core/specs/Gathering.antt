@@ -9,13 +9,13 @@ found items None = Ok items
 found items (Some fault) = Err fault
 
 -- the lower of a fault and one before it
-abbrev pub lower_behind : Option ValidityFault → ValidityFault → ValidityFault
-lower_behind None fault = fault
-lower_behind (Some before) fault = lower before fault
+abbrev pub lower_after : Option ValidityFault → ValidityFault → ValidityFault
+lower_after None fault = fault
+lower_after (Some before) fault = lower before fault
 
 -- what is found with one answer more
-abbrev pub behind : {A : Type 0} → Result (List A) ValidityFault → Result A ValidityFault → Result (List A) ValidityFault
-behind (Ok items) (Ok item) = Ok (items ++ item ∷ [])
-behind (Ok items) (Err fault) = Err fault
-behind (Err before) (Ok item) = Err before
-behind (Err before) (Err fault) = Err (lower before fault)
+abbrev pub gathered_after : {A : Type 0} → Result (List A) ValidityFault → Result A ValidityFault → Result (List A) ValidityFault
+gathered_after (Ok items) (Ok item) = Ok (items ++ item ∷ [])
+gathered_after (Ok items) (Err fault) = Err fault
+gathered_after (Err before) (Ok item) = Err before
+gathered_after (Err before) (Err fault) = Err (lower before fault)

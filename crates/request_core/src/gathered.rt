@@ -5,7 +5,7 @@ ghost use Rattle.outcomes.specs.declared.validity_fault.ValidityFault.{ValidityF
 ghost use Rattle.outcomes.specs.Numbers.{number_of};
 ghost use Rattle.request_core.specs.Numbers.{lower, gathered};
 ghost use Rattle.request_core.specs.Answers.{Answers, AnswersAs};
-ghost use Rattle.request_core.specs.Gathering.{behind, lower_behind};
+ghost use Rattle.request_core.specs.Gathering.{gathered_after, lower_after};
 
 use crate::stop::Stop;
 use outcomes::ValidityFault;
@@ -43,7 +43,7 @@ impl<T: Drop> Gathered<T> {
     /// Adds what one more slice gives.
     pub(crate) fn add(&mut self, answer: Result<T, Stop>) -> Result<(), AllocError>
         ensures { (says : Result T ValidityFault) → Answers answer says
-            → OnOk result (self.new ≡ behind self.old says) }
+            → OnOk result (self.new ≡ gathered_after self.old says) }
     {
         match answer {
             Ok(item) => self.items.push(item)?,
@@ -66,7 +66,7 @@ impl<T: Drop> Gathered<T> {
 
 /// The fault of the lower number of this one and one before, if there was one.
 fn lower(before: Option<ValidityFault>, fault: ValidityFault) -> ValidityFault
-    ensures { result ≡ lower_behind before fault }
+    ensures { result ≡ lower_after before fault }
 {
     match before {
         Some(other) if other.number() <= fault.number() => other,

@@ -48,9 +48,12 @@ impl<'a> Model for Listed<'a> {
 
 /// The counts of the picture.
 pub(crate) fn count_picture(state: &State, slice: &Slice) -> Result<Counts, Stop>
-    ensures value { Answers result (counted (counts_of state.now.anchor slice.now.sps slice.now.header)) }
-    ensures counted { IfOk result (λ counts. counts_of state.now.anchor slice.now.sps slice.now.header ≡ Ok counts) }
-    ensures reset { IfOk result (λ counts. IsTrue (are_in_range (counts_after_reset slice.now.header counts))) }
+    ensures value { Answers result
+        (counted (counts_of state.now.anchor slice.now.sps slice.now.header)) }
+    ensures counted { IfOk result
+        (λ counts. counts_of state.now.anchor slice.now.sps slice.now.header ≡ Ok counts) }
+    ensures reset { IfOk result (λ counts. IsTrue
+        (are_in_range (counts_after_reset slice.now.header counts))) }
 {
     match count(&state.anchor, slice.sps(), &slice.header) {
         Ok(counts) => Ok(counts),
@@ -66,7 +69,8 @@ pub(crate) fn mark_picture(
     counts: Counts,
 ) -> Result<Marks, Stop>
     requires { IsTrue (are_in_range (counts_after_reset slice.now.header counts)) }
-    ensures { Answers result (marked (marks_after state.now.marks id slice.now.sps slice.now.header counts)) }
+    ensures { Answers result
+        (marked (marks_after state.now.marks id slice.now.sps slice.now.header counts)) }
 {
     match mark(&state.marks, id, slice.sps(), &slice.header, counts) {
         Ok(marks) => Ok(marks),
@@ -100,7 +104,8 @@ pub(crate) fn list_picture<'a>(
     counts: Counts,
     slices: &'a [Slice],
 ) -> Result<Vec<Listed<'a>>, Stop>
-    ensures { AnswersAs (λ listed. listed.items) result (gathered (map (listed state.now.marks counts) slices.now)) }
+    ensures { AnswersAs (λ listed. listed.items) result
+        (gathered (map (listed state.now.marks counts) slices.now)) }
 {
     list_slices(alloc, &state.marks, counts, slices)
 }
@@ -112,7 +117,8 @@ fn list_slices<'a>(
     counts: Counts,
     slices: &'a [Slice],
 ) -> Result<Vec<Listed<'a>>, Stop>
-    ensures { AnswersAs (λ listed. listed.items) result (gathered (map (listed marks.now counts) slices.now)) }
+    ensures { AnswersAs (λ listed. listed.items) result
+        (gathered (map (listed marks.now counts) slices.now)) }
 {
     let mut gathered = Gathered::with_capacity(alloc, slices.len())?;
     for slice in slices {

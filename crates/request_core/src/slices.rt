@@ -50,7 +50,8 @@ pub(crate) fn read_slices(
     tables: &Tables,
     nals: &[SharedNal],
 ) -> Result<Vec<Slice>, Stop>
-    ensures { AnswersAs (λ slices. slices.items) result (gathered (map (slice_at tables.now) nals.now)) }
+    ensures { AnswersAs (λ slices. slices.items) result
+        (gathered (map (slice_at tables.now) nals.now)) }
 {
     let mut slices = Gathered::with_capacity(alloc, nals.len())?;
     let mut last = None;

@@ -10,7 +10,7 @@ ghost use Rattle.header_types.specs.Pictures.{is_idr};
 ghost use Rattle.pictures.specs.PicOrderCnt.{are_in_range};
 ghost use Rattle.pictures.specs.Resetting.{counts_after_reset};
 ghost use Rattle.request_core.specs.Faults.{first_shown, slice_rows, picture_rows};
-ghost use Rattle.request_core.specs.Fold.{passes, picture_behind, picture_of, planned, with_sets, outcome_of, fold_step, state_after, plan_of, next_ref_frame_num};
+ghost use Rattle.request_core.specs.Fold.{passes, picture_after, picture_of, planned, with_sets, outcome_of, fold_step, state_after, plan_of, next_ref_frame_num};
 ghost use Rattle.request_core.specs.Answers.{AnswersAs};
 
 use crate::checks::{picture_fault, slice_fault};
@@ -56,7 +56,8 @@ fn answer(
     state: State,
     planned: Result<(State, Plan), Stop>,
 ) -> Result<(State, Outcome), AllocError>
-    ensures { (says : Result (FoldState × PlanValue) ValidityFault) → AnswersAs (λ planned. planned) planned says
+    ensures { (says : Result (FoldState × PlanValue) ValidityFault)
+        → AnswersAs (λ planned. planned) planned says
         → IfOk result (λ answer. answer ≡ outcome_of state says) }
 {
     match planned {
@@ -141,7 +142,8 @@ fn plan_first(
     first: &Slice,
     slices: &[Slice],
 ) -> Result<(State, Plan), Stop>
-    ensures { AnswersAs (λ planned. planned) result (picture_behind state.now id first.now slices.now) }
+    ensures { AnswersAs (λ planned. planned) result
+        (picture_after state.now id first.now slices.now) }
 {
     follow(state, first)?;
     let counts = count_picture(state, first)?;
@@ -173,7 +175,8 @@ fn make_plan(
 
 /// Ends the planning at the first fault that the picture shows after those before it.
 fn follow(state: &State, first: &Slice) -> Result<(), Stop>
-    ensures { AnswersAs (λ passed. record {}) result (passes (first_shown (picture_rows state.now first.now.sps first.now.header))) }
+    ensures { AnswersAs (λ passed. record {}) result
+        (passes (first_shown (picture_rows state.now first.now.sps first.now.header))) }
 {
     pass(picture_fault(state, first.sps(), &first.header))
 }
@@ -209,7 +212,8 @@ fn state_after(
 
 /// The set of the last IDR picture after this one.
 fn next_active(state: &State, slice: &Slice) -> Result<Option<Shared<Sps>>, AllocError>
-    ensures { IfOk result (λ active. active ≡ (if is_idr slice.now.header then Some slice.now.sps else state.now.active)) }
+    ensures { IfOk result (λ active. active
+        ≡ (if is_idr slice.now.header then Some slice.now.sps else state.now.active)) }
 {
     if slice.header.is_idr() {
         Ok(Some(slice.sps().clone()?))

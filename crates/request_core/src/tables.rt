@@ -31,7 +31,8 @@ impl Model for Tables {
 
     ghost view = { λ tables. record { sps = tables.sps.items; pps = tables.pps.items } };
 
-    ghost invariant = { λ tables. (length tables.sps.items ≡ 32) × (length tables.pps.items ≡ 256) };
+    ghost invariant = { λ tables. (length tables.sps.items ≡ 32)
+        × (length tables.pps.items ≡ 256) };
 }
 
 impl Tables {

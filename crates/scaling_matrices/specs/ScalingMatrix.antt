@@ -6,7 +6,7 @@ use Rattle.std.specs.List.{list_any, range_with_len}
 use Rattle.set_types.specs.declared.sps.Sps.{Sps}
 use Rattle.set_types.specs.declared.pps.Pps.{Pps}
 use Rattle.scaling_matrices.specs.declared.scaling_matrix.ScalingMatrix.{ScalingMatrix}
-use Rattle.set_types.specs.ScaleSteps.{Deltas, scale_behind, next_scale, list_size}
+use Rattle.set_types.specs.ScaleSteps.{Deltas, scale_after, next_scale, list_size}
 use Rattle.scaling_matrices.specs.DefaultScalingLists.{default_list}
 use Rattle.scaling_matrices.specs.InverseScan.{raster}
 
@@ -14,7 +14,7 @@ use Rattle.scaling_matrices.specs.InverseScan.{raster}
 abbrev pub before_end : ℕ → List ℤ → List ℤ
 before_end scale [] = []
 before_end scale (delta ∷ deltas) =
-    if scale_behind scale delta == 0 then [] else delta ∷ before_end (scale_behind scale delta) deltas
+    if scale_after scale delta == 0 then [] else delta ∷ before_end (scale_after scale delta) deltas
 
 -- Entry number k: nextScale after as many deltas and one more, or after all where the list ended before (7.3.2.1.1.1).
 abbrev pub entry : List ℤ → ℕ → ℕ

@@ -1,10 +1,10 @@
 //! The entries of scaling lists (7.3.2.1.1.1).
 
 ghost use Rattle.std.specs.Prelude.{◌≡◌, ℤ, List, [], ◌∷◌};
-ghost use Rattle.set_types.specs.ScaleSteps.{scale_behind};
+ghost use Rattle.set_types.specs.ScaleSteps.{scale_after};
 ghost use Rattle.scaling_matrices.specs.ScalingMatrix.{before_end, entries, use_default};
 
-use set_types::scale_behind;
+use set_types::scale_after;
 
 /// The entries of a list with these deltas.
 pub fn entries<const N: usize>(deltas: &[i8]) -> [u8; N]
@@ -25,7 +25,7 @@ pub fn use_default(deltas: &[i8]) -> bool
     ensures { result ≡ use_default deltas.now }
 {
     match deltas {
-        [delta, ..] => scale_behind(8, *delta) == 0,
+        [delta, ..] => scale_after(8, *delta) == 0,
         [] => false,
     }
 }
@@ -34,11 +34,13 @@ pub fn use_default(deltas: &[i8]) -> bool
 fn next_entry(last: u8, deltas: &[i8]) -> (u8, &[i8])
     ensures ended { before_end last deltas.now ≡ [] → result.0 ≡ last }
     ensures same { before_end last deltas.now ≡ [] → before_end result.0 result.1.now ≡ [] }
-    ensures next { (delta : ℤ) (more : List ℤ) → before_end last deltas.now ≡ delta ∷ more → result.0 ≡ scale_behind last delta }
-    ensures rest { (delta : ℤ) (more : List ℤ) → before_end last deltas.now ≡ delta ∷ more → before_end result.0 result.1.now ≡ more }
+    ensures next { (delta : ℤ) (more : List ℤ) → before_end last deltas.now ≡ delta ∷ more
+        → result.0 ≡ scale_after last delta }
+    ensures rest { (delta : ℤ) (more : List ℤ) → before_end last deltas.now ≡ delta ∷ more
+        → before_end result.0 result.1.now ≡ more }
 {
     match deltas {
-        [delta, more @ ..] => match scale_behind(last, *delta) {
+        [delta, more @ ..] => match scale_after(last, *delta) {
             0 => (last, &[]),
             next => (next, more),
         },

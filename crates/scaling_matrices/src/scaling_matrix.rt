@@ -73,7 +73,9 @@ fn block_8x8(list: &[u8; 64]) -> [u8; 64]
 /// A list as a block, by the number of the entry at each place.
 fn in_raster_order<const N: usize>(list: &[u8; N], entry_numbers: &[u8; N]) -> [u8; N]
     requires { list_all (λ number. nat_lt number N) entry_numbers.now ≡ true }
-    ensures { result ≡ map (λ place. slice_index list.now (slice_index entry_numbers.now place)) (range_with_len 0 N) }
+    ensures { result
+        ≡ map (λ place. slice_index list.now (slice_index entry_numbers.now place))
+        (range_with_len 0 N) }
 {
     let mut block = [0; N];
     for (place, number) in entry_numbers.iter().enumerate() {

@@ -12,7 +12,7 @@ use Rattle.script_run.specs.RunFaults.{IsCommandFault}
 use Rattle.script_run.specs.Stops.{StopsAt}
 use Rattle.script_run.specs.declared.run_fault.RunFault.{RunFault}
 use Rattle.script_run.specs.declared.run_fault.RunFault.TheVariants.{Unwritten}
-use Rattle.console_io.proofs.Chunked.{front-behind}
+use Rattle.console_io.proofs.Chunked.{front-after}
 
 module _ (files : Files) where
   -- an answer by others that agree by name is one by these
@@ -76,5 +76,5 @@ module _ (files : Files) where
     between = between;
     lines = ran.0;
     ran = ran.1;
-    stops = inr (unwritten, refused, (lines, to, answers, front-behind a b c ran.0 lines ran.2 got));
+    stops = inr (unwritten, refused, (lines, to, answers, front-after a b c ran.0 lines ran.2 got));
   }

@@ -26,13 +26,13 @@ use Rattle.edit_script.specs.declared.commands.Command.TheVariants as command
 use Rattle.access_unit.specs.declared.room.Refusal.{Refusal}
 
 -- after the unit of this id, or first where there is none
-abbrev pub behind : Option ℕ → Place
-behind (Some id) = After id
-behind None = First
+abbrev pub place_after : Option ℕ → Place
+place_after (Some id) = After id
+place_after None = First
 
 -- after the last unit
 abbrev pub end_of : Stream → Place
-end_of stream = behind (last_of stream).id
+end_of stream = place_after (last_of stream).id
 
 -- the units that are left are inserted after the last one, each by an edit, of so many in all: to the end, or to the
 -- first edit that is refused

@@ -26,7 +26,8 @@ pub fn load<'a, S: Source>(
     runner: &mut Runner,
     source: &mut S,
 ) -> Result<String, RunFault<'a>>
-    ensures ok { IfOk result (λ lines. (text : List ℕ) × IfSome (S.file source.old path.now) (λ bytes. text ≡ bytes)
+    ensures ok { IfOk result (λ lines. (text : List ℕ)
+        × IfSome (S.file source.old path.now) (λ bytes. text ≡ bytes)
         × Loads runner.old text (string_bytes lines) runner.new) }
     ensures kept { (name : List ℕ) → S.file source.new name ≡ S.file source.old name }
     ensures named { IfErr result (IsLoadFault path.entry) }
@@ -59,7 +60,8 @@ fn insert_all(alloc: Global, units: Vec<Unit>, runner: &mut Runner) -> Result<St
 
 /// Inserts a unit after the last one.
 fn insert_last(alloc: Global, unit: &Unit, runner: &mut Runner) -> Result<Receipt, EditRefused>
-    ensures { Replies runner.old (Told.Edit (Insert (end_of runner.old.register.stream) (joined unit.now)))
+    ensures { Replies runner.old (Told.Edit
+        (Insert (end_of runner.old.register.stream) (joined unit.now)))
         (Reply.Edit result) runner.new }
 {
     let place = end_of(runner.session());

@@ -34,7 +34,8 @@ pub fn script_on<R: Read, S: Source, W: Sink, E: Sink>(
     writer: &mut W,
     errors: &mut E,
 ) -> Ended
-    ensures done { result.status ≡ Status.Success → Keeps (E.contents errors.old) (E.contents errors.new) }
+    ensures done { result.status ≡ Status.Success
+        → Keeps (E.contents errors.old) (E.contents errors.new) }
     // What is written at success is a run of the script that was read.
     ensures answered { result.status ≡ Status.Success → IfSome (R.remaining reader.old) (λ text.
         WritesScript (S.file source.old) text options.entry.cache (W.contents writer.old) (W.contents writer.new)) }
@@ -72,7 +73,8 @@ fn run_text<'a, S: Source, W: Sink>(
     ensures ok { OnOk result
         (WritesScript (S.file source.old) text.now options.entry.cache
         (W.contents writer.old) (W.contents writer.new)) }
-    ensures stops { IfErr result (λ fault. StopsText (S.file source.old) text.now options.entry.cache fault
+    ensures stops { IfErr result (λ fault. StopsText
+        (S.file source.old) text.now options.entry.cache fault
         (W.refuses writer.new) (W.contents writer.old) (W.contents writer.new)) }
 {
     let commands = read_script(alloc, text)?;
@@ -97,7 +99,8 @@ fn run_commands<'a, S: Source, W: Sink>(
     ensures ok { OnOk result
         (WritesRun (S.file source.old) runner.old commands.entry.items runner.new
         (W.contents writer.old) (W.contents writer.new)) }
-    ensures stops { IfErr result (λ fault. StopsAt (S.file source.old) runner.old commands.entry.items fault
+    ensures stops { IfErr result (λ fault. StopsAt
+        (S.file source.old) runner.old commands.entry.items fault
         (W.refuses writer.new) (W.contents writer.old) (W.contents writer.new)) }
 {
     for command in commands {
@@ -132,7 +135,8 @@ fn run_command<'a, S: Source>(
 
 /// Tells the session something that asks for this number, and gives the lines of its reply.
 fn follow(alloc: Global, runner: &mut Runner, told: Told, number: u64) -> Result<String, AllocError>
-    ensures { IfOk result (λ lines. Follows runner.old told number (string_bytes lines) runner.new) }
+    ensures { IfOk result (λ lines. Follows runner.old told number
+        (string_bytes lines) runner.new) }
 {
     let reply = runner.step(told)?;
     match reply {

@@ -8,12 +8,12 @@ abbrev pub Deltas : Type 0
 Deltas = Option (List ℤ)
 
 -- nextScale after a delta
-abbrev pub scale_behind : ℕ → ℤ → ℕ
-scale_behind last delta = unsigned_abs (int_rem_euclid (pos last +ℤ delta) (pos 256))
+abbrev pub scale_after : ℕ → ℤ → ℕ
+scale_after last delta = unsigned_abs (int_rem_euclid (pos last +ℤ delta) (pos 256))
 
 -- nextScale after these deltas: 8 at first, and 0 where the list is over
 abbrev pub next_scale : List ℤ → ℕ
-next_scale deltas = fold scale_behind 8 deltas
+next_scale deltas = fold scale_after 8 deltas
 
 -- how many entries list number j has: 4x4 in lists 0 to 5, 8x8 after them
 abbrev pub list_size : ℕ → ℕ

@@ -13,6 +13,6 @@ mod sps;
 
 pub use offsets::Offsets;
 pub use pps::{Pps, WeightedBipred};
-pub use scale_steps::scale_behind;
+pub use scale_steps::scale_after;
 pub use scaling_lists::{ScalingList, ScalingLists};
 pub use sps::{ChromaFormat, PicOrderCntType, Sps};

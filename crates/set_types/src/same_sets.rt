@@ -94,7 +94,8 @@ fn same_coding(a: &Pps, b: &Pps) -> bool
         (a.now.pic_parameter_set_id ≡ b.now.pic_parameter_set_id)
         × (a.now.seq_parameter_set_id ≡ b.now.seq_parameter_set_id)
         × (a.now.entropy_coding_mode_flag ≡ b.now.entropy_coding_mode_flag)
-        × (a.now.bottom_field_pic_order_in_frame_present_flag ≡ b.now.bottom_field_pic_order_in_frame_present_flag)
+        × (a.now.bottom_field_pic_order_in_frame_present_flag
+        ≡ b.now.bottom_field_pic_order_in_frame_present_flag)
         ) }
 {
     a.pic_parameter_set_id == b.pic_parameter_set_id
@@ -137,7 +138,8 @@ fn same_quantisation(a: &Pps, b: &Pps) -> bool
 /// Whether slices have the same parts.
 fn same_slices(a: &Pps, b: &Pps) -> bool
     ensures { IsTrue result ↔ (
-        (a.now.deblocking_filter_control_present_flag ≡ b.now.deblocking_filter_control_present_flag)
+        (a.now.deblocking_filter_control_present_flag
+        ≡ b.now.deblocking_filter_control_present_flag)
         × (a.now.constrained_intra_pred_flag ≡ b.now.constrained_intra_pred_flag)
         × (a.now.redundant_pic_cnt_present_flag ≡ b.now.redundant_pic_cnt_present_flag)
         ) }

@@ -71,7 +71,9 @@ impl Sps {
 
     /// How many macroblocks a frame has (7.4.2.1.1).
     pub fn pic_size_in_mbs(&self) -> u64
-        ensures value { result ≡ (self.now.pic_width_in_mbs_minus1 + 1) * (self.now.pic_height_in_map_units_minus1 + 1) }
+        ensures value { result
+            ≡ (self.now.pic_width_in_mbs_minus1 + 1) *
+            (self.now.pic_height_in_map_units_minus1 + 1) }
         ensures bound { result ≤ 2 ^ 32 }
     {
         let width_minus1 = self.pic_width_in_mbs_minus1;

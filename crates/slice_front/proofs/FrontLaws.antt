@@ -25,12 +25,12 @@ pub front_found : (unit : List ℕ) (front : HeaderFront) → front_at unit ≡ 
 unfolding front_at
 front_found unit front is =
     let read = with_place (table_at (front_table any) (unit_bits unit)) front is in
-    record { behind = read.0; fields = table_found (front_table any) (unit_bits unit) (front, read.0) read.1 }
+    record { after = read.0; fields = table_found (front_table any) (unit_bits unit) (front, read.0) read.1 }
 
 pub front_only : (unit : List ℕ) (front : HeaderFront) → IsFront unit front → front_at unit ≡ Ok front
 unfolding front_at
 front_only unit front is =
-    ap read_value (table_only (front_table any) (unit_bits unit) front is.behind is.fields)
+    ap read_value (table_only (front_table any) (unit_bits unit) front is.after is.fields)
 
 pub front_fault : (unit : List ℕ) (e : HeaderFault) → front_at unit ≡ Err e → FrontHasFault unit e
 unfolding front_at table_at

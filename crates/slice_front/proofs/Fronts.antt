@@ -11,14 +11,14 @@ use Rattle.expgolomb.proofs.Numbers.{length-bits_of, bits_of-append}
 use Rattle.syntax_tables.specs.Grammar.{Unsigned}
 use Rattle.syntax_tables.specs.Ranges.{any, at_most}
 use Rattle.syntax_tables.specs.Reading.{value_at, rows_at}
-use Rattle.syntax_tables.specs.Payloads.{behind_first}
+use Rattle.syntax_tables.specs.Payloads.{after_first}
 use Rattle.slice_front.specs.declared.fault.HeaderFault.{HeaderFault}
 use Rattle.slice_front.specs.declared.fault.HeaderFault.TheVariants.{Cut, Value}
 use Rattle.slice_front.specs.FrontSyntax.{FrontRow, front_table, type_table, first_mb_row, slice_type_row, parameter_set_row}
 use Rattle.slice_front.specs.HeaderRows.{ue_of}
 use Rattle.slice_front.specs.Fronts.{read_value, type_of}
 use Rattle.syntax_tables.specs.Structures.{Table, table_at}
-use Rattle.syntax_tables.proofs.Extensions.{CutIs, extended, behind_extended, table_extended}
+use Rattle.syntax_tables.proofs.Extensions.{CutIs, extended, after_extended, table_extended}
 use Rattle.syntax_tables.proofs.Lengths.{IsUnsignedRow, rows_uncut}
 
 -- only an empty payload has no first byte
@@ -29,17 +29,17 @@ first_missing (byte ∷ bytes) e is =
     absurd (cc (rw (le-leb 8 (length (bits_of (byte ∷ bytes))) there) at is))
 
 -- and nothing is read from it
-pub front_missing : (range : _) → table_at (front_table range) (behind_first []) ≡ Err Cut
+pub front_missing : (range : _) → table_at (front_table range) (after_first []) ≡ Err Cut
 unfolding table_at rows_at value_at ue_at
 front_missing range = refl
 
-pub type_missing : (range : _) → table_at (type_table range) (behind_first []) ≡ Err Cut
+pub type_missing : (range : _) → table_at (type_table range) (after_first []) ≡ Err Cut
 unfolding table_at rows_at value_at ue_at
 type_missing range = refl
 
 -- the bits of a payload are those of its front and those after it
-pub behind_first-front : (n : ℕ) (payload : List ℕ) → 1 ≤ n → n ≤ length payload → behind_first payload ≡ extended (bits_of (drop n payload)) (behind_first (take n payload))
-behind_first-front n payload some inside =
+pub after_first-front : (n : ℕ) (payload : List ℕ) → 1 ≤ n → n ≤ length payload → after_first payload ≡ extended (bits_of (drop n payload)) (after_first (take n payload))
+after_first-front n payload some inside =
     let front = bits_of (take n payload) in
     let whole : bits_of payload ≡ front ++ bits_of (drop n payload) =
     ap bits_of (sym (take-append-drop n payload)) ∙ bits_of-append (take n payload) (drop n payload) in
@@ -48,28 +48,28 @@ behind_first-front n payload some inside =
 
 -- A table of ue(v) codes is read from a front that has room for them as from the whole payload.
 module _ {S : Type 0} {F : Type 0} (table : Table F S HeaderFault) (cuts : AllByRecursion (CutIs Cut) table.rows) (codes : AllByRecursion (IsUnsignedRow Cut) table.rows) (n : ℕ) (payload : List ℕ) (room : 63 * length table.rows + 8 ≤ 8 * n) where
-  uncut : n ≤ length payload → table_at table (behind_first (take n payload)) ≡ Err Cut → ⊥
+  uncut : n ≤ length payload → table_at table (after_first (take n payload)) ≡ Err Cut → ⊥
   unfolding table_at
   uncut inside =
       let long : length (bits_of (take n payload)) ≡ 8 * n = length-bits_of (take n payload) ∙ ap (λ k. 8 * k) (length-take-le n payload inside) in
-      rows_uncut Cut table.take table.rows codes table.absent (behind_first (take n payload)) (rw length-drop (omega arith))
+      rows_uncut Cut table.take table.rows codes table.absent (after_first (take n payload)) (rw length-drop (omega arith))
 
-  pub front_read : {X : Type 0} (view : Result (S × Place) HeaderFault → X) → ((more : List Bool) (r : Result (S × Place) HeaderFault) → view (behind_extended more r) ≡ view r) → view (table_at table (behind_first (take n payload))) ≡ view (table_at table (behind_first payload))
+  pub front_read : {X : Type 0} (view : Result (S × Place) HeaderFault → X) → ((more : List Bool) (r : Result (S × Place) HeaderFault) → view (after_extended more r) ≡ view r) → view (table_at table (after_first (take n payload))) ≡ view (table_at table (after_first payload))
   front_read view same =
       elim (cases_lt n (length payload)) [
         | inl inside ↦
-            let p = behind_first (take n payload) in
+            let p = after_first (take n payload) in
             let more = bits_of (drop n payload) in
-            sym (ap (λ q. view (table_at table q)) (behind_first-front n payload (omega arith) (omega arith))
+            sym (ap (λ q. view (table_at table q)) (after_first-front n payload (omega arith) (omega arith))
             ∙ (ap view (table_extended Cut more table cuts p (uncut (omega arith))) ∙ same more (table_at table p)))
-        | inr all ↦ ap (λ bytes. view (table_at table (behind_first bytes))) (take_all n payload all)
+        | inr all ↦ ap (λ bytes. view (table_at table (after_first bytes))) (take_all n payload all)
       ]
 
-same_value : {A : Type 0} (more : List Bool) (r : Result (A × Place) HeaderFault) → read_value (behind_extended more r) ≡ read_value r
+same_value : {A : Type 0} (more : List Bool) (r : Result (A × Place) HeaderFault) → read_value (after_extended more r) ≡ read_value r
 same_value more (Ok x) = refl
 same_value more (Err e) = refl
 
-same_type : (more : List Bool) (r : _) → type_of (behind_extended more r) ≡ type_of r
+same_type : (more : List Bool) (r : _) → type_of (after_extended more r) ≡ type_of r
 same_type more (Ok x) = refl
 same_type more (Err e) = refl
 
@@ -91,12 +91,12 @@ limited : (row : FrontRow) (most : ℕ) → row ≡ ue_of row.field row.present 
 limited row most is = rw is record { code = refl; long = λ same. cc; range = λ s v. at_most-Value most v }
 
 -- the first three fields, and the first two, from a front
-pub front_is : (payload : List ℕ) → read_value (table_at (front_table any) (behind_first (take 25 payload))) ≡ read_value (table_at (front_table any) (behind_first payload))
+pub front_is : (payload : List ℕ) → read_value (table_at (front_table any) (after_first (take 25 payload))) ≡ read_value (table_at (front_table any) (after_first payload))
 front_is payload =
     front_read (front_table any) (cut_is _ refl refl, (cut_is _ refl refl, (cut_is _ refl refl, tt)))
     (first_mb, (limited slice_type_row 9 refl, (limited parameter_set_row 255 refl, tt))) 25 payload (omega arith) read_value same_value
 
-pub type_is : (payload : List ℕ) → type_of (table_at (type_table any) (behind_first (take 25 payload))) ≡ type_of (table_at (type_table any) (behind_first payload))
+pub type_is : (payload : List ℕ) → type_of (table_at (type_table any) (after_first (take 25 payload))) ≡ type_of (table_at (type_table any) (after_first payload))
 type_is payload =
     front_read (type_table any) (cut_is _ refl refl, (cut_is _ refl refl, tt))
     (first_mb, (limited slice_type_row 9 refl, tt)) 25 payload (omega arith) type_of same_type

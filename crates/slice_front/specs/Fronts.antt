@@ -3,7 +3,7 @@ use Rattle.std.specs.Prelude.{ℕ, List, Option, Some, None, Result, Ok, Err}
 use Rattle.expgolomb.specs.Bits.{Place}
 use Rattle.annexb.specs.EmulationPrevention.{payload_of}
 use Rattle.syntax_tables.specs.Ranges.{any}
-use Rattle.syntax_tables.specs.Payloads.{behind_first}
+use Rattle.syntax_tables.specs.Payloads.{after_first}
 use Rattle.slice_front.specs.declared.fault.HeaderFault.{HeaderFault}
 use Rattle.slice_front.specs.declared.front.HeaderFront.{HeaderFront}
 use Rattle.header_types.specs.declared.slice_types.SliceType.{SliceType}
@@ -13,12 +13,12 @@ use Rattle.syntax_tables.specs.Structures.{HasTable, table_at}
 
 -- the bits of a unit after its first byte, without emulation prevention
 abbrev pub unit_bits : List ℕ → Place
-unit_bits unit = behind_first (payload_of unit)
+unit_bits unit = after_first (payload_of unit)
 
 -- the unit's slice header begins with these fields; first_mb_in_slice has any value
 pub record IsFront (unit : List ℕ) (front : HeaderFront) : Type 0 where
-  pub behind : Place
-  pub fields : HasTable (front_table any) (unit_bits unit) front behind
+  pub after : Place
+  pub fields : HasTable (front_table any) (unit_bits unit) front after
 
 -- the first of these fields that shows a fault shows this one
 abbrev pub FrontHasFault : List ℕ → HeaderFault → Type 0

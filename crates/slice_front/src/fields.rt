@@ -5,14 +5,15 @@ ghost use Rattle.syntax_tables.specs.Grammar.{Fixed, Unsigned, Signed};
 ghost use Rattle.syntax_tables.specs.Reading.{value_at};
 ghost use Rattle.syntax_tables.specs.Ranges.{any, at_most, between};
 ghost use Rattle.syntax_tables.specs.Answer.{Reads, flag_value};
-ghost use Rattle.syntax_tables.specs.Payloads.{behind_first};
+ghost use Rattle.syntax_tables.specs.Payloads.{after_first};
 
 use crate::fault::HeaderFault;
 use expgolomb::Bits;
 
 /// The bits of a payload after its first byte.
-pub fn behind_first(payload: &[u8]) -> Result<Bits<'_>, HeaderFault>
-    ensures { MatchResult result (λ bits. bits ≡ behind_first payload.now) (λ e. (e ≡ HeaderFault.Cut) × (payload.now ≡ [])) }
+pub fn after_first(payload: &[u8]) -> Result<Bits<'_>, HeaderFault>
+    ensures { MatchResult result (λ bits. bits
+        ≡ after_first payload.now) (λ e. (e ≡ HeaderFault.Cut) × (payload.now ≡ [])) }
 {
     let mut bits = Bits::new(payload);
     let _nal_unit_header = bits.fixed(8)?;
@@ -21,7 +22,8 @@ pub fn behind_first(payload: &[u8]) -> Result<Bits<'_>, HeaderFault>
 
 /// Reads a flag, u(1).
 pub fn flag(bits: &mut Bits<'_>) -> Result<bool, HeaderFault>
-    ensures exact { Reads flag_value result bits.new (value_at (Fixed 1) HeaderFault.Cut HeaderFault.Cut any bits.old) }
+    ensures exact { Reads flag_value result bits.new
+        (value_at (Fixed 1) HeaderFault.Cut HeaderFault.Cut any bits.old) }
     ensures near { bits.new.before ≤ bits.old.before + 63 }
 {
     syntax_tables::flag(bits, HeaderFault::Cut)
@@ -31,7 +33,8 @@ pub fn flag(bits: &mut Bits<'_>) -> Result<bool, HeaderFault>
 pub fn fixed(bits: &mut Bits<'_>, n: u8) -> Result<u32, HeaderFault>
     requires some { 1 ≤ n }
     requires few { n ≤ 32 }
-    ensures exact { Reads pos result bits.new (value_at (Fixed n) HeaderFault.Cut HeaderFault.Cut any bits.old) }
+    ensures exact { Reads pos result bits.new (value_at
+        (Fixed n) HeaderFault.Cut HeaderFault.Cut any bits.old) }
     ensures below { IfOk result (λ v. v < 2 ^ n) }
     ensures near { bits.new.before ≤ bits.old.before + 63 }
 {
@@ -40,7 +43,8 @@ pub fn fixed(bits: &mut Bits<'_>, n: u8) -> Result<u32, HeaderFault>
 
 /// Reads an unsigned number, ue(v).
 pub fn ue_any(bits: &mut Bits<'_>) -> Result<u32, HeaderFault>
-    ensures exact { Reads pos result bits.new (value_at Unsigned HeaderFault.Cut HeaderFault.Value any bits.old) }
+    ensures exact { Reads pos result bits.new
+        (value_at Unsigned HeaderFault.Cut HeaderFault.Value any bits.old) }
     ensures near { bits.new.before ≤ bits.old.before + 63 }
 {
     syntax_tables::ue_any(bits, HeaderFault::Cut, HeaderFault::Value)
@@ -48,7 +52,8 @@ pub fn ue_any(bits: &mut Bits<'_>) -> Result<u32, HeaderFault>
 
 /// Reads an unsigned number of at most this much, ue(v).
 pub fn ue(bits: &mut Bits<'_>, most: u32) -> Result<u32, HeaderFault>
-    ensures exact { Reads pos result bits.new (value_at Unsigned HeaderFault.Cut HeaderFault.Value (at_most most HeaderFault.Value) bits.old) }
+    ensures exact { Reads pos result bits.new (value_at Unsigned HeaderFault.Cut HeaderFault.Value
+        (at_most most HeaderFault.Value) bits.old) }
     ensures bound { IfOk result (λ v. v ≤ most) }
     ensures near { bits.new.before ≤ bits.old.before + 63 }
 {
@@ -57,7 +62,8 @@ pub fn ue(bits: &mut Bits<'_>, most: u32) -> Result<u32, HeaderFault>
 
 /// Reads a signed number, se(v).
 pub fn se_any(bits: &mut Bits<'_>) -> Result<i32, HeaderFault>
-    ensures exact { Reads (λ v. v) result bits.new (value_at Signed HeaderFault.Cut HeaderFault.Value any bits.old) }
+    ensures exact { Reads (λ v. v) result bits.new
+        (value_at Signed HeaderFault.Cut HeaderFault.Value any bits.old) }
     ensures near { bits.new.before ≤ bits.old.before + 63 }
 {
     syntax_tables::se_any(bits, HeaderFault::Cut, HeaderFault::Value)
@@ -65,7 +71,8 @@ pub fn se_any(bits: &mut Bits<'_>) -> Result<i32, HeaderFault>
 
 /// Reads a signed number from the least to the most, se(v).
 pub fn se(bits: &mut Bits<'_>, least: i32, most: i32) -> Result<i32, HeaderFault>
-    ensures exact { Reads (λ v. v) result bits.new (value_at Signed HeaderFault.Cut HeaderFault.Value (between least most HeaderFault.Value) bits.old) }
+    ensures exact { Reads (λ v. v) result bits.new
+        (value_at Signed HeaderFault.Cut HeaderFault.Value (between least most HeaderFault.Value) bits.old) }
     ensures bounds { IfOk result (λ v. IsTrue (int_le least v && int_le v most)) }
     ensures near { bits.new.before ≤ bits.old.before + 63 }
 {

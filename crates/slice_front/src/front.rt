@@ -4,14 +4,14 @@ ghost use Rattle.std.specs.Prelude.{◌≡◌, ◌≤◌, ◌+◌, IfErr, IfOk};
 ghost use Rattle.std.specs.Result.{result_ok};
 ghost use Rattle.syntax_tables.specs.Ranges.{any, at_most};
 ghost use Rattle.syntax_tables.specs.Answer.{Reads};
-ghost use Rattle.syntax_tables.specs.Payloads.{behind_first};
+ghost use Rattle.syntax_tables.specs.Payloads.{after_first};
 ghost use Rattle.slice_front.specs.FrontSyntax.{front_table, type_table};
 ghost use Rattle.header_types.specs.SliceTypes.{slice_type_of};
 ghost use Rattle.slice_front.specs.Fronts.{FrontHasFault, IsFront, front_at, slice_type_at, read_value, type_of};
 ghost use Rattle.syntax_tables.specs.Structures.{table_at};
 
 use crate::fault::HeaderFault;
-use crate::fields::{behind_first, ue, ue_any};
+use crate::fields::{after_first, ue, ue_any};
 use annexb::{Nal, payload_front};
 use expgolomb::Bits;
 use header_types::SliceType;
@@ -51,16 +51,16 @@ pub fn slice_type(nal: &Nal<'_>) -> Option<SliceType>
 
 // The first fields of a payload.
 fn front_of(payload: &[u8]) -> Result<HeaderFront, HeaderFault>
-    ensures { result ≡ read_value (table_at (front_table any) (behind_first payload.now)) }
+    ensures { result ≡ read_value (table_at (front_table any) (after_first payload.now)) }
 {
-    any_front(&mut behind_first(payload)?)
+    any_front(&mut after_first(payload)?)
 }
 
 // The type that a payload begins with.
 fn type_of(payload: &[u8]) -> Result<SliceType, HeaderFault>
-    ensures { result_ok result ≡ type_of (table_at (type_table any) (behind_first payload.now)) }
+    ensures { result_ok result ≡ type_of (table_at (type_table any) (after_first payload.now)) }
 {
-    any_type(&mut behind_first(payload)?)
+    any_type(&mut after_first(payload)?)
 }
 
 #[tactic(auto, unfolding(syntax_tables::specs::Structures::table_at, syntax_tables::specs::Reading::rows_at))]
@@ -89,7 +89,8 @@ fn any_type(bits: &mut Bits<'_>) -> Result<SliceType, HeaderFault>
 /// Reads the first fields of a header, where first_mb_in_slice is at most this much.
 #[tactic(auto, unfolding(syntax_tables::specs::Structures::table_at, syntax_tables::specs::Reading::rows_at))]
 pub fn header_front(bits: &mut Bits<'_>, most: u32) -> Result<HeaderFront, HeaderFault>
-    ensures exact { Reads (λ front. front) result bits.new (table_at (front_table (at_most most HeaderFault.Value)) bits.old) }
+    ensures exact { Reads (λ front. front) result bits.new
+        (table_at (front_table (at_most most HeaderFault.Value)) bits.old) }
     ensures near { bits.new.before ≤ bits.old.before + 189 }
 {
     let first_mb_in_slice = ue(bits, most)?;

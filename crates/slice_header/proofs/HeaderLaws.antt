@@ -6,7 +6,7 @@ use Rattle.std.proofs.lemmas.List.{take_all}
 use Rattle.expgolomb.specs.Bits.{Place, bits_of}
 use Rattle.set_types.specs.declared.sps.Sps.{Sps}
 use Rattle.set_types.specs.declared.pps.Pps.{Pps}
-use Rattle.syntax_tables.specs.Payloads.{behind_first}
+use Rattle.syntax_tables.specs.Payloads.{after_first}
 use Rattle.slice_front.specs.declared.fault.HeaderFault.{HeaderFault}
 use Rattle.slice_front.specs.declared.fault.HeaderFault.TheVariants.{Cut, Value, Memory}
 use Rattle.header_types.specs.declared.slice_types.SliceType.{SliceType}
@@ -19,15 +19,15 @@ use Rattle.slice_front.specs.Fronts.{read_value, unit_bits}
 use Rattle.slice_header.specs.SliceHeaderSyntax.{header_syntax, number_table, order_table, prediction_table, active_table, weights_of, coding_table, deblocking_table}
 use Rattle.slice_header.specs.RefPicListModificationSyntax.{flag_table, command_table, commands_if, modification_syntax}
 use Rattle.slice_header.specs.PredWeightTableSyntax.{denominator_table, luma_table, chroma_rows, chroma_table, entry_syntax, entries_syntax, weight_syntax, weights_if}
-use Rattle.slice_header.specs.DecRefPicMarkingSyntax.{marking_table, operation_table, operations_syntax, operations_if, marking_behind, marking_syntax}
+use Rattle.slice_header.specs.DecRefPicMarkingSyntax.{marking_table, operation_table, operations_syntax, operations_if, marking_after, marking_syntax}
 use Rattle.syntax_tables.specs.Structures.{Syntax, syntax_at}
-use Rattle.syntax_tables.proofs.Extensions.{CutIs, AllCutsAre, followed_by_cuts, counted_cuts, ended_cuts, behind_extended, syntax_extended}
+use Rattle.syntax_tables.proofs.Extensions.{CutIs, AllCutsAre, followed_by_cuts, counted_cuts, ended_cuts, after_extended, syntax_extended}
 use Rattle.slice_front.proofs.FrontLaws.{with_place, fault_is}
-use Rattle.slice_front.proofs.Fronts.{front_missing, behind_first-front}
+use Rattle.slice_front.proofs.Fronts.{front_missing, after_first-front}
 use Rattle.syntax_tables.proofs.Structures.{syntax_found, syntax_only, syntax_fault, fault_syntax}
 
 -- an empty payload has no header
-pub header_missing : (nal_ref_idc nal_unit_type : ℕ) (sps : Sps) (pps : Pps) → syntax_at (header_syntax nal_ref_idc nal_unit_type sps pps) (behind_first []) ≡ Err Cut
+pub header_missing : (nal_ref_idc nal_unit_type : ℕ) (sps : Sps) (pps : Pps) → syntax_at (header_syntax nal_ref_idc nal_unit_type sps pps) (after_first []) ≡ Err Cut
 unfolding header_syntax syntax_at
 header_missing nal_ref_idc nal_unit_type sps pps = rw front_missing refl
 
@@ -97,9 +97,9 @@ operations_cuts : AllCutsAre Cut operations_syntax
 unfolding operations_syntax
 operations_cuts = ended_cuts Cut operation_table operation_cuts 64 []
 
-behind_cuts : (is_idr : Bool) (flags : MarkingFlags) → AllCutsAre Cut (marking_behind is_idr flags)
-behind_cuts true flags = tt
-behind_cuts false flags = go flags.adaptive_ref_pic_marking_mode_flag
+after_cuts : (is_idr : Bool) (flags : MarkingFlags) → AllCutsAre Cut (marking_after is_idr flags)
+after_cuts true flags = tt
+after_cuts false flags = go flags.adaptive_ref_pic_marking_mode_flag
   where
     go : (is_adaptive : Bool) → AllCutsAre Cut (operations_if is_adaptive)
     go false = tt
@@ -107,7 +107,7 @@ behind_cuts false flags = go flags.adaptive_ref_pic_marking_mode_flag
 
 marking_cuts : (is_reference is_idr : Bool) → AllCutsAre Cut (marking_syntax is_reference is_idr)
 unfolding marking_syntax
-marking_cuts is_reference is_idr = (flags_cuts is_reference is_idr, behind_cuts is_idr)
+marking_cuts is_reference is_idr = (flags_cuts is_reference is_idr, after_cuts is_idr)
 
 pub header_cuts : (nal_ref_idc nal_unit_type : ℕ) (sps : Sps) (pps : Pps) → AllCutsAre Cut (header_syntax nal_ref_idc nal_unit_type sps pps)
 unfolding header_syntax number_table order_table prediction_table active_table coding_table deblocking_table
@@ -128,7 +128,7 @@ header_cuts nal_ref_idc nal_unit_type sps pps = (
               followed_by_cuts Cut (marking_syntax _ _) _ (marking_cuts _ _) (λ marking marking_to. (
                 (record { fault = refl; plain = tt }, (record { fault = refl; plain = tt }, tt)),
                 λ coding.
-                    ((record { fault = refl; plain = tt }, (record { fault = refl; plain = tt }, (record { fault = refl; plain = tt }, tt))), λ deblocking behind. tt),
+                    ((record { fault = refl; plain = tt }, (record { fault = refl; plain = tt }, (record { fault = refl; plain = tt }, tt))), λ deblocking after. tt),
               ))))),
         ),
       ),
@@ -136,32 +136,32 @@ header_cuts nal_ref_idc nal_unit_type sps pps = (
   ),
 )
 
-same_value : {A : Type 0} (more : List Bool) (r : Result (A × Place) HeaderFault) → read_value (behind_extended more r) ≡ read_value r
+same_value : {A : Type 0} (more : List Bool) (r : Result (A × Place) HeaderFault) → read_value (after_extended more r) ≡ read_value r
 same_value more (Ok x) = refl
 same_value more (Err e) = refl
 
 -- what a front says that isn't cut is what the whole payload says
-front_says : {A : Type 0} (syntax : Syntax A HeaderFault) → AllCutsAre Cut syntax → (n : ℕ) (payload : List ℕ) → 1 ≤ n → (syntax_at syntax (behind_first (take n payload)) ≡ Err Cut → ⊥) → read_value (syntax_at syntax (behind_first payload)) ≡ read_value (syntax_at syntax (behind_first (take n payload)))
+front_says : {A : Type 0} (syntax : Syntax A HeaderFault) → AllCutsAre Cut syntax → (n : ℕ) (payload : List ℕ) → 1 ≤ n → (syntax_at syntax (after_first (take n payload)) ≡ Err Cut → ⊥) → read_value (syntax_at syntax (after_first payload)) ≡ read_value (syntax_at syntax (after_first (take n payload)))
 front_says syntax cuts n payload some uncut =
     elim (cases_lt n (length payload)) [
       | inl inside ↦
-          let p = behind_first (take n payload) in
+          let p = after_first (take n payload) in
           let more = bits_of (drop n payload) in
-          ap (λ q. read_value (syntax_at syntax q)) (behind_first-front n payload some (omega arith))
+          ap (λ q. read_value (syntax_at syntax q)) (after_first-front n payload some (omega arith))
           ∙ (ap read_value (syntax_extended Cut more syntax cuts p uncut) ∙ same_value more (syntax_at syntax p))
-      | inr all ↦ ap (λ bytes. read_value (syntax_at syntax (behind_first bytes))) (sym (take_all n payload all))
+      | inr all ↦ ap (λ bytes. read_value (syntax_at syntax (after_first bytes))) (sym (take_all n payload all))
     ]
 
 no_cut : {A : Type 0} (r : Result (A × Place) HeaderFault) (answer : Result A HeaderFault) → (answer ≡ Err Cut → ⊥) → read_value r ≡ answer → r ≡ Err Cut → ⊥
 no_cut r answer other is cut = other (sym is ∙ ap read_value cut)
 
 -- so an answer from a front is the answer, where it isn't cut or the front is all
-pub answers_whole : {A : Type 0} (syntax : Syntax A HeaderFault) → AllCutsAre Cut syntax → (n : ℕ) (payload : List ℕ) → 1 ≤ n → (answer : Result A HeaderFault) → Answers answer (read_value (syntax_at syntax (behind_first (take n payload)))) → (answer ≡ Err Cut → length payload ≤ n) → Answers answer (read_value (syntax_at syntax (behind_first payload)))
+pub answers_whole : {A : Type 0} (syntax : Syntax A HeaderFault) → AllCutsAre Cut syntax → (n : ℕ) (payload : List ℕ) → 1 ≤ n → (answer : Result A HeaderFault) → Answers answer (read_value (syntax_at syntax (after_first (take n payload)))) → (answer ≡ Err Cut → length payload ≤ n) → Answers answer (read_value (syntax_at syntax (after_first payload)))
 answers_whole syntax cuts n payload some (Ok x) is all = front_says syntax cuts n payload some (no_cut _ (Ok x) (λ same. cc) is) ∙ is
 answers_whole syntax cuts n payload some (Err Memory) is all = tt
 answers_whole syntax cuts n payload some (Err Value) is all = front_says syntax cuts n payload some (no_cut _ (Err Value) (λ same. cc) is) ∙ is
 answers_whole syntax cuts n payload some (Err Cut) is all =
-    ap (λ bytes. read_value (syntax_at syntax (behind_first bytes))) (sym (take_all n payload (all refl))) ∙ is
+    ap (λ bytes. read_value (syntax_at syntax (after_first bytes))) (sym (take_all n payload (all refl))) ∙ is
 
 -- the laws of the answer
 module _ (unit : List ℕ) (sps : Sps) (pps : Pps) where
@@ -169,13 +169,13 @@ module _ (unit : List ℕ) (sps : Sps) (pps : Pps) where
   unfolding header_at
   header_found (Ok header) is =
       let read = with_place (syntax_at (syntax_of unit sps pps) (unit_bits unit)) header is in
-      record { behind = read.0; fields = syntax_found (syntax_of unit sps pps) (unit_bits unit) (header, read.0) read.1 }
+      record { after = read.0; fields = syntax_found (syntax_of unit sps pps) (unit_bits unit) (header, read.0) read.1 }
   header_found (Err e) is = tt
 
   pub header_only : (answer : Result SliceHeader HeaderFault) → Answers answer (header_at unit sps pps) → (header : SliceHeader) → IsSliceHeader unit sps pps header → Answers answer (Ok header)
   unfolding header_at
   header_only answer is header has =
-      subst (Answers answer) (ap read_value (syntax_only (syntax_of unit sps pps) (unit_bits unit) header has.behind has.fields)) is
+      subst (Answers answer) (ap read_value (syntax_only (syntax_of unit sps pps) (unit_bits unit) header has.after has.fields)) is
 
   pub header_fault : (answer : Result SliceHeader HeaderFault) → Answers answer (header_at unit sps pps) → IfErr answer (λ fault. (fault ≡ Memory) ⊎ HeaderHasFault unit sps pps fault)
   unfolding header_at
@@ -193,7 +193,7 @@ module _ (unit : List ℕ) (sps : Sps) (pps : Pps) where
   pub header_has : (header : SliceHeader) → IsSliceHeader unit sps pps header → header_at unit sps pps ≡ Ok header
   unfolding header_at
   header_has header has =
-      ap read_value (syntax_only (syntax_of unit sps pps) (unit_bits unit) header has.behind has.fields)
+      ap read_value (syntax_only (syntax_of unit sps pps) (unit_bits unit) header has.after has.fields)
 
   -- the fault that it shows first is what reading ends with
   pub header_shows : (fault : HeaderFault) → HeaderHasFault unit sps pps fault → header_at unit sps pps ≡ Err fault

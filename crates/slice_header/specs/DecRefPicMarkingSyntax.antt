@@ -121,10 +121,10 @@ operations_if false = Says SlidingWindow
 operations_if true = followed_by operations_syntax (λ operations. Says (Adaptive operations))
 
 -- what the flags say
-abbrev pub marking_behind : Bool → MarkingFlags → Syntax DecRefPicMarking HeaderFault
-marking_behind true flags = Says (Idr flags.no_output_of_prior_pics_flag flags.long_term_reference_flag)
-marking_behind false flags = operations_if flags.adaptive_ref_pic_marking_mode_flag
+abbrev pub marking_after : Bool → MarkingFlags → Syntax DecRefPicMarking HeaderFault
+marking_after true flags = Says (Idr flags.no_output_of_prior_pics_flag flags.long_term_reference_flag)
+marking_after false flags = operations_if flags.adaptive_ref_pic_marking_mode_flag
 
 -- the marking of a picture, where it is a reference
 unfoldable pub marking_syntax : Bool → Bool → Syntax DecRefPicMarking HeaderFault
-marking_syntax is_reference is_idr = Structure (marking_table is_reference is_idr) (λ flags. marking_behind is_idr flags)
+marking_syntax is_reference is_idr = Structure (marking_table is_reference is_idr) (λ flags. marking_after is_idr flags)

@@ -11,5 +11,5 @@ Refuses e read = read ≡ Err e
 
 -- what was read was stored, and the reader is past it, unless memory ran out
 abbrev pub Stores : {A B : Type 0} → (A → B) → Result A HeaderFault → Place → Result (B × Place) HeaderFault → Type 0
-Stores view (Ok x) behind read = read ≡ Ok (view x, behind)
-Stores view (Err e) behind read = Refuses e read
+Stores view (Ok x) after read = read ≡ Ok (view x, after)
+Stores view (Err e) after read = Refuses e read

@@ -233,7 +233,7 @@ header_from nal_ref_idc nal_unit_type fields = record {
   disable_deblocking_filter_idc = fields.deblocking.disable_deblocking_filter_idc;
   slice_alpha_c0_offset_div2 = fields.deblocking.slice_alpha_c0_offset_div2;
   slice_beta_offset_div2 = fields.deblocking.slice_beta_offset_div2;
-  header_bit_size = fields.behind;
+  header_bit_size = fields.after;
   dec_ref_pic_marking_bit_size = fields.marking_bits;
   pic_order_cnt_bit_size = fields.order_bits;
 }
@@ -269,7 +269,7 @@ header_syntax nal_ref_idc nal_unit_type sps pps =
     Here (λ marking_to.
     Structure (coding_table front.slice_type pps) (λ coding.
     Structure (deblocking_table pps) (λ deblocking.
-    Here (λ behind.
+    Here (λ after.
     Says (header_from nal_ref_idc nal_unit_type record {
       front = front;
       numbers = numbers;
@@ -284,5 +284,5 @@ header_syntax nal_ref_idc nal_unit_type sps pps =
       deblocking = deblocking;
       order_bits = orders_to - orders_from;
       marking_bits = marking_to - marking_from;
-      behind = behind;
+      after = after;
     })))))))))))))))))

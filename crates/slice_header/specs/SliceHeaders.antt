@@ -17,8 +17,8 @@ syntax_of unit sps pps = header_syntax (nal_ref_idc unit) (nal_unit_type unit) s
 
 -- the unit has this slice header
 pub record IsSliceHeader (unit : List ℕ) (sps : Sps) (pps : Pps) (header : SliceHeader) : Type 0 where
-  pub behind : Place
-  pub fields : HasSyntax (syntax_of unit sps pps) (unit_bits unit) header behind
+  pub after : Place
+  pub fields : HasSyntax (syntax_of unit sps pps) (unit_bits unit) header after
 
 -- the first field of the unit's slice header that shows a fault shows this one
 abbrev pub HeaderHasFault : List ℕ → Sps → Pps → HeaderFault → Type 0

@@ -24,7 +24,8 @@ pub fn coding_fields(
     slice_type: SliceType,
     pps: &Pps,
 ) -> Result<Coding, HeaderFault>
-    ensures exact { Reads (λ coding. coding) result bits.new (table_at (coding_table slice_type pps.now) bits.old) }
+    ensures exact { Reads (λ coding. coding) result bits.new
+        (table_at (coding_table slice_type pps.now) bits.old) }
     ensures near { bits.new.before ≤ bits.old.before + 126 }
 {
     let cabac_init_idc = if pps.entropy_coding_mode_flag && slice_type != SliceType::I {
@@ -49,7 +50,8 @@ pub struct Deblocking {
 
 #[tactic(auto, unfolding(crate::specs::SliceHeaderSyntax::deblocking_table, syntax_tables::specs::Structures::table_at, syntax_tables::specs::Reading::rows_at))]
 pub fn deblocking_fields(bits: &mut Bits<'_>, pps: &Pps) -> Result<Deblocking, HeaderFault>
-    ensures exact { Reads (λ deblocking. deblocking) result bits.new (table_at (deblocking_table pps.now) bits.old) }
+    ensures exact { Reads (λ deblocking. deblocking) result bits.new
+        (table_at (deblocking_table pps.now) bits.old) }
     ensures near { bits.new.before ≤ bits.old.before + 189 }
 {
     let mut deblocking = Deblocking {

@@ -39,7 +39,7 @@ pub struct HeaderFields {
     pub deblocking: Deblocking,
     pub order_bits: u32,
     pub marking_bits: u32,
-    pub behind: u32,
+    pub after: u32,
 }
 
 /// Reads the structures of a unit's header.
@@ -52,7 +52,9 @@ pub fn header_fields(
     pps: &Pps,
 ) -> Result<HeaderFields, HeaderFault>
     requires { bits.old.before ≤ 8 }
-    ensures { Stores (λ fields. header_from (nal_ref_idc nal.now) (nal_unit_type nal.now) fields) result bits.new (syntax_at (syntax_of nal.now sps.now pps.now) bits.old) }
+    ensures { Stores (λ fields. header_from (nal_ref_idc nal.now)
+        (nal_unit_type nal.now) fields) result bits.new
+        (syntax_at (syntax_of nal.now sps.now pps.now) bits.old) }
 {
     let is_idr = nal.nal_unit_type() == 5;
     let max_frame_num = sps.max_frame_num();
@@ -88,7 +90,7 @@ pub fn header_fields(
         deblocking,
         order_bits: orders_to.saturating_sub(orders_from),
         marking_bits: marking_to.saturating_sub(marking_from),
-        behind: bits.place() as u32,
+        after: bits.place() as u32,
     })
 }
 
@@ -121,7 +123,7 @@ pub fn header_from(nal: &Nal<'_>, fields: HeaderFields) -> SliceHeader
         disable_deblocking_filter_idc: fields.deblocking.disable_deblocking_filter_idc,
         slice_alpha_c0_offset_div2: fields.deblocking.slice_alpha_c0_offset_div2,
         slice_beta_offset_div2: fields.deblocking.slice_beta_offset_div2,
-        header_bit_size: fields.behind,
+        header_bit_size: fields.after,
         dec_ref_pic_marking_bit_size: fields.marking_bits,
         pic_order_cnt_bit_size: fields.order_bits,
     }
@@ -139,7 +141,8 @@ fn weights(
 ) -> Result<Option<PredWeightTable>, HeaderFault>
     requires few_l0 { l0 ≤ 31 }
     requires few_l1 { l1 ≤ 31 }
-    ensures exact { Stores (λ weights. weights) result bits.new (syntax_at (weights_of slice_type l0 l1 sps.now pps.now) bits.old) }
+    ensures exact { Stores (λ weights. weights) result bits.new
+        (syntax_at (weights_of slice_type l0 l1 sps.now pps.now) bits.old) }
     ensures near { bits.new.before ≤ bits.old.before + 40000 }
 {
     if is_weighted(slice_type, pps) {

@@ -32,7 +32,8 @@ pub fn dec_ref_pic_marking(
     is_reference: bool,
     is_idr: bool,
 ) -> Result<DecRefPicMarking, HeaderFault>
-    ensures exact { Stores (λ marking. marking) result bits.new (syntax_at (marking_syntax is_reference is_idr) bits.old) }
+    ensures exact { Stores (λ marking. marking) result bits.new
+        (syntax_at (marking_syntax is_reference is_idr) bits.old) }
     ensures near { bits.new.before ≤ bits.old.before + 20000 }
 {
     let flags = marking_flags(bits, is_reference, is_idr)?;
@@ -55,7 +56,8 @@ fn marking_flags(
     is_reference: bool,
     is_idr: bool,
 ) -> Result<MarkingFlags, HeaderFault>
-    ensures exact { Reads (λ flags. flags) result bits.new (table_at (marking_table is_reference is_idr) bits.old) }
+    ensures exact { Reads (λ flags. flags) result bits.new
+        (table_at (marking_table is_reference is_idr) bits.old) }
     ensures near { bits.new.before ≤ bits.old.before + 126 }
 {
     let mut flags = MarkingFlags {
@@ -79,7 +81,8 @@ fn operations(
     alloc: Global,
     bits: &mut Bits<'_>,
 ) -> Result<MemoryManagementControlOperations, HeaderFault>
-    ensures exact { Stores (λ operations. operations) result bits.new (syntax_at operations_syntax bits.old) }
+    ensures exact { Stores (λ operations. operations) result bits.new
+        (syntax_at operations_syntax bits.old) }
     ensures near { bits.new.before ≤ bits.old.before + 16000 }
 {
     let mut operations = MemoryManagementControlOperations::new(alloc);
@@ -99,7 +102,8 @@ fn operation(
     bits: &mut Bits<'_>,
     has_room: bool,
 ) -> Result<Option<MemoryManagementControlOperation>, HeaderFault>
-    ensures exact { Reads (λ operation. operation) result bits.new (table_at (operation_table has_room) bits.old) }
+    ensures exact { Reads (λ operation. operation) result bits.new
+        (table_at (operation_table has_room) bits.old) }
     ensures near { bits.new.before ≤ bits.old.before + 189 }
 {
     match operation_code(bits, has_room)? {
@@ -127,7 +131,8 @@ fn operation(
 // memory_management_control_operation.
 #[tactic(auto, unfolding(syntax_tables::specs::Reading::value_at))]
 fn operation_code(bits: &mut Bits<'_>, has_room: bool) -> Result<u32, HeaderFault>
-    ensures exact { Reads pos result bits.new (value_at Unsigned HeaderFault.Cut HeaderFault.Value (operation_range has_room) bits.old) }
+    ensures exact { Reads pos result bits.new (value_at Unsigned HeaderFault.Cut HeaderFault.Value
+        (operation_range has_room) bits.old) }
     ensures near { bits.new.before ≤ bits.old.before + 63 }
 {
     let code = bits.ue()?;

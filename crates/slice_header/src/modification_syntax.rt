@@ -24,7 +24,8 @@ pub fn ref_pic_list_modification(
 ) -> Result<RefPicListModifications, HeaderFault>
     requires some { 1 ≤ max_frame_num }
     requires few { active_minus1 ≤ 31 }
-    ensures exact { Stores (λ commands. commands) result bits.new (syntax_at (modification_syntax is_there active_minus1 max_frame_num) bits.old) }
+    ensures exact { Stores (λ commands. commands) result bits.new
+        (syntax_at (modification_syntax is_there active_minus1 max_frame_num) bits.old) }
     ensures near { bits.new.before ≤ bits.old.before + 8000 }
 {
     if modification_flag(bits, is_there)? {
@@ -51,7 +52,8 @@ fn commands(
 ) -> Result<RefPicListModifications, HeaderFault>
     requires some { 1 ≤ max_frame_num }
     requires few { entries ≤ 32 }
-    ensures exact { Stores (λ commands. commands) result bits.new (syntax_at (ended (command_table max_frame_num) entries []) bits.old) }
+    ensures exact { Stores (λ commands. commands) result bits.new
+        (syntax_at (ended (command_table max_frame_num) entries []) bits.old) }
     ensures near { bits.new.before ≤ bits.old.before + 7000 }
 {
     let mut commands = RefPicListModifications::new(alloc);
@@ -73,7 +75,8 @@ fn command(
     max_frame_num: u32,
 ) -> Result<Option<RefPicListModification>, HeaderFault>
     requires { 1 ≤ max_frame_num }
-    ensures exact { Reads (λ command. command) result bits.new (table_at (command_table max_frame_num has_room) bits.old) }
+    ensures exact { Reads (λ command. command) result bits.new
+        (table_at (command_table max_frame_num has_room) bits.old) }
     ensures near { bits.new.before ≤ bits.old.before + 126 }
 {
     match command_idc(bits, has_room)? {
@@ -93,7 +96,8 @@ fn command(
 // modification_of_pic_nums_idc.
 #[tactic(auto, unfolding(syntax_tables::specs::Reading::value_at))]
 fn command_idc(bits: &mut Bits<'_>, has_room: bool) -> Result<u32, HeaderFault>
-    ensures exact { Reads pos result bits.new (value_at Unsigned HeaderFault.Cut HeaderFault.Value (idc_range has_room) bits.old) }
+    ensures exact { Reads pos result bits.new (value_at Unsigned HeaderFault.Cut HeaderFault.Value
+        (idc_range has_room) bits.old) }
     ensures near { bits.new.before ≤ bits.old.before + 63 }
 {
     let idc = bits.ue()?;

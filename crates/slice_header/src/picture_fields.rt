@@ -19,7 +19,8 @@ pub struct Numbers {
 
 #[tactic(auto, unfolding(crate::specs::SliceHeaderSyntax::number_table, syntax_tables::specs::Structures::table_at, syntax_tables::specs::Reading::rows_at))]
 pub fn picture_numbers(bits: &mut Bits<'_>, is_idr: bool, sps: &Sps) -> Result<Numbers, HeaderFault>
-    ensures exact { Reads (λ numbers. numbers) result bits.new (table_at (number_table is_idr sps.now) bits.old) }
+    ensures exact { Reads (λ numbers. numbers) result bits.new
+        (table_at (number_table is_idr sps.now) bits.old) }
     ensures near { bits.new.before ≤ bits.old.before + 126 }
 {
     let frame_num = fixed(bits, sps.log2_max_frame_num_minus4.get() + 4)? as u16;
@@ -48,7 +49,8 @@ const NO_COUNTS: OrderCounts = OrderCounts {
 
 #[tactic(auto, unfolding(crate::specs::SliceHeaderSyntax::order_table, syntax_tables::specs::Structures::table_at, syntax_tables::specs::Reading::rows_at))]
 pub fn order_counts(bits: &mut Bits<'_>, sps: &Sps, pps: &Pps) -> Result<OrderCounts, HeaderFault>
-    ensures exact { Reads (λ counts. counts) result bits.new (table_at (order_table sps.now pps.now) bits.old) }
+    ensures exact { Reads (λ counts. counts) result bits.new
+        (table_at (order_table sps.now pps.now) bits.old) }
     ensures near { bits.new.before ≤ bits.old.before + 126 }
 {
     match sps.pic_order_cnt_type {
@@ -61,7 +63,8 @@ pub fn order_counts(bits: &mut Bits<'_>, sps: &Sps, pps: &Pps) -> Result<OrderCo
 #[tactic(auto, unfolding(crate::specs::SliceHeaderSyntax::order_table, syntax_tables::specs::Structures::table_at, syntax_tables::specs::Reading::rows_at))]
 fn type_zero(bits: &mut Bits<'_>, sps: &Sps, pps: &Pps) -> Result<OrderCounts, HeaderFault>
     requires { sps.now.pic_order_cnt_type ≡ PicOrderCntType.Zero }
-    ensures exact { Reads (λ counts. counts) result bits.new (table_at (order_table sps.now pps.now) bits.old) }
+    ensures exact { Reads (λ counts. counts) result bits.new
+        (table_at (order_table sps.now pps.now) bits.old) }
     ensures near { bits.new.before ≤ bits.old.before + 126 }
 {
     let pic_order_cnt_lsb = fixed(bits, sps.log2_max_pic_order_cnt_lsb_minus4.get() + 4)? as u16;
@@ -81,7 +84,8 @@ fn type_zero(bits: &mut Bits<'_>, sps: &Sps, pps: &Pps) -> Result<OrderCounts, H
 fn deltas(bits: &mut Bits<'_>, sps: &Sps, pps: &Pps) -> Result<OrderCounts, HeaderFault>
     requires one { sps.now.pic_order_cnt_type ≡ PicOrderCntType.One }
     requires sent { sps.now.delta_pic_order_always_zero_flag ≡ false }
-    ensures exact { Reads (λ counts. counts) result bits.new (table_at (order_table sps.now pps.now) bits.old) }
+    ensures exact { Reads (λ counts. counts) result bits.new
+        (table_at (order_table sps.now pps.now) bits.old) }
     ensures near { bits.new.before ≤ bits.old.before + 126 }
 {
     let delta_pic_order_cnt0 = se_any(bits)?;

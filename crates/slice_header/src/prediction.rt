@@ -26,7 +26,8 @@ pub fn prediction_fields(
     slice_type: SliceType,
     pps: &Pps,
 ) -> Result<Prediction, HeaderFault>
-    ensures exact { Reads (λ prediction. prediction) result bits.new (table_at (prediction_table slice_type pps.now) bits.old) }
+    ensures exact { Reads (λ prediction. prediction) result bits.new
+        (table_at (prediction_table slice_type pps.now) bits.old) }
     ensures near { bits.new.before ≤ bits.old.before + 126 }
 {
     let redundant_pic_cnt = if pps.redundant_pic_cnt_present_flag {
@@ -59,7 +60,8 @@ pub fn active_counts(
     slice_type: SliceType,
     pps: &Pps,
 ) -> Result<ActiveCounts, HeaderFault>
-    ensures exact { Reads (λ counts. counts) result bits.new (table_at (active_table slice_type pps.now) bits.old) }
+    ensures exact { Reads (λ counts. counts) result bits.new
+        (table_at (active_table slice_type pps.now) bits.old) }
     ensures near { bits.new.before ≤ bits.old.before + 189 }
 {
     match slice_type {

@@ -1,7 +1,7 @@
 //! Reads the header of a unit.
 
 ghost use Rattle.std.specs.Prelude.{◌≡◌, ◌⊎◌, IfOk, IfErr, Ok, Err, IsTrue, ◌↔◌};
-ghost use Rattle.syntax_tables.specs.Payloads.{behind_first};
+ghost use Rattle.syntax_tables.specs.Payloads.{after_first};
 ghost use Rattle.slice_header.specs.SliceHeaders.{IsSliceHeader, HeaderHasFault, Answers, header_at, syntax_of};
 ghost use Rattle.slice_front.specs.Fronts.{read_value};
 ghost use Rattle.syntax_tables.specs.Structures.{syntax_at};
@@ -13,7 +13,7 @@ use annexb::{Nal, payload, payload_front};
 use header_types::SliceHeader;
 use set_types::{Pps, Sps};
 use slice_front::HeaderFault;
-use slice_front::fields::behind_first;
+use slice_front::fields::after_first;
 use std::alloc::Global;
 
 // As many bytes as most headers take.
@@ -24,10 +24,13 @@ const FRONT_LEN: usize = 64;
 pub fn read(alloc: Global, nal: &Nal<'_>, sps: &Sps, pps: &Pps) -> Result<SliceHeader, HeaderFault>
     // What is read is the unit's header, and where it has one that is read.
     ensures found { IfOk result (λ header. IsSliceHeader nal.now sps.now pps.now header) }
-    ensures only { (header : SliceHeader) → IsSliceHeader nal.now sps.now pps.now header → Answers result (Ok header) }
+    ensures only { (header : SliceHeader) → IsSliceHeader nal.now sps.now pps.now header
+        → Answers result (Ok header) }
     // A refusal is that of the first field that shows one, and where there is such a field it is refused.
-    ensures fault { IfErr result (λ fault. (fault ≡ HeaderFault.Memory) ⊎ HeaderHasFault nal.now sps.now pps.now fault) }
-    ensures refused { (fault : HeaderFault) → HeaderHasFault nal.now sps.now pps.now fault → Answers result (Err fault) }
+    ensures fault { IfErr result (λ fault. (fault ≡ HeaderFault.Memory)
+        ⊎ HeaderHasFault nal.now sps.now pps.now fault) }
+    ensures refused { (fault : HeaderFault) → HeaderHasFault nal.now sps.now pps.now fault
+        → Answers result (Err fault) }
     ensures exact { Answers result (header_at nal.now sps.now pps.now) }
 {
     read_exactly(alloc, nal, sps, pps)
@@ -78,9 +81,10 @@ fn header_of(
     sps: &Sps,
     pps: &Pps,
 ) -> Result<SliceHeader, HeaderFault>
-    ensures { Answers result (read_value (syntax_at (syntax_of nal.now sps.now pps.now) (behind_first payload.now))) }
+    ensures { Answers result (read_value
+        (syntax_at (syntax_of nal.now sps.now pps.now) (after_first payload.now))) }
 {
-    let mut bits = behind_first(payload)?;
+    let mut bits = after_first(payload)?;
     let fields = header_fields(alloc, nal, &mut bits, sps, pps)?;
     Ok(header_from(nal, fields))
 }

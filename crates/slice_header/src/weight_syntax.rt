@@ -50,7 +50,8 @@ pub fn pred_weight_table(
 ) -> Result<PredWeightTable, HeaderFault>
     requires few_l0 { active_l0 ≤ 32 }
     requires few_l1 { active_l1 ≤ 32 }
-    ensures exact { Stores (λ table. table) result bits.new (syntax_at (weight_syntax has_chroma active_l0 active_l1) bits.old) }
+    ensures exact { Stores (λ table. table) result bits.new
+        (syntax_at (weight_syntax has_chroma active_l0 active_l1) bits.old) }
     ensures near { bits.new.before ≤ bits.old.before + 40000 }
 {
     let denominators = read_denominators(bits, has_chroma)?;
@@ -66,8 +67,10 @@ pub fn pred_weight_table(
 
 #[tactic(auto, unfolding(crate::specs::PredWeightTableSyntax::denominator_table, syntax_tables::specs::Structures::table_at, syntax_tables::specs::Reading::rows_at))]
 fn read_denominators(bits: &mut Bits<'_>, has_chroma: bool) -> Result<Denominators, HeaderFault>
-    ensures exact { Reads (λ denominators. denominators) result bits.new (table_at (denominator_table has_chroma) bits.old) }
-    ensures bounds { IfOk result (λ d. (d.luma_log2_weight_denom ≤ 7) × (d.chroma_log2_weight_denom ≤ 7)) }
+    ensures exact { Reads (λ denominators. denominators) result bits.new
+        (table_at (denominator_table has_chroma) bits.old) }
+    ensures bounds { IfOk result (λ d. (d.luma_log2_weight_denom ≤ 7)
+        × (d.chroma_log2_weight_denom ≤ 7)) }
     ensures near { bits.new.before ≤ bits.old.before + 126 }
 {
     let luma_log2_weight_denom = ue(bits, 7)? as u8;
@@ -89,7 +92,8 @@ fn weights(
     requires few { entries ≤ 32 }
     requires luma { denominators.luma_log2_weight_denom ≤ 7 }
     requires chroma { denominators.chroma_log2_weight_denom ≤ 7 }
-    ensures exact { Stores (λ weights. weights) result bits.new (syntax_at (entries_syntax has_chroma denominators entries) bits.old) }
+    ensures exact { Stores (λ weights. weights) result bits.new
+        (syntax_at (entries_syntax has_chroma denominators entries) bits.old) }
     ensures near { bits.new.before ≤ bits.old.before + 17000 }
 {
     let mut weights = PredWeights::new(alloc);
@@ -109,7 +113,8 @@ fn pred_weight(
 ) -> Result<PredWeight, HeaderFault>
     requires luma { denominators.luma_log2_weight_denom ≤ 7 }
     requires chroma { denominators.chroma_log2_weight_denom ≤ 7 }
-    ensures exact { Reads (λ weight. weight) result bits.new (syntax_at (entry_syntax has_chroma denominators) bits.old) }
+    ensures exact { Reads (λ weight. weight) result bits.new
+        (syntax_at (entry_syntax has_chroma denominators) bits.old) }
     ensures near { bits.new.before ≤ bits.old.before + 504 }
 {
     let luma = read_luma(bits, denominators.luma_log2_weight_denom)?;
@@ -127,7 +132,8 @@ fn pred_weight(
 #[tactic(auto, unfolding(crate::specs::PredWeightTableSyntax::luma_table, syntax_tables::specs::Structures::table_at, syntax_tables::specs::Reading::rows_at))]
 fn read_luma(bits: &mut Bits<'_>, log2_denom: u8) -> Result<LumaWeight, HeaderFault>
     requires { log2_denom ≤ 7 }
-    ensures exact { Reads (λ weight. weight) result bits.new (table_at (luma_table log2_denom) bits.old) }
+    ensures exact { Reads (λ weight. weight) result bits.new
+        (table_at (luma_table log2_denom) bits.old) }
     ensures near { bits.new.before ≤ bits.old.before + 189 }
 {
     if flag(bits)? {
@@ -152,7 +158,8 @@ fn read_chroma(
     log2_denom: u8,
 ) -> Result<ChromaWeight, HeaderFault>
     requires { log2_denom ≤ 7 }
-    ensures exact { Reads (λ weight. weight) result bits.new (table_at (chroma_table has_chroma log2_denom) bits.old) }
+    ensures exact { Reads (λ weight. weight) result bits.new
+        (table_at (chroma_table has_chroma log2_denom) bits.old) }
     ensures near { bits.new.before ≤ bits.old.before + 315 }
 {
     let is_sent = if has_chroma { flag(bits)? } else { false };
@@ -167,7 +174,8 @@ fn chroma_weight(
     log2_denom: u8,
 ) -> Result<ChromaWeight, HeaderFault>
     requires { log2_denom ≤ 7 }
-    ensures exact { Reads (λ weight. weight) result bits.new (rows_at take_chroma chroma_rows (inferred_chroma is_sent log2_denom) bits.old) }
+    ensures exact { Reads (λ weight. weight) result bits.new
+        (rows_at take_chroma chroma_rows (inferred_chroma is_sent log2_denom) bits.old) }
     ensures near { bits.new.before ≤ bits.old.before + 252 }
 {
     let mut weight = ChromaWeight {
@@ -187,7 +195,8 @@ fn chroma_weight(
 }
 
 fn weight_value(bits: &mut Bits<'_>) -> Result<i16, HeaderFault>
-    ensures exact { Reads (λ v. v) result bits.new (value_at Signed HeaderFault.Cut HeaderFault.Value (between (negsuc 127) (pos 127) HeaderFault.Value) bits.old) }
+    ensures exact { Reads (λ v. v) result bits.new
+        (value_at Signed HeaderFault.Cut HeaderFault.Value (between (negsuc 127) (pos 127) HeaderFault.Value) bits.old) }
     ensures near { bits.new.before ≤ bits.old.before + 63 }
 {
     let weight = se(bits, -128, 127)?;
@@ -195,7 +204,8 @@ fn weight_value(bits: &mut Bits<'_>) -> Result<i16, HeaderFault>
 }
 
 fn offset_value(bits: &mut Bits<'_>) -> Result<i8, HeaderFault>
-    ensures exact { Reads (λ v. v) result bits.new (value_at Signed HeaderFault.Cut HeaderFault.Value (between (negsuc 127) (pos 127) HeaderFault.Value) bits.old) }
+    ensures exact { Reads (λ v. v) result bits.new
+        (value_at Signed HeaderFault.Cut HeaderFault.Value (between (negsuc 127) (pos 127) HeaderFault.Value) bits.old) }
     ensures near { bits.new.before ≤ bits.old.before + 63 }
 {
     let offset = se(bits, -128, 127)?;

@@ -59,7 +59,8 @@ impl Decoding {
     ) -> Result<Decoding, AllocError>
         requires { CanTake self slice.now.timestamp }
         ensures captures { IfOk result (λ after. after ≡ written_by slice.now ∷ []) }
-        ensures digest { IfOk result (λ after. (m : List ℕ) → IsDecoded self slice.now.timestamp work.old m
+        ensures digest { IfOk result (λ after. (m : List ℕ)
+            → IsDecoded self slice.now.timestamp work.old m
             → Holds256 work.new.hasher (m ++ record_of work.old.frames.items slice.now)) }
         ensures frames { IfOk result (λ after. work.new.frames.items ≡ work.old.frames.items) }
     {
@@ -90,7 +91,8 @@ impl Decoding {
         requires holds { IsTrue (holds_but_last slices.now) }
         ensures captures { IfOk result (λ after. after ≡ done 0 timestamp ∷ []) }
         ensures digest { IfOk result (λ after. (m : List ℕ) → IsDecoded self timestamp work.old m
-            → Holds256 work.new.hasher (m ++ flat_map (record_of work.old.frames.items) slices.now)) }
+            → Holds256 work.new.hasher
+            (m ++ flat_map (record_of work.old.frames.items) slices.now)) }
     {
         match slices {
             [] => unreachable!(),

@@ -29,7 +29,8 @@ pub(crate) fn feed_references(
     controls: &Controls,
 )
     ensures { (m : List ℕ) → Holds256 hasher.old m
-        → Holds256 hasher.new (m ++ flat_map (entry_bytes references.now units.now) (entries_of controls.now)) }
+        → Holds256 hasher.new (m ++ flat_map (entry_bytes references.now units.now)
+        (entries_of controls.now)) }
 {
     feed_list(
         hasher,

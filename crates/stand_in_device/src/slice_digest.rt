@@ -83,7 +83,8 @@ impl SliceDigest {
 
     /// Appends the form of the controls that the parameter sets decide.
     fn put_sets(&mut self, sets: &SetControls) -> Result<(), AllocError>
-        ensures written { OnOk result (self.new.form.items ≡ self.old.form.items ++ sets_form sets.now) }
+        ensures written { OnOk result (self.new.form.items
+            ≡ self.old.form.items ++ sets_form sets.now) }
         ensures hasher { self.new.hasher ≡ self.old.hasher }
         ensures frames { self.new.frames.items ≡ self.old.frames.items }
     {
@@ -118,7 +119,8 @@ impl SliceDigest {
     /// Goes on with the record of a slice.
     #[tactic(auto, unfolding(crate::specs::Pictures::slice_record))]
     fn go_on(&mut self, controls: &SliceControls, bytes: &[u8]) -> Result<(), AllocError>
-        ensures hashed { OnOk result ((m : List ℕ) → Holds256 self.old.hasher m → Holds256 self.new.hasher
+        ensures hashed { OnOk result ((m : List ℕ) → Holds256 self.old.hasher m
+            → Holds256 self.new.hasher
             (m ++ slice_record self.old.frames.items controls.now.work.controls
             controls.now.references bytes.now)) }
         ensures frames { self.new.frames.items ≡ self.old.frames.items }

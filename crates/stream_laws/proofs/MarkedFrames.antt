@@ -23,7 +23,7 @@ use Rattle.ref_marking.specs.declared.fault.MarkFault.TheVariants.{BadMarking, N
 use Rattle.ref_marking.specs.Steps.{Place}
 use Rattle.ref_marking.specs.Operations.{pic_num_x, max_idx, is_below}
 use Rattle.ref_marking.specs.Marking.{current_frame, idr_marked, contradict, current_idx}
-use Rattle.ref_marking.specs.MarksAfter.{behind, first, has_pic_num, allows_idx, freed, short_term_freed, long_term_freed, assigned, long_term_assigned, long_term_limited, holder_freed, operated, all_operated, least_freed, window_slid, joined, joined_as, adaptively_marked, reference_marked, marks_after}
+use Rattle.ref_marking.specs.MarksAfter.{after_frame, first, has_pic_num, allows_idx, freed, short_term_freed, long_term_freed, assigned, long_term_assigned, long_term_limited, holder_freed, operated, all_operated, least_freed, window_slid, joined, joined_as, adaptively_marked, reference_marked, marks_after}
 
 -- what holds of the ids of frames
 module _ (P : ℕ → Type 0) where
@@ -53,9 +53,9 @@ module _ (P : ℕ → Type 0) where
   if_holds true one two first second = first
   if_holds false one two first second = second
 
-  behind_holds : (frame : Frame) (place : Option Place) → Q frame → IfSome place Holds → IfSome (option_map (behind frame) place) Holds
-  behind_holds frame None here holds = tt
-  behind_holds frame (Some place) here holds = record {
+  after_holds : (frame : Frame) (place : Option Place) → Q frame → IfSome place Holds → IfSome (option_map (after_frame frame) place) Holds
+  after_holds frame None here holds = tt
+  after_holds frame (Some place) here holds = record {
     before = All-cons Q frame place.earlier here holds.before;
     here = holds.here;
     after = holds.after;
@@ -66,9 +66,9 @@ module _ (P : ℕ → Type 0) where
   first_holds test (frame ∷ frames) all =
       let here = All-head Q frame frames all in
       let later = All-tail Q frame frames all in
-      if_holds (test frame) (Some (record { earlier = []; frame = frame; later = frames })) (option_map (behind frame) (first test frames))
+      if_holds (test frame) (Some (record { earlier = []; frame = frame; later = frames })) (option_map (after_frame frame) (first test frames))
       (record { before = All-nil Q; here = here; after = later })
-      (behind_holds frame (first test frames) here (first_holds test frames later))
+      (after_holds frame (first test frames) here (first_holds test frames later))
 
   freed_kept : (fault : MarkFault) (marks : Marked) (place : Option Place) → IfSome place Holds → IsKept (freed fault marks place)
   freed_kept fault marks None holds = tt

@@ -19,7 +19,7 @@ use Rattle.request_core.specs.Numbers.{gathered}
 use Rattle.request_core.specs.Slices.{SliceRead, slice_at}
 use Rattle.request_core.specs.Faults.{first_shown, slice_rows, picture_rows}
 use Rattle.request_core.specs.Requests.{ListedSlice, request_of, requests_of}
-use Rattle.request_core.specs.Fold.{passes, counted, listed, marked, state_after, plan_of, picture_behind, picture_of, with_sets, planned, outcome_of, fold_step}
+use Rattle.request_core.specs.Fold.{passes, counted, listed, marked, state_after, plan_of, picture_after, picture_of, with_sets, planned, outcome_of, fold_step}
 use Rattle.picture_keys.specs.Known.{Known, key_of, key_of_outcome, known_with}
 use Rattle.picture_keys.specs.Decodable.{RequestNamesKnown, CanDecode, OutcomeCanDecode}
 use Rattle.stream_laws.proofs.Chains.{then_ok}
@@ -81,8 +81,8 @@ module _ (known : Known) (state : FoldState) (id : ℕ) (all : AreKnown known st
         }
 
     -- what becomes of such a picture
-    picture_goes_on : (made : FoldState × Plan) → picture_behind state id first (first ∷ others) ≡ Ok made → GoesOn known id (made.0, outcomes.Plan made.1)
-    unfolding picture_behind
+    picture_goes_on : (made : FoldState × Plan) → picture_after state id first (first ∷ others) ≡ Ok made → GoesOn known id (made.0, outcomes.Plan made.1)
+    unfolding picture_after
     picture_goes_on made is =
         let passed = then_ok (passes (first_shown (picture_rows state first.sps first.header))) _ made is in
         let counting = then_ok (counted (counts_of state.anchor first.sps first.header)) _ made passed.2 in
@@ -95,7 +95,7 @@ module _ (known : Known) (state : FoldState) (id : ℕ) (all : AreKnown known st
       → GoesOn known id (made.0, outcomes.Plan made.1)
   slices_go_on [] made intra is = absurd cc
   slices_go_on (first ∷ others) made intra is =
-      let passed = then_ok (passes (first_shown (slice_rows first others))) (λ passed. picture_behind state id first (first ∷ others)) made is in
+      let passed = then_ok (passes (first_shown (slice_rows first others))) (λ passed. picture_after state id first (first ∷ others)) made is in
       picture_goes_on first others intra made passed.2
 
   module _ (unit : List (List ℕ)) (accepted : refusal_of unit ≡ None) where

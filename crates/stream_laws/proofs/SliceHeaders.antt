@@ -129,7 +129,7 @@ header_said ref_idc unit_type sps pps p x is =
     (λ front. structure _ _ _ (λ numbers. here _ _ (λ orders_from. structure _ _ _ (λ orders. here _ _ (λ orders_to.
     structure _ _ _ (λ prediction. structure _ _ _ (λ active. followed _ _ _ (λ list0. followed _ _ _ (λ list1. followed _ _ _ (λ weights.
     here _ _ (λ marking_from. followed _ _ _ (λ marking. here _ _ (λ marking_to. structure _ _ _ (λ coding. structure _ _ _ (λ deblocking.
-    here _ _ (λ behind. says _ _ (refl, refl)))))))))))))))))
+    here _ _ (λ after. says _ _ (refl, refl)))))))))))))))))
 
 -- the unit's type is that of its header, and the slice's type is the one that stands in its first fields
 pub header_type : (unit : List ℕ) (sps : Sps) (pps : Pps) (header : SliceHeader) → header_at unit sps pps ≡ Ok header

@@ -14,9 +14,9 @@ abbrev pub extended : List Bool → Place → Place
 extended more p = record { before = p.before; rest = p.rest ++ more }
 
 -- what was read, with more bits at the end
-abbrev pub behind_extended : {A E : Type 0} → List Bool → Result (A × Place) E → Result (A × Place) E
-behind_extended more (Ok x) = Ok (x.0, extended more x.1)
-behind_extended more (Err e) = Err e
+abbrev pub after_extended : {A E : Type 0} → List Bool → Result (A × Place) E → Result (A × Place) E
+after_extended more (Ok x) = Ok (x.0, extended more x.1)
+after_extended more (Err e) = Err e
 
 -- a code that looks at its own bits alone
 abbrev pub IsPlain : Code → Type 0
@@ -48,7 +48,7 @@ long_extended more MoreData p plain h = h
 
 -- one field
 module _ {F S E : Type 0} (cut : E) (more : List Bool) (row : Row F S E) (is : CutIs cut row) where
-  field_extended : (s : S) (p : Place) (r : Result (ℤ × Place) E) → field_at row s p ≡ r → (r ≡ Err cut → ⊥) → field_at row s (extended more p) ≡ behind_extended more r
+  field_extended : (s : S) (p : Place) (r : Result (ℤ × Place) E) → field_at row s p ≡ r → (r ≡ Err cut → ⊥) → field_at row s (extended more p) ≡ after_extended more r
   field_extended s p (Ok x) read uncut =
       let found = field_found row s p x read in
       field_only row s (extended more p) x.0 (extended more x.1) (code_extended more row.code p x.0 x.1 is.plain found.0) found.1
@@ -60,7 +60,7 @@ module _ {F S E : Type 0} (cut : E) (more : List Bool) (row : Row F S E) (is : C
       ]
 
 -- a step whose continuation isn't cut either
-bind_extended : {A B E : Type 0} (cut : E) (more : List Bool) (r : Result (A × Place) E) (f : A × Place → Result (B × Place) E) → ((x : A × Place) → r ≡ Ok x → (f x ≡ Err cut → ⊥) → f (x.0, extended more x.1) ≡ behind_extended more (f x)) → ((r >>= f) ≡ Err cut → ⊥) → (behind_extended more r >>= f) ≡ behind_extended more (r >>= f)
+bind_extended : {A B E : Type 0} (cut : E) (more : List Bool) (r : Result (A × Place) E) (f : A × Place → Result (B × Place) E) → ((x : A × Place) → r ≡ Ok x → (f x ≡ Err cut → ⊥) → f (x.0, extended more x.1) ≡ after_extended more (f x)) → ((r >>= f) ≡ Err cut → ⊥) → (after_extended more r >>= f) ≡ after_extended more (r >>= f)
 bind_extended cut more (Ok x) f next uncut = next x refl uncut
 bind_extended cut more (Err e) f next uncut = refl
 
@@ -69,9 +69,9 @@ first_uncut cut r f uncut is = uncut (ap (λ x. x >>= f) is)
 
 -- what was read of rows stays read
 abbrev Extends : {F S E : Type 0} → E → List Bool → (F → ℤ → S → S) → List (Row F S E) → Type 0
-Extends {F} {S} cut more take rows = (s : S) (p : Place) → (rows_at take rows s p ≡ Err cut → ⊥) → rows_at take rows s (extended more p) ≡ behind_extended more (rows_at take rows s p)
+Extends {F} {S} cut more take rows = (s : S) (p : Place) → (rows_at take rows s p ≡ Err cut → ⊥) → rows_at take rows s (extended more p) ≡ after_extended more (rows_at take rows s p)
 
-row_extended : {F S E : Type 0} (cut : E) (more : List Bool) (take : F → ℤ → S → S) (row : Row F S E) (rows : List (Row F S E)) → CutIs cut row → Extends cut more take rows → (s : S) (p : Place) (b : Bool) → row.present s ≡ b → (cond b (field_at row s p >>= (λ x. rows_at take rows (take row.field x.0 s) x.1)) (rows_at take rows s p) ≡ Err cut → ⊥) → cond b (field_at row s (extended more p) >>= (λ x. rows_at take rows (take row.field x.0 s) x.1)) (rows_at take rows s (extended more p)) ≡ behind_extended more (cond b (field_at row s p >>= (λ x. rows_at take rows (take row.field x.0 s) x.1)) (rows_at take rows s p))
+row_extended : {F S E : Type 0} (cut : E) (more : List Bool) (take : F → ℤ → S → S) (row : Row F S E) (rows : List (Row F S E)) → CutIs cut row → Extends cut more take rows → (s : S) (p : Place) (b : Bool) → row.present s ≡ b → (cond b (field_at row s p >>= (λ x. rows_at take rows (take row.field x.0 s) x.1)) (rows_at take rows s p) ≡ Err cut → ⊥) → cond b (field_at row s (extended more p) >>= (λ x. rows_at take rows (take row.field x.0 s) x.1)) (rows_at take rows s (extended more p)) ≡ after_extended more (cond b (field_at row s p >>= (λ x. rows_at take rows (take row.field x.0 s) x.1)) (rows_at take rows s p))
 row_extended cut more take row rows is rest s p true here uncut =
     let f = λ (x : ℤ × Place). rows_at take rows (take row.field x.0 s) x.1 in
     ap (λ r. r >>= f) (field_extended cut more row is s p (field_at row s p) refl (first_uncut cut (field_at row s p) f uncut))
@@ -83,7 +83,7 @@ unfolding rows_at
 rows_extended cut more take [] all s p uncut = refl
 rows_extended cut more take (row ∷ rows) all s p uncut = row_extended cut more take row rows all.0 (rows_extended cut more take rows all.1) s p (row.present s) refl uncut
 
-pub table_extended : {F S E : Type 0} (cut : E) (more : List Bool) (table : Table F S E) → AllByRecursion (CutIs cut) table.rows → (p : Place) → (table_at table p ≡ Err cut → ⊥) → table_at table (extended more p) ≡ behind_extended more (table_at table p)
+pub table_extended : {F S E : Type 0} (cut : E) (more : List Bool) (table : Table F S E) → AllByRecursion (CutIs cut) table.rows → (p : Place) → (table_at table p ≡ Err cut → ⊥) → table_at table (extended more p) ≡ after_extended more (table_at table p)
 unfolding table_at
 table_extended cut more table all p uncut = rows_extended cut more table.take table.rows all table.absent p uncut
 
@@ -93,7 +93,7 @@ AllCutsAre cut (Says a) = Unit {0}
 AllCutsAre cut (Here next) = (place : ℕ) → AllCutsAre cut (next place)
 AllCutsAre cut (Structure {F} {S} table next) = AllByRecursion (CutIs cut) table.rows × ((s : S) → AllCutsAre cut (next s))
 
-pub syntax_extended : {A E : Type 0} (cut : E) (more : List Bool) (syntax : Syntax A E) → AllCutsAre cut syntax → (p : Place) → (syntax_at syntax p ≡ Err cut → ⊥) → syntax_at syntax (extended more p) ≡ behind_extended more (syntax_at syntax p)
+pub syntax_extended : {A E : Type 0} (cut : E) (more : List Bool) (syntax : Syntax A E) → AllCutsAre cut syntax → (p : Place) → (syntax_at syntax p ≡ Err cut → ⊥) → syntax_at syntax (extended more p) ≡ after_extended more (syntax_at syntax p)
 unfolding syntax_at
 syntax_extended cut more (Says a) all p uncut = refl
 syntax_extended cut more (Here next) all p uncut = syntax_extended cut more (next p.before) (all p.before) p uncut

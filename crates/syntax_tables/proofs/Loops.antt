@@ -38,9 +38,9 @@ repeat_absent take row zero s p here = rows_none take s p
 repeat_absent take row (suc n) s p here = rows_pass take row (replicate n row) s p here ∙ repeat_absent take row n s p here
 
 -- rows after rows that were read
-pub behind_ok : {F S E : Type 0} (take : F → ℤ → S → S) (xs ys : List (Row F S E)) (s : S) (p : Place) (t : S) (q : Place) → rows_at take xs s p ≡ Ok (t, q) → rows_at take (xs ++ ys) s p ≡ rows_at take ys t q
-behind_ok take xs ys s p t q read = rows_append take xs ys s p ∙ ap (λ r. r >>= (λ x. rows_at take ys x.0 x.1)) read
+pub after_ok : {F S E : Type 0} (take : F → ℤ → S → S) (xs ys : List (Row F S E)) (s : S) (p : Place) (t : S) (q : Place) → rows_at take xs s p ≡ Ok (t, q) → rows_at take (xs ++ ys) s p ≡ rows_at take ys t q
+after_ok take xs ys s p t q read = rows_append take xs ys s p ∙ ap (λ r. r >>= (λ x. rows_at take ys x.0 x.1)) read
 
 -- a fault of the front is the fault of all
-pub behind_err : {F S E : Type 0} (take : F → ℤ → S → S) (xs ys : List (Row F S E)) (s : S) (p : Place) (e : E) → rows_at take xs s p ≡ Err e → rows_at take (xs ++ ys) s p ≡ Err e
-behind_err take xs ys s p e read = rows_append take xs ys s p ∙ ap (λ r. r >>= (λ x. rows_at take ys x.0 x.1)) read
+pub after_err : {F S E : Type 0} (take : F → ℤ → S → S) (xs ys : List (Row F S E)) (s : S) (p : Place) (e : E) → rows_at take xs s p ≡ Err e → rows_at take (xs ++ ys) s p ≡ Err e
+after_err take xs ys s p e read = rows_append take xs ys s p ∙ ap (λ r. r >>= (λ x. rows_at take ys x.0 x.1)) read

@@ -40,8 +40,8 @@ pub syntax_only : {A E : Type 0} (syntax : Syntax A E) (p : Place) (a : A) (q : 
 unfolding syntax_at
 syntax_only (Says b) p a q has = rw (has.0, has.1) refl
 syntax_only (Here next) p a q has = syntax_only (next p.before) p a q has
-syntax_only (Structure table next) p a q (s, mid, has, behind) =
-    ap (λ r. r >>= (λ y. syntax_at (next y.0) y.1)) (table_only table p s mid has) ∙ syntax_only (next s) mid a q behind
+syntax_only (Structure table next) p a q (s, mid, has, after) =
+    ap (λ r. r >>= (λ y. syntax_at (next y.0) y.1)) (table_only table p s mid has) ∙ syntax_only (next s) mid a q after
 
 -- the fault that is read is the first one
 pub syntax_fault : {A E : Type 0} (syntax : Syntax A E) (p : Place) (e : E) → syntax_at syntax p ≡ Err e → SyntaxHasFault syntax p e
@@ -61,8 +61,8 @@ fault_syntax (Says a) p e has = absurd has
 fault_syntax (Here next) p e has = fault_syntax (next p.before) p e has
 fault_syntax (Structure table next) p e (inl first) =
     ap (λ r. r >>= (λ y. syntax_at (next y.0) y.1)) (fault_rows table.take table.rows table.absent p e first)
-fault_syntax (Structure table next) p e (inr (s, mid, has, behind)) =
-    ap (λ r. r >>= (λ y. syntax_at (next y.0) y.1)) (table_only table p s mid has) ∙ fault_syntax (next s) mid e behind
+fault_syntax (Structure table next) p e (inr (s, mid, has, after)) =
+    ap (λ r. r >>= (λ y. syntax_at (next y.0) y.1)) (table_only table p s mid has) ∙ fault_syntax (next s) mid e after
 
 -- syntax after syntax
 pub followed_by_at : {A B E : Type 0} (syntax : Syntax A E) (more : A → Syntax B E) (p : Place) → syntax_at (followed_by syntax more) p ≡ (syntax_at syntax p >>= (λ x. syntax_at (more x.0) x.1))

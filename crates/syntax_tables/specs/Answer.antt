@@ -4,8 +4,8 @@ use Rattle.expgolomb.specs.Bits.{Place}
 
 -- the answer is what was read, and the reader is past it; or it is the fault that was read
 abbrev pub Reads : {X Y E : Type 0} → (X → Y) → Result X E → Place → Result (Y × Place) E → Type 0
-Reads view (Ok x) behind read = read ≡ Ok (view x, behind)
-Reads view (Err e) behind read = read ≡ Err e
+Reads view (Ok x) after read = read ≡ Ok (view x, after)
+Reads view (Err e) after read = read ≡ Err e
 
 -- a flag as a value
 abbrev pub flag_value : Bool → ℤ

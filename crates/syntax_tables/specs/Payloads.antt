@@ -3,5 +3,5 @@ use Rattle.std.specs.Prelude.{ℕ, List}
 use Rattle.expgolomb.specs.Bits.{Place, start, skip}
 
 -- the bits after a payload's first byte
-abbrev pub behind_first : List ℕ → Place
-behind_first payload = skip 8 (start payload)
+abbrev pub after_first : List ℕ → Place
+after_first payload = skip 8 (start payload)

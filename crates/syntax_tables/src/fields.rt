@@ -35,7 +35,8 @@ pub fn fixed<E: Drop>(bits: &mut Bits<'_>, n: u8, cut: E) -> Result<u32, E>
 
 /// Reads an unsigned number of at most this much, ue(v).
 pub fn ue<E: Drop>(bits: &mut Bits<'_>, most: u32, cut: E, wrong: E) -> Result<u32, E>
-    ensures exact { Reads pos result bits.new (value_at Unsigned cut wrong (at_most most wrong) bits.old) }
+    ensures exact { Reads pos result bits.new (value_at Unsigned cut wrong
+        (at_most most wrong) bits.old) }
     ensures bound { IfOk result (λ v. v ≤ most) }
     ensures near { bits.new.before ≤ bits.old.before + 63 }
 {
@@ -48,7 +49,8 @@ pub fn ue<E: Drop>(bits: &mut Bits<'_>, most: u32, cut: E, wrong: E) -> Result<u
 
 /// Reads a signed number from the least to the most, se(v).
 pub fn se<E: Drop>(bits: &mut Bits<'_>, least: i32, most: i32, cut: E, wrong: E) -> Result<i32, E>
-    ensures exact { Reads (λ v. v) result bits.new (value_at Signed cut wrong (between least most wrong) bits.old) }
+    ensures exact { Reads (λ v. v) result bits.new
+        (value_at Signed cut wrong (between least most wrong) bits.old) }
     ensures bounds { IfOk result (λ v. IsTrue (int_le least v && int_le v most)) }
     ensures near { bits.new.before ≤ bits.old.before + 63 }
 {
@@ -91,7 +93,8 @@ pub fn fixed_at_most<E: Drop>(
 ) -> Result<u32, E>
     requires some { 1 ≤ n }
     requires few { n ≤ 32 }
-    ensures exact { Reads pos result bits.new (value_at (Fixed n) cut cut (at_most most wrong) bits.old) }
+    ensures exact { Reads pos result bits.new (value_at (Fixed n) cut cut
+        (at_most most wrong) bits.old) }
     ensures bound { IfOk result (λ v. v ≤ most) }
     ensures near { bits.new.before ≤ bits.old.before + 63 }
 {

@@ -13,7 +13,7 @@ pub returns-in_err-found-clause-err : goal.returns-in_err-found-clause-err
 returns-in_err-found-clause-err c =
     let split = rw c.in-Some.is at c.loop-next.invariant in
     let p = err_from_is_err_and c.from_residual.result c.from_residual.ensures.1 in
-    rw (p.1, p.2) (IsFaultOf-from_fault c.args.text.now c.in-Some.at split.behind split.clear c.in_err-found.field-0.0 split.begins c.in_err-found.ensures.err)
+    rw (p.1, p.2) (IsFaultOf-from_fault c.args.text.now c.in-Some.at split.after split.clear c.in_err-found.field-0.0 split.begins c.in_err-found.ensures.err)
 
 pub loop-next-preserved : goal.loop-next-preserved
 loop-next-preserved c =

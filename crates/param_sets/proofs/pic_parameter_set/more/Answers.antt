@@ -2,7 +2,7 @@ use Rattle.std.proofs.Common.{◌++◌, ◌∙◌, true, false}
 use Rattle.std.proofs.lemmas.Result.{err_from_is_err_and}
 use Rattle.syntax_tables.specs.Reading.{rows_at}
 use Rattle.param_sets.specs.PpsSyntax.{take, so_far, transform_rows, pic_list_rows, second_offset_rows, more_rows}
-use Rattle.syntax_tables.proofs.Loops.{behind_err}
+use Rattle.syntax_tables.proofs.Loops.{after_err}
 use Rattle.param_sets.proofs.PpsSections.{more_none, more_some}
 use Rattle.param_sets.proofs.Refusals.{refused}
 use Rattle.param_sets.proofs.Sections.{further, stopped}
@@ -14,7 +14,7 @@ returns-in_err-transform c =
     let s = so_far false c.args.pps.now in
     let p = c.args.bits.now in
     let e = c.in_err-transform.field-0.0 in
-    (false, rw (x.1, x.2) (refused e (rows_at take more_rows s p) (behind_err take transform_rows (pic_list_rows ++ second_offset_rows) s p e c.in_err-transform.ensures.exact)))
+    (false, rw (x.1, x.2) (refused e (rows_at take more_rows s p) (after_err take transform_rows (pic_list_rows ++ second_offset_rows) s p e c.in_err-transform.ensures.exact)))
 
 pub pic_scaling_lists-requires : goal.pic_scaling_lists-requires
 pic_scaling_lists-requires c = c.transform.ensures.same ∙ c.requires

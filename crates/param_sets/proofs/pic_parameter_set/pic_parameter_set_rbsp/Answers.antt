@@ -2,7 +2,7 @@ use Rattle.std.proofs.Common.{◌++◌, ◌∙◌, false, refl}
 use Rattle.std.proofs.lemmas.Result.{err_from_is_err_and}
 use Rattle.syntax_tables.specs.Reading.{rows_at}
 use Rattle.param_sets.specs.PpsSyntax.{take, no_pps, so_far, id_rows, coding_rows, prediction_rows, quantisation_rows, slice_rows, more_rows, pps_rows}
-use Rattle.syntax_tables.proofs.Loops.{behind_ok}
+use Rattle.syntax_tables.proofs.Loops.{after_ok}
 use Rattle.param_sets.proofs.Sections.{further, stopped_at, stopped_last}
 use Rattle.param_sets.proofs.pic_parameter_set.pic_parameter_set_rbsp.Goals as goal
 
@@ -21,7 +21,7 @@ returns-in_err-coding c =
     let whole = rows_at take pps_rows no_pps c.args.bits.now in
     let s0 = so_far false c.in_ok-pps.pps in
     let p0 = c.beginning.new.bits in
-    let left0 = behind_ok take id_rows (coding_rows ++ (prediction_rows ++ (quantisation_rows ++ (slice_rows ++ more_rows)))) no_pps c.args.bits.now s0 p0 c.in_ok-pps.ensures.exact in
+    let left0 = after_ok take id_rows (coding_rows ++ (prediction_rows ++ (quantisation_rows ++ (slice_rows ++ more_rows)))) no_pps c.args.bits.now s0 p0 c.in_ok-pps.ensures.exact in
     (false, rw (x.1, x.2) (stopped_at take coding_rows (prediction_rows ++ (quantisation_rows ++ (slice_rows ++ more_rows))) whole s0 p0 e left0 c.in_err-coding.ensures.exact))
 
 pub returns-in_err-prediction : goal.returns-in_err-prediction
@@ -32,7 +32,7 @@ returns-in_err-prediction c =
     let whole = rows_at take pps_rows no_pps c.args.bits.now in
     let s0 = so_far false c.in_ok-pps.pps in
     let p0 = c.beginning.new.bits in
-    let left0 = behind_ok take id_rows (coding_rows ++ (prediction_rows ++ (quantisation_rows ++ (slice_rows ++ more_rows)))) no_pps c.args.bits.now s0 p0 c.in_ok-pps.ensures.exact in
+    let left0 = after_ok take id_rows (coding_rows ++ (prediction_rows ++ (quantisation_rows ++ (slice_rows ++ more_rows)))) no_pps c.args.bits.now s0 p0 c.in_ok-pps.ensures.exact in
     let s1 = so_far false c.coding.new.pps in
     let p1 = c.coding.new.bits in
     let left1 = further take coding_rows (prediction_rows ++ (quantisation_rows ++ (slice_rows ++ more_rows))) whole s0 s1 p0 p1 left0 c.in_ok-coding.ensures.exact in
@@ -46,7 +46,7 @@ returns-in_err-quantisation c =
     let whole = rows_at take pps_rows no_pps c.args.bits.now in
     let s0 = so_far false c.in_ok-pps.pps in
     let p0 = c.beginning.new.bits in
-    let left0 = behind_ok take id_rows (coding_rows ++ (prediction_rows ++ (quantisation_rows ++ (slice_rows ++ more_rows)))) no_pps c.args.bits.now s0 p0 c.in_ok-pps.ensures.exact in
+    let left0 = after_ok take id_rows (coding_rows ++ (prediction_rows ++ (quantisation_rows ++ (slice_rows ++ more_rows)))) no_pps c.args.bits.now s0 p0 c.in_ok-pps.ensures.exact in
     let s1 = so_far false c.coding.new.pps in
     let p1 = c.coding.new.bits in
     let left1 = further take coding_rows (prediction_rows ++ (quantisation_rows ++ (slice_rows ++ more_rows))) whole s0 s1 p0 p1 left0 c.in_ok-coding.ensures.exact in
@@ -63,7 +63,7 @@ returns-in_err-slices c =
     let whole = rows_at take pps_rows no_pps c.args.bits.now in
     let s0 = so_far false c.in_ok-pps.pps in
     let p0 = c.beginning.new.bits in
-    let left0 = behind_ok take id_rows (coding_rows ++ (prediction_rows ++ (quantisation_rows ++ (slice_rows ++ more_rows)))) no_pps c.args.bits.now s0 p0 c.in_ok-pps.ensures.exact in
+    let left0 = after_ok take id_rows (coding_rows ++ (prediction_rows ++ (quantisation_rows ++ (slice_rows ++ more_rows)))) no_pps c.args.bits.now s0 p0 c.in_ok-pps.ensures.exact in
     let s1 = so_far false c.coding.new.pps in
     let p1 = c.coding.new.bits in
     let left1 = further take coding_rows (prediction_rows ++ (quantisation_rows ++ (slice_rows ++ more_rows))) whole s0 s1 p0 p1 left0 c.in_ok-coding.ensures.exact in
@@ -87,7 +87,7 @@ returns-in_err-more c =
     let whole = rows_at take pps_rows no_pps c.args.bits.now in
     let s0 = so_far false c.in_ok-pps.pps in
     let p0 = c.beginning.new.bits in
-    let left0 = behind_ok take id_rows (coding_rows ++ (prediction_rows ++ (quantisation_rows ++ (slice_rows ++ more_rows)))) no_pps c.args.bits.now s0 p0 c.in_ok-pps.ensures.exact in
+    let left0 = after_ok take id_rows (coding_rows ++ (prediction_rows ++ (quantisation_rows ++ (slice_rows ++ more_rows)))) no_pps c.args.bits.now s0 p0 c.in_ok-pps.ensures.exact in
     let s1 = so_far false c.coding.new.pps in
     let p1 = c.coding.new.bits in
     let left1 = further take coding_rows (prediction_rows ++ (quantisation_rows ++ (slice_rows ++ more_rows))) whole s0 s1 p0 p1 left0 c.in_ok-coding.ensures.exact in
@@ -108,7 +108,7 @@ returns c =
     let whole = rows_at take pps_rows no_pps c.args.bits.now in
     let s0 = so_far false c.in_ok-pps.pps in
     let p0 = c.beginning.new.bits in
-    let left0 = behind_ok take id_rows (coding_rows ++ (prediction_rows ++ (quantisation_rows ++ (slice_rows ++ more_rows)))) no_pps c.args.bits.now s0 p0 c.in_ok-pps.ensures.exact in
+    let left0 = after_ok take id_rows (coding_rows ++ (prediction_rows ++ (quantisation_rows ++ (slice_rows ++ more_rows)))) no_pps c.args.bits.now s0 p0 c.in_ok-pps.ensures.exact in
     let s1 = so_far false c.coding.new.pps in
     let p1 = c.coding.new.bits in
     let left1 = further take coding_rows (prediction_rows ++ (quantisation_rows ++ (slice_rows ++ more_rows))) whole s0 s1 p0 p1 left0 c.in_ok-coding.ensures.exact in

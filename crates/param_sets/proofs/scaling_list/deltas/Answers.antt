@@ -26,9 +26,9 @@ loop-i-preserved c =
     let w = c.loop-i.invariant in
     let fits : SFits w8 c.in_ok-delta.delta = search rules in
     let pushed = rw (to_z-of_z w8 c.in_ok-delta.delta fits) at c.in_ok-push.ensures.pushed in
-    let behind = rw (to_z-of_z w8 c.in_ok-delta.delta fits) at c.scale_behind-next.ensures in
+    let after = rw (to_z-of_z w8 c.in_ok-delta.delta fits) at c.scale_after-next.ensures in
     record {
-      scale = scale_more c.loop-i.list c.push.new.self c.in_ok-delta.delta c.loop-i.next w.scale pushed ∙ sym behind;
+      scale = scale_more c.loop-i.list c.push.new.self c.in_ok-delta.delta c.loop-i.next w.scale pushed ∙ sym after;
       whole = λ lists. w.whole lists ∙ delta_more lists c.loop-i.list c.push.new.self c.in_ok-delta.delta (c.args.size - (c.loop-i._i + 1)) (c.args.size - c.loop-i._i) c.loop-i.next c.loop-i.bits c.small.new.bits (omega arith) w.scale c.if-next-eq0.false c.in_ok-delta.ensures pushed;
     }
 

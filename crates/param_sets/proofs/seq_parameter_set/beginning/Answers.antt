@@ -4,7 +4,7 @@ use Rattle.expgolomb.specs.Bits.{Place}
 use Rattle.syntax_tables.specs.Reading.{field_at, rows_at}
 use Rattle.param_sets.specs.SpsSyntax.{take, no_sps, profile_row, beginning_rows, constraint_rows, level_rows}
 use Rattle.set_types.specs.declared.sps.Sps.{Sps}
-use Rattle.syntax_tables.proofs.Loops.{rows_step, rows_stop, behind_ok, behind_err}
+use Rattle.syntax_tables.proofs.Loops.{rows_step, rows_stop, after_ok, after_err}
 use Rattle.param_sets.proofs.seq_parameter_set.beginning.Goals as goal
 
 -- a set of which the profile is read, and then the flags
@@ -14,11 +14,11 @@ with_profile profile = record no_sps { profile_idc = profile }
 abbrev with_flags : ℕ → List Bool → Sps
 with_flags profile flags = record no_sps { profile_idc = profile; constraint_set_flags = flags }
 
-behind_profile : (profile : ℕ) (p q : Place) → field_at profile_row no_sps p ≡ Ok (pos profile, q) → rows_at take beginning_rows no_sps p ≡ rows_at take (constraint_rows ++ level_rows) (with_profile profile) q
-behind_profile profile p q read = rows_step take profile_row (constraint_rows ++ level_rows) no_sps p (pos profile) q refl read
+after_profile : (profile : ℕ) (p q : Place) → field_at profile_row no_sps p ≡ Ok (pos profile, q) → rows_at take beginning_rows no_sps p ≡ rows_at take (constraint_rows ++ level_rows) (with_profile profile) q
+after_profile profile p q read = rows_step take profile_row (constraint_rows ++ level_rows) no_sps p (pos profile) q refl read
 
-behind_flags : (profile : ℕ) (flags : List Bool) (p q r : Place) → field_at profile_row no_sps p ≡ Ok (pos profile, q) → rows_at take constraint_rows (with_profile profile) q ≡ Ok (with_flags profile flags, r) → rows_at take beginning_rows no_sps p ≡ rows_at take level_rows (with_flags profile flags) r
-behind_flags profile flags p q r read flagged = behind_profile profile p q read ∙ behind_ok take constraint_rows level_rows (with_profile profile) q (with_flags profile flags) r flagged
+after_flags : (profile : ℕ) (flags : List Bool) (p q r : Place) → field_at profile_row no_sps p ≡ Ok (pos profile, q) → rows_at take constraint_rows (with_profile profile) q ≡ Ok (with_flags profile flags, r) → rows_at take beginning_rows no_sps p ≡ rows_at take level_rows (with_flags profile flags) r
+after_flags profile flags p q r read flagged = after_profile profile p q read ∙ after_ok take constraint_rows level_rows (with_profile profile) q (with_flags profile flags) r flagged
 
 pub returns-in_err-profile_idc-clause-exact : goal.returns-in_err-profile_idc-clause-exact
 returns-in_err-profile_idc-clause-exact c =
@@ -30,17 +30,17 @@ pub returns-in_err-constraint_set_flags-clause-exact :
 returns-in_err-constraint_set_flags-clause-exact c =
     let p = err_from_is_err_and c.from_residual-in_err-constraint_set_flags.result c.from_residual-in_err-constraint_set_flags.ensures.1 in
     let profile = c.in_ok-profile_idc.profile_idc in
-    rw (p.1, p.2) (behind_profile profile c.args.bits.now c.profile_idc.new.bits c.in_ok-profile_idc.ensures ∙ behind_err take constraint_rows level_rows (with_profile profile) c.profile_idc.new.bits c.in_err-constraint_set_flags.field-0.0 (c.in_err-constraint_set_flags.ensures (with_profile profile)))
+    rw (p.1, p.2) (after_profile profile c.args.bits.now c.profile_idc.new.bits c.in_ok-profile_idc.ensures ∙ after_err take constraint_rows level_rows (with_profile profile) c.profile_idc.new.bits c.in_err-constraint_set_flags.field-0.0 (c.in_err-constraint_set_flags.ensures (with_profile profile)))
 
 pub returns-in_err-level_idc-clause-exact : goal.returns-in_err-level_idc-clause-exact
 returns-in_err-level_idc-clause-exact c =
     let p = err_from_is_err_and c.from_residual-in_err-level_idc.result c.from_residual-in_err-level_idc.ensures.1 in
     let profile = c.in_ok-profile_idc.profile_idc in
     let flags = c.in_ok-constraint_set_flags.constraint_set_flags in
-    rw (p.1, p.2) (behind_flags profile flags c.args.bits.now c.profile_idc.new.bits c.constraint_set_flags.new.bits c.in_ok-profile_idc.ensures (c.in_ok-constraint_set_flags.ensures (with_profile profile)) ∙ c.in_err-level_idc.ensures (with_flags profile flags))
+    rw (p.1, p.2) (after_flags profile flags c.args.bits.now c.profile_idc.new.bits c.constraint_set_flags.new.bits c.in_ok-profile_idc.ensures (c.in_ok-constraint_set_flags.ensures (with_profile profile)) ∙ c.in_err-level_idc.ensures (with_flags profile flags))
 
 pub returns-clause-exact : goal.returns-clause-exact
 returns-clause-exact c =
     let profile = c.in_ok-profile_idc.profile_idc in
     let flags = c.in_ok-constraint_set_flags.constraint_set_flags in
-    rw (c.new.ensures, c.new-2.ensures, c.new-3.ensures, c.new-4.ensures, c.new-5.ensures, c.new-6.ensures, c.new-7.ensures) (behind_flags profile flags c.args.bits.now c.profile_idc.new.bits c.constraint_set_flags.new.bits c.in_ok-profile_idc.ensures (c.in_ok-constraint_set_flags.ensures (with_profile profile)) ∙ c.in_ok-level_idc.ensures (with_flags profile flags))
+    rw (c.new.ensures, c.new-2.ensures, c.new-3.ensures, c.new-4.ensures, c.new-5.ensures, c.new-6.ensures, c.new-7.ensures) (after_flags profile flags c.args.bits.now c.profile_idc.new.bits c.constraint_set_flags.new.bits c.in_ok-profile_idc.ensures (c.in_ok-constraint_set_flags.ensures (with_profile profile)) ∙ c.in_ok-level_idc.ensures (with_flags profile flags))

@@ -14,7 +14,7 @@ fn controls_with_weights(alloc: Global) -> Result<Controls, AllocError> {
 }
 
 /// Whether the form stands after a byte, or that byte alone where there is no memory.
-fn form_stands_behind_a_byte(alloc: Global, controls: &Controls) -> Result<bool, AllocError> {
+fn form_stands_after_a_byte(alloc: Global, controls: &Controls) -> Result<bool, AllocError> {
     let mut form = Vec::new(alloc);
     form.push(0xAA)?;
     let length = match digest_form(controls, &mut form) {
@@ -27,7 +27,7 @@ fn form_stands_behind_a_byte(alloc: Global, controls: &Controls) -> Result<bool,
 /// Where there is memory for the controls, whether their form stands after a byte.
 fn grows_a_form(alloc: Global) -> Result<bool, AllocError> {
     let controls = controls_with_weights(alloc)?;
-    form_stands_behind_a_byte(alloc, &controls)
+    form_stands_after_a_byte(alloc, &controls)
 }
 
 #[test]

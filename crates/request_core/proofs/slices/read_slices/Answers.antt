@@ -1,7 +1,7 @@
 use Rattle.std.proofs.Common.{◌≡◌, ◌∷◌, ◌++◌, map, [], take, ap, sym, ◌∙◌, ◌+◌}
 use Rattle.std.proofs.lemmas.List.{take_more, get_or_read}
 use Rattle.request_core.specs.Numbers.{gathered}
-use Rattle.request_core.specs.Gathering.{behind}
+use Rattle.request_core.specs.Gathering.{gathered_after}
 use Rattle.request_core.specs.Slices.{slice_at}
 use Rattle.request_core.proofs.Gathering.{gathered-map-more}
 use Rattle.request_core.proofs.slices.read_slices.Goals as goal
@@ -9,7 +9,7 @@ use Rattle.request_core.proofs.slices.read_slices.Goals as goal
 pub loop-nal-preserved : goal.loop-nal-preserved
 loop-nal-preserved c =
     c.in_ok-add.ensures (slice_at c.args.tables.now c.nal-item.result) c.read_slice-slice.ensures
-    ∙ (ap (λ found. behind found (slice_at c.args.tables.now c.nal-item.result)) c.loop-nal.invariant
+    ∙ (ap (λ found. gathered_after found (slice_at c.args.tables.now c.nal-item.result)) c.loop-nal.invariant
     ∙ (sym (gathered-map-more (slice_at c.args.tables.now) (take c.loop-nal.nal-index c.args.nals.now) c.nal-item.result)
     ∙ ap (λ nals. gathered (map (slice_at c.args.tables.now) nals)) (sym more)))
   where

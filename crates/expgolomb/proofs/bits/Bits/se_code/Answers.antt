@@ -13,7 +13,7 @@ returns-in_err-k c = let p = err_from_is_err_and c.from_residual.result c.from_r
 
 pub returns : goal.returns
 returns c =
-    let read = se_is c.args.self.now c.in_ok-k.k c.in_ok-k.behind (sym c.ue_code.ensures.exact ∙ c.in_ok-k.was) in
+    let read = se_is c.args.self.now c.in_ok-k.k c.in_ok-k.after (sym c.ue_code.ensures.exact ∙ c.in_ok-k.was) in
     let fits : SFits w32 c.signed.result = search rules in
     let same : to_z w32 (of_z w32 c.signed.result) ≡ signed c.in_ok-k.k = to_z-of_z w32 c.signed.result fits ∙ c.signed.ensures in
-    ap (λ (z : ℤ). Ok (z, c.in_ok-k.behind)) same ∙ sym read
+    ap (λ (z : ℤ). Ok (z, c.in_ok-k.after)) same ∙ sym read

@@ -1,6 +1,6 @@
 use Rattle.std.proofs.lemmas.Result.{err_from_is_err_and}
 use Rattle.slice_front.proofs.Fronts.{first_missing}
-use Rattle.slice_front.proofs.fields.behind_first.Goals as goal
+use Rattle.slice_front.proofs.fields.after_first.Goals as goal
 
 pub returns-in_err-_nal_unit_header : goal.returns-in_err-_nal_unit_header
 returns-in_err-_nal_unit_header c =

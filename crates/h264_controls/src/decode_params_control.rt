@@ -79,7 +79,7 @@ fn dpb_entry(sps: &Sps, frame_num: u16, frame: &Frame) -> V4l2H264DpbEntry
     ensures { result ≡ dpb_entry sps.now frame_num frame.now }
 {
     V4l2H264DpbEntry {
-        pic_num: pic_num(sps, frame_num, frame).cast_unsigned(),
+        pic_num: number_of(sps, frame_num, frame).cast_unsigned(),
         frame_num: frame_num_of(frame),
         fields: V4l2H264FieldReference::Frame,
         top_field_order_cnt: frame.counts.top,
@@ -93,7 +93,7 @@ fn dpb_entry(sps: &Sps, frame_num: u16, frame: &Frame) -> V4l2H264DpbEntry
 }
 
 /// PicNum of a short-term frame, LongTermPicNum of a long-term one.
-fn pic_num(sps: &Sps, frame_num: u16, frame: &Frame) -> i32
+fn number_of(sps: &Sps, frame_num: u16, frame: &Frame) -> i32
     ensures { result
         ≡ number_in (frame_num_wrap sps.now frame_num frame.now.frame_num) frame.now.term }
 {

@@ -16,11 +16,11 @@ use Rattle.header_types.specs.declared.pred_weight_table.PredWeightTable.{PredWe
 use Rattle.header_types.specs.declared.slice_headers.SliceHeader.{SliceHeader}
 use Rattle.slice_header.specs.SliceHeaders.{IsSliceHeader, HeaderHasFault, Answers, header_at, syntax_of}
 use Rattle.slice_front.specs.Fronts.{read_value, unit_bits}
-use Rattle.slice_header.specs.SliceHeaderSyntax.{header_syntax, number_table, order_table, prediction_table, active_table, weights_of, coding_table, deblocking_table}
+use Rattle.slice_header.specs.SliceHeaderSyntax.{header_syntax, picture_syntax, reference_syntax, ending_syntax, number_table, order_table, prediction_table, active_table, weights_of, coding_table, deblocking_table}
 use Rattle.slice_header.specs.RefPicListModificationSyntax.{flag_table, command_table, commands_if, modification_syntax}
 use Rattle.slice_header.specs.PredWeightTableSyntax.{denominator_table, luma_table, chroma_rows, chroma_table, entry_syntax, entries_syntax, weight_syntax, weights_if}
 use Rattle.slice_header.specs.DecRefPicMarkingSyntax.{marking_table, operation_table, operations_syntax, operations_if, marking_after, marking_syntax}
-use Rattle.syntax_tables.specs.Structures.{Syntax, syntax_at}
+use Rattle.syntax_tables.specs.Structures.{Syntax, followed_by, syntax_at}
 use Rattle.syntax_tables.proofs.Extensions.{CutIs, AllCutsAre, followed_by_cuts, counted_cuts, ended_cuts, after_extended, syntax_extended}
 use Rattle.slice_front.proofs.FrontLaws.{with_place, fault_is}
 use Rattle.slice_front.proofs.Fronts.{front_missing, after_first-front}
@@ -28,7 +28,7 @@ use Rattle.syntax_tables.proofs.Structures.{syntax_found, syntax_only, syntax_fa
 
 -- an empty payload has no header
 pub header_missing : (nal_ref_idc nal_unit_type : ℕ) (sps : Sps) (pps : Pps) → syntax_at (header_syntax nal_ref_idc nal_unit_type sps pps) (after_first []) ≡ Err Cut
-unfolding header_syntax syntax_at
+unfolding header_syntax picture_syntax followed_by syntax_at
 header_missing nal_ref_idc nal_unit_type sps pps = rw front_missing refl
 
 -- each field that is cut is Cut
@@ -109,32 +109,48 @@ marking_cuts : (is_reference is_idr : Bool) → AllCutsAre Cut (marking_syntax i
 unfolding marking_syntax
 marking_cuts is_reference is_idr = (flags_cuts is_reference is_idr, after_cuts is_idr)
 
-pub header_cuts : (nal_ref_idc nal_unit_type : ℕ) (sps : Sps) (pps : Pps) → AllCutsAre Cut (header_syntax nal_ref_idc nal_unit_type sps pps)
-unfolding header_syntax number_table order_table prediction_table active_table coding_table deblocking_table
-header_cuts nal_ref_idc nal_unit_type sps pps = (
+picture_cuts : (is_idr : Bool) (sps : Sps) (pps : Pps) → AllCutsAre Cut (picture_syntax is_idr sps pps)
+unfolding picture_syntax number_table order_table
+picture_cuts is_idr sps pps = (
   (record { fault = refl; plain = tt }, (record { fault = refl; plain = tt }, (record { fault = refl; plain = tt }, tt))),
   λ front. (
     (record { fault = refl; plain = tt }, (record { fault = refl; plain = tt }, tt)),
     λ numbers orders_from. (
       (record { fault = refl; plain = tt }, (record { fault = refl; plain = tt }, (record { fault = refl; plain = tt }, (record { fault = refl; plain = tt }, tt)))),
-      λ orders orders_to. (
-        (record { fault = refl; plain = tt }, (record { fault = refl; plain = tt }, tt)),
-        λ prediction. (
-          (record { fault = refl; plain = tt }, (record { fault = refl; plain = tt }, (record { fault = refl; plain = tt }, tt))),
-          λ active.
-              followed_by_cuts Cut (modification_syntax _ _ _) _ (modification_cuts _ _ _) (λ list0.
-              followed_by_cuts Cut (modification_syntax _ _ _) _ (modification_cuts _ _ _) (λ list1.
-              followed_by_cuts Cut (weights_of _ _ _ _ _) _ (weights_of_cuts _ _ _ _ _) (λ weights marking_from.
-              followed_by_cuts Cut (marking_syntax _ _) _ (marking_cuts _ _) (λ marking marking_to. (
-                (record { fault = refl; plain = tt }, (record { fault = refl; plain = tt }, tt)),
-                λ coding.
-                    ((record { fault = refl; plain = tt }, (record { fault = refl; plain = tt }, (record { fault = refl; plain = tt }, tt))), λ deblocking after. tt),
-              ))))),
-        ),
-      ),
+      λ orders orders_to. tt,
     ),
   ),
 )
+
+reference_cuts : (t : SliceType) (sps : Sps) (pps : Pps) → AllCutsAre Cut (reference_syntax t sps pps)
+unfolding reference_syntax prediction_table active_table
+reference_cuts t sps pps = (
+  (record { fault = refl; plain = tt }, (record { fault = refl; plain = tt }, tt)),
+  λ prediction. (
+    (record { fault = refl; plain = tt }, (record { fault = refl; plain = tt }, (record { fault = refl; plain = tt }, tt))),
+    λ active.
+        followed_by_cuts Cut (modification_syntax _ _ _) _ (modification_cuts _ _ _) (λ list0.
+        followed_by_cuts Cut (modification_syntax _ _ _) _ (modification_cuts _ _ _) (λ list1.
+        followed_by_cuts Cut (weights_of _ _ _ _ _) _ (weights_of_cuts _ _ _ _ _) (λ weights. tt))),
+  ),
+)
+
+ending_cuts : (is_reference is_idr : Bool) (t : SliceType) (pps : Pps) → AllCutsAre Cut (ending_syntax is_reference is_idr t pps)
+unfolding ending_syntax coding_table deblocking_table
+ending_cuts is_reference is_idr t pps =
+    λ marking_from.
+    followed_by_cuts Cut (marking_syntax _ _) _ (marking_cuts _ _) (λ marking marking_to. (
+      (record { fault = refl; plain = tt }, (record { fault = refl; plain = tt }, tt)),
+      λ coding.
+          ((record { fault = refl; plain = tt }, (record { fault = refl; plain = tt }, (record { fault = refl; plain = tt }, tt))), λ deblocking after. tt),
+    ))
+
+pub header_cuts : (nal_ref_idc nal_unit_type : ℕ) (sps : Sps) (pps : Pps) → AllCutsAre Cut (header_syntax nal_ref_idc nal_unit_type sps pps)
+unfolding header_syntax
+header_cuts nal_ref_idc nal_unit_type sps pps =
+    followed_by_cuts Cut (picture_syntax _ _ _) _ (picture_cuts _ _ _) (λ picture.
+    followed_by_cuts Cut (reference_syntax _ _ _) _ (reference_cuts _ _ _) (λ references.
+    followed_by_cuts Cut (ending_syntax _ _ _ _) _ (ending_cuts _ _ _ _) (λ ending. tt)))
 
 same_value : {A : Type 0} (more : List Bool) (r : Result (A × Place) HeaderFault) → read_value (after_extended more r) ≡ read_value r
 same_value more (Ok x) = refl

@@ -1,10 +1,13 @@
 -- Slice headers: the tables of their syntax (ITU-T H.264, 7.3.3) and what their fields say (7.4.3).
-use Rattle.std.specs.Prelude.{ℕ, ◌+◌, ◌-◌, ◌*◌, ◌^◌, ◌==◌, Bool, true, false, not, ◌&&◌, ◌||◌, [], ◌∷◌, ℤ, pos, negsuc, nat_abs, if◌then◌else◌, Option}
+use Rattle.std.specs.Prelude.{ℕ, ◌+◌, ◌-◌, ◌*◌, ◌==◌, Bool, true, false, not, ◌&&◌, ◌||◌, [], ◌∷◌, ℤ, pos, negsuc, nat_abs, if◌then◌else◌, Option}
 use Rattle.slice_front.specs.declared.fault.HeaderFault.{HeaderFault}
 use Rattle.slice_front.specs.declared.fault.HeaderFault.TheVariants.{Value}
 use Rattle.header_types.specs.declared.slice_types.SliceType.{SliceType}
 use Rattle.header_types.specs.declared.slice_headers.SliceHeader.{SliceHeader}
 use Rattle.slice_header.specs.declared.headers.HeaderFields.{HeaderFields}
+use Rattle.slice_header.specs.declared.headers.PicturePart.{PicturePart}
+use Rattle.slice_header.specs.declared.headers.ReferencePart.{ReferencePart}
+use Rattle.slice_header.specs.declared.headers.EndingPart.{EndingPart}
 use Rattle.header_types.specs.declared.pred_weight_table.PredWeightTable.{PredWeightTable}
 use Rattle.slice_header.specs.declared.prediction.Prediction.{Prediction}
 use Rattle.slice_header.specs.declared.prediction.ActiveCounts.{ActiveCounts}
@@ -21,6 +24,7 @@ use Rattle.set_types.specs.declared.pps.WeightedBipred.TheVariants.{Explicit}
 use Rattle.syntax_tables.specs.Ranges.{at_most}
 use Rattle.syntax_tables.specs.Rows.{always, flag_of}
 use Rattle.set_types.specs.CountTypes.{is_type_zero, is_type_one}
+use Rattle.set_types.specs.FrameNumbers.{max_frame_num}
 use Rattle.slice_front.specs.HeaderRows.{u, ue, se, se_any}
 use Rattle.header_types.specs.SliceTypes.{is_p, is_b, is_i, has_list}
 use Rattle.slice_front.specs.FrontSyntax.{front_table}
@@ -32,10 +36,6 @@ use Rattle.syntax_tables.specs.Structures.{Table, Syntax, Says, Here, Structure,
 -- the number of macroblocks of a picture
 abbrev pub pic_size_in_mbs : Sps → ℕ
 pic_size_in_mbs sps = (sps.pic_width_in_mbs_minus1 + 1) * (sps.pic_height_in_map_units_minus1 + 1)
-
--- MaxFrameNum
-abbrev pub max_frame_num : Sps → ℕ
-max_frame_num sps = 2 ^ (sps.log2_max_frame_num_minus4 + 4)
 
 -- the numbers of a picture
 pub data NumberField : Type 0 where
@@ -206,38 +206,6 @@ deblocking_table pps = record {
   };
 }
 
--- the header of these fields of a unit with this nal_ref_idc and nal_unit_type
-abbrev pub header_from : ℕ → ℕ → HeaderFields → SliceHeader
-header_from nal_ref_idc nal_unit_type fields = record {
-  nal_ref_idc = nal_ref_idc;
-  nal_unit_type = nal_unit_type;
-  first_mb_in_slice = fields.front.first_mb_in_slice;
-  slice_type = fields.front.slice_type;
-  pic_parameter_set_id = fields.front.pic_parameter_set_id;
-  frame_num = fields.numbers.frame_num;
-  idr_pic_id = fields.numbers.idr_pic_id;
-  pic_order_cnt_lsb = fields.orders.pic_order_cnt_lsb;
-  delta_pic_order_cnt_bottom = fields.orders.delta_pic_order_cnt_bottom;
-  delta_pic_order_cnt0 = fields.orders.delta_pic_order_cnt0;
-  delta_pic_order_cnt1 = fields.orders.delta_pic_order_cnt1;
-  redundant_pic_cnt = fields.prediction.redundant_pic_cnt;
-  direct_spatial_mv_pred_flag = fields.prediction.direct_spatial_mv_pred_flag;
-  num_ref_idx_l0_active_minus1 = fields.active.num_ref_idx_l0_active_minus1;
-  num_ref_idx_l1_active_minus1 = fields.active.num_ref_idx_l1_active_minus1;
-  ref_pic_list_modification_l0 = fields.list0;
-  ref_pic_list_modification_l1 = fields.list1;
-  pred_weight_table = fields.weights;
-  dec_ref_pic_marking = fields.marking;
-  cabac_init_idc = fields.coding.cabac_init_idc;
-  slice_qp_delta = fields.coding.slice_qp_delta;
-  disable_deblocking_filter_idc = fields.deblocking.disable_deblocking_filter_idc;
-  slice_alpha_c0_offset_div2 = fields.deblocking.slice_alpha_c0_offset_div2;
-  slice_beta_offset_div2 = fields.deblocking.slice_beta_offset_div2;
-  header_bit_size = fields.after;
-  dec_ref_pic_marking_bit_size = fields.marking_bits;
-  pic_order_cnt_bit_size = fields.order_bits;
-}
-
 -- chroma_format_idc 0
 abbrev pub is_monochrome : ChromaFormat → Bool
 is_monochrome Monochrome = true
@@ -250,39 +218,80 @@ weights_of slice_type active_l0_minus1 active_l1_minus1 sps pps =
     (weight_syntax (not (is_monochrome sps.chroma_format_idc)) (active_l0_minus1 + 1)
     (if is_b slice_type then active_l1_minus1 + 1 else 0))
 
--- The whole header, each structure after the other, and what they say. The size of a structure in bits is the
--- distance of the places around it.
-unfoldable pub header_syntax : ℕ → ℕ → Sps → Pps → Syntax SliceHeader HeaderFault
-header_syntax nal_ref_idc nal_unit_type sps pps =
+-- Which picture the slice is of: up to its picture order count, whose size in bits is the distance of the places
+-- around it.
+unfoldable pub picture_syntax : Bool → Sps → Pps → Syntax PicturePart HeaderFault
+picture_syntax is_idr sps pps =
     Structure (front_table (at_most (pic_size_in_mbs sps - 1) Value)) (λ front.
-    Structure (number_table (nal_unit_type == 5) sps) (λ numbers.
+    Structure (number_table is_idr sps) (λ numbers.
     Here (λ orders_from.
     Structure (order_table sps pps) (λ orders.
     Here (λ orders_to.
-    Structure (prediction_table front.slice_type pps) (λ prediction.
-    Structure (active_table front.slice_type pps) (λ active.
-    followed_by (modification_syntax (has_list front.slice_type) active.num_ref_idx_l0_active_minus1 (max_frame_num sps)) (λ list0.
-    followed_by (modification_syntax (is_b front.slice_type) active.num_ref_idx_l1_active_minus1 (max_frame_num sps)) (λ list1.
-    followed_by (weights_of front.slice_type active.num_ref_idx_l0_active_minus1 active.num_ref_idx_l1_active_minus1 sps pps) (λ weights.
+    Says record { front = front; numbers = numbers; orders = orders; order_bits = orders_to - orders_from })))))
+
+-- how it is predicted from other pictures: up to its weights
+unfoldable pub reference_syntax : SliceType → Sps → Pps → Syntax ReferencePart HeaderFault
+reference_syntax slice_type sps pps =
+    Structure (prediction_table slice_type pps) (λ prediction.
+    Structure (active_table slice_type pps) (λ active.
+    followed_by (modification_syntax (has_list slice_type) active.num_ref_idx_l0_active_minus1 (max_frame_num sps)) (λ list0.
+    followed_by (modification_syntax (is_b slice_type) active.num_ref_idx_l1_active_minus1 (max_frame_num sps)) (λ list1.
+    followed_by (weights_of slice_type active.num_ref_idx_l0_active_minus1 active.num_ref_idx_l1_active_minus1 sps pps) (λ weights.
+    Says record { prediction = prediction; active = active; list0 = list0; list1 = list1; weights = weights })))))
+
+-- its marking, whose size in bits is the distance of the places around it, and what stands after that
+unfoldable pub ending_syntax : (is_reference is_idr : Bool) → SliceType → Pps → Syntax EndingPart HeaderFault
+ending_syntax is_reference is_idr slice_type pps =
     Here (λ marking_from.
-    followed_by (marking_syntax (not (nal_ref_idc == 0)) (nal_unit_type == 5)) (λ marking.
+    followed_by (marking_syntax is_reference is_idr) (λ marking.
     Here (λ marking_to.
-    Structure (coding_table front.slice_type pps) (λ coding.
+    Structure (coding_table slice_type pps) (λ coding.
     Structure (deblocking_table pps) (λ deblocking.
     Here (λ after.
-    Says (header_from nal_ref_idc nal_unit_type record {
-      front = front;
-      numbers = numbers;
-      orders = orders;
-      prediction = prediction;
-      active = active;
-      list0 = list0;
-      list1 = list1;
-      weights = weights;
+    Says record {
       marking = marking;
       coding = coding;
       deblocking = deblocking;
-      order_bits = orders_to - orders_from;
       marking_bits = marking_to - marking_from;
       after = after;
-    })))))))))))))))))
+    }))))))
+
+-- the header of these fields of a unit with this nal_ref_idc and nal_unit_type
+abbrev pub header_from : ℕ → ℕ → HeaderFields → SliceHeader
+header_from nal_ref_idc nal_unit_type fields = record {
+  nal_ref_idc = nal_ref_idc;
+  nal_unit_type = nal_unit_type;
+  first_mb_in_slice = fields.picture.front.first_mb_in_slice;
+  slice_type = fields.picture.front.slice_type;
+  pic_parameter_set_id = fields.picture.front.pic_parameter_set_id;
+  frame_num = fields.picture.numbers.frame_num;
+  idr_pic_id = fields.picture.numbers.idr_pic_id;
+  pic_order_cnt_lsb = fields.picture.orders.pic_order_cnt_lsb;
+  delta_pic_order_cnt_bottom = fields.picture.orders.delta_pic_order_cnt_bottom;
+  delta_pic_order_cnt0 = fields.picture.orders.delta_pic_order_cnt0;
+  delta_pic_order_cnt1 = fields.picture.orders.delta_pic_order_cnt1;
+  redundant_pic_cnt = fields.references.prediction.redundant_pic_cnt;
+  direct_spatial_mv_pred_flag = fields.references.prediction.direct_spatial_mv_pred_flag;
+  num_ref_idx_l0_active_minus1 = fields.references.active.num_ref_idx_l0_active_minus1;
+  num_ref_idx_l1_active_minus1 = fields.references.active.num_ref_idx_l1_active_minus1;
+  ref_pic_list_modification_l0 = fields.references.list0;
+  ref_pic_list_modification_l1 = fields.references.list1;
+  pred_weight_table = fields.references.weights;
+  dec_ref_pic_marking = fields.ending.marking;
+  cabac_init_idc = fields.ending.coding.cabac_init_idc;
+  slice_qp_delta = fields.ending.coding.slice_qp_delta;
+  disable_deblocking_filter_idc = fields.ending.deblocking.disable_deblocking_filter_idc;
+  slice_alpha_c0_offset_div2 = fields.ending.deblocking.slice_alpha_c0_offset_div2;
+  slice_beta_offset_div2 = fields.ending.deblocking.slice_beta_offset_div2;
+  header_bit_size = fields.ending.after;
+  dec_ref_pic_marking_bit_size = fields.ending.marking_bits;
+  pic_order_cnt_bit_size = fields.picture.order_bits;
+}
+
+-- the whole header, each part after the other, and what they say
+unfoldable pub header_syntax : ℕ → ℕ → Sps → Pps → Syntax SliceHeader HeaderFault
+header_syntax nal_ref_idc nal_unit_type sps pps =
+    followed_by (picture_syntax (nal_unit_type == 5) sps pps) (λ picture.
+    followed_by (reference_syntax picture.front.slice_type sps pps) (λ references.
+    followed_by (ending_syntax (not (nal_ref_idc == 0)) (nal_unit_type == 5) picture.front.slice_type pps) (λ ending.
+    Says (header_from nal_ref_idc nal_unit_type record { picture = picture; references = references; ending = ending }))))

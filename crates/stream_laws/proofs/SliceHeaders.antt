@@ -1,5 +1,5 @@
 -- The type of a slice, by its header and by the first fields of it alone (ITU-T H.264, 7.3.3).
-use Rattle.std.specs.Prelude.{nat_abs}
+use Rattle.std.specs.Prelude.{nat_abs, not, ◌==◌}
 use Rattle.std.proofs.Common.{◌≡◌, ℕ, ◌-◌, List, [], ◌∷◌, Option, None, Some, Result, Ok, Err, ℤ, refl, sym, ap, ◌∙◌, subst}
 use Rattle.expgolomb.specs.declared.fault.CodeFault.{CodeFault}
 use Rattle.expgolomb.specs.declared.fault.CodeFault.TheVariants as code
@@ -20,7 +20,7 @@ use Rattle.slice_front.specs.declared.front.HeaderFront.{HeaderFront}
 use Rattle.slice_front.specs.FrontSyntax.{no_front, take_front, FirstMbInSlice, SliceTypeCode, PicParameterSetId, first_mb_row, slice_type_row, parameter_set_row, front_table, type_table}
 use Rattle.slice_front.specs.Fronts.{unit_bits, type_of, slice_type_at}
 use Rattle.slice_front.proofs.FrontLaws.{with_place}
-use Rattle.slice_header.specs.SliceHeaderSyntax.{pic_size_in_mbs, header_syntax}
+use Rattle.slice_header.specs.SliceHeaderSyntax.{pic_size_in_mbs, picture_syntax, reference_syntax, ending_syntax, header_syntax}
 use Rattle.slice_header.specs.SliceHeaders.{syntax_of, header_at}
 use Rattle.stream_laws.proofs.Chains.{then_ok}
 
@@ -122,14 +122,13 @@ header_said : (ref_idc unit_type : ℕ) (sps : Sps) (pps : Pps) (p : Place) (x :
     → syntax_at (header_syntax ref_idc unit_type sps pps) p ≡ Ok x
     → (front : HeaderFront) × (after : Place) × (table_at (front_table (at_most (pic_size_in_mbs sps - 1) Value)) p ≡ Ok (front, after))
     × ((x.0.nal_unit_type ≡ unit_type) × (x.0.slice_type ≡ front.slice_type))
-unfolding header_syntax
+unfolding header_syntax picture_syntax followed_by
 header_said ref_idc unit_type sps pps p x is =
     first_structure (λ (front : HeaderFront) (header : SliceHeader). (header.nal_unit_type ≡ unit_type) × (header.slice_type ≡ front.slice_type))
     _ _ p x is
     (λ front. structure _ _ _ (λ numbers. here _ _ (λ orders_from. structure _ _ _ (λ orders. here _ _ (λ orders_to.
-    structure _ _ _ (λ prediction. structure _ _ _ (λ active. followed _ _ _ (λ list0. followed _ _ _ (λ list1. followed _ _ _ (λ weights.
-    here _ _ (λ marking_from. followed _ _ _ (λ marking. here _ _ (λ marking_to. structure _ _ _ (λ coding. structure _ _ _ (λ deblocking.
-    here _ _ (λ after. says _ _ (refl, refl)))))))))))))))))
+    followed _ (reference_syntax front.slice_type sps pps) _ (λ references.
+    followed _ (ending_syntax (not (ref_idc == 0)) (unit_type == 5) front.slice_type pps) _ (λ ending. says _ _ (refl, refl))))))))
 
 -- the unit's type is that of its header, and the slice's type is the one that stands in its first fields
 pub header_type : (unit : List ℕ) (sps : Sps) (pps : Pps) (header : SliceHeader) → header_at unit sps pps ≡ Ok header

@@ -91,12 +91,12 @@ limited : (row : FrontRow) (most : ℕ) → row ≡ ue_of row.field row.present 
 limited row most is = rw is record { code = refl; long = λ same. cc; range = λ s v. at_most-Value most v }
 
 -- the first three fields, and the first two, from a front
-pub front_is : (payload : List ℕ) → read_value (table_at (front_table any) (after_first (take 25 payload))) ≡ read_value (table_at (front_table any) (after_first payload))
+pub front_is : (payload : List ℕ) → read_value (table_at (front_table any) (after_first (take 64 payload))) ≡ read_value (table_at (front_table any) (after_first payload))
 front_is payload =
     front_read (front_table any) (cut_is _ refl refl, (cut_is _ refl refl, (cut_is _ refl refl, tt)))
-    (first_mb, (limited slice_type_row 9 refl, (limited parameter_set_row 255 refl, tt))) 25 payload (omega arith) read_value same_value
+    (first_mb, (limited slice_type_row 9 refl, (limited parameter_set_row 255 refl, tt))) 64 payload (omega arith) read_value same_value
 
-pub type_is : (payload : List ℕ) → type_of (table_at (type_table any) (after_first (take 25 payload))) ≡ type_of (table_at (type_table any) (after_first payload))
+pub type_is : (payload : List ℕ) → type_of (table_at (type_table any) (after_first (take 17 payload))) ≡ type_of (table_at (type_table any) (after_first payload))
 type_is payload =
     front_read (type_table any) (cut_is _ refl refl, (cut_is _ refl refl, tt))
-    (first_mb, (limited slice_type_row 9 refl, tt)) 25 payload (omega arith) type_of same_type
+    (first_mb, (limited slice_type_row 9 refl, tt)) 17 payload (omega arith) type_of same_type

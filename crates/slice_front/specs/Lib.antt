@@ -3,3 +3,4 @@ pub mod HeaderRows
 pub mod FrontSyntax
 pub mod Fronts
 pub mod FaultNumbers
+pub mod Starts

@@ -12,6 +12,7 @@ ghost use Rattle.syntax_tables.specs.Structures.{table_at};
 
 use crate::fault::HeaderFault;
 use crate::fields::{after_first, ue, ue_any};
+use crate::starts::Start;
 use annexb::{Nal, payload_front};
 use expgolomb::Bits;
 use header_types::SliceType;
@@ -24,8 +25,8 @@ pub struct HeaderFront {
     pub pic_parameter_set_id: u8,
 }
 
-// As many bytes as the header of a unit and three codes can take.
-const FRONT_LEN: usize = 25;
+// As many bytes as the header of a unit and two codes of at most 63 bits take.
+const TYPE_LEN: usize = 17;
 
 /// Reads the first fields of a slice header, whatever follows, and without testing that first_mb_in_slice lies in the
 /// picture.
@@ -35,16 +36,21 @@ pub fn peek(nal: &Nal<'_>) -> Result<HeaderFront, HeaderFault>
     ensures found { IfOk result (λ front. IsFront nal.now front) }
     ensures shown { IfErr result (λ fault. FrontHasFault nal.now fault) }
 {
-    let mut front = [0; FRONT_LEN];
-    let len = payload_front(nal, &mut front);
-    front_of(&front[..len])
+    peek_start(&Start::of(nal))
+}
+
+/// Reads them from the start of the unit, as `peek` does.
+pub fn peek_start(start: &Start<'_>) -> Result<HeaderFront, HeaderFault>
+    ensures { result ≡ front_at start.now }
+{
+    front_of(start.bytes())
 }
 
 /// The type of a slice whose first_mb_in_slice and slice_type can be read, whatever follows.
 pub fn slice_type(nal: &Nal<'_>) -> Option<SliceType>
     ensures { result ≡ slice_type_at nal.now }
 {
-    let mut front = [0; FRONT_LEN];
+    let mut front = [0; TYPE_LEN];
     let len = payload_front(nal, &mut front);
     type_of(&front[..len]).ok()
 }

@@ -1,23 +1,21 @@
 //! Reads the header of a unit.
 
-ghost use Rattle.std.specs.Prelude.{◌≡◌, ◌⊎◌, IfOk, IfErr, Ok, Err, IsTrue, ◌↔◌};
+ghost use Rattle.std.specs.Prelude.{◌≡◌, ◌⊎◌, IfOk, IfErr, Ok, Err, IsTrue, ◌↔◌, length};
 ghost use Rattle.syntax_tables.specs.Payloads.{after_first};
 ghost use Rattle.slice_header.specs.SliceHeaders.{IsSliceHeader, HeaderHasFault, Answers, header_at, syntax_of};
 ghost use Rattle.slice_front.specs.Fronts.{read_value};
+ghost use Rattle.slice_front.specs.Starts.{start_of};
 ghost use Rattle.syntax_tables.specs.Structures.{syntax_at};
 ghost use Rattle.slice_front.specs.declared.fault.HeaderFault.{HeaderFault};
 ghost use Rattle.header_types.specs.declared.slice_headers.SliceHeader.{SliceHeader};
 
 use crate::headers::{header_fields, header_from};
-use annexb::{Nal, payload, payload_front};
+use annexb::{Nal, payload};
 use header_types::SliceHeader;
 use set_types::{Pps, Sps};
-use slice_front::HeaderFault;
 use slice_front::fields::after_first;
+use slice_front::{HeaderFault, Start};
 use std::alloc::Global;
-
-// As many bytes as most headers take.
-const FRONT_LEN: usize = 64;
 
 /// Reads the header of a slice with the parameter sets that it names: the first field that can't be read is what is
 /// refused. Memory is taken where the header is long or has many commands.
@@ -33,34 +31,33 @@ pub fn read(alloc: Global, nal: &Nal<'_>, sps: &Sps, pps: &Pps) -> Result<SliceH
         → Answers result (Err fault) }
     ensures exact { Answers result (header_at nal.now sps.now pps.now) }
 {
-    read_exactly(alloc, nal, sps, pps)
+    read_from(alloc, &Start::of(nal), sps, pps)
 }
 
-// The header from a front of the unit, or from all of it where that is cut.
-fn read_exactly(
+/// Reads the header from the start of the unit, as `read` does. One that is longer is read from the whole payload.
+pub fn read_from(
     alloc: Global,
-    nal: &Nal<'_>,
+    start: &Start<'_>,
     sps: &Sps,
     pps: &Pps,
 ) -> Result<SliceHeader, HeaderFault>
-    ensures { Answers result (header_at nal.now sps.now pps.now) }
+    ensures { Answers result (header_at start.now sps.now pps.now) }
 {
-    let mut front = [0; FRONT_LEN];
-    let len = payload_front(nal, &mut front);
-    let answer = header_of(alloc, nal, &front[..len], sps, pps);
-    if is_cut_short(&answer, len) {
-        whole(alloc, nal, sps, pps)
+    let answer = header_of(alloc, start.nal(), start.bytes(), sps, pps);
+    if is_cut_short(&answer, start) {
+        whole(alloc, start.nal(), sps, pps)
     } else {
         answer
     }
 }
 
-// Whether a full front was cut, so that more bytes may follow it.
-fn is_cut_short(answer: &Result<SliceHeader, HeaderFault>, len: usize) -> bool
-    ensures { IsTrue result ↔ ((answer.now ≡ Err HeaderFault.Cut) × (len ≡ 64)) }
+// Whether a full start was cut, so that more bytes may follow it.
+fn is_cut_short(answer: &Result<SliceHeader, HeaderFault>, start: &Start<'_>) -> bool
+    ensures { IsTrue result
+        ↔ ((answer.now ≡ Err HeaderFault.Cut) × (length (start_of start.now) ≡ 64)) }
 {
     match answer {
-        Err(HeaderFault::Cut) => len == FRONT_LEN,
+        Err(HeaderFault::Cut) => start.is_full(),
         _ => false,
     }
 }

@@ -14,8 +14,8 @@ use base_types::Shared;
 use header_types::SliceHeader;
 use outcomes::ValidityFault;
 use set_types::Sps;
-use slice_front::{HeaderFault, peek};
-use slice_header::read;
+use slice_front::{HeaderFault, Start, peek_start};
+use slice_header::read_from;
 use std::alloc::Global;
 use std::marker::Model;
 
@@ -65,7 +65,7 @@ pub(crate) fn read_slices(
     slices.finish()
 }
 
-/// The slice of a NAL unit, or the fault that it shows.
+/// The slice of a NAL unit, or the fault that it shows. The front of the unit is unescaped once.
 #[tactic(auto, unfolding(crate::specs::Slices::slice_at))]
 fn read_slice(
     alloc: Global,
@@ -76,7 +76,8 @@ fn read_slice(
     ensures { Answers result (slice_at tables.now nal.now) }
 {
     let unit = nal.nal();
-    let front = match peek(&unit) {
+    let start = Start::of(&unit);
+    let front = match peek_start(&start) {
         Ok(front) => front,
         Err(fault) => return Err(stop(fault)),
     };
@@ -86,7 +87,7 @@ fn read_slice(
     let Some(sps) = tables.sps(pps.set().seq_parameter_set_id.get()) else {
         return Err(Stop::Fault(ValidityFault::MissingSps));
     };
-    match read(alloc, &unit, sps.set(), pps.set()) {
+    match read_from(alloc, &start, sps.set(), pps.set()) {
         Ok(header) => Ok(Slice {
             nal: nal.clone()?,
             sets: Sets::of(alloc, last, sps, pps)?,

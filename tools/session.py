@@ -1,0 +1,259 @@
+"""A session over a stream under edits, and scripts that run on one (docs/OUTPUT.md), as plain lists."""
+import os
+import re
+from typing import NamedTuple
+
+import fold
+import syntax
+from fold import Plan
+
+MOST_UNITS, MOST_IDS = 65536, 4294967295
+
+
+class Open(Exception):
+    """The answer isn't decided by docs/OUTPUT.md."""
+
+
+class Wrong(Exception):
+    """A line is no command."""
+
+
+class Cannot(Exception):
+    """A file can't be read."""
+
+
+class Job(NamedTuple):
+    number: int
+    key: bytes
+
+
+class Session:
+    """The stream with a row for each unit, the pictures held and cached by their keys, and the jobs that are out."""
+
+    def __init__(self, room):
+        self.room, self.stream, self.rows, self.edits, self.ids, self.jobs = room, [], [], 0, 0, 0
+        # The cache's keys lie in groups of those that went out of use at once, the last group first.
+        self.pictures, self.held, self.cached, self.out = {}, set(), [], []
+
+    def place(self, unit_id):
+        return next((at for at, unit in enumerate(self.stream) if unit[0] == unit_id), None)
+
+    def insert(self, at, text):
+        """Inserts a unit at a place, None being none; its id."""
+        unit = syntax.read_unit(text)
+        for number, is_so in ((16, at is None), (17, len(self.stream) >= MOST_UNITS), (18, self.ids >= MOST_IDS)):
+            if is_so:
+                raise syntax.Refused(number)
+        self.ids += 1
+        return self.change(self.stream[:at] + [(self.ids, unit)] + self.stream[at:], self.ids)
+
+    def delete(self, unit_id):
+        at = self.there(unit_id)
+        return self.change(self.stream[:at] + self.stream[at + 1:], unit_id)
+
+    def replace(self, unit_id, text):
+        unit = syntax.read_unit(text)
+        at = self.there(unit_id)
+        return self.change(self.stream[:at] + [(unit_id, unit)] + self.stream[at + 1:], unit_id)
+
+    def there(self, unit_id):
+        at = self.place(unit_id)
+        if at is None:
+            raise syntax.Refused(16)
+        return at
+
+    def change(self, stream, unit_id):
+        """The stream becomes this one."""
+        self.stream, self.rows, self.edits = stream, fold.rows(stream, self.pictures), self.edits + 1
+        in_use = {row.key for row in self.rows} - {None}
+        cached = {key for group in self.cached for key in group}
+        gone = self.held - in_use
+        self.held = in_use & (self.held | cached)
+        self.cached = [group - in_use for group in self.cached]
+        self.cached = [group for group in [gone] + self.cached if group]
+        self.shorten()
+        return unit_id
+
+    def shorten(self):
+        """Drops what the cache has no room for."""
+        while (over := sum(map(len, self.cached)) - self.room) > 0:
+            if len(self.cached[-1]) > over:
+                raise Open("which of several pictures the full cache drops")
+            self.cached.pop()
+
+    def due(self):
+        """The earliest unit whose picture is due, and its key."""
+        out = {job.key for job in self.out}
+        keys = {unit[0]: row.key for unit, row in zip(self.stream, self.rows)}
+        for (unit_id, _), row in zip(self.stream, self.rows):
+            if row.key is None or row.key in self.held or row.key in out:
+                continue
+            entries = {keys[named] for request in row.outcome.requests for named in request.entries
+                       if named is not None}
+            if entries <= self.held:
+                return unit_id, row.key
+        return None
+
+    def take(self):
+        found = self.due()
+        if found is None:
+            return None
+        self.jobs += 1
+        self.out.append(Job(self.jobs, found[1]))
+        return self.jobs, found[0]
+
+    def leave(self, number):
+        """The job of this number, which is out no more, or None."""
+        job = next((job for job in self.out if job.number == number), None)
+        self.out = [other for other in self.out if other is not job]
+        return job
+
+    def land(self, number):
+        job = self.leave(number)
+        if job is None:
+            return "none"
+        if job.key in self.held or job.key not in {row.key for row in self.rows}:
+            return "stale"
+        self.held.add(job.key)
+        return "taken"
+
+
+class Ran(NamedTuple):
+    lines: str
+    message: str
+    status: int
+
+
+def run(text, room, with_hex):
+    """What a script prints, what it says on standard error, and its status."""
+    commands = []
+    for number, line in enumerate(text.split(b"\n"), 1):
+        if line and not line.startswith(b"#"):
+            try:
+                commands.append(command_of(line))
+            except Wrong:
+                return Ran("", f"script fault at line {number}\n", 1)
+    session, lines = Session(room), []
+    for name, *operands in commands:
+        try:
+            lines += answer(session, with_hex, name, operands)
+        except Cannot as fault:
+            return Ran("".join(lines), f"cannot read {fault}\n", 1)
+    return Ran("".join(lines), "", 0)
+
+
+def number_of(word):
+    if not re.fullmatch(r"[0-9]{1,10}", word):
+        raise Wrong
+    return int(word)
+
+
+def bytes_of(words):
+    if not all(re.fullmatch(r"([0-9A-Fa-f]{2})+", word) for word in words):
+        raise Wrong
+    return bytes.fromhex("".join(words))
+
+
+def command_of(line):
+    """The command of a line: its name and its operands."""
+    try:
+        words = [word for word in line.decode().split(" ") if word]
+    except UnicodeDecodeError:
+        raise Wrong from None
+    match words:
+        case ["insert", "first", *digits]:
+            return "first", bytes_of(digits)
+        case ["insert", "after", number, *digits]:
+            return "after", number_of(number), bytes_of(digits)
+        case ["replace", number, *digits]:
+            return "replace", number_of(number), bytes_of(digits)
+        case ["load", path]:
+            return "load", path
+        case [("delete" | "unit" | "show" | "land" | "give") as name, number]:
+            return name, number_of(number)
+        case [("take" | "settle") as name]:
+            return name,
+    raise Wrong
+
+
+def answer(session, with_hex, name, operands):
+    """The lines that answer a command."""
+    if name in ("first", "after", "replace", "delete"):
+        return [edited(session, name, operands)]
+    if name == "load":
+        return [loaded(session, *operands)]
+    if name == "unit":
+        return unit_lines(session, *operands)
+    if name == "show":
+        return [shown(session, with_hex, *operands)]
+    if name == "take":
+        taken = session.take()
+        return ["job {} unit {}\n".format(*taken) if taken else "job none\n"]
+    if name == "land":
+        return [f"land {operands[0]} {session.land(operands[0])}\n"]
+    if name == "give":
+        return [f"give {operands[0]} {'back' if session.leave(operands[0]) else 'none'}\n"]
+    while taken := session.take():
+        session.land(taken[0])
+    return ["settled\n"]
+
+
+def edited(session, name, operands):
+    try:
+        if name == "first":
+            unit_id = session.insert(0, *operands)
+        elif name == "after":
+            at = session.place(operands[0])
+            unit_id = session.insert(None if at is None else at + 1, operands[1])
+        else:
+            unit_id = session.delete(*operands) if name == "delete" else session.replace(*operands)
+    except syntax.Refused as refused:
+        return f"refused {refused.number} {refused}\n"
+    return f"edit {session.edits} id {unit_id}\n"
+
+
+def loaded(session, path):
+    """The units of a file inserted after the last one."""
+    try:
+        with open(os.fsencode(path), "rb") as file:
+            text = file.read()
+    except OSError:
+        raise Cannot(path) from None
+    try:
+        units = syntax.cut(syntax.split(text))
+    except syntax.Refused as refused:
+        return f"refused {refused.number} {refused}\n"
+    for index, nals in enumerate(units):
+        try:
+            syntax.Unit(nals)
+        except syntax.Refused as refused:
+            return f"unit {index} refused {refused.number} {refused}\n"
+    if len(session.stream) + len(units) > MOST_UNITS:
+        return "refused 17 StreamFull\n"
+    for nals in units:
+        session.insert(len(session.stream), b"".join(syntax.START + nal for nal in nals))
+    return f"loaded {len(units)}\n"
+
+
+def unit_lines(session, unit_id):
+    at = session.place(unit_id)
+    if at is None:
+        return [f"unit {unit_id} none\n"]
+    outcome, position, _ = session.rows[at]
+    if not isinstance(outcome, Plan):
+        return [f"unit {unit_id} fault {outcome.number} {outcome}\n"]
+    top, bottom = outcome.counts
+    return [f"unit {unit_id} position {position} counts {top} {bottom} requests {len(outcome.requests)}\n",
+            *(request.line + "\n" for request in outcome.requests)]
+
+
+def shown(session, with_hex, unit_id):
+    at = session.place(unit_id)
+    if at is None:
+        return f"show {unit_id} none\n"
+    outcome, _, key = session.rows[at]
+    if not isinstance(outcome, Plan):
+        return f"show {unit_id} fault {outcome.number} {outcome}\n"
+    if key not in session.held:
+        return f"show {unit_id} pending\n"
+    return f"show {unit_id} ready" + (f" {session.pictures[key].hex()}\n" if with_hex else "\n")

@@ -9,3 +9,6 @@ pub mod KnownUnits
 pub mod NamedUnits
 pub mod Plans
 pub mod Decodable
+pub mod AlikeKeys
+pub mod AlikeSteps
+pub mod Agreement

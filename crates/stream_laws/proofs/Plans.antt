@@ -37,7 +37,7 @@ pub record GoesOn (known : Known) (id : ℕ) (step : FoldState × Outcome) : Typ
   pub are_known : AreKnown (known_with known id (key_of_outcome known step.1)) step.0.marks.frames
 
 -- what holds of the frames after marking holds of those that the fold goes on with
-marked_kept : (Holds : Marked → Type 0) (answer : Result Marked MarkFault) (marks : Marked) → marked answer ≡ Ok marks → IfOk answer Holds → Holds marks
+pub marked_kept : (Holds : Marked → Type 0) (answer : Result Marked MarkFault) (marks : Marked) → marked answer ≡ Ok marks → IfOk answer Holds → Holds marks
 marked_kept Holds (Ok after) marks is holds = let same : after ≡ marks = cc in subst Holds same holds
 marked_kept Holds (Err TooManyReferences) marks is holds = absurd cc
 marked_kept Holds (Err BadMarking) marks is holds = absurd cc

@@ -4,4 +4,4 @@
 
 mod positions_by_key;
 
-pub use positions_by_key::positions;
+pub use positions_by_key::{Key, positions};

@@ -7,13 +7,13 @@ use std::alloc::{AllocError, Global};
 
 /// What a valid unit is shown by: keys are compared by their fields in turn.
 #[derive(Clone, Copy, PartialEq, Eq, PartialOrd, Ord)]
-struct Key {
+pub struct Key {
     /// How many units up to this one have begun a period.
-    period: usize,
+    pub period: usize,
     /// The picture order count.
-    order: i32,
+    pub order: i32,
     /// How many units stand before this one, valid or not.
-    place: usize,
+    pub place: usize,
 }
 
 /// The position of each unit in output order, by the unit's place in the stream; `None` where the unit has a fault.

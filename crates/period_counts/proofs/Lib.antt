@@ -1,0 +1,9 @@
+pub mod Counts
+pub mod Cuts
+pub mod Finds
+pub mod Halves
+pub mod OrderedKeys
+pub mod Positions
+pub mod Starts
+pub mod StreamKeys
+pub mod Splices

@@ -1,0 +1,197 @@
+-- The periods that a change of a stretch of units touches, and those after it.
+use Rattle.std.proofs.Common.{◌≡◌, ℕ, suc, zero, ◌+◌, ◌-◌, ◌<◌, ◌≤◌, ◌^◌, min, max, ⊎_elim, Bool, Option, option_map, unwrap_or, List, [], ◌∷◌, ◌++◌, length, take, drop, get_or, slice_get, All, refl, sym, ap, ◌∙◌, arith}
+use Rattle.std.proofs.lemmas.Bool.{cases_lt}
+use Rattle.std.proofs.lemmas.List.{append_assoc, take_all, take-append-drop, take-take, drop-take, drop-drop, drop_at, length-append, length-drop, length-take-le, take-append-le, drop-append-le}
+use Rattle.std.proofs.lemmas.List.Elements.{All-nil, All-cons, All-head, All-append, All-take, All-drop}
+use Rattle.std.proofs.lemmas.Option.{slice_get-get_or, slice_get_past}
+use Rattle.std.specs.List.{AllWithin, slice_range}
+use Rattle.period_counts.specs.declared.shown.Shown.{Shown}
+use Rattle.period_counts.specs.declared.counting.Count.{Count}
+use Rattle.period_counts.specs.Periods.{units_of, IsPeriod, IsBegun, ArePeriods, spliced}
+use Rattle.period_counts.specs.declared.touching.Touched.{Touched}
+use Rattle.period_counts.specs.Kept.{count_at, AreCounted, Change, changed, IsSplice}
+use Rattle.period_counts.specs.Places.{IsTouched}
+use Rattle.period_counts.proofs.Starts.{units_of-append, units_parts}
+use Rattle.period_counts.proofs.Finds.{IsBegun-units}
+use Rattle.period_counts.proofs.Positions.{take_past}
+
+module _ (periods : List (List (Option Shown))) (counts : List Count) (counted : AreCounted periods (length periods) counts)
+    (low high started ended : ℕ) (ordered : low ≤ high) (within : high ≤ length (units_of periods))
+    (started_bound : started ≤ length counts) (started_before : AllWithin (λ count. count.start < low) counts 0 started)
+    (ended_before : AllWithin (λ count. count.start < high) counts 0 ended) (ended_after : AllWithin (λ count. high ≤ count.start) counts ended (length counts)) where
+  none : Count
+  none = record { start = 0; earlier = 0 }
+
+  abbrev first : ℕ
+  first = started - 1
+
+  abbrev past : ℕ
+  past = min (max ended 1) (length counts)
+
+  start_at : (at : ℕ) → at < length periods → (get_or counts at none).start ≡ length (units_of (take at periods))
+  start_at at here = ap (λ count. count.start) (counted.each at none here)
+
+  in_order : started ≤ ended
+  in_order = ⊎_elim
+      (λ back. absurd (omega (arith, started_before ended none (omega arith) back, ended_after ended none (omega arith) (omega arith))))
+      (λ on. on)
+      (cases_lt ended started)
+
+  start_read : (start : ℕ) → start ≡ unwrap_or (option_map (λ count. count.start) (slice_get counts first)) 0 → start ≡ length (units_of (take first periods))
+  start_read start is = ⊎_elim
+      (λ here. is ∙ ap (λ read. unwrap_or (option_map (λ count. count.start) read) 0) (slice_get-get_or counts first none here)
+      ∙ start_at first (omega (arith, counted.as_many)))
+      (λ no.
+      let empty : first ≡ 0 = omega arith in
+      is ∙ ap (λ read. unwrap_or (option_map (λ count. count.start) read) 0) (slice_get_past counts first no) ∙ ap (λ n. length (units_of (take n periods))) (sym empty))
+      (cases_lt first (length counts))
+
+  started_below : 0 < started → length (units_of (take first periods)) < low
+  started_below some = omega (arith, started_before first none (omega arith) (omega arith), start_at first (omega (arith, counted.as_many)))
+
+  start_low : length (units_of (take first periods)) ≤ low
+  start_low = ⊎_elim
+      (λ zero. let empty : first ≡ 0 = omega arith in omega (arith, ap (λ n. length (units_of (take n periods))) empty))
+      (λ some. omega (arith, started_below some))
+      (cases_lt started 1)
+
+  high_upto : high ≤ length (units_of (take past periods))
+  high_upto = ⊎_elim
+      (λ here. omega (arith, ended_after past none (omega arith) here, start_at past (omega (arith, counted.as_many))))
+      (λ all. omega (arith, ap (λ front. length (units_of front)) (take_all past periods (omega (arith, counted.as_many)))))
+      (cases_lt past (length counts))
+
+  pub touched_is : (start : ℕ) → start ≡ unwrap_or (option_map (λ count. count.start) (slice_get counts first)) 0
+      → IsTouched periods low high (record { first = first; past = past; start = start })
+  touched_is start is =
+      let start_is = start_read start is in
+      record {
+        ordered = omega (arith, in_order);
+        within = omega (arith, counted.as_many);
+        start_is = start_is;
+        from = omega (arith, start_is, start_low);
+        upto = high_upto;
+        some = λ some. omega (arith, counted.as_many);
+        inner = λ some. omega (arith, start_is, started_below (omega arith));
+      }
+
+-- with periods in the place of others, each begins but the first
+module _ (periods new : List (List (Option Shown))) (past : ℕ) (are : ArePeriods periods) (new_are : ArePeriods new) (some : 0 < length periods → 0 < past) where
+  rest_begun : All IsBegun (drop past periods)
+  rest_begun = ⊎_elim
+      (λ there.
+      let last : 1 + (past - 1) ≡ past = omega (arith, some there) in
+      let same : drop (past - 1) (drop 1 periods) ≡ drop past periods = drop-drop (past - 1) 1 periods ∙ ap (λ n. drop n periods) last in
+      rw same at (All-drop IsBegun (past - 1) (drop 1 periods) are.later))
+      (λ empty. λ k d below. absurd (omega (arith, length-drop past periods)))
+      (cases_lt 0 (length periods))
+
+new_first : (new rest : List (List (Option Shown))) → ArePeriods new → All IsBegun rest → All IsBegun (drop 1 (new ++ rest))
+new_first [] rest are begun = All-drop IsBegun 1 rest begun
+new_first (one ∷ new) rest are begun = All-append IsBegun new rest are.later begun
+
+later_first : (periods new rest : List (List (Option Shown))) (first : ℕ) → ArePeriods periods → ArePeriods new → All IsBegun rest
+    → (0 < first → 0 < length periods) → (0 < first → All IsBegun new) → All IsBegun (drop 1 (take first periods ++ new ++ rest))
+later_first periods new rest zero are new_are begun there new_begun = new_first new rest new_are begun
+later_first [] new rest (suc first) are new_are begun there new_begun = absurd (let no : 0 < 0 = there (omega arith) in omega arith)
+later_first (one ∷ periods) new rest (suc first) are new_are begun there new_begun =
+    All-append IsBegun (take first periods ++ new) rest
+    (All-append IsBegun (take first periods) new (All-take IsBegun first periods are.later) (new_begun (omega arith))) begun
+
+all_begun : (new : List (List (Option Shown))) → ArePeriods new → IsBegun (units_of new) → All IsBegun new
+all_begun [] are begun = All-nil IsBegun
+all_begun ([] ∷ new) are begun = absurd (All-head IsPeriod [] new are.each)
+all_begun ((one ∷ rest) ∷ new) are begun = All-cons IsBegun (one ∷ rest) new begun are.later
+
+front_begun : (units rest : List (Option Shown)) (count : ℕ) → 0 < count → 0 < length units → IsBegun units → IsBegun (take count units ++ rest)
+front_begun units rest zero some there begun = absurd (omega arith)
+front_begun [] rest (suc count) some there begun = absurd (omega arith)
+front_begun (one ∷ units) rest (suc count) some there begun = begun
+
+module _ (periods : List (List (Option Shown))) (are : ArePeriods periods) (low high first past start : ℕ) (ordered : low ≤ high)
+    (touched : IsTouched periods low high (record { first = first; past = past; start = start })) where
+  abbrev before : List (Option Shown)
+  before = units_of (take first periods)
+
+  abbrev mid : List (Option Shown)
+  mid = units_of (slice_range periods first past)
+
+  abbrev after : List (Option Shown)
+  after = units_of (drop past periods)
+
+  front_parts : units_of (take past periods) ≡ before ++ mid
+  front_parts =
+      let sum : first + (past - first) ≡ past = omega (arith, touched.ordered) in
+      ap units_of (sym (take-append-drop first (take past periods))
+      ∙ ap (λ front. front ++ drop first (take past periods)) (take-take first past periods touched.ordered)
+      ∙ ap (λ n. take first periods ++ drop first (take n periods)) (sym sum)
+      ∙ ap (λ back. take first periods ++ back) (drop-take first (past - first) periods))
+      ∙ units_of-append (take first periods) (slice_range periods first past)
+
+  units_are : units_of periods ≡ before ++ mid ++ after
+  units_are = units_parts periods past ∙ ap (λ front. front ++ after) front_parts
+
+  -- what stands between the places is inside
+  pub high_within : high - start ≤ length mid
+  high_within = omega (arith, touched.upto, ap length front_parts, length-append before mid, touched.start_is)
+
+  module _ (between : List (Option Shown)) (new : List (List (Option Shown))) (new_are : ArePeriods new) (new_units : units_of new ≡ spliced (low - start) (high - start) between mid) where
+    new_begun : 0 < first → All IsBegun new
+    new_begun some =
+        let one = touched.inner some in
+        let there : 0 < length mid = omega (arith, high_within) in
+        let last : 1 + (first - 1) ≡ first = omega arith in
+        let same : drop (first - 1) (drop 1 periods) ≡ drop first periods = drop-drop (first - 1) 1 periods ∙ ap (λ n. drop n periods) last in
+        let mid_begun : All IsBegun (slice_range periods first past) = All-take IsBegun (past - first) (drop first periods) (rw same at (All-drop IsBegun (first - 1) (drop 1 periods) are.later)) in
+        let mid_each : All IsPeriod (slice_range periods first past) = All-take IsPeriod (past - first) (drop first periods) (All-drop IsPeriod first periods are.each) in
+        let begun = front_begun mid (between ++ drop (high - start) mid) (low - start) (omega arith) there (IsBegun-units (slice_range periods first past) mid_each mid_begun) in
+        all_begun new new_are (rw (new_units, append_assoc (take (low - start) mid) between (drop (high - start) mid)) begun)
+
+    pub periods_after : ArePeriods (take first periods ++ new ++ drop past periods)
+    periods_after = record {
+      each = All-append IsPeriod (take first periods ++ new) (drop past periods)
+          (All-append IsPeriod (take first periods) new (All-take IsPeriod first periods are.each) new_are.each) (All-drop IsPeriod past periods are.each);
+      later = later_first periods new (drop past periods) first are new_are (rest_begun periods new past are new_are touched.some)
+          (λ some. omega (arith, touched.ordered, touched.within)) new_begun;
+    }
+
+    pub units_after : units_of (take first periods ++ new ++ drop past periods) ≡ spliced low high between (units_of periods)
+    units_after =
+        let low_is : length before + (low - start) ≡ low = omega (arith, touched.from, touched.start_is) in
+        let high_is : length before + (high - start) ≡ high = omega (arith, touched.from, touched.start_is) in
+        let all = length-append before mid in
+        let front : take low (before ++ mid ++ after) ≡ before ++ take (low - start) mid =
+        take-append-le low (before ++ mid) after (omega (arith, high_within)) ∙ ap (λ n. take n (before ++ mid)) (sym low_is) ∙ take_past before mid (low - start) in
+        let back : drop high (before ++ mid ++ after) ≡ drop (high - start) mid ++ after =
+        drop-append-le high (before ++ mid) after (omega (arith, high_within))
+        ∙ ap (λ rest. rest ++ after) (ap (λ n. drop n (before ++ mid)) (sym high_is) ∙ sym (drop-drop (high - start) (length before) (before ++ mid)) ∙ ap (drop (high - start)) (drop_at before mid (length before) refl)) in
+        let left = units_of-append (take first periods ++ new) (drop past periods) ∙ ap (λ front. front ++ after) (units_of-append (take first periods) new ∙ ap (λ more. before ++ more) new_units) in
+        let right = ap (λ units. take low units ++ between ++ drop high units) units_are ∙ ap (λ f. f ++ between ++ drop high (before ++ mid ++ after)) front
+        ∙ ap (λ b. before ++ take (low - start) mid ++ between ++ b) back in
+        let same : before ++ (take (low - start) mid ++ between ++ drop (high - start) mid) ++ after
+        ≡ before ++ take (low - start) mid ++ between ++ (drop (high - start) mid ++ after) = simp append_assoc in
+        left ∙ same ∙ sym right
+
+    abbrev change : Change
+    change = record { first = first; past = past; periods = new }
+
+    -- the change can be made, and does what is asked
+    pub splice_is : high ≤ length (units_of periods) → length (units_of periods) + length between < 2 ^ 64 → IsSplice change periods low high between
+    splice_is within fits =
+        let long : length (units_of (changed change periods)) ≡ length (take low (units_of periods) ++ between ++ drop high (units_of periods)) = ap length units_after in
+        record {
+          can = record {
+            ordered = touched.ordered;
+            within = touched.within;
+            cut = periods_after;
+            fits = omega (
+              arith,
+              long,
+              length-append (take low (units_of periods) ++ between) (drop high (units_of periods)),
+              length-append (take low (units_of periods)) between,
+              length-take-le low (units_of periods) (omega arith),
+              length-drop high (units_of periods),
+            );
+          };
+          does = units_after;
+        }

@@ -1,0 +1,28 @@
+use Rattle.std.proofs.Common.{◌≡◌, ◌+◌, ◌-◌, ◌<◌, ◌≤◌, ◌∙◌, List, Option, length, get_or, ap, sym, refl, arith}
+use Rattle.period_counts.specs.declared.counting.Count.{Count}
+use Rattle.period_counts.specs.Periods.{units_of, valid_in}
+use Rattle.period_counts.specs.Kept.{count_at}
+use Rattle.period_counts.proofs.Starts.{next_is, start_fits, earlier_fits}
+use Rattle.period_counts.proofs.counting.next_count.Goals as goal
+
+pub overflow_add-result : goal.overflow_add-result
+overflow_add-result c =
+    let periods = c.args.periods.now in
+    let counts = c.args.counts.now in
+    let at = length counts in
+    let none : Count = record { start = 0; earlier = 0 } in
+    let e = c.index-periods-at.result in
+    let next = ap (λ count. count.start) (next_is periods at counts c.requires.counted none e (omega arith) c.requires.within) in
+    let long : length c.units.result.now ≡ length (get_or periods (at - 1) e) = ap length (c.units.ensures ∙ c.index-periods-at.is) in
+    omega (arith, next, long, start_fits periods at, c.requires.fits)
+
+pub overflow_add-result-2 : goal.overflow_add-result-2
+overflow_add-result-2 c =
+    let periods = c.args.periods.now in
+    let counts = c.args.counts.now in
+    let at = length counts in
+    let none : Count = record { start = 0; earlier = 0 } in
+    let e = c.index-periods-at.result in
+    let next = ap (λ count. count.earlier) (next_is periods at counts c.requires.counted none e (omega arith) c.requires.within) in
+    let valid : c.valid.result ≡ valid_in (get_or periods (at - 1) e) = c.valid.ensures ∙ ap valid_in c.index-periods-at.is in
+    omega (arith, next, valid, earlier_fits periods at, c.requires.fits)

@@ -1,0 +1,6 @@
+use Rattle.std.proofs.Common.{◌≡◌, take}
+use Rattle.period_counts.specs.OrderKeys.{order_keys}
+use Rattle.period_counts.proofs.order_key.order_keys.Given as goal
+
+abbrev pub invariant-loop-offset : goal.invariant-loop-offset
+invariant-loop-offset l = l.keys.items ≡ order_keys (take l.offset l.units)

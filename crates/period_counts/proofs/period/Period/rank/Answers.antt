@@ -1,0 +1,27 @@
+use Rattle.std.proofs.Common.{◌≡◌, ◌+◌, ◌∙◌, cond, ap, sym, length, count_by, arith}
+use Rattle.std.proofs.lemmas.List.Sorted.{length_permutation, sum_by-IsPermutation}
+use Rattle.period_counts.specs.OrderKeys.{is_first, order_keys}
+use Rattle.period_counts.specs.Periods.{valid_in}
+use Rattle.period_counts.proofs.OrderedKeys.{length-order_keys}
+use Rattle.period_counts.proofs.period.Period.rank.Goals as goal
+
+pub rank-requires-clause-room : goal.rank-requires-clause-room
+rank-requires-clause-room c =
+    let period = c.self.inside in
+    let long : length c.deref.result.now ≡ valid_in c.args.self.now = ap length c.deref.ensures.value
+    ∙ length_permutation _ _ c.self.invariant.permutation ∙ length-order_keys 0 period.units.items ∙ ap valid_in c.self.view_is in
+    omega (arith, long, c.requires)
+
+pub returns-clause-rank : goal.returns-clause-rank
+returns-clause-rank c =
+    let period = c.self.inside in
+    c.rank.ensures.rank ∙ ap (λ keys. count_by (λ other. is_first other c.args.key) keys) c.deref.ensures.value
+    ∙ sum_by-IsPermutation (λ other. cond (is_first other c.args.key) 1 0) _ _ c.self.invariant.permutation
+    ∙ ap (λ units. count_by (λ other. is_first other c.args.key) (order_keys units)) c.self.view_is
+
+pub returns-clause-few : goal.returns-clause-few
+returns-clause-few c =
+    let period = c.self.inside in
+    let long : length c.deref.result.now ≡ valid_in c.args.self.now = ap length c.deref.ensures.value
+    ∙ length_permutation _ _ c.self.invariant.permutation ∙ length-order_keys 0 period.units.items ∙ ap valid_in c.self.view_is in
+    omega (arith, long, c.rank.ensures.few)

@@ -1,0 +1,10 @@
+use Rattle.std.proofs.Common.{◌∙◌, ap, sym, length}
+use Rattle.std.proofs.lemmas.List.Sorted.{length_permutation}
+use Rattle.period_counts.specs.Periods.{valid_in}
+use Rattle.period_counts.proofs.OrderedKeys.{length-order_keys}
+use Rattle.period_counts.proofs.period.Period.valid.Goals as goal
+
+pub returns : goal.returns
+returns c =
+    let period = c.self.inside in
+    c.len.ensures ∙ period.sorted.ok.0 ∙ length_permutation _ _ c.self.invariant.permutation ∙ length-order_keys 0 period.units.items ∙ ap valid_in c.self.view_is

@@ -1,0 +1,32 @@
+-- The units of a stream by periods: each begins with the unit that begins it, but for the first (ITU-T H.264, 8.2.1).
+use Rattle.std.specs.Prelude.{◌≡◌, ℕ, ◌+◌, ◌<◌, ◌≤◌, ◌^◌, false, true, Option, List, [], ◌∷◌, ◌++◌, All, length, take, drop, is_some, count_by}
+use Rattle.std.specs.List.{flat_map}
+use Rattle.period_counts.specs.declared.shown.Shown.{Shown}
+use Rattle.period_counts.specs.Shown.{begins_period}
+
+-- the units of the periods, one period after the other
+abbrev pub units_of : List (List (Option Shown)) → List (Option Shown)
+units_of periods = flat_map (λ period. period) periods
+
+-- how many units are valid
+abbrev pub valid_in : List (Option Shown) → ℕ
+valid_in units = count_by is_some units
+
+-- one unit or more, of which none after the first begins a period
+abbrev pub IsPeriod : List (Option Shown) → Type 0
+IsPeriod [] = ⊥
+IsPeriod (first ∷ rest) = All (λ unit. begins_period unit ≡ false) rest
+
+-- the first of the units, if there are any, begins a period
+abbrev pub IsBegun : List (Option Shown) → Type 0
+IsBegun [] = Unit {0}
+IsBegun (first ∷ rest) = begins_period first ≡ true
+
+-- the periods of a stream
+pub record ArePeriods (periods : List (List (Option Shown))) : Type 0 where
+  pub each : All IsPeriod periods
+  pub later : All IsBegun (drop 1 periods)
+
+-- units with those between two places replaced
+abbrev pub spliced : ℕ → ℕ → List (Option Shown) → List (Option Shown) → List (Option Shown)
+spliced low high between units = take low units ++ between ++ drop high units

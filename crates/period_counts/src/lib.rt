@@ -1,0 +1,23 @@
+//! Positions in output order by periods: for each period its units with the keys of the valid ones in output order, and
+//! how many valid units earlier periods have.
+//!
+//! A position is found by a search in one period, and a change of a stretch of units makes anew the periods that it
+//! touches. What a position is, output_order defines.
+#![tactic(auto)]
+
+mod comparisons;
+mod counting;
+mod cutting;
+mod order_key;
+mod period;
+mod periods;
+mod ranking;
+mod replacing;
+mod shown;
+mod splice;
+mod touching;
+
+pub use comparisons::Comparisons;
+pub use periods::Periods;
+pub use shown::Shown;
+pub use splice::Splice;

@@ -1,0 +1,204 @@
+//! The periods of a stream under changes.
+
+ghost use Rattle.std.specs.Prelude.{◌≡◌, ◌+◌, ◌-◌, ◌<◌, ◌≤◌, ◌^◌, List, [], length, map, max, IfOk, IfNone, OnOk, OnErr, IsOk};
+ghost use Rattle.outcomes.specs.declared.outcome.Outcome.{Outcome};
+ghost use Rattle.output_order.specs.OutputOrder.{position_at};
+ghost use Rattle.period_counts.specs.Shown.{shown_of};
+ghost use Rattle.period_counts.specs.Periods.{units_of, spliced};
+ghost use Rattle.period_counts.specs.Kept.{changed, IsChange, IsSplice};
+ghost use Rattle.period_counts.specs.Bounds.{period_size};
+ghost use Rattle.period_counts.specs.Places.{IsFound, IsTouched};
+
+use crate::comparisons::Comparisons;
+use crate::counting::{Count, count_on, start_of, started_before};
+use crate::cutting::periods_of;
+use crate::order_key::OrderKey;
+use crate::period::Period;
+use crate::replacing::replace;
+use crate::shown::Shown;
+use crate::splice::Splice;
+use crate::touching::{Touched, units_after};
+use std::alloc::{AllocError, Global};
+use std::marker::Model;
+
+/// A stream's units by periods, with what decides about their positions.
+///
+/// A look-up takes time that grows with the logarithms of the number of periods and of the size of one. A change makes
+/// the periods that it touches anew and counts those after them.
+#[derive(Debug, Drop)]
+pub struct Periods {
+    periods: Vec<Period>,
+    counts: Vec<Count>,
+    room: usize,
+}
+
+impl Model for Periods {
+    ghost use Rattle.period_counts.specs.Kept.{Kept, IsKept};
+
+    ghost Value = { Kept };
+
+    ghost view = { λ p. record { periods = p.periods.items; room = p.room } };
+
+    ghost invariant = { λ p. IsKept p.periods p.counts p.room };
+}
+
+impl Periods {
+    /// Those of a stream without a unit.
+    pub fn new(alloc: Global) -> Periods
+        ensures { result ≡ record { periods = []; room = 0 } }
+    {
+        Periods {
+            periods: Vec::new(alloc),
+            counts: Vec::new(alloc),
+            room: 0,
+        }
+    }
+
+    /// How many units the stream has.
+    pub fn len(&self) -> usize
+        ensures { result ≡ length (units_of self.now.periods) }
+    {
+        match (self.counts.last(), self.periods.last()) {
+            (Some(count), Some(period)) => count.start + period.units().len(),
+            _ => 0,
+        }
+    }
+
+    /// The position of the unit at a place, by the outcomes of the stream's units; `None` where it isn't valid. Each
+    /// pair of units that is compared is counted. Takes no memory.
+    pub fn position_in(&self, place: usize, comparisons: &mut Comparisons) -> Option<usize>
+        requires within { place < length (units_of self.now.periods) }
+        requires room { comparisons.old + length (units_of self.now.periods) < 2 ^ 64 }
+        ensures position { (outcomes : List Outcome)
+            → map shown_of outcomes ≡ units_of self.now.periods
+            → result ≡ position_at outcomes place }
+        ensures few { (outcomes : List Outcome)
+            → map shown_of outcomes ≡ units_of self.now.periods
+            → comparisons.new ≤ comparisons.old + period_size outcomes place }
+        ensures none { IfNone result (comparisons.new ≡ comparisons.old) }
+    {
+        let at = self.period_at(place);
+        let count = self.counts[at];
+        let period = &self.periods[at];
+        let offset = place - count.start;
+        let Some(shown) = period.shown(offset) else {
+            return None;
+        };
+        let key = OrderKey {
+            order: shown.order,
+            offset,
+        };
+        Some(count.earlier + period.rank(key, comparisons))
+    }
+
+    /// Prepares that these units take the place of those between two places. All that the change takes but room is made
+    /// here.
+    pub fn prepare_splice(
+        &self,
+        alloc: Global,
+        low: usize,
+        high: usize,
+        units: &[Option<Shown>],
+    ) -> Result<Splice, AllocError>
+        requires ordered { low ≤ high }
+        requires within { high ≤ length (units_of self.now.periods) }
+        requires fits { length (units_of self.now.periods) + length units.now < 2 ^ 64 }
+        ensures { IfOk result (λ splice. IsSplice splice self.now.periods low high units.now) }
+    {
+        let Touched { first, past, start } = self.touched(low, high);
+        let after = units_after(
+            alloc,
+            &self.periods[first..past],
+            low - start,
+            high - start,
+            units,
+        )?;
+        Ok(Splice {
+            first,
+            past,
+            periods: periods_of(alloc, &after)?,
+        })
+    }
+
+    /// Makes room for this many more periods.
+    pub fn reserve(&mut self, n: usize) -> Result<(), AllocError>
+        ensures ok { OnOk result (self.new ≡ record self.old { room = max self.old.room n }) }
+        ensures err { OnErr result (self.new ≡ self.old) }
+        ensures there { n ≤ self.old.room → IsOk result }
+    {
+        if n <= self.room {
+            return Ok(());
+        }
+        self.periods.reserve(n)?;
+        self.counts.reserve(n)?;
+        self.room = n;
+        Ok(())
+    }
+
+    /// Makes a change that was prepared, for which there is room. Takes no memory.
+    pub fn commit(&mut self, splice: Splice)
+        requires can { IsChange splice self.old.periods }
+        requires room { length splice.periods ≤ self.old.room }
+        ensures { self.new ≡ record {
+          periods = changed splice self.old.periods;
+          room = self.old.room - length splice.periods;
+        } }
+    {
+        let Splice {
+            first,
+            past,
+            periods,
+        } = splice;
+        let count = periods.len();
+        replace(&mut self.periods, first, past, periods);
+        self.counts.truncate(first);
+        count_on(&self.periods, &mut self.counts);
+        self.room -= count;
+    }
+
+    /// Puts these units in the place of those between two places.
+    pub fn splice(
+        &mut self,
+        alloc: Global,
+        low: usize,
+        high: usize,
+        units: &[Option<Shown>],
+    ) -> Result<(), AllocError>
+        requires ordered { low ≤ high }
+        requires within { high ≤ length (units_of self.old.periods) }
+        requires fits { length (units_of self.old.periods) + length units.now < 2 ^ 64 }
+        ensures ok { OnOk result (units_of self.new.periods
+            ≡ spliced low high units.now (units_of self.old.periods)) }
+        ensures err { OnErr result (self.new ≡ self.old) }
+    {
+        let splice = self.prepare_splice(alloc, low, high, units)?;
+        self.reserve(splice.len())?;
+        self.commit(splice);
+        Ok(())
+    }
+
+    /// The period in which the unit at a place stands.
+    fn period_at(&self, place: usize) -> usize
+        requires { place < length (units_of self.now.periods) }
+        ensures { IsFound self.now.periods place result }
+    {
+        started_before(&self.counts, place + 1) - 1
+    }
+
+    /// The periods that a change between two places touches.
+    fn touched(&self, low: usize, high: usize) -> Touched
+        requires ordered { low ≤ high }
+        requires within { high ≤ length (units_of self.now.periods) }
+        ensures { IsTouched self.now.periods low high result }
+    {
+        let first = started_before(&self.counts, low).saturating_sub(1);
+        let past = started_before(&self.counts, high)
+            .max(1)
+            .min(self.counts.len());
+        Touched {
+            first,
+            past,
+            start: start_of(&self.counts, first),
+        }
+    }
+}

@@ -8,3 +8,4 @@ pub mod Pictured
 pub mod Stored
 pub mod Seen
 pub mod Taking
+pub mod Told

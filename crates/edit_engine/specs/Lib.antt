@@ -2,8 +2,8 @@ pub mod Streams
 pub mod Edits
 pub mod Refusals
 pub mod Machines
-pub mod Jobs
 pub mod Showing
+pub mod Jobs
 pub mod Taken
 pub mod Names
 pub mod Numbers

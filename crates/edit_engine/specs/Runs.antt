@@ -14,10 +14,11 @@ use Rattle.edit_engine.specs.declared.refusals.NotOut.{NotOut}
 use Rattle.edit_engine.specs.declared.showing.Shown.{Shown}
 use Rattle.edit_engine.specs.declared.replies.Reply.{Reply}
 use Rattle.edit_engine.specs.declared.replies.Reply.TheVariants as replies
+use Rattle.edit_engine.specs.declared.replies.TakenJob.{TakenJob}
 use Rattle.edit_engine.specs.declared.replies.UnitReport.{UnitReport}
 use Rattle.edit_engine.specs.Streams.{Stream, place_of, outcome_in, position_in}
 use Rattle.edit_engine.specs.Machines.{Machine, empty, AnswersEdit}
-use Rattle.edit_engine.specs.Jobs.{AnswersTake, AnswersLand, AnswersGiveBack}
+use Rattle.edit_engine.specs.Jobs.{AnswersTake, AnswersLand, AnswersGiveBack, IsUnitOf}
 use Rattle.edit_engine.specs.Showing.{Shows}
 use Rattle.edit_engine.specs.Taken.{taken_of}
 
@@ -27,9 +28,11 @@ Reports stream id (Ok report) =
     (outcome_in stream id ≡ Some report.outcome) × (position_in stream id ≡ Some report.position)
 Reports stream id (Err none) = place_of stream id ≡ None
 
--- a job is taken, and its number given; want of memory ends a run, and is no reply
-abbrev pub TakesJob : Machine → Result (Option ℕ) TakeRefused → Machine → Type 0
-TakesJob old (Ok (Some number)) new = (job : JobValue) × (job.number ≡ number) × AnswersTake old (Ok (Some job)) new
+-- a job is taken, and told by its number with its unit; want of memory ends a run, and is no reply
+abbrev pub TakesJob : Machine → Result (Option TakenJob) TakeRefused → Machine → Type 0
+TakesJob old (Ok (Some taken)) new =
+    (job : JobValue) × (job.number ≡ taken.number) × AnswersTake old (Ok (Some job)) new
+    × IsUnitOf new taken.number taken.unit
 TakesJob old (Ok None) new = AnswersTake old (Ok None) new
 TakesJob old (Err JobsSpent) new = AnswersTake old (Err JobsSpent) new
 TakesJob old (Err Memory) new = ⊥
@@ -62,7 +65,7 @@ Answers old (commands.Unit id) reply new =
     (answer : Result UnitReport NoSuchUnit) × (reply ≡ replies.Unit answer) × Reports old.register.stream id answer
     × (new ≡ old)
 Answers old commands.Take reply new =
-    (answer : Result (Option ℕ) TakeRefused) × (reply ≡ replies.Take answer) × TakesJob old answer new
+    (answer : Result (Option TakenJob) TakeRefused) × (reply ≡ replies.Take answer) × TakesJob old answer new
 Answers old (commands.Land number) reply new =
     (answer : Result Landing NotOut) × (reply ≡ replies.Land answer) × LandsJob old number answer new
 Answers old (commands.GiveBack number) reply new =

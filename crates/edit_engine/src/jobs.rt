@@ -7,27 +7,28 @@ ghost use Rattle.edit_engine.specs.Taken.{AreOut};
 
 use crate::held_job::HeldJob;
 use crate::refusals::NotOut;
+use crate::replies::TakenJob;
 use crate::session::Session;
 use picture_store::{Landing, Returning, TakeRefused};
 use stand_in_device::{Device, Finished, Job, Undone};
 use std::alloc::{AllocError, Global};
 
-/// Takes a job, and gives its number.
+/// Takes a job, and tells its number and its unit.
 pub(crate) fn take(
     session: &mut Session,
     jobs: &mut Vec<HeldJob>,
-) -> Result<Result<Option<u64>, TakeRefused>, AllocError>
+) -> Result<Result<Option<TakenJob>, TakeRefused>, AllocError>
     requires { AreOut jobs.old.items session.old }
     ensures out { AreOut jobs.new.items session.new }
     ensures ok { IfOk result (λ answer. TakesJob session.old answer session.new) }
     ensures err { OnErr result (session.new ≡ session.old) }
 {
     jobs.reserve(1)?;
-    match session.take() {
-        Ok(Some(job)) => {
+    match session.take_told() {
+        Ok(Some((unit, job))) => {
             let number = job.number();
             jobs.push_reserved(HeldJob::new(job));
-            Ok(Ok(Some(number)))
+            Ok(Ok(Some(TakenJob { number, unit })))
         }
         Ok(None) => Ok(Ok(None)),
         Err(TakeRefused::JobsSpent) => Ok(Err(TakeRefused::JobsSpent)),
@@ -40,6 +41,7 @@ pub(crate) fn land(
     alloc: Global,
     session: &mut Session,
     jobs: &mut Vec<HeldJob>,
+    device: &mut Device,
     number: u64,
 ) -> Result<Result<Landing, NotOut>, AllocError>
     requires { AreOut jobs.old.items session.old }
@@ -50,7 +52,7 @@ pub(crate) fn land(
     let Some(at) = place_of(jobs, number) else {
         return Ok(Err(NotOut));
     };
-    let finished = decode(alloc, jobs[at].copy(alloc)?)?;
+    let finished = decode(alloc, device, jobs[at].copy(alloc)?)?;
     drop(jobs.remove(at));
     Ok(Ok(session.land(finished)))
 }
@@ -87,10 +89,9 @@ fn place_of(jobs: &[HeldJob], number: u64) -> Option<usize>
 }
 
 /// Decodes a job.
-fn decode(alloc: Global, job: Job) -> Result<Finished, AllocError>
+fn decode(alloc: Global, device: &mut Device, job: Job) -> Result<Finished, AllocError>
     ensures { IfOk result (λ finished. finished ≡ job) }
 {
-    let mut device = Device::new(alloc);
     match device.decode(alloc, job) {
         Ok(finished) => Ok(finished),
         Err(undone) => Err(cause_of(undone)),

@@ -31,7 +31,7 @@ pub use laws::ids_differ;
 pub use picture_store::{Landing, Returning, TakeRefused};
 pub use receipts::{Last, Receipt};
 pub use refusals::{EditRefused, NoSuchUnit, NotOut};
-pub use replies::{Reply, UnitReport};
+pub use replies::{Reply, TakenJob, UnitReport};
 pub use runner::{Runner, run};
 pub use session::Session;
 pub use showing::Shown;

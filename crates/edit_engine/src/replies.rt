@@ -5,6 +5,7 @@ use crate::refusals::{EditRefused, NoSuchUnit, NotOut};
 use crate::showing::Shown;
 use outcomes::Outcome;
 use picture_store::{Landing, Returning, TakeRefused};
+use pictures::AuId;
 
 /// What a command is answered, by the variant of the command's name.
 #[derive(Debug, Drop)]
@@ -13,14 +14,21 @@ pub enum Reply {
     Edit(Result<Receipt, EditRefused>),
     /// What becomes of the unit.
     Unit(Result<UnitReport, NoSuchUnit>),
-    /// The number of the job, `None` where no picture is due, or that all numbers of jobs were given.
-    Take(Result<Option<u64>, TakeRefused>),
+    /// The job, `None` where no picture is due, or that all numbers of jobs were given.
+    Take(Result<Option<TakenJob>, TakeRefused>),
     /// What became of the job's result.
     Land(Result<Landing, NotOut>),
     /// What became of the job.
     GiveBack(Result<Returning, NotOut>),
     /// What is shown of the unit.
     Show(Shown),
+}
+
+/// A job that is out, and its unit: the first of the stream, when the job was taken, that has the job's key.
+#[derive(Clone, Copy, Debug, PartialEq, Eq)]
+pub struct TakenJob {
+    pub number: u64,
+    pub unit: AuId,
 }
 
 /// What becomes of a unit, and its position in output order where it is valid.

@@ -1,25 +1,29 @@
 //! Commands followed on a session.
 
-ghost use Rattle.std.specs.Prelude.{◌≡◌, ◌≤◌, [], IfOk, OnErr};
+ghost use Rattle.std.specs.Prelude.{◌≡◌, ◌≤◌, ◌↔◌, IfOk, IsErrOf, OnErr};
+ghost use Rattle.edit_engine.specs.Machines.{empty};
 ghost use Rattle.edit_engine.specs.Runs.{Answers, IsRun, Reports};
 
 use crate::commands::Command;
-use crate::config::Config;
+use crate::config::{Config, ConfigFault};
 use crate::held_job::HeldJob;
 use crate::jobs::{give_back, land, take};
 use crate::refusals::NoSuchUnit;
 use crate::replies::{Reply, UnitReport};
 use crate::session::Session;
 use pictures::AuId;
+use stand_in_device::Device;
 use std::alloc::{AllocError, Global};
 use std::marker::Model;
 
-/// A session that follows commands, one at a time, with the jobs that are out. Clauses see it as the session.
-#[derive(Debug, Drop)]
+/// A session that follows commands, one at a time, with the jobs that are out and a device that decodes them. Clauses
+/// see it as the session.
+#[derive(Drop)]
 pub struct Runner {
     alloc: Global,
     session: Session,
     jobs: Vec<HeldJob>,
+    device: Device,
 }
 
 impl Model for Runner {
@@ -40,16 +44,18 @@ impl Model for Runner {
 }
 
 impl Runner {
-    /// A runner that goes on with the session, of which no job is out.
-    pub fn new(alloc: Global, session: Session) -> Runner
-        requires { session.out ≡ [] }
-        ensures { result ≡ session }
+    /// A runner with a session of its own, of an empty stream.
+    pub fn new(alloc: Global, config: Config) -> Result<Runner, ConfigFault>
+        ensures ok { IfOk result (λ runner. runner ≡ empty config.cache) }
+        ensures cache { IsErrOf result ConfigFault.Cache
+            ↔ ((1 ≤ config.cache) × (config.cache ≤ 4096) → ⊥) }
     {
-        Runner {
+        Ok(Runner {
             alloc,
-            session,
+            session: Session::new(alloc, config)?,
             jobs: Vec::new(alloc),
-        }
+            device: Device::new(alloc),
+        })
     }
 
     /// Follows a command and answers it. An edit that wants memory is answered so; where anything else wants memory,
@@ -63,7 +69,8 @@ impl Runner {
             Command::Unit(id) => Ok(Reply::Unit(report(self.alloc, &self.session, id)?)),
             Command::Take => Ok(Reply::Take(take(&mut self.session, &mut self.jobs)?)),
             Command::Land(number) => {
-                let landed = land(self.alloc, &mut self.session, &mut self.jobs, number)?;
+                let (session, jobs) = (&mut self.session, &mut self.jobs);
+                let landed = land(self.alloc, session, jobs, &mut self.device, number)?;
                 Ok(Reply::Land(landed))
             }
             Command::GiveBack(number) => {
@@ -105,10 +112,9 @@ pub fn run(alloc: Global, config: Config, commands: &[Command]) -> Result<Vec<Re
     requires { (1 ≤ config.cache) × (config.cache ≤ 4096) }
     ensures { IfOk result (λ replies. IsRun config.cache commands.now replies.items) }
 {
-    let Ok(session) = Session::new(alloc, config) else {
+    let Ok(mut runner) = Runner::new(alloc, config) else {
         return Err(AllocError);
     };
-    let mut runner = Runner::new(alloc, session);
     let mut replies = Vec::with_capacity(alloc, commands.len())?;
     for command in commands {
         replies.push(runner.step(command.copy()?)?)?;

@@ -4,7 +4,7 @@ ghost use Rattle.std.specs.Prelude.{◌≡◌, ◌≤◌, ◌↔◌, Some, None,
 ghost use Rattle.edit_engine.specs.Streams.{place_of, outcome_in, position_in};
 ghost use Rattle.edit_engine.specs.Edits.{no_units, Replays};
 ghost use Rattle.edit_engine.specs.Machines.{empty, AnswersEdit, last_of};
-ghost use Rattle.edit_engine.specs.Jobs.{AnswersGiveBack, AnswersLand, AnswersTake};
+ghost use Rattle.edit_engine.specs.Jobs.{AnswersGiveBack, AnswersLand, AnswersTake, TellsTake};
 ghost use Rattle.edit_engine.specs.Showing.{Shows};
 
 use crate::config::{Config, ConfigFault};
@@ -16,7 +16,7 @@ use crate::refusals::{EditRefused, NoSuchUnit};
 use crate::showing::Shown;
 use access_unit::Unit;
 use outcomes::Outcome;
-use picture_store::{Landing, PictureStore, Returning, TakeRefused};
+use picture_store::{JobAt, Landing, PictureStore, Returning, TakeRefused};
 use pictures::AuId;
 use stand_in_device::{Finished, Job};
 use std::alloc::Global;
@@ -110,7 +110,22 @@ impl Session {
     pub fn take(&mut self) -> Result<Option<Job>, TakeRefused>
         ensures { AnswersTake self.old result self.new }
     {
-        self.store.take()
+        match self.take_told() {
+            Ok(Some((_, job))) => Ok(Some(job)),
+            Ok(None) => Ok(None),
+            Err(refused) => Err(refused),
+        }
+    }
+
+    /// Gives a picture to decode as `take` does, and tells the unit of the job.
+    pub(crate) fn take_told(&mut self) -> Result<Option<(AuId, Job)>, TakeRefused>
+        ensures { TellsTake self.old result self.new }
+    {
+        match self.store.take() {
+            Ok(Some(JobAt { at, job })) => Ok(Some((self.units[at].0, job))),
+            Ok(None) => Ok(None),
+            Err(refused) => Err(refused),
+        }
     }
 
     /// Takes the result of a job, in any order and at any time. It takes no memory.

@@ -2,7 +2,7 @@
 use Rattle.std.proofs.Common.{◌≡◌, refl, ap, sym, ◌∙◌, subst, ℕ, suc, ◌<◌, ◌+◌, List, [], ◌∷◌, ◌++◌, length, map, take, drop, Option, None, Some, IsSome, IsTrue, IfSome, arith, rules}
 use Rattle.std.specs.Prelude.{All, Contains, slice_get, slice_index_or}
 use Rattle.std.specs.List.{zip}
-use Rattle.std.proofs.lemmas.List.{map-append}
+use Rattle.std.proofs.lemmas.List.{map-append, length-take-le}
 use Rattle.std.proofs.lemmas.List.Elements.{All-contains, All-push}
 use Rattle.outcomes.specs.declared.outcome.Outcome.{Outcome}
 use Rattle.outcomes.specs.declared.outcome.Outcome.TheVariants.{Plan as Planned, Fault as Faulty}
@@ -179,33 +179,36 @@ module _ (keys : Trees) (ids : List ℕ) (outcomes : List Outcome) (found : List
     pub taken : (outcome : Outcome) → unit.0.1 ≡ outcome → All (IsNotDue keys places out) (take at found)
         → (input : InputValue) → IsInputOf known outcome input → (next : ℕ) → next ≡ given + 1
         → (more : List JobOut) → more ≡ out ++ (record { number = next; key = number; input = input }) ∷ []
-        → Takes (viewed keys ids outcomes places cached room out given) (record { number = next; input = input })
-        (viewed keys ids outcomes places cached room more next)
+        → (takes : Takes (viewed keys ids outcomes places cached room out given) (record { number = next; input = input })
+        (viewed keys ids outcomes places cached room more next))
+        × (at ≡ length takes.before)
     taken (Faulty fault) same none input made next next_is more more_is = absurd made
     taken (Planned plan) same none input made next next_is more more_is =
         let tree : tree_at keys number ≡ Some (key_of known plan.requests) =
         tree_is ∙ ap (key_of_outcome known) same in
         let key_same : key_for keys number ≡ key_of known plan.requests =
-        key_is keys number (key_of known plan.requests) tree in
-        record {
-          before = take at (zip ids outcomes);
-          id = unit.0.0;
-          plan = plan;
-          after = drop (suc at) (zip ids outcomes);
-          stands =
-              unit.1.parts
-              ∙ ap (λ o. take at (zip ids outcomes) ++ (unit.0.0, o) ∷ drop (suc at) (zip ids outcomes)) same;
-          due = due_for number (key_of known plan.requests) tree contained due;
-          earliest = All-from_contains (keys_after [] (take at (zip ids outcomes))) (none_before none);
-          number_is = next_is;
-          requests_are = made.0;
-          shows = made.1;
-          new_is =
-              ap (λ (jobs : List OutValue). record (viewed keys ids outcomes places cached room out given) { out = jobs; given = next })
-              (ap (jobs_for keys) more_is
-              ∙ map-append (seen keys) out ((record { number = next; key = number; input = input }) ∷ [])
-              ∙ ap (λ (key : Key). jobs_for keys out ++ (record { number = next; key = key; input = input }) ∷ []) key_same);
-        }
+        key_is keys number (key_of known plan.requests) tree in (
+          record {
+            before = take at (zip ids outcomes);
+            id = unit.0.0;
+            plan = plan;
+            after = drop (suc at) (zip ids outcomes);
+            stands =
+                unit.1.parts
+                ∙ ap (λ o. take at (zip ids outcomes) ++ (unit.0.0, o) ∷ drop (suc at) (zip ids outcomes)) same;
+            due = due_for number (key_of known plan.requests) tree contained due;
+            earliest = All-from_contains (keys_after [] (take at (zip ids outcomes))) (none_before none);
+            number_is = next_is;
+            requests_are = made.0;
+            shows = made.1;
+            new_is =
+                ap (λ (jobs : List OutValue). record (viewed keys ids outcomes places cached room out given) { out = jobs; given = next })
+                (ap (jobs_for keys) more_is
+                ∙ map-append (seen keys) out ((record { number = next; key = number; input = input }) ∷ [])
+                ∙ ap (λ (key : Key). jobs_for keys out ++ (record { number = next; key = key; input = input }) ∷ []) key_same);
+          },
+          sym (length-take-le at (zip ids outcomes) (omega (arith, in_units))),
+        )
 
     -- what is stored then
     pub kept_taken : (outcome : Outcome) → unit.0.1 ≡ outcome → (input : InputValue) → IsInputOf known outcome input

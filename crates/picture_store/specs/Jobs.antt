@@ -1,5 +1,5 @@
 -- Jobs that are taken, that land, and that are given back.
-use Rattle.std.specs.Prelude.{◌≡◌, ℕ, ◌+◌, ◌<◌, List, [], ◌∷◌, ◌++◌, ◌↔◌, ◌⊎◌, map, remove, slice_get, All, Contains, Option, None, Some, IfSome, Result, Ok, Err}
+use Rattle.std.specs.Prelude.{◌≡◌, ℕ, ◌+◌, ◌<◌, List, [], ◌∷◌, ◌++◌, ◌↔◌, ◌⊎◌, length, map, remove, slice_get, All, Contains, Option, None, Some, IfSome, Result, Ok, Err}
 use Rattle.outcomes.specs.declared.outcome.Outcome.{Outcome}
 use Rattle.outcomes.specs.declared.outcome.Outcome.TheVariants as outcomes
 use Rattle.outcomes.specs.declared.outcome.Plan.{Plan}
@@ -9,6 +9,7 @@ use Rattle.picture_keys.specs.Known.{key_of, keys_of, known_after}
 use Rattle.picture_keys.specs.KeyPictures.{ShowsKnown}
 use Rattle.picture_store.specs.declared.refusals.TakeRefused.{TakeRefused}
 use Rattle.picture_store.specs.declared.refusals.TakeRefused.TheVariants.{JobsSpent, Memory}
+use Rattle.picture_store.specs.declared.answers.JobAt.{JobAt}
 use Rattle.picture_store.specs.declared.answers.Landing.{Landing}
 use Rattle.picture_store.specs.declared.answers.Landing.TheVariants as landings
 use Rattle.picture_store.specs.declared.answers.Returning.{Returning}
@@ -59,6 +60,12 @@ AnswersTake old (Ok (Some job)) new = Takes old job new
 AnswersTake old (Ok None) new = (IsAnyDue old → ⊥) × (new ≡ old)
 AnswersTake old (Err JobsSpent) new = IsAnyDue old × (old.given ≡ most_jobs) × (new ≡ old)
 AnswersTake old (Err Memory) new = IsAnyDue old × (old.given < most_jobs) × (new ≡ old)
+
+-- what `take` tells: what it answers, and of a job at which place its unit stands
+abbrev pub TellsTake : StoreValue → Result (Option JobAt) TakeRefused → StoreValue → Type 0
+TellsTake old (Ok (Some told)) new = (takes : Takes old told.job new) × (told.at ≡ length takes.before)
+TellsTake old (Ok None) new = AnswersTake old (Ok None) new
+TellsTake old (Err refused) new = AnswersTake old (Err refused) new
 
 -- the job that is out has this number and was given this to decode
 abbrev pub IsOf : JobValue → OutValue → Type 0

@@ -1,4 +1,13 @@
-//! What becomes of jobs that come back.
+//! What a store answers about jobs.
+
+use stand_in_device::Job;
+
+/// A job that is taken, and the place of its unit: the first of the stream that has its key.
+#[derive(Debug)]
+pub struct JobAt {
+    pub at: usize,
+    pub job: Job,
+}
 
 /// What becomes of a result.
 #[derive(Clone, Copy, Debug, PartialEq, Eq, Hash)]

@@ -17,6 +17,6 @@ mod refitting;
 mod refusals;
 mod store;
 
-pub use answers::{Landing, Returning};
+pub use answers::{JobAt, Landing, Returning};
 pub use refusals::TakeRefused;
 pub use store::PictureStore;

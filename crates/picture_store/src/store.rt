@@ -6,11 +6,11 @@ ghost use Rattle.std.specs.Prelude.{[]};
 ghost use Rattle.picture_keys.specs.Decodable.{AllCanDecode};
 ghost use Rattle.picture_store.specs.Stores.{empty};
 ghost use Rattle.picture_store.specs.Changes.{Refits};
-ghost use Rattle.picture_store.specs.Jobs.{AnswersGiveBack, AnswersLand, AnswersTake};
+ghost use Rattle.picture_store.specs.Jobs.{AnswersGiveBack, AnswersLand, TellsTake};
 ghost use Rattle.picture_store.specs.Filling.{IsFilled};
 ghost use Rattle.picture_store.specs.Showing.{IsPictureAt};
 
-use crate::answers::{Landing, Returning};
+use crate::answers::{JobAt, Landing, Returning};
 use crate::due::{first_due, is_awaited};
 use crate::inputs::input_of;
 use crate::job_out::{JobOut, place_of};
@@ -132,8 +132,8 @@ impl PictureStore {
     }
 
     /// Gives the earliest picture that is due to be decoded, under the next number.
-    pub fn take(&mut self) -> Result<Option<Job>, TakeRefused>
-        ensures { AnswersTake self.old result self.new }
+    pub fn take(&mut self) -> Result<Option<JobAt>, TakeRefused>
+        ensures { TellsTake self.old result self.new }
     {
         let Some(at) = first_due(&self.keys, &self.places, &self.out, &self.found) else {
             return Ok(None);
@@ -154,7 +154,8 @@ impl PictureStore {
             input: given,
         });
         self.given = number;
-        Ok(Some(Job::new(number, input)))
+        let job = Job::new(number, input);
+        Ok(Some(JobAt { at, job }))
     }
 
     /// Takes the result of a job. It takes no memory.

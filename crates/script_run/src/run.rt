@@ -16,7 +16,7 @@ use crate::messages::say_run_fault;
 use crate::options::Options;
 use crate::run_fault::RunFault;
 use console_io::{Ended, Sink, Source, Status, whole_input, write_bytes};
-use edit_engine::{Command as Told, Config, NoSuchUnit, Reply, Runner, Session, UnitReport};
+use edit_engine::{Command as Told, Config, NoSuchUnit, Reply, Runner, UnitReport};
 use edit_script::{Command, id_of_number, read_script};
 use std::alloc::{AllocError, Global};
 use std::io::Read;
@@ -80,10 +80,9 @@ fn run_text<'a, S: Source, W: Sink>(
     let commands = read_script(alloc, text)?;
     let cache = options.cache;
     // The options are in range.
-    let Ok(session) = Session::new(alloc, Config { cache }) else {
+    let Ok(mut runner) = Runner::new(alloc, Config { cache }) else {
         return Err(RunFault::Memory);
     };
-    let mut runner = Runner::new(alloc, session);
     run_commands(threads, alloc, commands, &mut runner, source, writer)
 }
 

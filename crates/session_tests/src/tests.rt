@@ -10,7 +10,7 @@ mod running;
 mod texts;
 
 use bytes::Bytes;
-use edit_engine::{Config, Edit, EditRefused, NoSuchUnit, Place, Receipt, Session};
+use edit_engine::{Config, Edit, EditRefused, NoSuchUnit, Place, Receipt, Runner, Session};
 use outcomes::{Outcome, ValidityFault};
 use pictures::AuId;
 use std::process::Abort;
@@ -39,16 +39,19 @@ fn row_holds(rt: &impl Abort, row: usize, holds: bool) {
 fn empty_session(rt: &(impl Abort + AllocGlobal)) -> Session
     ensures { result ≡ empty 64 }
 {
-    session_of(rt, 64)
-}
-
-/// A session with an empty stream, and with room for so many pictures in its cache.
-fn session_of(rt: &(impl Abort + AllocGlobal), cache: u16) -> Session
-    ensures { result ≡ empty cache }
-{
-    match Session::new(rt.alloc(), Config { cache }) {
+    match Session::new(rt.alloc(), Config { cache: 64 }) {
         Ok(session) => session,
         Err(_) => panic!(rt; "no session is made"),
+    }
+}
+
+/// A runner with an empty stream, and with room for so many pictures in its cache.
+fn runner_of(rt: &(impl Abort + AllocGlobal), cache: u16) -> Runner
+    ensures { result ≡ empty cache }
+{
+    match Runner::new(rt.alloc(), Config { cache }) {
+        Ok(runner) => runner,
+        Err(_) => panic!(rt; "no runner is made"),
     }
 }
 

@@ -1,6 +1,6 @@
 //! Jobs, results and pictures, through a runner.
 
-use super::{A, I, P1, P2, Told, edit_of, row_holds, session_of};
+use super::{A, I, P1, P2, Told, edit_of, row_holds, runner_of};
 use edit_engine::{Command, Landing, NotOut, Picture, Reply, Returning, Runner, Shown};
 use pictures::AuId;
 use std::alloc::AllocError;
@@ -36,7 +36,8 @@ const PICTURE_OF_A: [u8; 32] = [
 enum Act {
     /// An edit that is accepted.
     Edit(Told),
-    Take(u64),
+    /// The job of this number, with this unit.
+    Take(u64, u32),
     TakesNone,
     Land(u64, Landing),
     LandsNone(u64),
@@ -99,14 +100,14 @@ const NON_REFERENCES: &[Act] = &[
 const STALE_AND_LATE: &[Act] = &[
     Act::Edit(Told::First(A)),
     Act::Edit(Told::After(1, P1)),
-    Act::Take(1),
+    Act::Take(1, 1),
     Act::TakesNone,
     Act::Land(1, Landing::Taken),
-    Act::Take(2),
+    Act::Take(2, 2),
     Act::Edit(Told::Replace(2, P1X)),
     Act::Land(2, Landing::Stale),
     Act::Pending(2),
-    Act::Take(3),
+    Act::Take(3, 2),
     Act::Edit(Told::Replace(2, P1)),
     Act::Edit(Told::Replace(2, P1X)),
     Act::Land(3, Landing::Taken),
@@ -118,7 +119,7 @@ const STALE_AND_LATE: &[Act] = &[
 const EQUAL_UNITS: &[Act] = &[
     Act::Edit(Told::First(A)),
     Act::Edit(Told::After(1, I)),
-    Act::Take(1),
+    Act::Take(1, 1),
     Act::TakesNone,
     Act::Pending(1),
     Act::Pending(2),
@@ -133,9 +134,9 @@ const GIVEN_BACK: &[Act] = &[
     Act::TakesNone,
     Act::Gone(1),
     Act::Edit(Told::First(A)),
-    Act::Take(1),
+    Act::Take(1, 1),
     Act::Give(1),
-    Act::Take(2),
+    Act::Take(2, 1),
     Act::GivesNone(1),
     Act::LandsNone(1),
     Act::Land(2, Landing::Taken),
@@ -173,7 +174,7 @@ const ROWS: &[(u16, &[Act])] = &[
 fn command_of(act: Act) -> Command {
     match act {
         Act::Edit(told) => Command::Edit(edit_of(told)),
-        Act::Take(_) | Act::TakesNone | Act::Settle => Command::Take,
+        Act::Take(..) | Act::TakesNone | Act::Settle => Command::Take,
         Act::Land(number, _) | Act::LandsNone(number) => Command::Land(number),
         Act::Give(number) | Act::GivesNone(number) => Command::GiveBack(number),
         Act::Ready(id) | Act::Pending(id) | Act::Fault(id, _) | Act::Gone(id) => {
@@ -186,7 +187,9 @@ fn command_of(act: Act) -> Command {
 fn is_reply(reply: &Reply, act: Act) -> bool {
     match (reply, act) {
         (Reply::Edit(answer), Act::Edit(_)) => answer.is_ok(),
-        (Reply::Take(Ok(taken)), Act::Take(number)) => *taken == Some(number),
+        (Reply::Take(Ok(Some(taken))), Act::Take(number, unit)) => {
+            taken.number == number && taken.unit.number() == unit
+        }
         (Reply::Take(Ok(taken)), Act::TakesNone) => taken.is_none(),
         (Reply::Land(Ok(landing)), Act::Land(_, wanted)) => *landing == wanted,
         (Reply::Land(Err(NotOut)), Act::LandsNone(_)) => true,
@@ -221,9 +224,14 @@ fn settle(runner: &mut Runner) -> Result<bool, AllocError> {
 
 /// The number of the job that is taken, if one is.
 fn taken(runner: &mut Runner) -> Result<Option<u64>, AllocError> {
-    match runner.step(Command::Take)? {
-        Reply::Take(Ok(taken)) => Ok(taken),
-        _ => Ok(None),
+    Ok(number_taken(&runner.step(Command::Take)?))
+}
+
+/// The number of the job of a reply, if it has one.
+fn number_taken(reply: &Reply) -> Option<u64> {
+    match reply {
+        Reply::Take(Ok(Some(taken))) => Some(taken.number),
+        _ => None,
     }
 }
 
@@ -248,7 +256,7 @@ fn all_hold(mut runner: Runner, acts: &[Act]) -> Result<bool, AllocError> {
 #[test]
 fn jobs_and_pictures(rt: HostRuntime) -> Result<(), Fail> {
     for (row, (room, acts)) in ROWS.iter().enumerate() {
-        let runner = Runner::new(rt.alloc(), session_of(&rt, *room));
+        let runner = runner_of(&rt, *room);
         row_holds(&rt, row, all_hold(runner, acts)?);
     }
     Ok(())
@@ -266,7 +274,7 @@ fn shows_a(mut runner: Runner, picture: Picture) -> Result<bool, AllocError> {
 
 #[test]
 fn shows_the_picture_of_an_idr_picture(rt: HostRuntime) -> Result<(), Fail> {
-    let runner = Runner::new(rt.alloc(), session_of(&rt, 64));
+    let runner = runner_of(&rt, 64);
     let picture = Picture {
         digest: PICTURE_OF_A,
     };

@@ -1,6 +1,6 @@
 //! Calls of which any growth of memory may be refused.
 
-use super::{A, P1, P2, Told, edit_of, empty_session};
+use super::{A, P1, P2, Told, edit_of, empty_session, runner_of};
 use Told::{After, Delete, First, Replace};
 use edit_engine::{Command, Config, Edit, EditRefused, Last, Receipt, Reply, Runner, Session, run};
 use pictures::AuId;
@@ -86,7 +86,7 @@ fn is_reported(rt: &impl Abort, runner: &mut Runner) -> bool {
 
 #[test]
 fn refused_growth_of_steps(rt: HostRuntime) {
-    let mut runner = Runner::new(rt.alloc(), empty_session(&rt));
+    let mut runner = runner_of(&rt, 64);
     assert!(rt; is_inserted(&rt, &mut runner));
     assert!(rt; is_reported(&rt, &mut runner));
 }

@@ -1,8 +1,6 @@
 //! Commands followed one after the other, and runs of many.
 
-use super::{
-    A, Answer, P1, Shown, Step, Told, edit_of, empty_session, is_answer, row_holds, shows,
-};
+use super::{A, Answer, P1, Shown, Step, Told, edit_of, is_answer, row_holds, runner_of, shows};
 use Shown::{At, Fault, Gone};
 use Step::Unit;
 use Told::{After, Delete, First};
@@ -64,7 +62,7 @@ const STEPS: [Step; 8] = [
 
 #[test]
 fn steps_answer_for_the_stream_as_it_is(rt: HostRuntime) -> Result<(), Fail> {
-    let mut runner = Runner::new(rt.alloc(), empty_session(&rt));
+    let mut runner = runner_of(&rt, 64);
     for (row, step) in STEPS.iter().enumerate() {
         row_holds(&rt, row, replies(&mut runner, step)?);
     }

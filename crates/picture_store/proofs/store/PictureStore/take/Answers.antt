@@ -108,8 +108,8 @@ returns-in_err-given c =
       ap (λ items. viewed s.keys s.ids.items s.outcomes.items s.places s.cache.pairs s.cache.capacity items s.given) c.reserve.ensures.items,
     )
 
-pub new-requires : goal.new-requires
-new-requires c =
+pub new-job-requires : goal.new-job-requires
+new-job-requires c =
     let s = c.self.inside in
     let first = rw (c.deref.ensures.value, c.deref-2.ensures.value) at c.in-Some.ensures in
     let key = c.in-Some-index.key in
@@ -162,7 +162,7 @@ returns c =
     ≡ s.out.items ++ (record { number = c.in-Some-checked_add.number; key = key; input = c.in_ok-input.input }) ∷ [] =
     c.push_reserved.ensures.items
     ∙ rw (c.reserve.ensures.items, c.in_ok-given.ensures) refl in
-    rw (← c.self.view_is, c.new.ensures)
+    rw (← c.self.view_is, c.new-job.ensures)
     (taken s.keys s.ids.items s.outcomes.items s.found.items s.places s.cache.pairs s.cache.capacity s.out.items s.given
     c.self.invariant c.in-Some.at first.0 key is due c.index-outcome.result.now same first.2 c.in_ok-input.input made c.in-Some-checked_add.number
     (omega (arith, c.in-Some-checked_add.ensures)) c.push_reserved.new.self.items more)

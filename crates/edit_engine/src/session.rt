@@ -1,7 +1,8 @@
 //! The session: a stream under edits, and the pictures of its units.
 
 ghost use Rattle.std.specs.Prelude.{◌≡◌, ◌≤◌, ◌↔◌, Some, None, IfOk, IsErrOf, MatchResult};
-ghost use Rattle.edit_engine.specs.Streams.{place_of, outcome_in, position_in};
+ghost use Rattle.request_core.specs.Fold.{outcomes_of};
+ghost use Rattle.edit_engine.specs.Streams.{ids_of, place_of, outcome_in, position_in};
 ghost use Rattle.edit_engine.specs.Edits.{no_units, Replays};
 ghost use Rattle.edit_engine.specs.Machines.{empty, AnswersEdit, last_of};
 ghost use Rattle.edit_engine.specs.Jobs.{AnswersGiveBack, AnswersLand, AnswersTake, TellsTake};
@@ -181,6 +182,27 @@ impl Session {
             Some(place) => Ok(self.positions[place]),
             None => Err(NoSuchUnit),
         }
+    }
+
+    /// The place of the unit that has the id, in decoding order.
+    pub fn place(&self, id: AuId) -> Option<usize>
+        ensures { result ≡ place_of self.now.register.stream id }
+    {
+        place_of(&self.units, id)
+    }
+
+    /// The ids of all units, in decoding order.
+    pub fn ids(&self) -> &[AuId]
+        ensures { result.now ≡ ids_of self.now.register.stream }
+    {
+        self.store.ids()
+    }
+
+    /// What becomes of each unit, in decoding order.
+    pub fn outcomes(&self) -> &[Outcome]
+        ensures { result.now ≡ outcomes_of self.now.register.stream }
+    {
+        self.store.outcomes()
     }
 
     /// How many units the stream has, and the id of the last one.

@@ -18,5 +18,6 @@ mod refusals;
 mod store;
 
 pub use answers::{JobAt, Landing, Returning};
+pub use refitting::numbers_of;
 pub use refusals::TakeRefused;
 pub use store::PictureStore;

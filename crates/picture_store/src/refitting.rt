@@ -16,8 +16,8 @@ use pictures::AuId;
 use stand_in_device::Picture;
 use std::alloc::{AllocError, Global};
 
-/// The numbers of the keys of units, nothing for one with a fault.
-pub(crate) fn numbers_of<F: Fingerprint<Works>>(
+/// The numbers of the keys of units, nothing for one with a fault. Keys that have a number keep it.
+pub fn numbers_of<F: Fingerprint<Works>>(
     alloc: Global,
     keys: &mut Keys<Works, F>,
     ids: &[AuId],

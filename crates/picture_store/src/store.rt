@@ -89,6 +89,13 @@ impl PictureStore {
         })
     }
 
+    /// The ids of the units, in the order of the stream.
+    pub fn ids(&self) -> &[AuId]
+        ensures { result.now ≡ self.now.ids }
+    {
+        self.ids.as_slice()
+    }
+
     /// What becomes of each unit, in the order of the stream.
     pub fn outcomes(&self) -> &[Outcome]
         ensures { result.now ≡ self.now.outcomes }

@@ -21,3 +21,6 @@ pub use comparisons::Comparisons;
 pub use periods::Periods;
 pub use shown::Shown;
 pub use splice::Splice;
+
+#[cfg(test)]
+mod tests;

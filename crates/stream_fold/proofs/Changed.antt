@@ -1,0 +1,107 @@
+-- A stream after a change of one unit: what is in front of it and what is behind.
+use Rattle.std.proofs.Common.{◌≡◌, ℕ, ◌+◌, ◌-◌, ◌≤◌, ◌++◌, length, take, drop, refl, ap, ◌∙◌, arith, length-append, length-drop, add-one}
+use Rattle.std.proofs.lemmas.List.{set_split, length-take-le}
+use Rattle.request_core.specs.Agreement.{Stream}
+use Rattle.stream_fold.specs.declared.changes.Change.{Change}
+use Rattle.stream_fold.specs.declared.changes.Change.TheVariants.{Insertion, Deletion, Replacement}
+use Rattle.stream_fold.specs.Changes.{IsInside, at_of, units_of, rest_from, stream_after, place_after}
+use Rattle.stream_fold.proofs.Fronts.{take_front, take_past, drop_past, drop_drop}
+
+pub at_inside : (change : Change) (stream : Stream) → IsInside change stream → at_of change ≤ length stream
+at_inside (Insertion at id unit) stream inside = inside
+at_inside (Deletion at) stream inside = omega (arith, inside)
+at_inside (Replacement at id unit) stream inside = omega (arith, inside)
+
+pub rest_inside : (change : Change) (stream : Stream) → IsInside change stream → rest_from change ≤ length stream
+rest_inside (Insertion at id unit) stream inside = inside
+rest_inside (Deletion at) stream inside = omega (arith, inside)
+rest_inside (Replacement at id unit) stream inside = omega (arith, inside)
+
+pub at_rest : (change : Change) → at_of change ≤ rest_from change
+at_rest (Insertion at id unit) = omega arith
+at_rest (Deletion at) = omega arith
+at_rest (Replacement at id unit) = omega arith
+
+-- what it brings is one unit at most
+pub one_unit : (change : Change) → length (units_of change) ≤ 1
+one_unit (Insertion at id unit) = omega arith
+one_unit (Deletion at) = omega arith
+one_unit (Replacement at id unit) = omega arith
+
+-- what it brings takes no more places than the stream and one
+pub rest_steps : (change : Change) → at_of change + length (units_of change) ≤ rest_from change + 1
+rest_steps (Insertion at id unit) = omega arith
+rest_steps (Deletion at) = omega arith
+rest_steps (Replacement at id unit) = omega arith
+
+-- a place behind the change is as far behind as before
+pub place_is : (change : Change) (place : ℕ) → rest_from change ≤ place
+    → place_after change place ≡ at_of change + length (units_of change) + (place - rest_from change)
+place_is (Insertion at id unit) place le = omega (arith, le)
+place_is (Deletion at) place le = omega (arith, le)
+place_is (Replacement at id unit) place le = omega (arith, le)
+
+-- in front of the change, what it brings, and behind it
+pub split_after : (change : Change) (stream : Stream) → IsInside change stream
+    → stream_after change stream ≡ take (at_of change) stream ++ (units_of change ++ drop (rest_from change) stream)
+split_after (Insertion at id unit) stream inside = refl
+split_after (Deletion at) stream inside = rw add-one refl
+split_after (Replacement at id unit) stream inside = rw (set_split stream at (id, unit) inside, add-one) refl
+
+module _ (change : Change) (stream : Stream) (inside : IsInside change stream) where
+  abbrev after : Stream
+  after = stream_after change stream
+
+  front_is : length (take (at_of change) stream) ≡ at_of change
+  front_is = length-take-le (at_of change) stream (at_inside change stream inside)
+
+  -- in front of the change nothing is changed
+  pub take_before : (place : ℕ) → place ≤ at_of change → take place after ≡ take place stream
+  take_before place le =
+      rw (split_after change stream inside)
+      (take_front place (at_of change) stream (units_of change ++ drop (rest_from change) stream) le (at_inside change stream inside))
+
+  past : (place : ℕ) → rest_from change ≤ place
+      → place_after change place ≡ length (take (at_of change) stream) + length (units_of change) + (place - rest_from change)
+  past place le = omega (arith, front_is, place_is change place le)
+
+  -- up to a place behind it
+  pub take_behind : (place : ℕ) → rest_from change ≤ place
+      → take (place_after change place) after
+      ≡ take (at_of change) stream ++ (units_of change ++ take (place - rest_from change) (drop (rest_from change) stream))
+  take_behind place le =
+      rw (split_after change stream inside)
+      (take_past (take (at_of change) stream) (units_of change) (drop (rest_from change) stream) (place_after change place)
+      (place - rest_from change) (past place le))
+
+  -- and from there on
+  pub drop_behind : (place : ℕ) → rest_from change ≤ place → drop (place_after change place) after ≡ drop place stream
+  drop_behind place le =
+      let whole : rest_from change + (place - rest_from change) ≡ place = omega (arith, le) in
+      rw (split_after change stream inside)
+      (drop_past (take (at_of change) stream) (units_of change) (drop (rest_from change) stream) (place_after change place)
+      (place - rest_from change) (past place le)
+      ∙ (drop_drop (rest_from change) (place - rest_from change) stream (rest_inside change stream inside)
+      ∙ ap (λ (n : ℕ). drop n stream) whole))
+
+  -- the length
+  pub length_after : length after ≡ place_after change (length stream)
+  length_after =
+      let rest : rest_from change ≤ length stream = rest_inside change stream inside in
+      rw (split_after change stream inside)
+      (omega (
+        arith,
+        front_is,
+        place_is change (length stream) rest,
+        length-drop (rest_from change) stream,
+        rest,
+        length-append (take (at_of change) stream) (units_of change ++ drop (rest_from change) stream),
+        length-append (units_of change) (drop (rest_from change) stream),
+      ))
+
+  -- places behind the change keep their order and their distances
+  pub apart_after : (place other : ℕ) → rest_from change ≤ place → place ≤ other
+      → place_after change other ≡ place_after change place + (other - place)
+  apart_after place other le more =
+      let second : rest_from change ≤ other = omega (arith, le, more) in
+      omega (arith, place_is change place le, place_is change other second, le, more)

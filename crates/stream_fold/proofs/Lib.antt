@@ -1,0 +1,7 @@
+mod Fronts
+mod Changed
+mod Folds
+mod Going
+mod Storage
+mod Anew
+mod Committed

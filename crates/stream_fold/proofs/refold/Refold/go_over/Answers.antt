@@ -1,0 +1,18 @@
+use Rattle.std.proofs.Common.{◌≡◌, ◌+◌, ◌∷◌, ◌++◌, [], take, ap, sym, ◌∙◌, subst}
+use Rattle.std.proofs.lemmas.List.{take_more, get_or_read}
+use Rattle.request_core.specs.Agreement.{Stream}
+use Rattle.stream_fold.specs.Refolding.{GoesOn}
+use Rattle.stream_fold.proofs.Going.{GoesOn-append}
+use Rattle.stream_fold.proofs.refold.Refold.go_over.Goals as goal
+
+pub loop-unit-preserved : goal.loop-unit-preserved
+loop-unit-preserved c =
+    let P : Stream → Type 0 = λ units. GoesOn c.args.self.now units c.go_on.new.self in
+    subst P (sym more)
+    (GoesOn-append c.args.self.now c.loop-unit.self c.go_on.new.self (take c.loop-unit.unit-index c.args.units.now)
+    (c.unit-item.result ∷ []) c.loop-unit.invariant (rw c.deref.ensures at c.in_ok-go_on.ensures))
+  where
+    more : take (c.loop-unit.unit-index + 1) c.args.units.now ≡ take c.loop-unit.unit-index c.args.units.now ++ c.unit-item.result ∷ []
+    more =
+        take_more c.args.units.now c.loop-unit.unit-index c.unit-item.result c.loop-unit-test.true
+        ∙ ap (λ unit. take c.loop-unit.unit-index c.args.units.now ++ unit ∷ []) (sym (get_or_read c.args.units.now c.loop-unit.unit-index c.unit-item.result c.loop-unit-test.true c.unit-item.is c.unit-item.result))

@@ -1,0 +1,43 @@
+-- What a folded stream stores.
+use Rattle.std.specs.Prelude.{◌≡◌, ℕ, ◌<◌, ◌≤◌, List, length}
+use Rattle.std.specs.Map.{keys_of}
+use Rattle.outcomes.specs.declared.outcome.Outcome.{Outcome}
+use Rattle.request_core.specs.States.{FoldState, no_units}
+use Rattle.request_core.specs.Fold.{outcomes_of}
+use Rattle.request_core.specs.Agreement.{Stream, state_from}
+use Rattle.checkpoints.specs.Stored.{Stored, IsStoredAt}
+use Rattle.checkpoints.specs.Spacing.{HasNear}
+use Rattle.stream_fold.specs.Streams.{state_past}
+
+-- the stream, the states that are stored along it, and for how many more units and outcomes there is room
+pub record FoldedValue : Type 0 where
+  pub stream : Stream
+  pub stored : Stored FoldState
+  pub units_room : ℕ
+  pub outcomes_room : ℕ
+
+-- how far stored states stand apart at most, in units
+abbrev pub spacing : ℕ
+spacing = 32
+
+-- the state is that past the place, which is one of the stream's
+pub record IsPast (stream : Stream) (place : ℕ) (state : FoldState) : Type 0 where
+  pub within : place ≤ length stream
+  pub is : state ≡ state_past stream place
+
+-- each stored state is that past its place
+abbrev pub ArePast : Stream → List (ℕ × FoldState) → Type 0
+ArePast stream states =
+    (place : ℕ) (state : FoldState) → IsStoredAt states place state → IsPast stream place state
+
+-- of each unit a state is stored at its place, or less than the spacing before it
+abbrev pub AreNear : Stream → List (ℕ × FoldState) → Type 0
+AreNear stream states = (k : ℕ) → k < length stream → HasNear spacing (keys_of states) k
+
+-- outcomes, stored states and the last state are those of the stream
+pub record IsFolded
+    (stream : Stream) (outcomes : List Outcome) (states : List (ℕ × FoldState)) (end : FoldState) : Type 0 where
+  pub outcomes_are : outcomes ≡ outcomes_of stream
+  pub past : ArePast stream states
+  pub near : AreNear stream states
+  pub end_is : end ≡ state_from no_units stream

@@ -1,0 +1,16 @@
+-- Where the folds over a stream before and after a change of one unit meet.
+use Rattle.std.specs.Prelude.{◌≡◌, ◌⊎◌, ℕ, ◌+◌, ◌≤◌, length}
+use Rattle.request_core.specs.Agreement.{Stream}
+use Rattle.stream_fold.specs.declared.changes.Change.{Change}
+use Rattle.stream_fold.specs.Streams.{state_past}
+use Rattle.stream_fold.specs.Changes.{stream_after, rest_from, place_after}
+
+-- the folds agree in state past the same units: up to a place before the change, and where that place is after it
+abbrev pub AgreeAt : Change → Stream → ℕ → Type 0
+AgreeAt change stream place =
+    state_past stream place ≡ state_past (stream_after change stream) (place_after change place)
+
+-- so many units past the changed one the folds agree, or there are no more units
+pub record IsMeeting (change : Change) (stream : Stream) (count : ℕ) : Type 0 where
+  pub inside : rest_from change + count ≤ length stream
+  pub meet : AgreeAt change stream (rest_from change + count) ⊎ (rest_from change + count ≡ length stream)

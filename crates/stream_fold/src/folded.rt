@@ -1,0 +1,204 @@
+//! A stream with what becomes of each unit.
+
+ghost use Rattle.std.specs.Prelude.{◌≡◌, ◌↔◌, ◌+◌, ◌-◌, ◌^◌, ◌<◌, ◌≤◌, [], ◌∷◌, take, drop, length, ℕ, IfOk, IsTrue, OnOk};
+ghost use Rattle.request_core.specs.Fold.{outcomes_of};
+ghost use Rattle.checkpoints.specs.Stored.{IsStoredAt};
+ghost use Rattle.stream_fold.specs.Changes.{IsInside, at_of, rest_from, stream_after, units_of};
+ghost use Rattle.stream_fold.specs.Meeting.{IsMeeting};
+
+use crate::changes::Change;
+use crate::refold::Refold;
+use crate::replacing::replace_range;
+use crate::storing::{keep_end, store_anew};
+use access_unit::Unit;
+use base_types::Shared;
+use checkpoints::Checkpoints;
+use outcomes::Outcome;
+use pictures::AuId;
+use request_core::State;
+use std::alloc::{AllocError, Global};
+use std::marker::Model;
+
+/// A stream of access units under their ids, with what becomes of each, and the states of the fold past some of its places.
+#[derive(Debug, Drop)]
+pub struct Folded {
+    units: Vec<(AuId, Shared<Unit>)>,
+    outcomes: Vec<Shared<Outcome>>,
+    stored: Checkpoints<State>,
+    end: State,
+}
+
+impl Model for Folded {
+    ghost use Rattle.std.specs.Prelude.{◌-◌, vec_len};
+    ghost use Rattle.std.specs.Vec.{vec_capacity};
+    ghost use Rattle.stream_fold.specs.Kept.{FoldedValue, IsFolded};
+
+    ghost Value = { FoldedValue };
+
+    ghost view = { λ f. record { stream = f.units.items; stored = f.stored; units_room = vec_capacity f.units - vec_len f.units; outcomes_room = vec_capacity f.outcomes - vec_len f.outcomes } };
+
+    ghost invariant = { λ f. IsFolded f.units.items f.outcomes.items f.stored.states f.end };
+}
+
+/// A change that is prepared.
+#[derive(Debug, Drop)]
+pub struct Prepared {
+    change: Change,
+    fold: Refold,
+    /// The place of the stream as it was at which the fold came to a stored state, if it did.
+    met: Option<usize>,
+}
+
+impl Prepared {
+    /// How many steps of the fold were made.
+    pub fn steps(&self) -> u64
+        ensures { result ≡ self.now.fold.steps }
+    {
+        self.fold.steps.count()
+    }
+}
+
+impl Folded {
+    ghost use Rattle.stream_fold.specs.Refolding.{HasCaughtUp, IsStart, IsMadeAnew, GoesOn};
+    ghost use Rattle.stream_fold.specs.Prepared.{IsPrepared};
+
+    /// A stream of no units.
+    pub fn new(alloc: Global) -> Result<Folded, AllocError>
+        ensures { IfOk result (λ folded. folded.stream ≡ []) }
+    {
+        Ok(Folded {
+            units: Vec::new(alloc),
+            outcomes: Vec::new(alloc),
+            stored: Checkpoints::new(alloc, State::new(alloc)?)?,
+            end: State::new(alloc)?,
+        })
+    }
+
+    /// The units in decoding order, each with its id.
+    pub fn units(&self) -> &[(AuId, Shared<Unit>)]
+        ensures { result.now ≡ self.now.stream }
+    {
+        self.units.as_slice()
+    }
+
+    /// What becomes of each unit, in the same order.
+    pub fn outcomes(&self) -> &[Shared<Outcome>]
+        ensures { result.now ≡ outcomes_of self.now.stream }
+    {
+        self.outcomes.as_slice()
+    }
+
+    /// Prepares a change: folds anew what it changes, and makes room. All answers stay as they were.
+    pub fn prepare(&mut self, alloc: Global, change: Change) -> Result<Prepared, AllocError>
+        requires inside { IsInside change self.old.stream }
+        requires short { length self.old.stream + 1 < 2 ^ 64 }
+        ensures kept { self.new.stream ≡ self.old.stream }
+        ensures ready { IfOk result (λ prepared. IsPrepared self.new prepared) }
+        ensures change { IfOk result (λ prepared. prepared.change ≡ change) }
+        ensures few { IfOk result (λ prepared. (count : ℕ)
+            → IsMeeting change self.old.stream count → prepared.fold.steps ≤ count + 64) }
+    {
+        let (fold, met) = self.refold(alloc, &change)?;
+        self.units.reserve(1)?;
+        self.outcomes.reserve(fold.outcomes.len())?;
+        self.stored.reserve(fold.states.len())?;
+        Ok(Prepared { change, fold, met })
+    }
+
+    /// Makes a prepared change. Takes no memory.
+    pub fn commit(&mut self, prepared: Prepared)
+        requires { IsPrepared self.old prepared }
+        ensures { self.new.stream ≡ stream_after prepared.change self.old.stream }
+    {
+        let Prepared { change, fold, met } = prepared;
+        let end = self.units.len();
+        store_anew(
+            &mut self.stored,
+            fold.kept,
+            met.unwrap_or(end + 1),
+            change.length_change(),
+            fold.states,
+        );
+        replace_range(
+            &mut self.outcomes,
+            fold.from,
+            met.unwrap_or(end),
+            fold.outcomes,
+        );
+        keep_end(&mut self.end, met, fold.state);
+        change.make(&mut self.units);
+    }
+
+    /// The fold over what a change changes, and the place at which it came to a stored state, if it did.
+    #[tactic(auto, using(crate::proofs::Changed::at_inside, crate::proofs::Changed::rest_inside, crate::proofs::Changed::at_rest, crate::proofs::Changed::one_unit, crate::proofs::Changed::rest_steps))]
+    fn refold(&self, alloc: Global, change: &Change) -> Result<(Refold, Option<usize>), AllocError>
+        requires inside { IsInside change.now self.now.stream }
+        requires short { length self.now.stream + 1 < 2 ^ 64 }
+        ensures { IfOk result (λ made.
+            IsMadeAnew change.now self.now.stream self.now.stored.states made.0 made.1) }
+    {
+        let at = change.at();
+        let mut fold = self.start(alloc, at)?;
+        let from = fold.from;
+        fold.go_over(alloc, &self.units[from..at])?;
+        fold.go_over_changed(alloc, change)?;
+        let met = self.catch_up(alloc, change.rest_from(), &mut fold)?;
+        Ok((fold, met))
+    }
+
+    /// A fold from the last place up to this one whose state is there: a stored one, or the end of the stream.
+    fn start(&self, alloc: Global, at: usize) -> Result<Refold, AllocError>
+        requires { at ≤ length self.now.stream }
+        ensures { IfOk result (IsStart at self.now.stream self.now.stored.states) }
+    {
+        if at == self.units.len() {
+            Refold::new(alloc, at, self.stored.last().place, &self.end)
+        } else {
+            let before = self.stored.before(at);
+            Refold::new(alloc, before.place, before.place, before.state)
+        }
+    }
+
+    /// Goes on over the units from a place on, until the fold has come to a stored state: at which place, if it has.
+    fn catch_up(
+        &self,
+        alloc: Global,
+        from: usize,
+        fold: &mut Refold,
+    ) -> Result<Option<usize>, AllocError>
+        requires inside { from ≤ length self.now.stream }
+        requires short { fold.old.place + (length self.now.stream - from) < 2 ^ 64 }
+        ensures { IfOk result (λ met.
+            HasCaughtUp self.now.stream self.now.stored.states from fold.old met fold.new) }
+    {
+        for at in from..self.units.len() {
+            if self.go_on_at(alloc, at, fold)? {
+                return Ok(Some(at + 1));
+            }
+        }
+        Ok(None)
+    }
+
+    /// Goes on over the unit at a place, and says whether the fold has come to the state that is stored past it.
+    fn go_on_at(&self, alloc: Global, at: usize, fold: &mut Refold) -> Result<bool, AllocError>
+        requires inside { at < length self.now.stream }
+        requires short { fold.old.place + 1 < 2 ^ 64 }
+        ensures on { OnOk result (GoesOn fold.old (take 1 (drop at self.now.stream)) fold.new) }
+        ensures met { IfOk result (λ met.
+            IsTrue met ↔ IsStoredAt self.now.stored.states (at + 1) fold.new.state) }
+    {
+        let unit = &self.units[at];
+        fold.go_on(alloc, unit.0, &unit.1)?;
+        Ok(self.has_at(at + 1, &fold.state))
+    }
+
+    /// Whether the state is stored at the place.
+    fn has_at(&self, place: usize, state: &State) -> bool
+        ensures { IsTrue result ↔ IsStoredAt self.now.stored.states place state.now }
+    {
+        match self.stored.get(place) {
+            Some(stored) => stored.is_same(state),
+            None => false,
+        }
+    }
+}

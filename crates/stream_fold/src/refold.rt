@@ -1,0 +1,131 @@
+//! A fold over a stream as it will be, from a stored state on.
+
+ghost use Rattle.std.specs.Prelude.{◌≡◌, ◌+◌, ◌-◌, ◌^◌, ◌<◌, ◌≤◌, ◌∷◌, ◌++◌, [], length, IfOk, OnOk};
+ghost use Rattle.request_core.specs.Agreement.{Stream};
+ghost use Rattle.stream_fold.specs.Changes.{units_of};
+
+use crate::changes::Change;
+use access_unit::Unit;
+use base_types::Shared;
+use outcomes::Outcome;
+use pictures::AuId;
+use request_core::{State, Steps, step};
+use std::alloc::{AllocError, Global};
+
+/// How far stored states stand apart at most, in units.
+pub(crate) const SPACING: usize = 32;
+
+/// A fold under way: its state, and what it found since it began.
+#[derive(Debug, Drop)]
+pub(crate) struct Refold {
+    /// The place at which it began.
+    pub(crate) from: usize,
+    /// The last place up to there at which a state is stored, and stays so.
+    pub(crate) kept: usize,
+    /// The place to which it has come.
+    pub(crate) place: usize,
+    /// How many units it is since the last place at which a state is stored or to be stored.
+    pub(crate) since: usize,
+    pub(crate) state: State,
+    /// The states to be stored, with their places.
+    pub(crate) states: Vec<(usize, State)>,
+    /// What becomes of the units from where it began.
+    pub(crate) outcomes: Vec<Shared<Outcome>>,
+    pub(crate) steps: Steps,
+    ghost near: { since ≤ 32 },
+    ghost counted: { steps ≤ place },
+}
+
+impl Refold {
+    ghost use Rattle.stream_fold.specs.Refolding.{Begins, GoesOn};
+
+    /// A fold that goes on from the state at a place; `kept` is the last stored place up to there.
+    pub(crate) fn new(
+        alloc: Global,
+        from: usize,
+        kept: usize,
+        state: &State,
+    ) -> Result<Refold, AllocError>
+        requires below { kept ≤ from }
+        requires near { from ≤ kept + 32 }
+        ensures { IfOk result (Begins from kept state.now) }
+    {
+        Ok(Refold {
+            from,
+            kept,
+            place: from,
+            since: from - kept,
+            state: state.copy()?,
+            states: Vec::new(alloc),
+            outcomes: Vec::new(alloc),
+            steps: Steps::new(),
+        })
+    }
+
+    /// Goes on over units more, in order.
+    pub(crate) fn go_over(
+        &mut self,
+        alloc: Global,
+        units: &[(AuId, Shared<Unit>)],
+    ) -> Result<(), AllocError>
+        requires { self.old.place + length units.now < 2 ^ 64 }
+        ensures { OnOk result (GoesOn self.old units.now self.new) }
+    {
+        for unit in units {
+            self.go_on(alloc, unit.0, &unit.1)?;
+        }
+        Ok(())
+    }
+
+    /// Goes on over the unit that a change brings, if it brings one.
+    pub(crate) fn go_over_changed(
+        &mut self,
+        alloc: Global,
+        change: &Change,
+    ) -> Result<(), AllocError>
+        requires { self.old.place + 1 < 2 ^ 64 }
+        ensures { OnOk result (GoesOn self.old (units_of change.now) self.new) }
+    {
+        match change {
+            Change::Insertion { id, unit, .. } | Change::Replacement { id, unit, .. } => {
+                self.go_on(alloc, *id, unit)
+            }
+            Change::Deletion { .. } => Ok(()),
+        }
+    }
+
+    /// Goes on over one unit more.
+    pub(crate) fn go_on(&mut self, alloc: Global, id: AuId, unit: &Unit) -> Result<(), AllocError>
+        requires { self.old.place + 1 < 2 ^ 64 }
+        ensures { OnOk result (GoesOn self.old ((id, unit.now) ∷ []) self.new) }
+    {
+        self.store()?;
+        self.make_step(alloc, id, unit)
+    }
+
+    /// Sets the state aside to be stored, where it is time to.
+    fn store(&mut self) -> Result<(), AllocError>
+        ensures on { OnOk result (GoesOn self.old [] self.new) }
+        ensures roomy { OnOk result (self.new.since < 32) }
+    {
+        if self.since == SPACING {
+            self.states.push((self.place, self.state.copy()?))?;
+            self.since = 0;
+        }
+        Ok(())
+    }
+
+    /// Makes the step of one unit.
+    fn make_step(&mut self, alloc: Global, id: AuId, unit: &Unit) -> Result<(), AllocError>
+        requires near { self.old.since < 32 }
+        requires short { self.old.place + 1 < 2 ^ 64 }
+        ensures { OnOk result (GoesOn self.old ((id, unit.now) ∷ []) self.new) }
+    {
+        let (state, outcome) = step(alloc, &self.state, id, unit, &mut self.steps)?;
+        self.state = state;
+        self.place += 1;
+        self.since += 1;
+        self.outcomes.push(Shared::new(alloc, outcome)?)?;
+        Ok(())
+    }
+}

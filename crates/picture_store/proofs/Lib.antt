@@ -17,3 +17,4 @@ pub mod Landed
 pub mod Filled
 pub mod Units
 pub mod Taken
+pub mod Settled

@@ -7,5 +7,6 @@ pub mod Numbers
 pub mod Naming
 pub mod Filling
 pub mod Due
+pub mod Settled
 pub mod Inputs
 pub mod Showing

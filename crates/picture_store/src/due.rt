@@ -4,20 +4,51 @@ ghost use Rattle.std.specs.Prelude.{◌≡◌, ◌<◌, ◌↔◌, ℕ, Option, 
 ghost use Rattle.picture_store.specs.Kept.{AreRight};
 ghost use Rattle.picture_store.specs.Places.{place_at};
 ghost use Rattle.picture_store.specs.Due.{AreHeld, IsDueNumber, IsHeld, IsNotDue};
+ghost use Rattle.picture_store.specs.Settled.{AreSettled, NeedsNone};
 
 use crate::job_out::{JobOut, is_out};
 use crate::places::Places;
 use dep_keys::{Fingerprint, KeyId, Keys};
 use picture_keys::Works;
 
-/// The place of the first unit whose key is due.
+/// The first unit, from one on before which all are known to need no job, that needs one.
+pub(crate) fn first_to_do(
+    places: &Places,
+    out: &[JobOut],
+    found: &[Option<KeyId>],
+    settled: usize,
+) -> usize
+    requires { AreSettled places.now out.now found.now settled }
+    ensures { AreSettled places.now out.now found.now result }
+{
+    for at in settled..found.len() {
+        if !needs_none(places, out, found[at]) {
+            return at;
+        }
+    }
+    found.len()
+}
+
+/// Whether a unit has no key, or one whose picture is held or that of a job that is out.
+fn needs_none(places: &Places, out: &[JobOut], key: Option<KeyId>) -> bool
+    ensures { IsTrue result → NeedsNone places.now out.now key }
+{
+    match key {
+        Some(key) => is_held(places, key) || is_out(out, key),
+        None => true,
+    }
+}
+
+/// The place of the first unit whose key is due, where those before one are known to need no job.
 pub(crate) fn first_due<F: Fingerprint<Works>>(
     keys: &Keys<Works, F>,
     places: &Places,
     out: &[JobOut],
     found: &[Option<KeyId>],
+    settled: usize,
 ) -> Option<usize>
-    requires { AreRight keys.now places.now }
+    requires right { AreRight keys.now places.now }
+    requires settled { AreSettled places.now out.now found.now settled }
     ensures { MatchOption result (All (IsNotDue keys.now places.now out.now) found.now)
         (λ at. (at < length found.now)
         × ((other : Option ℕ)
@@ -25,7 +56,7 @@ pub(crate) fn first_due<F: Fingerprint<Works>>(
         × All (IsNotDue keys.now places.now out.now) (take at found.now)
         × ((other : Option ℕ) → IsSome (slice_index_or found.now at other))) }
 {
-    for at in 0..found.len() {
+    for at in settled..found.len() {
         if has_due(keys, places, out, found[at]) {
             return Some(at);
         }

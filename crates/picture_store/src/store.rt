@@ -11,7 +11,7 @@ ghost use Rattle.picture_store.specs.Filling.{IsFilled};
 ghost use Rattle.picture_store.specs.Showing.{IsPictureAt};
 
 use crate::answers::{JobAt, Landing, Returning};
-use crate::due::{first_due, is_awaited};
+use crate::due::{first_due, first_to_do, is_awaited};
 use crate::inputs::input_of;
 use crate::job_out::{JobOut, place_of};
 use crate::naming::references_of;
@@ -40,6 +40,8 @@ pub struct PictureStore {
     cache: PictureCache<KeyId, Picture>,
     out: Vec<JobOut>,
     given: u64,
+    // How many units, from the first on, are known to need no job.
+    settled: usize,
 }
 
 impl Model for PictureStore {
@@ -54,7 +56,8 @@ impl Model for PictureStore {
     ghost coded = { Prim.hlevel (codes, tree_code works.the_row.coded) };
 
     ghost use Rattle.picture_store.specs.Places.{numbers_held};
-    ghost use Rattle.picture_store.specs.Kept.{keys_for, jobs_for, IsKept};
+    ghost use Rattle.picture_store.specs.Kept.{keys_for, jobs_for};
+    ghost use Rattle.picture_store.specs.Settled.{IsStored};
 
     ghost view = { λ s. record {
       ids = s.ids.items;
@@ -66,7 +69,8 @@ impl Model for PictureStore {
       given = s.given;
     } };
 
-    ghost invariant = { λ s. IsKept s.keys s.ids.items s.outcomes.items s.found.items s.places s.cache.pairs s.out.items };
+    ghost invariant = { λ s. IsStored s.keys s.ids.items s.outcomes.items s.found.items s.places s.cache.pairs s.out.items
+        s.settled };
 }
 
 impl PictureStore {
@@ -86,6 +90,7 @@ impl PictureStore {
             cache: PictureCache::new(alloc, room)?,
             out: Vec::new(alloc),
             given: 0,
+            settled: 0,
         })
     }
 
@@ -127,6 +132,7 @@ impl PictureStore {
         self.outcomes = outcomes;
         self.found = found;
         self.places = places;
+        self.settled = 0;
         Ok(())
     }
 
@@ -142,7 +148,10 @@ impl PictureStore {
     pub fn take(&mut self) -> Result<Option<JobAt>, TakeRefused>
         ensures { TellsTake self.old result self.new }
     {
-        let Some(at) = first_due(&self.keys, &self.places, &self.out, &self.found) else {
+        let settled = first_to_do(&self.places, &self.out, &self.found, self.settled);
+        self.settled = settled;
+        let due = first_due(&self.keys, &self.places, &self.out, &self.found, settled);
+        let Some(at) = due else {
             return Ok(None);
         };
         let Some(key) = self.found[at] else {
@@ -185,6 +194,7 @@ impl PictureStore {
         match place_of(&self.out, number, &input) {
             Some(at) => {
                 drop(self.out.remove(at));
+                self.settled = 0;
                 Returning::Returned
             }
             None => Returning::Foreign,

@@ -1,18 +1,27 @@
-use Rattle.std.proofs.Common.{subst, All}
+use Rattle.std.proofs.Common.{subst, All, arith}
 use Rattle.std.proofs.lemmas.List.{take_all}
 use Rattle.std.proofs.lemmas.List.Elements.{All-more}
 use Rattle.picture_store.specs.Due.{IsNotDue}
+use Rattle.picture_store.proofs.Settled.{none_due_before}
 use Rattle.picture_store.proofs.due.first_due.Goals as goal
+
+pub loop-at-init : goal.loop-at-init
+loop-at-init g c = (
+  c.requires.settled.0,
+  none_due_before c.args.keys.now c.args.places.now c.args.out.now c.args.found.now c.args.settled c.requires.settled,
+)
 
 pub loop-at-preserved : goal.loop-at-preserved
 loop-at-preserved g c =
     let found = c.args.found.now in
-    let other = IsNotDue c.args.keys.now c.args.places.now c.args.out.now in
-    All-more other found c.loop-at.at c.index-found-at.result c.loop-at-test.true c.loop-at.invariant
-    (subst other c.index-found-at.is (c.has_due.ensures.other (λ yes. cc)))
+    let other = IsNotDue c.args.keys.now c.args.places.now c.args.out.now in (
+      omega (arith, c.loop-at-test.true),
+      All-more other found c.loop-at.at c.index-found-at.result c.loop-at-test.true c.loop-at.invariant.1
+          (subst other c.index-found-at.is (c.has_due.ensures.other (λ yes. cc))),
+    )
 
 pub returns : goal.returns
 returns g c =
     let found = c.args.found.now in
     let other = IsNotDue c.args.keys.now c.args.places.now c.args.out.now in
-    subst (λ xs. All other xs) (take_all c.loop-at.at found c.loop-at-test.false) c.loop-at.invariant
+    subst (λ xs. All other xs) (take_all c.loop-at.at found c.loop-at-test.false) c.loop-at.invariant.1

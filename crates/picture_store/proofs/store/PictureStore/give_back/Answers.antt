@@ -1,13 +1,18 @@
 use Rattle.std.proofs.Common.{refl}
 use Rattle.picture_store.proofs.Viewed.{seen}
 use Rattle.picture_store.proofs.Landed.{foreign_for, kept_without, out_seen, seen_without}
+use Rattle.picture_store.proofs.Settled.{none_settled}
 use Rattle.picture_store.proofs.store.PictureStore.give_back.Goals as goal
 
 pub invariant_of-self : goal.invariant_of-self
 invariant_of-self c =
     rw (c.remove.ensures.items)
-    (kept_without c.self.inside.keys c.self.inside.ids.items c.self.inside.outcomes.items c.self.inside.found.items
-    c.self.inside.places c.self.inside.cache.pairs c.self.inside.out.items c.self.invariant c.in-Some.at)
+    (record {
+      kept =
+          kept_without c.self.inside.keys c.self.inside.ids.items c.self.inside.outcomes.items c.self.inside.found.items
+          c.self.inside.places c.self.inside.cache.pairs c.self.inside.out.items c.self.invariant.kept c.in-Some.at;
+      settled = none_settled c.self.inside.places _ c.self.inside.found.items;
+    })
 
 pub returns-in-Some : goal.returns-in-Some
 returns-in-Some c =

@@ -1,6 +1,7 @@
 use Rattle.std.proofs.Common.{refl}
 use Rattle.picture_store.proofs.Landed.{foreign_for}
 use Rattle.picture_store.proofs.Filled.{landed, kept_filled}
+use Rattle.picture_store.proofs.Settled.{settled_landed}
 use Rattle.picture_store.proofs.store.PictureStore.land.Goals as goal
 
 pub returns-in_default : goal.returns-in_default
@@ -13,9 +14,16 @@ invariant_of-self c =
     let s = c.self.inside in
     let found = rw (c.deref.ensures.value, c.into_parts-number.ensures) at c.in-Some.ensures in
     let filled = rw (c.into_parts-number.ensures) at c.fill.ensures in
-    kept_filled s.keys s.ids.items s.outcomes.items s.found.items s.places s.cache.pairs s.cache.capacity s.out.items s.given
-    c.self.invariant c.args.finished c.in-Some.at found.0 c.remove-job.result c.remove-job.ensures.value found.1 found.2
-    c.fill.result c.fill.new.places c.remove-job.new.self.items c.remove-job.ensures.items filled
+    record {
+      kept =
+          kept_filled s.keys s.ids.items s.outcomes.items s.found.items s.places s.cache.pairs s.cache.capacity s.out.items s.given
+          c.self.invariant.kept c.args.finished c.in-Some.at found.0 c.remove-job.result c.remove-job.ensures.value found.1 found.2
+          c.fill.result c.fill.new.places c.remove-job.new.self.items c.remove-job.ensures.items filled;
+      settled =
+          settled_landed s.keys s.ids.items s.outcomes.items s.found.items s.places s.cache.pairs s.out.items
+          c.self.invariant.kept c.in-Some.at c.remove-job.result c.remove-job.ensures.value _ c.fill.result c.fill.new.places
+          c.remove-job.new.self.items s.settled c.remove-job.ensures.items filled c.self.invariant.settled;
+    }
 
 pub returns : goal.returns
 returns c =
@@ -24,5 +32,5 @@ returns c =
     let filled = rw (c.into_parts-number.ensures) at c.fill.ensures in
     rw (← c.self.view_is)
     (landed s.keys s.ids.items s.outcomes.items s.found.items s.places s.cache.pairs s.cache.capacity s.out.items s.given
-    c.self.invariant c.args.finished c.in-Some.at found.0 c.remove-job.result c.remove-job.ensures.value found.1 found.2
+    c.self.invariant.kept c.args.finished c.in-Some.at found.0 c.remove-job.result c.remove-job.ensures.value found.1 found.2
     c.fill.result c.fill.new.places c.remove-job.new.self.items c.remove-job.ensures.items filled)

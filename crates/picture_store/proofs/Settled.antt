@@ -1,0 +1,145 @@
+-- Units that need no job.
+use Rattle.std.proofs.Common.{◌≡◌, refl, ap, ℕ, zero, suc, ◌<◌, ◌≤◌, List, [], ◌∷◌, ◌++◌, length, take, drop, Bool, true, false, ◌==◌, Option, None, Some, IsSome, if◌then◌else◌, inl, inr, ◌⊎◌, subst, sym, ◌∙◌, take-append-drop, arith, rules}
+use Rattle.std.specs.Prelude.{All, Contains, remove, slice_index_or}
+use Rattle.std.proofs.lemmas.Bool.{eqb-true, eq-eqb}
+use Rattle.std.proofs.lemmas.List.{map-append}
+use Rattle.std.proofs.lemmas.List.Elements.{Contains-append_left, Contains-get_or}
+use Rattle.outcomes.specs.declared.outcome.Outcome.{Outcome}
+use Rattle.stand_in_device.specs.declared.picture.Picture.{Picture}
+use Rattle.picture_store.specs.declared.answers.Landing.{Landing}
+use Rattle.picture_store.specs.declared.answers.Landing.TheVariants.{Taken, Stale, Foreign}
+use Rattle.picture_store.specs.declared.job_out.JobOut.{JobOut}
+use Rattle.picture_store.specs.Places.{PlacesValue, place_at}
+use Rattle.picture_store.specs.Filling.{IsFilled}
+use Rattle.picture_store.specs.Kept.{Trees, numbers_out, IsKept}
+use Rattle.picture_store.specs.Due.{IsDueNumber, IsHeld, IsNotDue}
+use Rattle.picture_store.specs.Settled.{NeedsNone, AreSettled}
+use Rattle.picture_store.proofs.Members.{here, there, nowhere, first_or_among}
+
+two_places : (o : Option (Option Picture)) (picture : Picture) → o ≡ Some (Some picture) → o ≡ Some None → ⊥
+two_places o picture held awaited = cc
+
+-- what needs no job isn't due
+pub not_due : (keys : Trees) (places : PlacesValue) (out : List JobOut) (number : Option ℕ) → NeedsNone places out number
+    → IsNotDue keys places out number
+not_due keys places out None needs = search rules
+not_due keys places out (Some number) needs = λ due. elim needs [
+  | inl held ↦ two_places (place_at places number) held.0 held.1 due.awaited
+  | inr is ↦ due.free is
+]
+
+-- so none of those that are settled is
+pub none_due_before : (keys : Trees) (places : PlacesValue) (out : List JobOut) (found : List (Option ℕ)) (count : ℕ)
+    → AreSettled places out found count → All (IsNotDue keys places out) (take count found)
+none_due_before keys places out found count are = λ k d within. not_due keys places out _ (are.1 k d within)
+
+-- none is settled before the first unit
+pub none_settled : (places : PlacesValue) (out : List JobOut) (found : List (Option ℕ)) → AreSettled places out found 0
+none_settled places out found = (omega arith, λ k d within. absurd (omega (arith, within)))
+
+-- what needs no job needs none where it stays so for each unit
+settled_stay : (places more : PlacesValue) (out left : List JobOut) (found : List (Option ℕ)) (count : ℕ)
+    → ((number : Option ℕ) → Contains found number → NeedsNone places out number → NeedsNone more left number)
+    → AreSettled places out found count → AreSettled more left found count
+settled_stay places more out left found count stays are = (
+  are.0,
+  λ k d within.
+      stays _ (Contains-take found count _ (Contains-get_or (take count found) k d within)) (are.1 k d within),
+)
+  where
+    Contains-take : (xs : List (Option ℕ)) (n : ℕ) (x : Option ℕ) → Contains (take n xs) x → Contains xs x
+    Contains-take xs n x is =
+        subst (λ ys. Contains ys x) (take-append-drop n xs) (Contains-append_left (take n xs) (drop n xs) x is)
+
+held_still : (b : Bool) (place : Option (Option Picture)) (new held : Picture) → place ≡ Some (Some held)
+    → (picture : Picture) × ((if b then Some (Some new) else place) ≡ Some (Some picture))
+held_still true place new held is = (new, refl)
+held_still false place new held is = (held, is)
+
+held_place : (place : Option (Option Picture)) → IsSome place → (place ≡ Some None → ⊥)
+    → (picture : Picture) × (place ≡ Some (Some picture))
+held_place None some not = cc
+held_place (Some None) some not = absurd (not refl)
+held_place (Some (Some picture)) some not = (picture, refl)
+
+-- a job of another key is out still
+out_still : (out : List JobOut) (at number : ℕ) (other : JobOut) → other ≡ slice_index_or out at other
+    → (other.key ≡ number → ⊥) → Contains (numbers_out out) number → Contains (numbers_out (remove out at)) number
+out_still [] at number other stands not is = absurd (nowhere number is)
+out_still (first ∷ out) zero number other stands not is =
+    elim (first_or_among first.key number (numbers_out out) is) [
+      | inl same ↦ absurd (not (ap (λ (job : JobOut). job.key) stands ∙ same))
+      | inr later ↦ later
+    ]
+out_still (first ∷ out) (suc at) number other stands not is =
+    elim (first_or_among first.key number (numbers_out out) is) [
+      | inl same ↦
+          subst (λ n. Contains (first.key ∷ numbers_out (remove out at)) n) same (here first.key (numbers_out (remove out at)))
+      | inr later ↦
+          there first.key number (numbers_out (remove out at)) (out_still out at number other stands not later)
+    ]
+
+not_same : (a b : ℕ) → false ≡ (a == b) → a ≡ b → ⊥
+not_same a b differ same =
+    let yes : (a == b) ≡ true = eq-eqb a b same in
+    cc
+
+-- a job more
+pub settled_more : (places : PlacesValue) (out : List JobOut) (job : JobOut) (more : List JobOut) (found : List (Option ℕ)) (count : ℕ)
+    → more ≡ out ++ job ∷ [] → AreSettled places out found count → AreSettled places more found count
+settled_more places out job more found count is are =
+    subst (λ jobs. AreSettled places jobs found count) (sym is) (settled_stay places places out (out ++ job ∷ []) found count stays are)
+  where
+    stays : (number : Option ℕ) → Contains found number → NeedsNone places out number → NeedsNone places (out ++ job ∷ []) number
+    stays None among needs = search rules
+    stays (Some number) among needs = elim needs [
+      | inl held ↦ inl held
+      | inr one ↦
+          inr (subst (λ keys. Contains keys number) (sym (map-append (λ (j : JobOut). j.key) out (job ∷ [])))
+          (Contains-append_left (numbers_out out) (numbers_out (job ∷ [])) number one))
+    ]
+
+module _ (keys : Trees) (ids : List ℕ) (outcomes : List Outcome) (found : List (Option ℕ)) (places : PlacesValue)
+    (cached : List (ℕ × Picture)) (out : List JobOut) (kept : IsKept keys ids outcomes found places cached out)
+    (at : ℕ) (other : JobOut) (stands : other ≡ slice_index_or out at other) where
+  module _ (more : PlacesValue) (holds : (number : ℕ) → IsHeld places number → IsHeld more number)
+      (new : Contains found (Some other.key) → IsHeld more other.key) where
+    stays_there : (b : Bool) (number : ℕ) → b ≡ (other.key == number) → Contains found (Some number)
+        → IsHeld places number ⊎ Contains (numbers_out out) number
+        → IsHeld more number ⊎ Contains (numbers_out (remove out at)) number
+    stays_there true number same among needs =
+        let one : other.key ≡ number = eqb-true other.key number (sym same) in
+        inl (subst (IsHeld more) one (new (subst (λ n. Contains found (Some n)) (sym one) among)))
+    stays_there false number same among needs = elim needs [
+      | inl held ↦ inl (holds number held)
+      | inr one ↦ inr (out_still out at number other stands (not_same other.key number same) one)
+    ]
+
+    stays : (number : Option ℕ) → Contains found number → NeedsNone places out number → NeedsNone more (remove out at) number
+    stays None among needs = search rules
+    stays (Some number) among needs = stays_there (other.key == number) number refl among needs
+
+  -- a job that lands
+  pub settled_landed : (picture : Picture) (landing : Landing) (more : PlacesValue) (left : List JobOut) (count : ℕ)
+      → left ≡ remove out at → IsFilled places other.key picture landing more
+      → AreSettled places out found count → AreSettled more left found count
+  settled_landed picture Foreign more left count gone filled are = absurd filled
+  settled_landed picture Stale more left count gone filled are =
+      subst (λ jobs. AreSettled more jobs found count) (sym gone)
+      (subst (λ p. AreSettled p (remove out at) found count) (sym filled.1)
+      (settled_stay places places out (remove out at) found count
+      (stays places (λ number held. held)
+      (λ among. held_place (place_at places other.key) ((kept.used other.key).1 among) filled.0)) are))
+  settled_landed picture Taken more left count gone filled are =
+      subst (λ jobs. AreSettled more jobs found count) (sym gone)
+      (settled_stay places more out (remove out at) found count
+      (stays more
+      (λ number held.
+      let still : (p : Picture) × ((if other.key == number then Some (Some picture) else place_at places number) ≡ Some (Some p)) =
+      held_still (other.key == number) (place_at places number) picture held.0 held.1 in
+      (still.0, filled.2 number ∙ still.1))
+      (λ among. (
+        picture,
+        filled.2 other.key
+            ∙ ap (λ b. if b then Some (Some picture) else place_at places other.key) (eq-eqb other.key other.key refl),
+      ))) are)

@@ -1,0 +1,22 @@
+-- How many units, from the first on, need no job.
+use Rattle.std.specs.Prelude.{ℕ, ◌≤◌, List, ◌⊎◌, length, take, All, Contains, Option, IfSome}
+use Rattle.outcomes.specs.declared.outcome.Outcome.{Outcome}
+use Rattle.stand_in_device.specs.declared.picture.Picture.{Picture}
+use Rattle.picture_store.specs.declared.job_out.JobOut.{JobOut}
+use Rattle.picture_store.specs.Places.{PlacesValue}
+use Rattle.picture_store.specs.Kept.{Trees, numbers_out, IsKept}
+use Rattle.picture_store.specs.Due.{IsHeld}
+
+-- the unit of this number needs no job: it has no key, or the picture of its key is held or that of a job that is out
+abbrev pub NeedsNone : PlacesValue → List JobOut → Option ℕ → Type 0
+NeedsNone places out number = IfSome number (λ n. IsHeld places n ⊎ Contains (numbers_out out) n)
+
+-- so many units, from the first on, need none
+abbrev pub AreSettled : PlacesValue → List JobOut → List (Option ℕ) → ℕ → Type 0
+AreSettled places out found count = (count ≤ length found) × All (NeedsNone places out) (take count found)
+
+-- what is stored: what is kept of the stream, and how many units are known to need no job
+pub record IsStored (keys : Trees) (ids : List ℕ) (outcomes : List Outcome) (found : List (Option ℕ))
+    (places : PlacesValue) (cached : List (ℕ × Picture)) (out : List JobOut) (count : ℕ) : Type 0 where
+  pub kept : IsKept keys ids outcomes found places cached out
+  pub settled : AreSettled places out found count

@@ -1,5 +1,5 @@
 -- The command that words are (docs/OUTPUT.md).
-use Rattle.std.specs.Prelude.{◌≡◌, ℕ, List, [], ◌∷◌, codes, Option, Some, None, option_map, if◌then◌else◌, Result, MatchResult}
+use Rattle.std.specs.Prelude.{◌≡◌, ℕ, Bool, true, false, List, [], ◌∷◌, codes, Option, Some, None, option_map, if◌then◌else◌, Result, MatchResult}
 use Rattle.std.specs.Str.{bytes_eq}
 use Rattle.edit_engine.specs.declared.edits.Edit.{Edit}
 use Rattle.edit_engine.specs.declared.edits.Edit.TheVariants.{Insert, Delete, Replace}
@@ -64,20 +64,33 @@ abbrev pub path_of : List (List ℕ) → Option (List ℕ)
 path_of (name ∷ path ∷ []) = if bytes_eq name (codes "load") then Some path else None
 path_of words = None
 
--- the number of the unit whose lines words ask for
-abbrev pub unit_of : List (List ℕ) → Option ℕ
-unit_of (name ∷ number ∷ []) = if bytes_eq name (codes "unit") then number_of number else None
-unit_of words = None
+-- the number that words have after this name, the two alone
+abbrev pub number_after : List ℕ → List (List ℕ) → Option ℕ
+number_after name (word ∷ number ∷ []) = if bytes_eq word name then number_of number else None
+number_after name words = None
+
+-- whether words are this name alone
+abbrev pub are_alone : List ℕ → List (List ℕ) → Bool
+are_alone name (word ∷ []) = bytes_eq word name
+are_alone name words = false
 
 -- the words are this command
 abbrev pub IsCommand : List (List ℕ) → Command → Type 0
 IsCommand words (command.Edit edit) = edit_of words ≡ Some edit
 IsCommand words (command.Load path) = path_of words ≡ Some path.now
-IsCommand words (command.Unit number) = unit_of words ≡ Some number
+IsCommand words (command.Unit number) = number_after (codes "unit") words ≡ Some number
+IsCommand words command.Take = are_alone (codes "take") words ≡ true
+IsCommand words (command.Land number) = number_after (codes "land") words ≡ Some number
+IsCommand words (command.GiveBack number) = number_after (codes "give") words ≡ Some number
+IsCommand words command.Settle = are_alone (codes "settle") words ≡ true
+IsCommand words (command.Show number) = number_after (codes "show") words ≡ Some number
 
 -- the words are no command
 abbrev pub IsNoCommand : List (List ℕ) → Type 0
-IsNoCommand words = (edit_of words ≡ None) × (path_of words ≡ None) × (unit_of words ≡ None)
+IsNoCommand words = (edit_of words ≡ None) × (path_of words ≡ None)
+    × (number_after (codes "unit") words ≡ None) × (are_alone (codes "take") words ≡ false)
+    × (number_after (codes "land") words ≡ None) × (number_after (codes "give") words ≡ None)
+    × (are_alone (codes "settle") words ≡ false) × (number_after (codes "show") words ≡ None)
 
 -- an answer for words that may be digits: what they stand for; wrong where they stand for nothing
 abbrev pub IsHexAnswer : Option (List ℕ) → Result (List ℕ) LineFault → Type 0

@@ -1,6 +1,6 @@
 //! The command that a line of a script is (docs/OUTPUT.md).
 
-ghost use Rattle.std.specs.Prelude.{◌≡◌, map, IfOk, None, Some, MatchResult, option_map};
+ghost use Rattle.std.specs.Prelude.{◌≡◌, ◌∷◌, [], map, IfOk, None, Some, MatchResult, option_map};
 ghost use Rattle.std.specs.Char.{is_ascii_digit};
 ghost use Rattle.std.specs.List.{list_all};
 ghost use Rattle.edit_script.specs.Words.{has_number, id_of, number_of, hex_of, texts_of, fault_of};
@@ -22,6 +22,16 @@ pub enum Command<'a> {
     Load { path: &'a str },
     /// The lines of the unit of this number.
     Unit { number: u64 },
+    /// A picture to decode, as a job.
+    Take,
+    /// The result of the job of this number.
+    Land { number: u64 },
+    /// The job of this number, given back undone.
+    GiveBack { number: u64 },
+    /// All pictures that are due, decoded one after the other.
+    Settle,
+    /// What is shown of the unit of this number.
+    Show { number: u64 },
 }
 
 /// Why a line isn't read as a command.
@@ -68,12 +78,42 @@ pub fn read_command<'a>(alloc: Global, words: &[&'a str]) -> Result<Command<'a>,
     ensures { IsCommandAnswer (texts_of words.now) result }
 {
     match words {
-        [name, path] if *name == "load" => Ok(Command::Load { path: *path }),
-        [name, number] if *name == "unit" => match read_number(number) {
-            Some(number) => Ok(Command::Unit { number }),
-            None => Err(LineFault::Wrong),
-        },
+        [name] => read_alone(*name),
+        [name, word] => read_pair(alloc, *name, *word),
         _ => Ok(Command::Edit(read_edit(alloc, words)?)),
+    }
+}
+
+/// The command that a word alone is.
+fn read_alone<'a>(name: &str) -> Result<Command<'a>, LineFault>
+    ensures { IsCommandAnswer (name.now ∷ []) result }
+{
+    match name {
+        "take" => Ok(Command::Take),
+        "settle" => Ok(Command::Settle),
+        _ => Err(LineFault::Wrong),
+    }
+}
+
+/// The command that two words are.
+fn read_pair<'a>(alloc: Global, name: &'a str, word: &'a str) -> Result<Command<'a>, LineFault>
+    ensures { IsCommandAnswer (name.now ∷ word.now ∷ []) result }
+{
+    match name {
+        "load" => Ok(Command::Load { path: word }),
+        "unit" => Ok(Command::Unit {
+            number: read_given(word)?,
+        }),
+        "land" => Ok(Command::Land {
+            number: read_given(word)?,
+        }),
+        "give" => Ok(Command::GiveBack {
+            number: read_given(word)?,
+        }),
+        "show" => Ok(Command::Show {
+            number: read_given(word)?,
+        }),
+        _ => Ok(Command::Edit(read_edit(alloc, &[name, word])?)),
     }
 }
 
@@ -136,6 +176,17 @@ pub fn id_of_number(number: u64) -> AuId
     ensures { result ≡ id_of number }
 {
     AuId::new(u32::try_from(number).unwrap_or(0))
+}
+
+/// The number that a word has to be.
+fn read_given(word: &str) -> Result<u64, LineFault>
+    ensures { MatchResult result (λ number. number_of word.now ≡ Some number)
+        (λ fault. (fault ≡ LineFault.Wrong) × (number_of word.now ≡ None)) }
+{
+    match read_number(word) {
+        Some(number) => Ok(number),
+        None => Err(LineFault::Wrong),
+    }
 }
 
 /// The number that a word of one to ten digits is.

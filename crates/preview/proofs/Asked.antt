@@ -10,7 +10,7 @@ use Rattle.clap.specs.declared.parser.matches.Found.{Found}
 use Rattle.clap.proofs.ValueTestLemmas.{Accepts-accepts, accepts-Accepts}
 use Rattle.clap.proofs.WalkLemmas.{first_value-rows, one_text-rows}
 use Rattle.script_run.specs.Options.{most_cache}
-use Rattle.preview.specs.CommandLine.{cache_of, plan, plan_in, run, run_in}
+use Rattle.preview.specs.CommandLine.{Wanted, cache_of, has_flag, is_true, plan, plan_in, run, run_in}
 
 -- the value of FILE is what is planned
 pub plan-read : (f : Found) (name : Option Text) → name ≡ first_value f (codes "FILE") → option_map plan name ≡ plan_in (rows_of f)
@@ -19,15 +19,29 @@ plan-read f name is = ap (option_map plan) (is ∙ first_value-rows f (codes "FI
 abbrev room_of : Found → Option ℕ
 room_of f = option_and_then cache_of (one_of (codes "cache") (rows_of f))
 
+-- whether `--hex` was given
+abbrev hex_of : Found → Bool
+hex_of f = has_flag (codes "hex") (rows_of f)
+
+-- the run of a script with this room
+abbrev run_with : Bool → Text → ℕ → Wanted
+run_with hex name room = run name room hex
+
 -- with no value of SCRIPT nothing is run
 pub no-script : (f : Found) → None ≡ first_value f (codes "SCRIPT") → None ≡ run_in (rows_of f)
-no-script f none = ap (option_and_then (λ name. option_map (run name) (room_of f))) (none ∙ first_value-rows f (codes "SCRIPT"))
+no-script f none = ap (option_and_then (λ name. option_map (run_with (hex_of f) name) (room_of f)))
+    (none ∙ first_value-rows f (codes "SCRIPT"))
 
--- with one it is run with the room that `--cache` gives
-pub script-read : (f : Found) (name : Text) (room : Option ℕ) → Some name ≡ first_value f (codes "SCRIPT") → room_of f ≡ room
-    → option_map (run name) room ≡ run_in (rows_of f)
-script-read f name room script is = ap (option_map (run name)) (sym is)
-    ∙ ap (option_and_then (λ t. option_map (run t) (room_of f))) (script ∙ first_value-rows f (codes "SCRIPT"))
+-- with one it is run with the room that `--cache` gives, and as `--hex` says
+pub script-read : (f : Found) (name : Text) (room : Option ℕ) (hex : Bool) → Some name ≡ first_value f (codes "SCRIPT")
+    → room_of f ≡ room → hex ≡ hex_of f → option_map (run_with hex name) room ≡ run_in (rows_of f)
+script-read f name room hex script is given = ap (λ (h : Bool). option_map (run_with h name) room) given
+    ∙ (ap (option_map (run_with (hex_of f) name)) (sym is)
+    ∙ ap (option_and_then (λ t. option_map (run_with (hex_of f) t) (room_of f))) (script ∙ first_value-rows f (codes "SCRIPT")))
+
+-- a flag's value is what the matches give for it
+pub flag-read : (f : Found) (name : Text) (value : Option Text) → value ≡ first_value f name → is_true value ≡ has_flag name (rows_of f)
+flag-read f name value is = ap is_true (is ∙ first_value-rows f name)
 
 in-room : (t : Text) → Accepts false (Unsigned 1 most_cache) t → cache_of t ≡ Some (digits_value 10 (without_leading_plus t))
 in-room t h = ap (λ b. cond b (Some (digits_value 10 (without_leading_plus t))) None) (Accepts-accepts false (Unsigned 1 most_cache) t h)

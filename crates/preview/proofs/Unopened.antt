@@ -1,5 +1,5 @@
 -- What is told where no file is opened for a name.
-use Rattle.std.proofs.Common.{ℕ, List, Option, Some, None, IfSome, inl}
+use Rattle.std.proofs.Common.{ℕ, Bool, List, Option, Some, None, IfSome, inl}
 use Rattle.std.proofs.KnownBytes.{Keeps-refl}
 use Rattle.std.specs.Borrow.{Bor}
 use Rattle.std.specs.Prelude.{Result}
@@ -29,15 +29,15 @@ module _ {T : Type 0} (files : Files) (standard : Option (List ℕ)) (told : Res
       (fault.Memory, some-all (text_named files standard name) (λ text. inl (Keeps-refl old)), tells)
 
   -- of a run
-  pub run-unopened : (name : Bor (List ℕ)) (room : ℕ) (it : InputFault) → Tells told mute had has (input_fault_text name.now it)
-      → FailsAt files standard (run name.now room) told refused old old mute had has
-  run-unopened name room input.Unread tells = (
+  pub run-unopened : (name : Bor (List ℕ)) (room : ℕ) (hex : Bool) (it : InputFault) → Tells told mute had has (input_fault_text name.now it)
+      → FailsAt files standard (run name.now room hex) told refused old old mute had has
+  run-unopened name room hex input.Unread tells = (
     fault_of_input name input.Unread,
-    some-all (text_named files standard name.now) (λ text. stops-unread files name text room input.Unread refused old),
+    some-all (text_named files standard name.now) (λ text. stops-unread files name text room hex input.Unread refused old),
     tells,
   )
-  run-unopened name room input.Memory tells = (
+  run-unopened name room hex input.Memory tells = (
     fault_of_input name input.Memory,
-    some-all (text_named files standard name.now) (λ text. stops-unread files name text room input.Memory refused old),
+    some-all (text_named files standard name.now) (λ text. stops-unread files name text room hex input.Memory refused old),
     tells,
   )

@@ -19,8 +19,8 @@ use Rattle.preview.specs.CommandLine.{HasOne, IsRequest, Wanted, faults_of, plan
 abbrev pub IsDone : Files → Option (List ℕ) → Wanted → Option (List ℕ) → Option (List ℕ) → Type 0
 IsDone files standard (plan name) old new =
     IfSome (text_named files standard name) (λ text. WritesPlan text old new)
-IsDone files standard (run name room) old new =
-    IfSome (text_named files standard name) (λ text. WritesScript files text room old new)
+IsDone files standard (run name room hex) old new =
+    IfSome (text_named files standard name) (λ text. WritesScript files text room hex old new)
 
 -- it ended by a fault, which was told; of the two outputs it is said whether each refused, and what it had and has
 abbrev pub FailsAt : {T : Type 0} → Files → Option (List ℕ) → Wanted → Result T PrintFault
@@ -28,9 +28,9 @@ abbrev pub FailsAt : {T : Type 0} → Files → Option (List ℕ) → Wanted →
 FailsAt files standard (plan name) told refused old new mute had has =
     (fault : PlanFault) × IfSome (text_named files standard name) (λ text. EndsBy text fault refused old new)
     × Tells told mute had has (plan_fault_text name fault)
-FailsAt files standard (run name room) told refused old new mute had has =
+FailsAt files standard (run name room hex) told refused old new mute had has =
     (fault : RunFault)
-    × IfSome (text_named files standard name) (λ text. StopsBy files name text room fault refused old new)
+    × IfSome (text_named files standard name) (λ text. StopsBy files name text room hex fault refused old new)
     × Tells told mute had has (run_fault_text fault)
 
 -- memory was wanted for the words or for an answer to them: that was told, and nothing printed

@@ -2,12 +2,12 @@
 
 ghost use Rattle.std.specs.Prelude.{◌≡◌, IfOk, Some, false, map, option_map};
 ghost use Rattle.clap.specs.Words.{FailsBy, app_of, found_of, rows_of, rule_of, subcommand_rows_of};
-ghost use Rattle.preview.specs.CommandLine.{faults_of, needed_rule, option_rule, plan_app, plan_in, preview_app};
+ghost use Rattle.preview.specs.CommandLine.{faults_of, flag_rule, has_flag, needed_rule, option_rule, plan_app, plan_in, preview_app};
 ghost use Rattle.preview.specs.CommandLine.{run_app, run_in, wanted_from, wanted_in, wanted_of};
 
 use clap::builder::ValueParser;
 use clap::error::ErrorKind;
-use clap::{Arg, ArgMatches, Command, Error, value_parser};
+use clap::{Arg, ArgAction, ArgMatches, Command, Error, value_parser};
 use script_run::{MOST_CACHE, Options};
 use std::alloc::{AllocError, Global};
 use std::convert::AsStr;
@@ -70,10 +70,21 @@ fn read_run<'a>(run: &ArgMatches<'a>) -> Option<Asked<'a>>
 {
     let name = run.get_str("SCRIPT")?;
     let cache = run.get_one::<u16>("cache")?;
+    let hex = has_flag(run, "hex");
     if cache == 0 || cache > MOST_CACHE {
         return None;
     }
-    Some(Asked::Run(Options { name, cache }))
+    Some(Asked::Run(Options { name, cache, hex }))
+}
+
+/// Whether the flag of this name was given.
+fn has_flag(matches: &ArgMatches<'_>, name: &str) -> bool
+    ensures { result ≡ has_flag name.now (rows_of (found_of matches.now)) }
+{
+    match matches.get_str(name) {
+        Some(text) => text == "true",
+        None => false,
+    }
 }
 
 /// The command `preview`.
@@ -112,13 +123,15 @@ fn run_command<'a>(alloc: Global) -> Result<Command<'a>, AllocError>
     let help = "How many threads decode; there are none yet";
     let workers = number_option(alloc, "workers", none, "0", help);
     let room = value_parser!(u16).range(1..=MOST_CACHE as i64);
-    let help = "For how many pictures that no unit has there is room, 1 to 4096; none are kept yet";
+    let help = "For how many pictures that no unit has there is room, 1 to 4096";
     let cache = number_option(alloc, "cache", room, "64", help);
+    let hex = flag(alloc, "hex", "Shows the hash of each picture that is ready");
     Command::new(alloc, "run")
         .about("Runs a script that edits a stream, and prints what it answers")
         .arg(script)?
         .arg(workers)?
-        .arg(cache)
+        .arg(cache)?
+        .arg(hex)
 }
 
 /// An argument that has to be there.
@@ -127,6 +140,17 @@ fn needed<'a>(alloc: Global, name: &'a str, help: &'a str) -> Arg<'a>
     ensures local { result.global ≡ false }
 {
     Arg::new(alloc, name).required(true).help(help)
+}
+
+/// A flag `--name`.
+fn flag<'a>(alloc: Global, name: &'a str, help: &'a str) -> Arg<'a>
+    ensures rule { rule_of result ≡ flag_rule name.entry.now }
+    ensures local { result.global ≡ false }
+{
+    Arg::new(alloc, name)
+        .long(name)
+        .action(ArgAction::SetTrue)
+        .help(help)
 }
 
 /// A number by `--name`, which is `usual` where it isn't given.

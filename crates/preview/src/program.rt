@@ -153,10 +153,11 @@ fn run_named<D: Directory, I: Read + Drop, W: Sink, E: Sink>(
         → Keeps (E.contents errors.old) (E.contents errors.new) }
     ensures right { result.status ≡ Status.Success
         → IsDone (D.bytes directory.now) (I.remaining standard)
-        (run_of options.entry.name.now options.entry.cache) (W.contents output.old) (W.contents output.new) }
+        (run_of options.entry.name.now options.entry.cache options.entry.hex)
+        (W.contents output.old) (W.contents output.new) }
     ensures fails { result.status ≡ Status.Failure
         → FailsAt (D.bytes directory.now) (I.remaining standard)
-        (run_of options.entry.name.now options.entry.cache) result.told
+        (run_of options.entry.name.now options.entry.cache options.entry.hex) result.told
         (W.refuses output.new) (W.contents output.old) (W.contents output.new)
         (E.refuses errors.new) (E.contents errors.old) (E.contents errors.new) }
     ensures usage { result.status ≢ Status.Usage }

@@ -3,6 +3,7 @@
 mod command_lines;
 mod controls;
 mod examples;
+mod jobs;
 mod limits;
 mod loads;
 mod plans;

@@ -1,5 +1,5 @@
 -- Runs a script's commands on, and what was written of a run that ends before they do.
-use Rattle.std.proofs.Common.{◌≡◌, ◌∙◌, ℕ, List, [], ◌∷◌, ◌++◌, Option, refl, ap, sym, inl, inr, append_assoc, append-nil}
+use Rattle.std.proofs.Common.{◌≡◌, ◌∙◌, ℕ, Bool, List, [], ◌∷◌, ◌++◌, Option, refl, ap, sym, inl, inr, append_assoc, append-nil}
 use Rattle.std.proofs.KnownBytes.{Appends-trans}
 use Rattle.std.specs.Io.KnownBytes.{Appends}
 use Rattle.edit_engine.specs.Machines.{Machine}
@@ -14,21 +14,26 @@ use Rattle.script_run.specs.declared.run_fault.RunFault.{RunFault}
 use Rattle.script_run.specs.declared.run_fault.RunFault.TheVariants.{Unwritten}
 use Rattle.console_io.proofs.Chunked.{front-after}
 
-module _ (files : Files) where
+module _ (files : Files) (hex : Bool) where
   -- an answer by others that agree by name is one by these
   pub Answers-same : (others : Files) → ((name : List ℕ) → others name ≡ files name)
       → (old : Machine) (it : Command) (lines : List ℕ) (new : Machine)
-      → Answers others old it lines new → Answers files old it lines new
+      → Answers others hex old it lines new → Answers files hex old it lines new
   Answers-same others same old (command.Edit edit) lines new answers = answers
   Answers-same others same old (command.Load path) lines new answers =
       (answers.0, rw (same path.now) at answers.1, answers.2)
   Answers-same others same old (command.Unit number) lines new answers = answers
+  Answers-same others same old command.Take lines new answers = answers
+  Answers-same others same old (command.Land number) lines new answers = answers
+  Answers-same others same old (command.GiveBack number) lines new answers = answers
+  Answers-same others same old command.Settle lines new answers = answers
+  Answers-same others same old (command.Show number) lines new answers = answers
 
   -- a command after others
   pub Runs-push : (from : Machine) (commands : List Command) (lines : List ℕ) (between : Machine)
-      → Runs files from commands lines between
-      → (it : Command) (more : List ℕ) (to : Machine) → Answers files between it more to
-      → Runs files from (commands ++ it ∷ []) (lines ++ more) to
+      → Runs files hex from commands lines between
+      → (it : Command) (more : List ℕ) (to : Machine) → Answers files hex between it more to
+      → Runs files hex from (commands ++ it ∷ []) (lines ++ more) to
   Runs-push from [] lines between done it more to answers =
       let same = ap (λ (l : List ℕ). l ++ more) done.0 ∙ sym (append-nil more) in
       (more, [], to, rw done.1 at answers, (refl, refl), same)
@@ -39,18 +44,18 @@ module _ (files : Files) where
 
   -- what answers a command is written after what answers those before it
   pub WritesRun-push : (from : Machine) (commands : List Command) (between : Machine) (a b c : Option (List ℕ))
-      → WritesRun files from commands between a b
-      → (it : Command) (more : List ℕ) (to : Machine) → Answers files between it more to → Appends b c more
-      → WritesRun files from (commands ++ it ∷ []) to a c
+      → WritesRun files hex from commands between a b
+      → (it : Command) (more : List ℕ) (to : Machine) → Answers files hex between it more to → Appends b c more
+      → WritesRun files hex from (commands ++ it ∷ []) to a c
   WritesRun-push from commands between a b c ran it more to answers appends =
       let runs = Runs-push from commands ran.0 between ran.1 it more to answers in
       (ran.0 ++ more, runs, Appends-trans a b c ran.0 more ran.2 appends)
 
   -- the commands before this one were answered, and it isn't
   pub stops-before : (from : Machine) (commands : List Command) (between : Machine) (a b : Option (List ℕ))
-      → WritesRun files from commands between a b
+      → WritesRun files hex from commands between a b
       → (all : List Command) (it : Command) (rest : List Command) → all ≡ commands ++ it ∷ rest
-      → (fault : RunFault) → IsCommandFault it fault → (R : Type 0) → StopsAt files from all fault R a b
+      → (fault : RunFault) → IsCommandFault it fault → (R : Type 0) → StopsAt files hex from all fault R a b
   stops-before from commands between a b ran all it rest are fault stopped R = record {
     before = commands;
     command = it;
@@ -64,10 +69,10 @@ module _ (files : Files) where
 
   -- they were answered, and the writer takes a front of the answer of this one
   pub stops-within : (from : Machine) (commands : List Command) (between : Machine) (a b c : Option (List ℕ))
-      → WritesRun files from commands between a b
+      → WritesRun files hex from commands between a b
       → (all : List Command) (it : Command) (rest : List Command) → all ≡ commands ++ it ∷ rest
-      → (lines : List ℕ) (to : Machine) → Answers files between it lines to → AppendsFront b c lines
-      → (fault : RunFault) → fault ≡ Unwritten → (R : Type 0) → R → StopsAt files from all fault R a c
+      → (lines : List ℕ) (to : Machine) → Answers files hex between it lines to → AppendsFront b c lines
+      → (fault : RunFault) → fault ≡ Unwritten → (R : Type 0) → R → StopsAt files hex from all fault R a c
   stops-within from commands between a b c ran all it rest are lines to answers got fault unwritten R refused = record {
     before = commands;
     command = it;

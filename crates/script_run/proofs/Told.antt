@@ -1,5 +1,5 @@
 -- How a script that isn't read stops.
-use Rattle.std.proofs.Common.{ℕ, List, Option, refl, inl, inr}
+use Rattle.std.proofs.Common.{ℕ, Bool, List, Option, refl, inl, inr}
 use Rattle.std.specs.Prelude.{Result, Ok, Err, IfErr, IsErrAnd}
 use Rattle.std.proofs.KnownBytes.{Keeps-refl}
 use Rattle.std.specs.Borrow.{Bor}
@@ -10,10 +10,10 @@ use Rattle.script_run.specs.RunFaults.{fault_of_input}
 use Rattle.script_run.specs.Stops.{StopsBy}
 
 -- it can't be read, or there is no memory for it
-pub stops-unread : (files : Files) (name : Bor (List ℕ)) (text : List ℕ) (room : ℕ) (fault : InputFault) (R : Type 0)
-    (a : Option (List ℕ)) → StopsBy files name.now text room (fault_of_input name fault) R a a
-stops-unread files name text room input.Unread R a = inl (name, refl, refl, Keeps-refl a)
-stops-unread files name text room input.Memory R a = inr (inl (refl, Keeps-refl a))
+pub stops-unread : (files : Files) (name : Bor (List ℕ)) (text : List ℕ) (room : ℕ) (hex : Bool) (fault : InputFault) (R : Type 0)
+    (a : Option (List ℕ)) → StopsBy files name.now text room hex (fault_of_input name fault) R a a
+stops-unread files name text room hex input.Unread R a = inl (name, refl, refl, Keeps-refl a)
+stops-unread files name text room hex input.Memory R a = inr (inl (refl, Keeps-refl a))
 
 -- an error by `?` is what the error below is turned into
 pub err-all : {T E : Type 0} (result : Result T E) (from : E → Type 0) {P : E → Type 0} → IsErrAnd result from

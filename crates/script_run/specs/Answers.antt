@@ -1,5 +1,5 @@
 -- The lines that answer the commands of a script (docs/OUTPUT.md).
-use Rattle.std.specs.Prelude.{ℕ, ◌++◌, List, [], codes, decimal, Result, Ok, Err}
+use Rattle.std.specs.Prelude.{ℕ, ◌++◌, Bool, List, codes, decimal, Option, Some, None, Result, Ok, Err}
 use Rattle.edit_engine.specs.declared.receipts.Receipt.{Receipt}
 use Rattle.edit_engine.specs.declared.refusals.EditRefused.{EditRefused}
 use Rattle.edit_engine.specs.declared.refusals.NoSuchUnit.{NoSuchUnit}
@@ -10,6 +10,8 @@ use Rattle.edit_engine.specs.Names.{name_of}
 use Rattle.edit_engine.specs.Numbers.{number_of}
 use Rattle.unit_lines.specs.UnitLines.{outcome_lines}
 use Rattle.edit_script.specs.Words.{id_of}
+use Rattle.script_run.specs.JobLines.{taken_line, landed_line, given_line}
+use Rattle.script_run.specs.ShownLines.{shown_line}
 
 -- the line of an accepted edit
 abbrev pub accepted_line : Receipt → List ℕ
@@ -39,9 +41,13 @@ abbrev pub report_lines : ℕ → Result UnitReport NoSuchUnit → List ℕ
 report_lines number (Ok report) = outcome_lines (id_of number) report.position report.outcome
 report_lines number (Err none) = no_unit_line number
 
--- the lines of a session's reply; that of a unit names the number that was asked for, and to what no line of a script
--- asks for there are none
-abbrev pub reply_lines : ℕ → Reply → List ℕ
-reply_lines number (replies.Edit answer) = edit_line answer
-reply_lines number (replies.Unit report) = report_lines number report
-reply_lines number reply = []
+-- the lines of a session's reply, which name the number that was asked for; pictures have digits where they are asked
+-- for. That all numbers of jobs were given has no line: it ends the run
+abbrev pub reply_lines : Bool → ℕ → Reply → Option (List ℕ)
+reply_lines hex number (replies.Edit answer) = Some (edit_line answer)
+reply_lines hex number (replies.Unit report) = Some (report_lines number report)
+reply_lines hex number (replies.Take (Ok job)) = Some (taken_line job)
+reply_lines hex number (replies.Take (Err refused)) = None
+reply_lines hex number (replies.Land answer) = Some (landed_line number answer)
+reply_lines hex number (replies.GiveBack answer) = Some (given_line number answer)
+reply_lines hex number (replies.Show shown) = Some (shown_line hex number shown)

@@ -1,5 +1,5 @@
 -- The run of a script's commands on a session, and what it writes (docs/OUTPUT.md).
-use Rattle.std.specs.Prelude.{◌≡◌, ℕ, ◌-◌, ◌≤◌, ◌++◌, List, [], ◌∷◌, length, Ok, Err, Option, Some, None, IfSome, ◌⊎◌}
+use Rattle.std.specs.Prelude.{◌≡◌, ℕ, ◌-◌, ◌≤◌, ◌++◌, Bool, List, [], ◌∷◌, length, Ok, Err, Option, Some, None, IfSome, ◌⊎◌}
 use Rattle.std.specs.Io.KnownBytes.{Appends}
 use Rattle.std.specs.List.{AllZip, filter}
 use Rattle.annexb.specs.ByteStream.{joined}
@@ -12,10 +12,13 @@ use Rattle.edit_engine.specs.declared.commands.Command.{Command as Told}
 use Rattle.edit_engine.specs.declared.commands.Command.TheVariants as told
 use Rattle.edit_engine.specs.declared.replies.Reply.{Reply}
 use Rattle.edit_engine.specs.declared.replies.Reply.TheVariants as replies
+use Rattle.edit_engine.specs.declared.replies.TakenJob.{TakenJob}
 use Rattle.edit_engine.specs.Machines.{Machine, empty, last_of}
 use Rattle.edit_engine.specs.Runs.{Answers as Replies}
 use Rattle.edit_engine.specs.Streams.{Stream}
 use Rattle.script_run.specs.Answers.{refused_line, loaded_line, reply_lines}
+use Rattle.script_run.specs.JobLines.{settled_line}
+use Rattle.script_run.specs.Settling.{Settles}
 use Rattle.console_io.specs.Inputs.{Files}
 use Rattle.access_unit.specs.Rooms.{IsStream, IsStreamRefused, most_units}
 use Rattle.unit_lines.specs.Refusals.{refusal_text}
@@ -58,32 +61,41 @@ Loads old text lines new =
     ⊎ ((refusal : Refusal) × IsStreamRefused text (room_of old.register.stream) refusal
     × (lines ≡ refusal_text refusal) × (new ≡ old))
 
--- the session replies to what it is told, and the lines are those of its reply; the number is the one asked for
-abbrev pub Follows : Machine → Told → ℕ → List ℕ → Machine → Type 0
-Follows old told number lines new = (reply : Reply) × Replies old told reply new × (lines ≡ reply_lines number reply)
+-- the session replies to what it is told, and the lines are those of its reply, with a picture's digits or without;
+-- the number is the one asked for
+abbrev pub Follows : Bool → Machine → Told → ℕ → List ℕ → Machine → Type 0
+Follows hex old told number lines new =
+    (reply : Reply) × Replies old told reply new × (reply_lines hex number reply ≡ Some lines)
 
 -- a command is answered by the lines, and leads from one state of the session to the other
-abbrev pub Answers : Files → Machine → Command → List ℕ → Machine → Type 0
-Answers files old (command.Edit edit) lines new = Follows old (told.Edit edit) 0 lines new
-Answers files old (command.Load path) lines new =
+abbrev pub Answers : Files → Bool → Machine → Command → List ℕ → Machine → Type 0
+Answers files hex old (command.Edit edit) lines new = Follows hex old (told.Edit edit) 0 lines new
+Answers files hex old (command.Load path) lines new =
     (text : List ℕ) × IfSome (files path.now) (λ bytes. text ≡ bytes) × Loads old text lines new
-Answers files old (command.Unit number) lines new = Follows old (told.Unit (id_of number)) number lines new
+Answers files hex old (command.Unit number) lines new = Follows hex old (told.Unit (id_of number)) number lines new
+Answers files hex old command.Take lines new = Follows hex old told.Take 0 lines new
+Answers files hex old (command.Land number) lines new = Follows hex old (told.Land number) number lines new
+Answers files hex old (command.GiveBack number) lines new = Follows hex old (told.GiveBack number) number lines new
+Answers files hex old command.Settle lines new =
+    (jobs : List TakenJob) × Settles old jobs new × (lines ≡ settled_line)
+Answers files hex old (command.Show number) lines new = Follows hex old (told.Show (id_of number)) number lines new
 
 -- the commands are answered one after the other, by these lines in all
-abbrev pub Runs : Files → Machine → List Command → List ℕ → Machine → Type 0
-Runs files from [] lines to = (lines ≡ []) × (to ≡ from)
-Runs files from (command ∷ commands) lines to =
-    (front : List ℕ) × (rest : List ℕ) × (next : Machine) × Answers files from command front next
-    × Runs files next commands rest to × (lines ≡ front ++ rest)
+abbrev pub Runs : Files → Bool → Machine → List Command → List ℕ → Machine → Type 0
+Runs files hex from [] lines to = (lines ≡ []) × (to ≡ from)
+Runs files hex from (command ∷ commands) lines to =
+    (front : List ℕ) × (rest : List ℕ) × (next : Machine) × Answers files hex from command front next
+    × Runs files hex next commands rest to × (lines ≡ front ++ rest)
 
 -- the lines that answer the commands were written
-abbrev pub WritesRun : Files → Machine → List Command → Machine → Option (List ℕ) → Option (List ℕ) → Type 0
-WritesRun files from commands to old new = (lines : List ℕ) × Runs files from commands lines to × Appends old new lines
+abbrev pub WritesRun : Files → Bool → Machine → List Command → Machine → Option (List ℕ) → Option (List ℕ) → Type 0
+WritesRun files hex from commands to old new =
+    (lines : List ℕ) × Runs files hex from commands lines to × Appends old new lines
 
 -- the text is a script, and what answers its commands was written: they were run from the empty stream, for a cache
--- of this room
-pub record WritesScript (files : Files) (text : List ℕ) (room : ℕ) (old new : Option (List ℕ)) : Type 0 where
+-- of this room, and pictures have their digits or not
+pub record WritesScript (files : Files) (text : List ℕ) (room : ℕ) (hex : Bool) (old new : Option (List ℕ)) : Type 0 where
   pub commands : List Command
   pub last : Machine
   pub read : AllZip IsLine (filter is_read (lines_of text)) commands
-  pub answered : WritesRun files (empty room) commands last old new
+  pub answered : WritesRun files hex (empty room) commands last old new

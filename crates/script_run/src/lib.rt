@@ -6,11 +6,14 @@
 #![tactic(auto)]
 
 mod answers;
+mod job_lines;
 mod loading;
 mod messages;
 mod options;
 mod run;
 mod run_fault;
+mod settling;
+mod shown_lines;
 
 pub use options::{MOST_CACHE, Options};
 pub use run::script_on;

@@ -13,5 +13,7 @@ pub struct Options<'a> {
     pub name: &'a str,
     /// For how many pictures that no unit has the session has room, 1 to `MOST_CACHE`.
     pub cache: u16,
+    /// Whether pictures are shown with the digits of their hash.
+    pub hex: bool,
     ghost in_range: { (1 ≤ cache) × (cache ≤ most_cache) },
 }

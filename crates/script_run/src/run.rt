@@ -1,8 +1,8 @@
 //! `preview run`: a script read, run on a session and answered line by line.
 
-ghost use Rattle.std.specs.Prelude.{◌≡◌, ◌≢◌, ℕ, List, IfErr, IfOk, IfSome, OnOk, string_bytes};
+ghost use Rattle.std.specs.Prelude.{◌≡◌, ◌≢◌, ℕ, List, IfErr, IfOk, IfSome, OnOk, Some, string_bytes};
 ghost use Rattle.std.specs.Io.KnownBytes.{Keeps};
-ghost use Rattle.script_run.specs.Answers.{report_lines};
+ghost use Rattle.script_run.specs.Answers.{reply_lines, report_lines};
 ghost use Rattle.console_io.specs.Messages.{Tells};
 ghost use Rattle.script_run.specs.Messages.{run_fault_text};
 ghost use Rattle.script_run.specs.RunFaults.{IsCommandFault};
@@ -11,10 +11,13 @@ ghost use Rattle.script_run.specs.Running.{Answers, Follows, WritesRun, WritesSc
 ghost use Rattle.script_run.specs.Stops.{StopsAt, StopsBy, StopsText};
 
 use crate::answers::{AcceptedLine, NoUnitLine, RefusedLine};
+use crate::job_lines::{GivenLine, LandedLine, TakenLine};
 use crate::loading::load;
 use crate::messages::say_run_fault;
 use crate::options::Options;
 use crate::run_fault::RunFault;
+use crate::settling::settle;
+use crate::shown_lines::shown_line;
 use console_io::{Ended, Sink, Source, Status, whole_input, write_bytes};
 use edit_engine::{Command as Told, Config, NoSuchUnit, Reply, Runner, UnitReport};
 use edit_script::{Command, id_of_number, read_script};
@@ -38,11 +41,11 @@ pub fn script_on<R: Read, S: Source, W: Sink, E: Sink>(
         → Keeps (E.contents errors.old) (E.contents errors.new) }
     // What is written at success is a run of the script that was read.
     ensures answered { result.status ≡ Status.Success → IfSome (R.remaining reader.old) (λ text.
-        WritesScript (S.file source.old) text options.entry.cache (W.contents writer.old) (W.contents writer.new)) }
+        WritesScript (S.file source.old) text options.entry.cache options.entry.hex (W.contents writer.old) (W.contents writer.new)) }
     // At a failure it is what the fault that is told leaves of it.
     ensures stops { result.status ≡ Status.Failure → (fault : RunFault)
         × IfSome (R.remaining reader.old) (λ text.
-        StopsBy (S.file source.old) options.entry.name.now text options.entry.cache fault
+        StopsBy (S.file source.old) options.entry.name.now text options.entry.cache options.entry.hex fault
         (W.refuses writer.new) (W.contents writer.old) (W.contents writer.new))
         × Tells result.told (E.refuses errors.new) (E.contents errors.old) (E.contents errors.new)
         (run_fault_text fault) }
@@ -72,38 +75,40 @@ fn run_text<'a, S: Source, W: Sink>(
 ) -> Result<(), RunFault<'a>>
     ensures ok { OnOk result
         (WritesScript (S.file source.old) text.now options.entry.cache
-        (W.contents writer.old) (W.contents writer.new)) }
+        options.entry.hex (W.contents writer.old) (W.contents writer.new)) }
     ensures stops { IfErr result (λ fault. StopsText
-        (S.file source.old) text.now options.entry.cache fault
+        (S.file source.old) text.now options.entry.cache options.entry.hex fault
         (W.refuses writer.new) (W.contents writer.old) (W.contents writer.new)) }
 {
     let commands = read_script(alloc, text)?;
-    let cache = options.cache;
+    let (cache, hex) = (options.cache, options.hex);
     // The options are in range.
     let Ok(mut runner) = Runner::new(alloc, Config { cache }) else {
         return Err(RunFault::Memory);
     };
-    run_commands(threads, alloc, commands, &mut runner, source, writer)
+    run_commands(threads, alloc, commands, hex, &mut runner, source, writer)
 }
 
-/// Runs the commands one after the other, and writes what each one prints.
+/// Runs the commands one after the other, and writes what each one prints, pictures with digits where `hex` asks for
+/// them.
 fn run_commands<'a, S: Source, W: Sink>(
     threads: &(impl Threads + Sync),
     alloc: Global,
     commands: Vec<Command<'a>>,
+    hex: bool,
     runner: &mut Runner,
     source: &mut S,
     writer: &mut W,
 ) -> Result<(), RunFault<'a>>
     ensures ok { OnOk result
-        (WritesRun (S.file source.old) runner.old commands.entry.items runner.new
+        (WritesRun (S.file source.old) hex runner.old commands.entry.items runner.new
         (W.contents writer.old) (W.contents writer.new)) }
     ensures stops { IfErr result (λ fault. StopsAt
-        (S.file source.old) runner.old commands.entry.items fault
+        (S.file source.old) hex runner.old commands.entry.items fault
         (W.refuses writer.new) (W.contents writer.old) (W.contents writer.new)) }
 {
     for command in commands {
-        let lines = run_command(threads, alloc, command, runner, source)?;
+        let lines = run_command(threads, alloc, command, hex, runner, source)?;
         write_bytes(writer, lines.as_bytes())?;
     }
     Ok(())
@@ -114,38 +119,64 @@ fn run_command<'a, S: Source>(
     threads: &(impl Threads + Sync),
     alloc: Global,
     command: Command<'a>,
+    hex: bool,
     runner: &mut Runner,
     source: &mut S,
 ) -> Result<String, RunFault<'a>>
-    ensures ok { IfOk result (λ lines.
-        Answers (S.file source.old) runner.old command.entry (string_bytes lines) runner.new) }
+    ensures ok { IfOk result (λ lines. Answers
+        (S.file source.old) hex runner.old command.entry (string_bytes lines) runner.new) }
     ensures kept { (name : List ℕ) → S.file source.new name ≡ S.file source.old name }
     ensures named { IfErr result (IsCommandFault command.entry) }
 {
     match command {
-        Command::Edit(edit) => Ok(follow(alloc, runner, Told::Edit(edit), 0)?),
+        Command::Edit(edit) => Ok(follow(alloc, runner, Told::Edit(edit), 0, hex)?),
         Command::Load { path } => load(threads, alloc, path, runner, source),
         Command::Unit { number } => {
             let told = Told::Unit(id_of_number(number));
-            Ok(follow(alloc, runner, told, number)?)
+            Ok(follow(alloc, runner, told, number, hex)?)
+        }
+        Command::Take => Ok(follow(alloc, runner, Told::Take, 0, hex)?),
+        Command::Land { number } => Ok(follow(alloc, runner, Told::Land(number), number, hex)?),
+        Command::GiveBack { number } => {
+            Ok(follow(alloc, runner, Told::GiveBack(number), number, hex)?)
+        }
+        Command::Settle => Ok(settle(alloc, runner)?),
+        Command::Show { number } => {
+            let told = Told::Show(id_of_number(number));
+            Ok(follow(alloc, runner, told, number, hex)?)
         }
     }
 }
 
 /// Tells the session something that asks for this number, and gives the lines of its reply.
-fn follow(alloc: Global, runner: &mut Runner, told: Told, number: u64) -> Result<String, AllocError>
-    ensures { IfOk result (λ lines. Follows runner.old told number
+fn follow(
+    alloc: Global,
+    runner: &mut Runner,
+    told: Told,
+    number: u64,
+    hex: bool,
+) -> Result<String, AllocError>
+    ensures { IfOk result (λ lines. Follows hex runner.old told number
         (string_bytes lines) runner.new) }
 {
     let reply = runner.step(told)?;
+    reply_lines(alloc, number, hex, &reply)
+}
+
+/// The lines of a reply to what asks for this number.
+fn reply_lines(alloc: Global, number: u64, hex: bool, reply: &Reply) -> Result<String, AllocError>
+    ensures { IfOk result (λ lines. reply_lines hex number reply.now ≡ Some (string_bytes lines)) }
+{
     match reply {
-        Reply::Edit(Ok(receipt)) => AcceptedLine(receipt).to_string(alloc),
-        Reply::Edit(Err(refused)) => RefusedLine(refused).to_string(alloc),
-        Reply::Unit(report) => report_lines(alloc, number, &report),
-        // No line of a script asks for these.
-        Reply::Take(_) | Reply::Land(_) | Reply::GiveBack(_) | Reply::Show(_) => {
-            Ok(String::new(alloc))
-        }
+        Reply::Edit(Ok(receipt)) => AcceptedLine(*receipt).to_string(alloc),
+        Reply::Edit(Err(refused)) => RefusedLine(*refused).to_string(alloc),
+        Reply::Unit(report) => report_lines(alloc, number, report),
+        Reply::Take(Ok(job)) => TakenLine(*job).to_string(alloc),
+        // All numbers of jobs were given, which is told as want of memory is.
+        Reply::Take(Err(_)) => Err(AllocError),
+        Reply::Land(answer) => LandedLine(number, *answer).to_string(alloc),
+        Reply::GiveBack(answer) => GivenLine(number, *answer).to_string(alloc),
+        Reply::Show(shown) => shown_line(alloc, number, *shown, hex),
     }
 }
 

@@ -96,7 +96,7 @@ type Ran = (
     &'static str,
 );
 
-const RUNS: [Ran; 17] = [
+const RUNS: [Ran; 19] = [
     (&["plan", "a.264"], &P1, Success, LINES_OF_A, ""),
     (
         &["plan", "-"],
@@ -148,9 +148,19 @@ const RUNS: [Ran; 17] = [
         "out of memory\n",
     ),
     (&["run", "-"], b"load -\n", Success, "refused 1 Split\n", ""),
+    (&["run", "-"], SHOW_A, Success, SHOWN_A, ""),
+    (&["run", "--hex", "-"], SHOW_A, Success, HASHED_A, ""),
     (&["--version"], &A, Success, "preview 0.1.0\n", ""),
     (&["-V"], &A, Success, "preview 0.1.0\n", ""),
 ];
+
+/// A script that shows the picture of A, and its lines without and with the hash, which is one of stand_in_device's tests.
+const SHOW_A: &[u8] = b"load a.264\nsettle\nshow 1\n";
+
+const SHOWN_A: &str = "loaded 1\nsettled\nshow 1 ready\n";
+
+const HASHED_A: &str = "loaded 1\nsettled\n\
+show 1 ready 0ac6f5c6bc064c436309c18b3d1b605ad60f7de3724081b84ff01aac2c3954cf\n";
 
 const LOADED_A: &str = "loaded 1\nunit 1 position 0 counts 0 0 requests 1\n\
 request 1.0 ts 1000 bits 25 type 2 frame 0 dpb - l0 - l1 - hold 0\n";
@@ -181,7 +191,7 @@ fn does_what_the_words_name(rt: HostRuntime) -> Result<(), Fail> {
 /// standard error, where the other one is empty.
 type Answer = (&'static [&'static str], Status, &'static str);
 
-const ANSWERS: [Answer; 17] = [
+const ANSWERS: [Answer; 18] = [
     (&[], Usage, "Usage: preview <COMMAND>"),
     (&["plan"], Usage, "<FILE>"),
     (&["plan", "a", "b"], Usage, "'b'"),
@@ -191,7 +201,7 @@ const ANSWERS: [Answer; 17] = [
     (&["plan", "--help"], Success, "Usage: preview plan <FILE>"),
     (&["help", "plan"], Success, "Usage: preview plan <FILE>"),
     (&["run"], Usage, "<SCRIPT>"),
-    (&["run", "--hex", "a"], Usage, "'--hex'"),
+    (&["run", "--hex", "a", "--hex"], Usage, "'--hex'"),
     (&["run", "--workers", "1", "a"], Usage, "'1'"),
     (&["run", "--workers", "x", "a"], Usage, "'x'"),
     (&["run", "--cache", "0", "a"], Usage, "'0'"),
@@ -206,6 +216,7 @@ const ANSWERS: [Answer; 17] = [
         Failure,
         "cannot read no/such\n",
     ),
+    (&["run", "--hex", "no"], Failure, "cannot read no\n"),
     (
         &["run", "no", "--cache", "4096"],
         Failure,

@@ -112,6 +112,7 @@ fn runs_or_wants_memory(rt: &(impl Abort + AllocGlobal + Threads + Sync)) -> boo
     let options = Options {
         name: "-",
         cache: 64,
+        hex: true,
     };
     let files: [(&str, &[u8]); 1] = [("p", P1.as_slice())];
     let mut source = TestFiles {

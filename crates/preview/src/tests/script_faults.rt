@@ -11,18 +11,16 @@ use std::test::Fail;
 use std::thread::Threads;
 
 /// Lines that are no command.
-const WRONG: [&str; 44] = [
-    // No word, or one that is no command, or isn't yet.
+const WRONG: [&str; 52] = [
+    // No word, or one that is no command.
     " ",
     "   ",
     " # no comment",
     "Unit 1",
     "units 1",
-    "show 1",
-    "take",
-    "land 1",
-    "give 1",
-    "settle",
+    "Take",
+    "settled",
+    "ready 1",
     "group",
     "end",
     // Numbers.
@@ -52,6 +50,16 @@ const WRONG: [&str; 44] = [
     "replace x 00",
     "load",
     "load a b",
+    "take 1",
+    "settle 1",
+    "show",
+    "show 1 2",
+    "show x",
+    "land",
+    "land 1 2",
+    "land -1",
+    "give",
+    "give 12345678901",
     // Digits that are no pairs.
     "insert first 0",
     "insert first 0g",
@@ -124,6 +132,7 @@ fn is_told(
     let options = Options {
         name: "-",
         cache: 4096,
+        hex: true,
     };
     let mut source = TestFiles {
         files: &[],

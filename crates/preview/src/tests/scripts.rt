@@ -18,15 +18,16 @@ pub(super) const INSERT_A: &str =
     "insert first 00 00 01 6742000ADA79 000001 68CE3880 000001 65888480\n";
 
 /// A, and the pictures with frame_num 1 and 2 after it.
-const INSERT_THREE: &str = "insert first 000001 6742000ada79 000001 68ce3880 000001 65888480\n\
+pub(super) const INSERT_THREE: &str =
+    "insert first 000001 6742000ada79 000001 68ce3880 000001 65888480\n\
 insert after 1 00 00 01 41 9A 23\n\
 insert after 2 00 00 01 41 9A 43\n";
 
 /// What the edits of these three answer.
-const THREE: &str = "edit 1 id 1\nedit 2 id 2\nedit 3 id 3\n";
+pub(super) const THREE: &str = "edit 1 id 1\nedit 2 id 2\nedit 3 id 3\n";
 
 /// Unit 3 after the unit 4.
-const LINES_OF_3: &str = "unit 3 position 2 counts 4 4 requests 1\n\
+pub(super) const LINES_OF_3: &str = "unit 3 position 2 counts 4 4 requests 1\n\
 request 3.0 ts 3000 bits 23 type 0 frame 2 dpb 4000:1:3 l0 0 l1 - hold 0\n";
 
 /// Unit 2 of a stream with a B picture.
@@ -61,11 +62,25 @@ pub(super) fn ends_as(
     lines: &[u8],
     message: &[u8],
 ) -> bool {
-    let (mut output, mut errors) = (Vec::new(rt.alloc()), Vec::new(rt.alloc()));
     let options = Options {
         name: "a script",
         cache: 64,
+        hex: false,
     };
+    ends_with(rt, options, script, files, status, lines, message)
+}
+
+/// Whether a script with these options ends so, and writes just these texts on both streams.
+fn ends_with(
+    rt: &(impl Abort + AllocGlobal + Threads + Sync),
+    options: Options<'_>,
+    script: &[u8],
+    files: &[(&str, &[u8])],
+    status: Status,
+    lines: &[u8],
+    message: &[u8],
+) -> bool {
+    let (mut output, mut errors) = (Vec::new(rt.alloc()), Vec::new(rt.alloc()));
     let mut source = TestFiles { files, asked: 0 };
     let ended = script_on(
         rt,
@@ -89,8 +104,20 @@ pub(super) fn answers(
     Ok(ends_as(rt, script.as_bytes(), &[], Success, lines.as_bytes(), b""))
 }
 
+/// Whether the script of these parts, with these options, runs to its end and prints these lines.
+pub(super) fn answers_with(
+    rt: &(impl Abort + AllocGlobal + Threads + Sync),
+    options: Options<'_>,
+    parts: &[&str],
+    lines: &[&str],
+) -> Result<bool, AllocError> {
+    let (script, lines) = (texts(rt.alloc(), parts)?, texts(rt.alloc(), lines)?);
+    let (script, lines) = (script.as_bytes(), lines.as_bytes());
+    Ok(ends_with(rt, options, script, &[], Success, lines, b""))
+}
+
 /// The parts of a script, and the lines that it prints.
-type Script = (&'static [&'static str], &'static [&'static str]);
+pub(super) type Script = (&'static [&'static str], &'static [&'static str]);
 
 const SCRIPTS: [Script; 11] = [
     (
@@ -245,6 +272,7 @@ fn run_to(
     let options = Options {
         name: "-",
         cache: 1,
+        hex: false,
     };
     let files: [(&str, &[u8]); 1] = [("p", P1.as_slice())];
     let mut source = TestFiles {

@@ -13,6 +13,7 @@ returns c =
     let workers_is : rule_of c.number_option-workers.result ≡ workers_rule = c.number_option-workers.ensures.rule ∙ ap (λ (q : ValueParser). option_rule (codes "workers") q (codes "0")) none in
     let cache_is : rule_of c.number_option-cache.result ≡ cache_rule = c.number_option-cache.ensures.rule ∙ ap (λ (q : ValueParser). option_rule (codes "cache") q (codes "64")) room in
     let base : app_of c.about.result ≡ new_app (codes "run") = search rules in
-    IfOk-weaker c.arg-3.result _ _ (λ command added. added.shape c.number_option-cache.ensures.local
+    IfOk-weaker c.arg-4.result _ _ (λ command added. added.shape c.flag-hex.ensures.local
+    ∙ ap₂ with_rule (c.in_ok-arg-3.ensures.shape c.number_option-cache.ensures.local
     ∙ ap₂ with_rule (c.in_ok-arg-2.ensures.shape c.number_option-workers.ensures.local
-    ∙ ap₂ with_rule (c.in_ok-arg.ensures.shape c.needed-script.ensures.local ∙ ap₂ with_rule base c.needed-script.ensures.rule) workers_is) cache_is) c.arg-3.ensures
+    ∙ ap₂ with_rule (c.in_ok-arg.ensures.shape c.needed-script.ensures.local ∙ ap₂ with_rule base c.needed-script.ensures.rule) workers_is) cache_is) c.flag-hex.ensures.rule) c.arg-4.ensures

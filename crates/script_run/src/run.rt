@@ -41,11 +41,13 @@ pub fn script_on<R: Read, S: Source, W: Sink, E: Sink>(
         → Keeps (E.contents errors.old) (E.contents errors.new) }
     // What is written at success is a run of the script that was read.
     ensures answered { result.status ≡ Status.Success → IfSome (R.remaining reader.old) (λ text.
-        WritesScript (S.file source.old) text options.entry.cache options.entry.hex (W.contents writer.old) (W.contents writer.new)) }
+        WritesScript (S.file source.old) text options.entry.cache options.entry.hex
+        (W.contents writer.old) (W.contents writer.new)) }
     // At a failure it is what the fault that is told leaves of it.
     ensures stops { result.status ≡ Status.Failure → (fault : RunFault)
         × IfSome (R.remaining reader.old) (λ text.
-        StopsBy (S.file source.old) options.entry.name.now text options.entry.cache options.entry.hex fault
+        StopsBy (S.file source.old) options.entry.name.now text options.entry.cache
+        options.entry.hex fault
         (W.refuses writer.new) (W.contents writer.old) (W.contents writer.new))
         × Tells result.told (E.refuses errors.new) (E.contents errors.old) (E.contents errors.new)
         (run_fault_text fault) }

@@ -4,6 +4,7 @@ import functools
 import multiprocessing
 import os
 import pathlib
+import random
 import shutil
 import subprocess
 import sys
@@ -14,6 +15,17 @@ REPEATS = 3
 START = b"\0\0\1"
 # profile_idc 66, count type 2, one reference frame, one macroblock, frame_num of 4 bits
 SPS, PPS, IDR = (START + bytes.fromhex(unit) for unit in ("67 42 00 0A DA 79", "68 CE 38 80", "65 88 84 80"))
+
+
+def following(frame_num, data):
+    """A P picture: frame_num stands in the header's bits 7 to 10, then come flags of 0 and slice_qp_delta 0."""
+    return START + bytes([0x41, 0x9A | frame_num >> 3, (frame_num & 7) << 5 | 3]) + data
+
+
+def chained(units, size):
+    """An IDR picture and P pictures, each with the next frame_num and `size` bytes of slice data."""
+    data = bytes(random.Random(1).choices(range(4, 256), k=size))
+    return SPS + PPS + IDR + b"".join(following(i % 16, data) for i in range(1, units))
 
 
 @functools.cache

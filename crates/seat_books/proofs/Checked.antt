@@ -1,0 +1,357 @@
+-- Whether a receipt agrees, by a replay that has come as far.
+use Rattle.std.proofs.Common.{◌≡◌, ℕ, ◌+◌, ◌<◌, ◌≤◌, Bool, true, false, List, [], ◌∷◌, ◌++◌, length, Option, None, Some, IsTrue, ap, sym, ◌∙◌, subst, refl, arith, inl, inr}
+use Rattle.std.specs.Prelude.{slice_get, All, Contains, ◌↔◌, not, Result, Ok, Err, IfOk}
+use Rattle.std.proofs.lemmas.List.Elements.{All-contains, All-push, All-weaker, Contains-push}
+use Rattle.std.proofs.lemmas.Option.{slice_get_within}
+use Rattle.dep_keys.specs.KeyMaps.{Extends, IsKeyMap, tree_at}
+use Rattle.stand_in_device.specs.declared.picture.Picture.{Picture}
+use Rattle.picture_keys.specs.Keys.{Key}
+use Rattle.picture_keys.specs.KeyPictures.{picture_of_key}
+use Rattle.picture_keys.specs.Numbered.{AllStandFor}
+use Rattle.picture_store.proofs.Members.{nowhere}
+use Rattle.edit_engine.specs.declared.edits.Edit.{Edit}
+use Rattle.edit_engine.specs.declared.showing.Shown.{Shown}
+use Rattle.edit_engine.specs.declared.showing.Shown.TheVariants as shown
+use Rattle.edit_engine.specs.Edits.{Register, Makes}
+use Rattle.edit_engine.specs.Machines.{Machine, empty}
+use Rattle.edit_engine.specs.Showing.{keys_in, HasKey}
+use Rattle.seat_books.specs.declared.book.SeatBook.{SeatBook}
+use Rattle.seat_books.specs.declared.receipts.SeatReceipt.{SeatReceipt}
+use Rattle.seat_books.specs.declared.receipts.SeatReceipt.TheVariants as receipts
+use Rattle.seat_books.specs.declared.replay.Replay.{Replay}
+use Rattle.seat_books.specs.Books.{Agrees, EditAgrees, IsPossible, LeadTo, ShowAgrees, ShowsReady, WasReady, is_noted, length_in}
+use Rattle.seat_books.specs.Following.{AreReady, IsChecked, IsKeyOf, IsReplayed, IsUpTo, MakesEdit, Sees, reach}
+use Rattle.seat_books.proofs.Fronts.{IsFront-next, IsFront-same, LeadTo-next, length_next}
+use Rattle.seat_books.proofs.Numbers.{one_key}
+use Rattle.seat_books.proofs.Readies.{AreReady-edit, AreReady-extended, AreReady-plain, AreReady-shown}
+use Rattle.seat_books.proofs.Unique.{one_edit, one_lead, some_same}
+
+pub not_true : false ≡ true → ⊥
+not_true is = cc
+
+-- a replay that makes the next edit
+pub IsReplayed-next : (journal : List Edit) (earlier : List SeatReceipt) (old new : Replay) (edit : Edit) (id : ℕ)
+    (found : List (Option ℕ)) → IsReplayed journal earlier old → slice_get journal (reach old) ≡ Some edit
+    → MakesEdit old edit id new → Extends old.keys new.keys → IsKeyMap new.keys
+    → AllStandFor new.keys found (keys_in new.session.register.stream)
+    → ((number : ℕ) → Contains new.ready.items number ↔ (Contains old.ready.items number × Contains found (Some number)))
+    → IsReplayed journal earlier new
+IsReplayed-next journal earlier old new edit id found replayed stands makes extends one stand used =
+    let more : reach new ≡ reach old + 1 = length_next old.session.journal new.session.journal edit makes.journaled in
+    let leads : LeadTo journal (reach old + 1) new.session.register =
+    LeadTo-next journal (reach old) old.session.register edit id new.session.register replayed.made.leads stands makes.made in
+    record {
+      made = IsFront-next journal old.session new.session edit id replayed.made stands makes.made makes.journaled;
+      passed =
+          All-weaker (λ (receipt : SeatReceipt). length_in receipt ≤ reach old) (λ (receipt : SeatReceipt). length_in receipt ≤ reach new)
+          (λ receipt below. omega (arith, more, below)) earlier replayed.passed;
+      one = one;
+      ready =
+          subst (λ (n : ℕ). AreReady journal earlier n new.keys new.ready.items) (sym more)
+          (AreReady-edit journal earlier (reach old) new.session.register old.keys new.keys found old.ready.items new.ready.items
+          replayed.passed leads extends one stand used replayed.ready);
+    }
+
+-- a replay of the same edits, by more keys
+pub IsReplayed-extended : (journal : List Edit) (earlier : List SeatReceipt) (old new : Replay)
+    → new.session.journal ≡ old.session.journal → new.session.register ≡ old.session.register
+    → Extends old.keys new.keys → IsKeyMap new.keys → new.ready.items ≡ old.ready.items
+    → IsReplayed journal earlier old → IsReplayed journal earlier new
+IsReplayed-extended journal earlier old new journal_is register_is extends one ready_is replayed =
+    let same : reach old ≡ reach new = ap length (sym journal_is) in
+    record {
+      made = IsFront-same journal old.session new.session journal_is register_is replayed.made;
+      passed = subst (λ (n : ℕ). All (λ (receipt : SeatReceipt). length_in receipt ≤ n) earlier) same replayed.passed;
+      one = one;
+      ready =
+          subst (λ (n : ℕ). AreReady journal earlier n new.keys new.ready.items) same
+          (subst (λ (ready : List ℕ). AreReady journal earlier (reach old) new.keys ready) (sym ready_is)
+          (AreReady-extended journal earlier (reach old) old.keys new.keys old.ready.items extends replayed.ready));
+    }
+
+-- a receipt of no picture follows
+pub IsReplayed-plain : (journal : List Edit) (earlier : List SeatReceipt) (receipt : SeatReceipt) (replay : Replay)
+    → ((key : Key) → ShowsReady journal (reach replay) key receipt → ⊥) → length_in receipt ≤ reach replay
+    → IsReplayed journal earlier replay → IsReplayed journal (earlier ++ receipt ∷ []) replay
+IsReplayed-plain journal earlier receipt replay plain below replayed = record {
+  made = replayed.made;
+  passed = All-push (λ (r : SeatReceipt). length_in r ≤ reach replay) earlier receipt replayed.passed below;
+  one = replayed.one;
+  ready = AreReady-plain journal earlier receipt (reach replay) replay.keys replay.ready.items plain replayed.ready;
+}
+
+-- a receipt of a picture follows, whose key is noted
+pub IsReplayed-shown : (journal : List Edit) (earlier : List SeatReceipt) (old new : Replay) (id number : ℕ) (key : Key)
+    (picture : Picture) → new.session.journal ≡ old.session.journal → new.session.register ≡ old.session.register
+    → new.keys ≡ old.keys → new.ready.items ≡ old.ready.items ++ number ∷ []
+    → tree_at old.keys number ≡ Some key → HasKey old.session.register.stream id key
+    → IsReplayed journal earlier old
+    → IsReplayed journal (earlier ++ receipts.Show id (shown.Ready picture) (reach old) ∷ []) new
+IsReplayed-shown journal earlier old new id number key picture journal_is register_is keys_are ready_is tree has replayed =
+    let same : reach old ≡ reach new = ap length (sym journal_is) in
+    let last : SeatReceipt = receipts.Show id (shown.Ready picture) (reach old) in
+    record {
+      made = IsFront-same journal old.session new.session journal_is register_is replayed.made;
+      passed =
+          subst (λ (n : ℕ). All (λ (receipt : SeatReceipt). length_in receipt ≤ n) (earlier ++ last ∷ [])) same
+          (All-push (λ (receipt : SeatReceipt). length_in receipt ≤ reach old) earlier last replayed.passed (omega arith));
+      one = rw keys_are replayed.one;
+      ready =
+          subst (λ (n : ℕ). AreReady journal (earlier ++ last ∷ []) n new.keys new.ready.items) same
+          (rw (keys_are, ready_is)
+          (AreReady-shown journal earlier (reach old) old.session.register old.keys old.ready.items id number key picture
+          replayed.made.leads tree has replayed.ready));
+    }
+
+-- no receipt of that kind agrees
+pub unchecked : (journal : List Edit) (lower : List SeatBook) (earlier : List SeatReceipt) (receipt : SeatReceipt) (new : Replay)
+    → (Agrees journal lower earlier receipt → ⊥) → IsChecked journal lower earlier receipt false new
+unchecked journal lower earlier receipt new differs = record {
+  is = λ agrees. absurd (not_true agrees);
+  only = λ agrees. absurd (differs agrees);
+  follows = λ agrees. absurd (not_true agrees);
+}
+
+module _ (journal : List Edit) (lower : List SeatBook) (earlier : List SeatReceipt) (replay : Replay)
+    (up : IsUpTo journal earlier replay) (edit : Edit) (id n : ℕ) where
+  -- a length that isn't above those before
+  pub edit_too_low : n ≤ reach replay → EditAgrees journal lower earlier edit id n → ⊥
+  edit_too_low low agrees =
+      elim up.last [
+        | inl none ↦ omega (arith, none, low, agrees.counted)
+        | inr last ↦
+            let below : length_in last.0 < n = All-contains (λ (receipt : SeatReceipt). length_in receipt < n) earlier last.0 agrees.later last.1 in
+            omega (arith, below, last.2, low)
+      ]
+
+  -- a length that the journal doesn't reach
+  pub edit_too_long : length journal < n → EditAgrees journal lower earlier edit id n → ⊥
+  edit_too_long long agrees = omega (arith, long, agrees.counted, slice_get_within journal agrees.at edit agrees.stands)
+
+  -- an edit of a lower seat
+  pub edit_of_another : is_noted lower n ≡ true → EditAgrees journal lower earlier edit id n → ⊥
+  edit_of_another noted agrees = not_true (sym agrees.own ∙ noted)
+
+  -- another edit
+  pub another_edit : (at : ℕ) (other : Edit) → n ≡ at + 1 → slice_get journal at ≡ Some other → (edit ≡ other → ⊥)
+      → EditAgrees journal lower earlier edit id n → ⊥
+  another_edit at other counted stands differs agrees =
+      let same : agrees.at ≡ at = omega (arith, counted, agrees.counted) in
+      differs (some_edit edit other (sym (subst (λ (k : ℕ). slice_get journal k ≡ Some edit) same agrees.stands) ∙ stands))
+    where
+      some_edit : (a b : Edit) → Some a ≡ Some b → a ≡ b
+      some_edit a b same = cc
+
+  -- a length as it has to be
+  pub lengths_below : reach replay < n → All (λ (receipt : SeatReceipt). length_in receipt < n) earlier
+  lengths_below low =
+      All-weaker (λ (receipt : SeatReceipt). length_in receipt ≤ reach replay) (λ (receipt : SeatReceipt). length_in receipt < n)
+      (λ receipt below. omega (arith, low, below)) earlier up.replayed.passed
+
+-- the edit was made anew, and its id is compared
+pub checked_edit : (journal : List Edit) (lower : List SeatBook) (earlier : List SeatReceipt) (replay mid new : Replay)
+    (edit : Edit) (id n given : ℕ) (agrees : Bool) → IsUpTo journal earlier replay → reach replay < n
+    → is_noted lower n ≡ false → slice_get journal (reach mid) ≡ Some edit → n ≡ reach mid + 1
+    → IsReplayed journal earlier mid → MakesEdit mid edit given new → IsReplayed journal earlier new
+    → (IsTrue agrees → given ≡ id) → (given ≡ id → IsTrue agrees)
+    → IsChecked journal lower earlier (receipts.Edit edit id n) agrees new
+checked_edit journal lower earlier replay mid new edit id n given agrees up low own stands counted replayed makes next same only =
+    let more : reach new ≡ n = length_next mid.session.journal new.session.journal edit makes.journaled ∙ sym counted in
+    record {
+      is = λ so. record {
+        at = reach mid;
+        before = mid.session.register;
+        after = new.session.register;
+        counted = counted;
+        stands = stands;
+        leads = replayed.made.leads;
+        made = subst (λ (k : ℕ). Makes mid.session.register edit k new.session.register) (same so) makes.made;
+        later = lengths_below journal lower earlier replay up edit id n low;
+        own = own;
+      };
+      only = λ is.
+          let at : is.at ≡ reach mid = omega (arith, counted, is.counted) in
+          let register : is.before ≡ mid.session.register =
+          one_lead journal (reach mid) is.before mid.session.register
+          (subst (λ (k : ℕ). LeadTo journal k is.before) at is.leads) replayed.made.leads in
+          let made : Makes mid.session.register edit id is.after =
+          subst (λ (r : Register). Makes r edit id is.after) register is.made in
+          only (one_edit mid.session.register edit given id new.session.register is.after makes.made made).ids;
+      follows = λ so. record {
+        replayed =
+            IsReplayed-plain journal earlier (receipts.Edit edit id n) new (λ key shows. shows) (omega (arith, more)) next;
+        last = inr (receipts.Edit edit id n, Contains-push earlier (receipts.Edit edit id n), sym more);
+      };
+    }
+
+-- a show whose length isn't as it has to be
+pub show_too_low : (journal : List Edit) (earlier : List SeatReceipt) (replay : Replay) (id : ℕ) (answer : Shown) (n : ℕ)
+    → IsUpTo journal earlier replay → n < reach replay → ShowAgrees journal earlier id answer n → ⊥
+show_too_low journal earlier replay id answer n up low agrees =
+    elim up.last [
+      | inl none ↦ omega (arith, none, low)
+      | inr last ↦
+          let below : length_in last.0 ≤ n = All-contains (λ (receipt : SeatReceipt). length_in receipt ≤ n) earlier last.0 agrees.later last.1 in
+          omega (arith, below, last.2, low)
+    ]
+
+-- what is seen is what is shown
+pub checked_show : (journal : List Edit) (lower : List SeatBook) (earlier : List SeatReceipt) (mid new : Replay)
+    (id : ℕ) (answer : Shown) (n : ℕ) (agrees : Bool) → IsReplayed journal earlier mid → reach mid ≡ n
+    → Sees journal earlier mid id answer agrees new
+    → IsChecked journal lower earlier (receipts.Show id answer n) agrees new
+checked_show journal lower earlier mid new id answer n agrees replayed reached sees =
+    subst (λ (m : ℕ). IsChecked journal lower earlier (receipts.Show id answer m) agrees new) reached (record {
+      is = λ so. record {
+        register = mid.session.register;
+        leads = replayed.made.leads;
+        later = replayed.passed;
+        possible = sees.is so;
+      };
+      only = λ is.
+          let register : is.register ≡ mid.session.register =
+          one_lead journal (reach mid) is.register mid.session.register is.leads replayed.made.leads in
+          sees.only (subst (λ (r : Register). IsPossible journal earlier (reach mid) r.stream id answer) register is.possible);
+      follows = λ so. record {
+        replayed = sees.follows so;
+        last =
+            inr (
+              receipts.Show id answer (reach mid),
+              Contains-push earlier (receipts.Show id answer (reach mid)),
+              ap length (sym sees.stays),
+            );
+      };
+    })
+
+-- what is seen, where it isn't a picture
+pub Sees-plain : (journal : List Edit) (earlier : List SeatReceipt) (old new : Replay) (id : ℕ) (answer : Shown)
+    (possible : Bool) → ((key : Key) → ShowsReady journal (reach old) key (receipts.Show id answer (reach old)) → ⊥)
+    → new.session.journal ≡ old.session.journal → IsReplayed journal earlier new
+    → (IsTrue possible → IsPossible journal earlier (reach old) old.session.register.stream id answer)
+    → (IsPossible journal earlier (reach old) old.session.register.stream id answer → IsTrue possible)
+    → Sees journal earlier old id answer possible new
+Sees-plain journal earlier old new id answer possible plain journal_is replayed is only =
+    let same : reach new ≡ reach old = ap length journal_is in
+    record {
+      is = is;
+      only = only;
+      stays = journal_is;
+      follows = λ so.
+          IsReplayed-plain journal earlier (receipts.Show id answer (reach old)) new
+          (subst (λ (n : ℕ). (key : Key) → ShowsReady journal n key (receipts.Show id answer (reach old)) → ⊥) (sym same) plain)
+          (omega (arith, same)) replayed;
+    }
+
+-- before the first edit and the first receipt
+pub IsUpTo-new : (journal : List Edit) (replay : Replay) → replay.session ≡ empty 1 → replay.keys ≡ []
+    → replay.ready.items ≡ [] → IsUpTo journal [] replay
+IsUpTo-new journal replay session_is keys_are ready_is = record {
+  replayed = record {
+    made = rw session_is (record {
+      front = refl;
+      leads = record { within = omega arith; replayed = refl };
+    });
+    passed = λ k d low. absurd (omega (arith, low));
+    one = rw keys_are (record { numbers = tt; trees = λ a b tree there here. absurd (none_is_some tree there) });
+    ready = record {
+      right = λ number there. absurd (nowhere number (subst (λ (xs : List ℕ). Contains xs number) ready_is there));
+      whole = λ key was. absurd (nowhere was.0 was.1);
+    };
+  };
+  last = inl (ap (λ (machine : Machine). length machine.journal) session_is);
+}
+  where
+    none_is_some : (tree : Key) → None ≡ Some tree → ⊥
+    none_is_some tree same = cc
+
+not_both : (b : Bool) → not b ≡ true → b ≡ true → ⊥
+not_both true is so = not_true is
+not_both false is so = not_true so
+
+or_else : (b : Bool) → (b ≡ true → ⊥) → not b ≡ true
+or_else true not_so = absurd (not_so refl)
+or_else false not_so = refl
+
+-- a unit waits whose key isn't among those that are ready
+pub Sees-pending : (journal : List Edit) (earlier : List SeatReceipt) (old new : Replay) (id number : ℕ) (among : Bool)
+    → new.session.journal ≡ old.session.journal → IsReplayed journal earlier new
+    → IsKeyOf new.keys old.session.register.stream id (Some number)
+    → IsTrue among ↔ Contains new.ready.items number
+    → Sees journal earlier old id shown.Pending (not among) new
+Sees-pending journal earlier old new id number among journal_is replayed key is =
+    Sees-plain journal earlier old new id shown.Pending (not among) (λ k shows. shows) journal_is replayed possible only
+  where
+    same : reach new ≡ reach old
+    same = ap length journal_is
+
+    ready : AreReady journal earlier (reach old) new.keys new.ready.items
+    ready = subst (λ (n : ℕ). AreReady journal earlier n new.keys new.ready.items) same replayed.ready
+
+    possible : IsTrue (not among) → IsPossible journal earlier (reach old) old.session.register.stream id shown.Pending
+    possible so = (
+      key.0,
+      key.2,
+      λ was.
+          let noted = ready.whole key.0 was in
+          let one : noted.0 ≡ number = replayed.one.trees noted.0 number key.0 noted.1 key.1 in
+          not_both among so (is.1 (subst (λ (n : ℕ). Contains new.ready.items n) one noted.2)),
+    )
+
+    only : IsPossible journal earlier (reach old) old.session.register.stream id shown.Pending → IsTrue (not among)
+    only waits =
+        or_else among (λ so.
+        let noted = ready.right number (is.0 so) in
+        let first : noted.0 ≡ key.0 = some_same noted.0 key.0 (sym noted.1 ∙ key.1) in
+        let then : key.0 ≡ waits.0 = one_key old.session.register.stream id key.0 waits.0 key.2 waits.1 in
+        waits.2 (subst (λ (k : Key). WasReady journal earlier (reach old) k) (first ∙ then) noted.2))
+
+-- the picture of a unit's key was made, and its key is noted
+pub Sees-ready : (journal : List Edit) (earlier : List SeatReceipt) (old new : Replay) (id number : ℕ) (picture : Picture)
+    → new.session.journal ≡ old.session.journal → new.session.register ≡ old.session.register
+    → Extends old.keys new.keys → IsKeyMap new.keys → new.ready.items ≡ old.ready.items ++ number ∷ []
+    → IsKeyOf new.keys old.session.register.stream id (Some number)
+    → ((key : Key) × HasKey old.session.register.stream id key × (picture ≡ picture_of_key key))
+    → IsReplayed journal earlier old → Sees journal earlier old id (shown.Ready picture) true new
+Sees-ready journal earlier old new id number picture journal_is register_is extends one ready_is key right replayed =
+    let mid : Replay = record old { keys = new.keys } in
+    let extended : IsReplayed journal earlier mid = IsReplayed-extended journal earlier old mid refl refl extends one refl replayed in
+    record {
+      is = λ so. right;
+      only = λ possible. refl;
+      stays = journal_is;
+      follows = λ so.
+          IsReplayed-shown journal earlier mid new id number key.0 picture journal_is register_is refl ready_is key.1 key.2 extended;
+    }
+
+-- another picture isn't that of the unit's key
+pub Sees-other : (journal : List Edit) (earlier : List SeatReceipt) (old new : Replay) (id : ℕ) (picture : Picture)
+    → new.session.journal ≡ old.session.journal
+    → (((key : Key) × HasKey old.session.register.stream id key × (picture ≡ picture_of_key key)) → ⊥)
+    → Sees journal earlier old id (shown.Ready picture) false new
+Sees-other journal earlier old new id picture journal_is wrong = record {
+  is = λ so. absurd (not_true so);
+  only = λ possible. absurd (wrong possible);
+  stays = journal_is;
+  follows = λ so. absurd (not_true so);
+}
+
+-- a unit without a key doesn't wait
+pub Sees-no_key : (journal : List Edit) (earlier : List SeatReceipt) (old new : Replay) (id : ℕ)
+    → new.session.journal ≡ old.session.journal
+    → ((key : Key) → HasKey old.session.register.stream id key → ⊥)
+    → Sees journal earlier old id shown.Pending false new
+Sees-no_key journal earlier old new id journal_is none = record {
+  is = λ so. absurd (not_true so);
+  only = λ possible. absurd (none possible.0 possible.1);
+  stays = journal_is;
+  follows = λ so. absurd (not_true so);
+}
+
+-- what an answer says, where another says it
+pub if_ok : {A E : Type 0} (r : Result A E) (P Q : A → Type 0) → ((x : A) → P x → Q x) → IfOk r P → IfOk r Q
+if_ok (Ok x) P Q step is = step x is
+if_ok (Err e) P Q step is = is
+
+pub not_false : (b : Bool) → not b ≡ false → b ≡ true
+not_false true is = refl
+not_false false is = absurd (not_true (sym is))

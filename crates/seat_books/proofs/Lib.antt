@@ -1,0 +1,6 @@
+pub mod Unique
+pub mod Numbers
+pub mod Readies
+pub mod Fronts
+pub mod Checked
+pub mod Audited

@@ -1,0 +1,81 @@
+-- Edits lead to one stream, and each is given one id.
+use Rattle.std.proofs.Common.{◌≡◌, ℕ, List, [], ◌∷◌, Some, ap, sym, ◌∙◌, subst, take}
+use Rattle.std.specs.Prelude.{insert, remove, set}
+use Rattle.access_unit.specs.Answers.{IsAccepted}
+use Rattle.annexb.proofs.Readings.{same_reading}
+use Rattle.edit_engine.specs.declared.edits.Edit.{Edit}
+use Rattle.edit_engine.specs.declared.edits.Edit.TheVariants.{Insert, Delete, Replace}
+use Rattle.edit_engine.specs.declared.edits.Place.{Place}
+use Rattle.edit_engine.specs.Streams.{Stream}
+use Rattle.edit_engine.specs.Edits.{Register, no_units, Inserts, Deletes, Replaces, Makes, Replays}
+use Rattle.seat_books.specs.Books.{LeadTo}
+
+pub some_same : {X : Type 0} (a b : X) → Some a ≡ Some b → a ≡ b
+some_same a b same = cc
+
+-- a text is one unit
+same_unit : (text : List ℕ) (unit other : List (List ℕ)) → IsAccepted text unit → IsAccepted text other → unit ≡ other
+same_unit text unit other is so = same_reading text unit other is.has so.has
+
+same_register : (a b : Register) → a.given ≡ b.given → a.stream ≡ b.stream → a ≡ b
+same_register a b given stream =
+    ap (λ (n : ℕ). record a { given = n }) given ∙ ap (λ (units : Stream). record b { stream = units }) stream
+
+-- the same id, and the same units after it
+pub record SameEdit (id other : ℕ) (new another : Register) : Type 0 where
+  pub ids : id ≡ other
+  pub registers : new ≡ another
+
+one_insertion : (old : Register) (place : Place) (text : List ℕ) (id other : ℕ) (new another : Register)
+    → Inserts old place text id new → Inserts old place text other another → SameEdit id other new another
+one_insertion old place text id other new another a b =
+    let at : a.at ≡ b.at = some_same a.at b.at (sym a.stands ∙ b.stands) in
+    let unit : a.unit ≡ b.unit = same_unit text a.unit b.unit a.accepted b.accepted in
+    let ids : id ≡ other = a.id_is ∙ sym b.id_is in
+    record {
+      ids = ids;
+      registers =
+          same_register new another (a.given_is ∙ (ids ∙ sym b.given_is))
+          (a.stream_is
+          ∙ (ap (λ (k : ℕ). insert old.stream k (id, a.unit)) at
+          ∙ (ap (λ (n : ℕ). insert old.stream b.at (n, a.unit)) ids
+          ∙ (ap (λ (u : List (List ℕ)). insert old.stream b.at (other, u)) unit ∙ sym b.stream_is))));
+    }
+
+one_deletion : (old : Register) (id : ℕ) (new another : Register) → Deletes old id new → Deletes old id another
+    → new ≡ another
+one_deletion old id new another a b =
+    let at : a.at ≡ b.at = some_same a.at b.at (sym a.stands ∙ b.stands) in
+    same_register new another (a.given_is ∙ sym b.given_is)
+    (a.stream_is ∙ (ap (λ (k : ℕ). remove old.stream k) at ∙ sym b.stream_is))
+
+one_replacement : (old : Register) (id : ℕ) (text : List ℕ) (new another : Register) → Replaces old id text new
+    → Replaces old id text another → new ≡ another
+one_replacement old id text new another a b =
+    let at : a.at ≡ b.at = some_same a.at b.at (sym a.stands ∙ b.stands) in
+    let unit : a.unit ≡ b.unit = same_unit text a.unit b.unit a.accepted b.accepted in
+    same_register new another (a.given_is ∙ sym b.given_is)
+    (a.stream_is
+    ∙ (ap (λ (k : ℕ). set old.stream k (id, a.unit)) at
+    ∙ (ap (λ (u : List (List ℕ)). set old.stream b.at (id, u)) unit ∙ sym b.stream_is)))
+
+-- an edit leaves one stream
+pub one_edit : (old : Register) (edit : Edit) (id other : ℕ) (new another : Register) → Makes old edit id new
+    → Makes old edit other another → SameEdit id other new another
+one_edit old (Insert place text) id other new another a b = one_insertion old place text id other new another a b
+one_edit old (Delete deleted) id other new another a b =
+    record { ids = a.0 ∙ sym b.0; registers = one_deletion old deleted new another a.1 b.1 }
+one_edit old (Replace replaced text) id other new another a b =
+    record { ids = a.0 ∙ sym b.0; registers = one_replacement old replaced text new another a.1 b.1 }
+
+-- and so do edits, one after the other
+one_replay : (from : Register) (edits : List Edit) (to other : Register) → Replays from edits to → Replays from edits other
+    → to ≡ other
+one_replay from [] to other a b = sym a ∙ b
+one_replay from (edit ∷ edits) to other a b =
+    let same = one_edit from edit a.0 b.0 a.1 b.1 a.2 b.2 in
+    one_replay b.1 edits to other (subst (λ (r : Register). Replays r edits to) same.registers a.3) b.3
+
+-- so many edits of a journal lead to one stream
+pub one_lead : (journal : List Edit) (n : ℕ) (a b : Register) → LeadTo journal n a → LeadTo journal n b → a ≡ b
+one_lead journal n a b is so = one_replay no_units (take n journal) a b is.replayed so.replayed

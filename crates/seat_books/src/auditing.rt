@@ -1,0 +1,51 @@
+//! The audit of books.
+
+ghost use Rattle.std.specs.Prelude.{◌≡◌, IfErr, IfOk, MatchOption, OnOk};
+ghost use Rattle.edit_engine.specs.Edits.{Register, no_units, Replays};
+ghost use Rattle.seat_books.specs.Books.{BookAgrees, BooksAgree};
+ghost use Rattle.seat_books.specs.Faults.{IsFaultOf, IsFirstFault};
+
+use crate::book::SeatBook;
+use crate::faults::AuditFault;
+use crate::replay::Replay;
+use edit_engine::Edit;
+use std::alloc::{AllocError, Global};
+
+/// Whether the books of seats, in the seats' order, agree with a journal of which each edit is accepted after those before
+/// it; or else the first receipt that doesn't, in the first book that has one. Each book is followed over the journal once,
+/// so that this takes as long as to make the journal's edits once for each book that isn't empty.
+pub fn audit(alloc: Global, journal: &[Edit], books: &[SeatBook]) -> Result<(), AuditFault>
+    requires { (register : Register) × Replays no_units journal.now register }
+    ensures ok { OnOk result (BooksAgree journal.now books.now) }
+    ensures err { IfErr result (IsFaultOf journal.now books.now) }
+{
+    for (at, book) in books.iter().enumerate() {
+        if let Some(number) = first_fault(alloc, journal, &books[..at], book)? {
+            return Err(AuditFault::SeatDisagrees {
+                seat: at + 1,
+                number,
+            });
+        }
+    }
+    Ok(())
+}
+
+/// The number of the first receipt of a book that doesn't agree, after the books of lower seats.
+fn first_fault(
+    alloc: Global,
+    journal: &[Edit],
+    lower: &[SeatBook],
+    book: &SeatBook,
+) -> Result<Option<usize>, AllocError>
+    ensures { IfOk result (λ fault. MatchOption fault
+        (BookAgrees journal.now lower.now book.now)
+        (λ number. IsFirstFault journal.now lower.now book.now.receipts.items number)) }
+{
+    let mut replay = Replay::new(alloc)?;
+    for (at, receipt) in book.receipts.iter().enumerate() {
+        if !replay.agrees(journal, lower, receipt)? {
+            return Ok(Some(at + 1));
+        }
+    }
+    Ok(None)
+}

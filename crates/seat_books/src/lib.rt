@@ -1,0 +1,21 @@
+//! Books of seats, and whether they agree with a journal.
+//!
+//! A seat is one user of a session. It keeps a `SeatBook`: a receipt of each edit of its own that was accepted and of each
+//! unit that it was shown, with the journal's length then. `audit` follows each book over the journal and finds the first
+//! receipt that the journal doesn't bear out. Below is edit_engine; above is the pool, whose seats keep these books.
+#![tactic(auto)]
+
+mod auditing;
+mod book;
+mod comparing;
+mod faults;
+mod keys;
+mod receipts;
+mod replay;
+mod settling;
+
+pub use auditing::audit;
+pub use book::SeatBook;
+pub use comparing::is_noted;
+pub use faults::AuditFault;
+pub use receipts::SeatReceipt;

@@ -1,12 +1,11 @@
 -- The digest form of controls: the controls in order, without gaps.
 use Rattle.std.specs.Prelude.{ℕ, List, ◌++◌, Option, None, Some, is_some, if◌then◌else◌}
 use Rattle.h264_controls.specs.declared.controls.Controls.{Controls}
-use Rattle.h264_controls.specs.declared.set_controls.SetControls.{SetControls}
 use Rattle.h264_controls.specs.declared.v4l2_ctrl_h264_pred_weights.V4l2CtrlH264PredWeights.{V4l2CtrlH264PredWeights}
-use Rattle.h264_controls.specs.Words.{u8}
-use Rattle.h264_controls.specs.SpsForm.{sps_form}
-use Rattle.h264_controls.specs.PpsForm.{pps_form}
-use Rattle.h264_controls.specs.ScalingMatrixForm.{scaling_matrix_form}
+use Rattle.set_controls.specs.Words.{u8}
+use Rattle.set_controls.specs.SpsForm.{sps_form}
+use Rattle.set_controls.specs.PpsForm.{pps_form}
+use Rattle.set_controls.specs.ScalingMatrixForm.{scaling_matrix_form}
 use Rattle.h264_controls.specs.PredWeightsForm.{pred_weights_form}
 use Rattle.h264_controls.specs.SliceParamsForm.{slice_params_form}
 use Rattle.h264_controls.specs.DecodeParamsForm.{decode_params_form}
@@ -26,11 +25,7 @@ digest_form controls =
     ++ slice_params_form controls.slice_params
     ++ decode_params_form controls.decode_params
 
--- its first part, which the parameter sets decide
-unfoldable pub sets_form : SetControls → List ℕ
-sets_form sets = sps_form sets.sps ++ pps_form sets.pps ++ scaling_matrix_form sets.scaling_matrix
-
--- the rest
+-- what comes after its first part, which the parameter sets decide (`sets_form`)
 unfoldable pub slice_form : Controls → List ℕ
 slice_form controls =
     weights_form controls.pred_weights

@@ -2,11 +2,11 @@
 
 ghost use Rattle.std.specs.Prelude.{◌≡◌, ◌↔◌, IfOk, IsTrue};
 
-use crate::set_controls::SetControls;
 use crate::v4l2_ctrl_h264_decode_params::V4l2CtrlH264DecodeParams;
 use crate::v4l2_ctrl_h264_pred_weights::V4l2CtrlH264PredWeights;
 use crate::v4l2_ctrl_h264_slice_params::V4l2CtrlH264SliceParams;
 use base_types::Shared;
+use set_controls::SetControls;
 use std::alloc::AllocError;
 
 /// The six controls of a slice. All but slice_params is shared.

@@ -2,11 +2,11 @@
 
 ghost use Rattle.std.specs.Prelude.{◌≡◌, ◌+◌, ◌≤◌, ◌++◌, vec_len, IsOk, OnOk, OnErr};
 ghost use Rattle.std.specs.Vec.{vec_capacity};
-ghost use Rattle.h264_controls.specs.DigestForm.{digest_form, digest_size, sets_form, slice_form, slice_size, weights_form, weights_size};
+ghost use Rattle.h264_controls.specs.DigestForm.{digest_form, digest_size, slice_form, slice_size, weights_form, weights_size};
 
 use crate::controls::Controls;
-use crate::set_controls::SetControls;
-use crate::words::put;
+use set_controls::put_sets;
+use set_controls::words::put;
 use std::alloc::AllocError;
 
 /// Appends the digest form of the controls: 2,040 bytes, or 2,812 where there are weights. Room is reserved once.
@@ -22,21 +22,6 @@ pub fn digest_form(controls: &Controls, form: &mut Vec<u8>) -> Result<(), AllocE
 {
     form.reserve(digest_size(controls))?;
     put_controls(controls, form);
-    Ok(())
-}
-
-/// Appends the first 1,540 bytes of the digest form: SPS, PPS and SCALING_MATRIX, which the parameter sets decide.
-///
-/// With what `slice_form` appends after it, it is the digest form, as `digest_in_two_parts` says: slices over one set
-/// have this part in common.
-pub fn sets_form(sets: &SetControls, form: &mut Vec<u8>) -> Result<(), AllocError>
-    ensures written { OnOk result (form.new.items ≡ form.old.items ++ sets_form sets.now) }
-    ensures size { OnOk result (vec_len form.new ≡ vec_len form.old + 1540) }
-    ensures room { vec_len form.old + 1540 ≤ vec_capacity form.old → IsOk result }
-    ensures unchanged { OnErr result (form.new.items ≡ form.old.items) }
-{
-    form.reserve(1540)?;
-    put_sets(sets, form);
     Ok(())
 }
 
@@ -69,7 +54,7 @@ fn slice_size(controls: &Controls) -> usize
 }
 
 // The controls in order, into a form that has room for them.
-#[tactic(auto, unfolding(crate::specs::DigestForm::digest_form, crate::specs::DigestForm::sets_form, crate::specs::DigestForm::slice_form))]
+#[tactic(auto, unfolding(crate::specs::DigestForm::digest_form, set_controls::specs::SetsForm::sets_form, crate::specs::DigestForm::slice_form))]
 fn put_controls(controls: &Controls, form: &mut Vec<u8>)
     requires { vec_len form.old + digest_size controls.now ≤ vec_capacity form.old }
     ensures items { form.new.items ≡ form.old.items ++ digest_form controls.now }
@@ -77,19 +62,6 @@ fn put_controls(controls: &Controls, form: &mut Vec<u8>)
 {
     put_sets(&controls.sets, form);
     put_slice(controls, form);
-}
-
-// What the parameter sets decide, into a form that has room for it.
-#[tactic(auto, unfolding(crate::specs::DigestForm::sets_form))]
-fn put_sets(sets: &SetControls, form: &mut Vec<u8>)
-    requires { vec_len form.old + 1540 ≤ vec_capacity form.old }
-    ensures items { form.new.items ≡ form.old.items ++ sets_form sets.now }
-    ensures len { vec_len form.new ≡ vec_len form.old + 1540 }
-    ensures capacity { vec_capacity form.old ≤ vec_capacity form.new }
-{
-    sets.sps.put(form);
-    sets.pps.put(form);
-    sets.scaling_matrix.put(form);
 }
 
 // The rest, into a form that has room for it.

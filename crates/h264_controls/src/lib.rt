@@ -12,38 +12,30 @@ mod digest;
 mod dpb;
 mod few;
 mod laws;
-mod pps_control;
 mod pred_weights_control;
 mod ref_pic_list;
 mod references;
 mod request;
-mod scaling_matrix_control;
-mod set_controls;
 mod slice_params_control;
-mod sps_control;
 mod v4l2_ctrl_h264_decode_params;
-mod v4l2_ctrl_h264_pps;
 mod v4l2_ctrl_h264_pred_weights;
-mod v4l2_ctrl_h264_scaling_matrix;
 mod v4l2_ctrl_h264_slice_params;
-mod v4l2_ctrl_h264_sps;
-mod words;
 mod work;
 
 pub use controls::Controls;
-pub use digest::{digest_form, sets_form, slice_form};
+pub use digest::{digest_form, slice_form};
 pub use dpb::Dpb;
 pub use laws::digest_in_two_parts;
 pub use ref_pic_list::RefPicList;
 pub use references::References;
 pub use request::Request;
-pub use set_controls::SetControls;
+pub use set_controls::{
+    PpsFlags, SetControls, SpsFlags, V4l2CtrlH264Pps, V4l2CtrlH264ScalingMatrix, V4l2CtrlH264Sps,
+    sets_form,
+};
 pub use v4l2_ctrl_h264_decode_params::{
     DecodeFlags, DpbEntryFlags, V4l2CtrlH264DecodeParams, V4l2H264DpbEntry, V4l2H264FieldReference,
 };
-pub use v4l2_ctrl_h264_pps::{PpsFlags, V4l2CtrlH264Pps};
 pub use v4l2_ctrl_h264_pred_weights::{V4l2CtrlH264PredWeights, V4l2H264WeightFactors};
-pub use v4l2_ctrl_h264_scaling_matrix::V4l2CtrlH264ScalingMatrix;
 pub use v4l2_ctrl_h264_slice_params::{SliceFlags, V4l2CtrlH264SliceParams};
-pub use v4l2_ctrl_h264_sps::{SpsFlags, V4l2CtrlH264Sps};
 pub use work::Work;

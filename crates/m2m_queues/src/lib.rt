@@ -17,6 +17,3 @@ pub use fault::QueueFault;
 pub use queues::Queues;
 pub use requests::{MOST_REQUESTS, Output, Request, RequestId, RequestState};
 pub use work::{RunOne, SliceWork, Target};
-
-#[cfg(test)]
-mod tests;

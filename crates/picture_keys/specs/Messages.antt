@@ -2,7 +2,7 @@
 use Rattle.std.specs.Prelude.{ℕ, List, ◌++◌, length}
 use Rattle.std.specs.List.{flat_map}
 use Rattle.std.specs.Int.{w64, to_le_bytes}
-use Rattle.h264_controls.specs.Words.{s32}
+use Rattle.set_controls.specs.Words.{s32}
 use Rattle.h264_controls.specs.declared.work.Work.{Work}
 
 -- those of a slice: its TopFieldOrderCnt, and its bytes after their number

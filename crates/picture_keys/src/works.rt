@@ -3,7 +3,7 @@
 ghost use Rattle.std.specs.Prelude.{◌≡◌, ◌++◌, ℕ, List, IfOk};
 ghost use Rattle.std.specs.Bool.{Decides};
 ghost use Rattle.sha2.specs.Hashers.{Holds256};
-ghost use Rattle.h264_controls.specs.Words.{s32};
+ghost use Rattle.set_controls.specs.Words.{s32};
 ghost use Rattle.picture_keys.specs.Keys.{works_of};
 ghost use Rattle.picture_keys.specs.Messages.{work_bytes, works_bytes};
 
@@ -91,7 +91,7 @@ fn feed(hasher: &mut Sha256, work: &Work)
 }
 
 /// Adds a picture order count to a hasher.
-#[tactic(auto, unfolding(h264_controls::specs::Words::s32, h264_controls::specs::Words::u32))]
+#[tactic(auto, unfolding(set_controls::specs::Words::s32, set_controls::specs::Words::u32))]
 fn feed_order(hasher: &mut Sha256, order: i32)
     ensures { (message : List ℕ) → Holds256 hasher.old message
         → Holds256 hasher.new (message ++ s32 order) }

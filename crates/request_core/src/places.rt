@@ -1,7 +1,7 @@
 //! The places of the tables: a parameter set, with the controls that it decides.
 
-ghost use Rattle.std.specs.Prelude.{◌≡◌, ◌↔◌, IfOk, IsTrue};
-ghost use Rattle.h264_controls.specs.SpsControl.{sps_control};
+ghost use Rattle.std.specs.Prelude.{◌≡◌, ◌↔◌, IfOk, IfSome, IsTrue};
+ghost use Rattle.set_controls.specs.SpsControl.{sps_control};
 
 use crate::sets::Sets;
 use base_types::Shared;
@@ -27,7 +27,7 @@ pub(crate) struct SpsPlace {
 impl Model for SpsPlace {
     ghost use Rattle.std.specs.Prelude.{◌≡◌};
     ghost use Rattle.set_types.specs.declared.sps.Sps.{Sps as SpsValue};
-    ghost use Rattle.h264_controls.specs.SpsControl.{sps_control};
+    ghost use Rattle.set_controls.specs.SpsControl.{sps_control};
 
     ghost Value = { SpsValue };
 
@@ -76,11 +76,14 @@ pub(crate) struct PpsPlace {
 }
 
 impl Model for PpsPlace {
+    ghost use Rattle.std.specs.Prelude.{◌≡◌, IfSome};
     ghost use Rattle.set_types.specs.declared.pps.Pps.{Pps as PpsValue};
 
     ghost Value = { PpsValue };
 
     ghost view = { λ place. place.set };
+
+    ghost invariant = { λ place. IfSome place.sets (λ sets. sets.pps ≡ place.set) };
 }
 
 impl PpsPlace {
@@ -108,14 +111,6 @@ impl PpsPlace {
         })
     }
 
-    /// Whether it's paired to that sequence parameter set.
-    pub(crate) fn is_paired(&self, sps: &SpsPlace) -> bool {
-        match &self.sets {
-            Some(sets) => sets.are(sps, &self.set),
-            None => false,
-        }
-    }
-
     /// The set.
     pub(crate) fn set(&self) -> &Shared<Pps>
         ensures { result.now ≡ self.now }
@@ -123,8 +118,10 @@ impl PpsPlace {
         &self.set
     }
 
-    /// The sets that it was paired to.
-    pub(crate) fn sets(&self) -> &Option<Sets> {
+    /// The sets that it was paired to, of which the picture parameter set is its own.
+    pub(crate) fn sets(&self) -> &Option<Sets>
+        ensures { IfSome result.now (λ sets. sets.pps ≡ self.now) }
+    {
         &self.sets
     }
 }

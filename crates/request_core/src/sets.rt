@@ -1,7 +1,7 @@
 //! The parameter sets that a slice names, with the controls that they decide, which slices and pictures share.
 
 ghost use Rattle.std.specs.Prelude.{◌≡◌, ◌↔◌, IfOk, IsTrue};
-ghost use Rattle.h264_controls.specs.SetControls.{set_controls};
+ghost use Rattle.set_controls.specs.SetControls.{set_controls};
 
 use crate::places::{PpsPlace, SpsPlace};
 use base_types::Shared;
@@ -20,7 +20,7 @@ pub(crate) struct Sets {
 
 impl Model for Sets {
     ghost use Rattle.std.specs.Prelude.{◌≡◌};
-    ghost use Rattle.h264_controls.specs.SetControls.{set_controls};
+    ghost use Rattle.set_controls.specs.SetControls.{set_controls};
     ghost use Rattle.request_core.specs.Slices.{NamedSets};
 
     ghost Value = { NamedSets };

@@ -4,6 +4,7 @@ ghost use Rattle.std.specs.Prelude.{◌≡◌, ◌<◌, ◌↔◌, None, Some, I
 ghost use Rattle.request_core.specs.ParameterSets.{no_sets, put, put_all, sps_under, pps_under};
 
 use crate::places::{Place, PpsPlace, SpsPlace};
+use crate::sets::Sets;
 use access_unit::ParameterSet;
 use base_types::Shared;
 use set_types::{Pps, Sps};
@@ -94,7 +95,7 @@ impl Tables {
         let Some(sps) = self.sps(pps.set().seq_parameter_set_id.get()) else {
             return Ok(());
         };
-        if !pps.is_paired(sps) {
+        if !are_sets(pps.sets(), sps, pps.set()) {
             let place = Shared::new(alloc, PpsPlace::paired(alloc, pps.set(), sps)?)?;
             put_in(&mut self.pps, usize::from(id), place);
         }
@@ -140,6 +141,16 @@ fn has_pps(place: Option<&Shared<PpsPlace>>, set: &Pps) -> bool
 {
     match place {
         Some(place) => place.set().is_same(set),
+        None => false,
+    }
+}
+
+/// Whether there are sets, and they are these two.
+fn are_sets(sets: &Option<Sets>, sps: &SpsPlace, pps: &Pps) -> bool
+    ensures { IsTrue result ↔ (sets.now ≡ Some (record { sps = sps.now; pps = pps.now })) }
+{
+    match sets {
+        Some(sets) => sets.are(sps, pps),
         None => false,
     }
 }

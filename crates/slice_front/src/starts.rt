@@ -53,6 +53,7 @@ impl<'a> Start<'a> {
     {
         &self.bytes[..self.len]
     }
+
     /// Whether there are 64 of them, so that the payload may go on after them.
     pub fn is_full(&self) -> bool
         ensures { IsTrue result ↔ (length (start_of self.now) ≡ 64) }

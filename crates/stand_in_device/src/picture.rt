@@ -1,10 +1,5 @@
 //! Pictures.
 
-ghost use Rattle.std.specs.Prelude.{◌≡◌};
-
-use std::fmt;
-use std::fmt::{Display, Formatter, Write};
-
 /// The picture of the stand-in device: a SHA-256 (FIPS 180-4) of 32 bytes.
 #[derive(Clone, Copy, Debug, PartialEq, Eq, Hash, Drop)]
 pub struct Picture {

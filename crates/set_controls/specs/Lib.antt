@@ -1,0 +1,9 @@
+pub mod Words
+pub mod SpsForm
+pub mod PpsForm
+pub mod ScalingMatrixForm
+pub mod SetsForm
+pub mod PpsControl
+pub mod ScalingMatrixControl
+pub mod SpsControl
+pub mod SetControls

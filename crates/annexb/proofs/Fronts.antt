@@ -1,7 +1,7 @@
 -- The front of a payload, by the front of its unit.
 use Rattle.std.proofs.Common.{◌⊎◌, ⊎_elim, ◌≡◌, ℕ, zero, suc, ◌+◌, ◌-◌, ◌≤◌, min, List, [], ◌∷◌, ◌++◌, length, take, drop, arith, refl, ap, sym, ◌∙◌, length-append}
 use Rattle.std.proofs.lemmas.List.{append_assoc, take-append-drop, take_all, take_at, length-take-le, drop-drop, drop-take, drop-append-le}
-use Rattle.std.proofs.lemmas.Slice.{take-put_mid}
+use Rattle.std.proofs.lemmas.Slice.{take-put_mid, drop-put_mid}
 use borrow.Rule.Slice.PartMut.{put_mid}
 use Rattle.memchr.specs.Find.{OccursAt, Nowhere, NoneBefore}
 use Rattle.annexb.specs.EmulationPrevention.{payload_of, IsPlainFront}
@@ -112,6 +112,14 @@ pub front_more : (front bytes written : List ℕ) (at len k : ℕ) → at + len 
 front_more front bytes written at len k room inside written_is =
     let size = length-take-le len bytes inside in
     take-put_mid at k front written (at + len) (rw (written_is, size) refl) (omega arith) ∙ ap (λ l. take at front ++ l) written_is
+
+-- and what stands after it stays
+pub front_kept : (front initial bytes written : List ℕ) (at len k : ℕ) → k ≡ len → at + len ≤ length front → len ≤ length bytes
+    → written ≡ take len bytes → drop at front ≡ drop at initial → drop (at + len) (put_mid at k front written) ≡ drop (at + len) initial
+front_kept front initial bytes written at len k same room inside written_is kept =
+    let size = length-take-le len bytes inside in
+    drop-put_mid at k front written (at + len) (omega arith) (omega arith) (rw (written_is, size) (sym same))
+    ∙ sym (drop-drop len at front) ∙ ap (drop len) kept ∙ drop-drop len at initial
 
 -- and the last one
 pub front_whole : (front rest payload : List ℕ) (at len limit : ℕ) → IsPlainFront rest (limit - at) len

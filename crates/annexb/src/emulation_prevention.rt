@@ -1,5 +1,5 @@
 //! Payloads: units without their emulation prevention bytes (7.3.1, 7.4.1).
-ghost use Rattle.std.specs.Prelude.{◌≡◌, ℕ, List, length, take, min, IfOk};
+ghost use Rattle.std.specs.Prelude.{◌≡◌, ℕ, List, length, take, drop, min, IfOk};
 ghost use Rattle.annexb.specs.EmulationPrevention.{escape, payload_of, IsPlainFront};
 
 use crate::nal_unit::Nal;
@@ -26,10 +26,11 @@ pub fn payload(alloc: Global, nal: &Nal<'_>) -> Result<Vec<u8>, AllocError>
 }
 
 /// Writes the first bytes of the payload, as many as `front` holds or the payload has, and says how
-/// many. It reads no further into the unit than these bytes take.
+/// many; what stands after them in `front` stays. It reads no further into the unit than these bytes take.
 pub fn payload_front(nal: &Nal<'_>, front: &mut [u8]) -> usize
     ensures count { result ≡ min (length front.old) (length (payload_of nal.now)) }
     ensures written { take result front.new ≡ take (length front.old) (payload_of nal.now) }
+    ensures rest { drop result front.new ≡ drop result front.old }
 {
     let limit = front.len();
     let mut rest = nal.bytes();

@@ -1,8 +1,8 @@
 -- A list of units cut into periods, from its front on.
-use Rattle.std.proofs.Common.{◌≡◌, ℕ, suc, zero, ◌+◌, ◌-◌, ◌<◌, ◌≤◌, ⊎_elim, Bool, true, false, Option, List, [], ◌∷◌, ◌++◌, length, take, drop, get_or, All, refl, sym, ap, subst, ◌∙◌, arith}
+use Rattle.std.proofs.Common.{◌≡◌, ℕ, suc, ◌+◌, ◌-◌, ◌<◌, ◌≤◌, ⊎_elim, true, false, Option, List, [], ◌∷◌, ◌++◌, length, take, drop, get_or, sym, ap, subst, ◌∙◌, arith}
 use Rattle.std.proofs.lemmas.Bool.{cases_lt}
-use Rattle.std.proofs.lemmas.List.{append-nil, append_assoc, take-append-drop, take-take, get_or-take, get_or-drop, length-take-le, length-drop, drop-take, take_all}
-use Rattle.std.proofs.lemmas.List.Elements.{All-nil, All-push, All-append}
+use Rattle.std.proofs.lemmas.List.{append-nil, take-append-drop, take-take, get_or-take, get_or-drop, length-take-le, length-drop, drop-take, take_all}
+use Rattle.std.proofs.lemmas.List.Elements.{All-nil, All-push}
 use Rattle.std.specs.List.{AllWithin, HoldsAt, slice_range}
 use Rattle.period_counts.specs.declared.shown.Shown.{Shown}
 use Rattle.period_counts.specs.Shown.{begins_period}

@@ -1,5 +1,5 @@
 -- The periods that a change of a stretch of units touches, and those after it.
-use Rattle.std.proofs.Common.{◌≡◌, ℕ, suc, zero, ◌+◌, ◌-◌, ◌<◌, ◌≤◌, ◌^◌, min, max, ⊎_elim, Bool, Option, option_map, unwrap_or, List, [], ◌∷◌, ◌++◌, length, take, drop, get_or, slice_get, All, refl, sym, ap, ◌∙◌, arith}
+use Rattle.std.proofs.Common.{◌≡◌, ℕ, suc, zero, ◌+◌, ◌-◌, ◌<◌, ◌≤◌, ◌^◌, min, max, ⊎_elim, Option, option_map, unwrap_or, List, [], ◌∷◌, ◌++◌, length, take, drop, get_or, slice_get, All, refl, sym, ap, ◌∙◌, arith}
 use Rattle.std.proofs.lemmas.Bool.{cases_lt}
 use Rattle.std.proofs.lemmas.List.{append_assoc, take_all, take-append-drop, take-take, drop-take, drop-drop, drop_at, length-append, length-drop, length-take-le, take-append-le, drop-append-le}
 use Rattle.std.proofs.lemmas.List.Elements.{All-nil, All-cons, All-head, All-append, All-take, All-drop}
@@ -8,8 +8,7 @@ use Rattle.std.specs.List.{AllWithin, slice_range}
 use Rattle.period_counts.specs.declared.shown.Shown.{Shown}
 use Rattle.period_counts.specs.declared.counting.Count.{Count}
 use Rattle.period_counts.specs.Periods.{units_of, IsPeriod, IsBegun, ArePeriods, spliced}
-use Rattle.period_counts.specs.declared.touching.Touched.{Touched}
-use Rattle.period_counts.specs.Kept.{count_at, AreCounted, Change, changed, IsSplice}
+use Rattle.period_counts.specs.Kept.{AreCounted, Change, changed, IsSplice}
 use Rattle.period_counts.specs.Places.{IsTouched}
 use Rattle.period_counts.proofs.Starts.{units_of-append, units_parts}
 use Rattle.period_counts.proofs.Finds.{IsBegun-units}
@@ -176,22 +175,27 @@ module _ (periods : List (List (Option Shown))) (are : ArePeriods periods) (low 
     change = record { first = first; past = past; periods = new }
 
     -- the change can be made, and does what is asked
-    pub splice_is : high ≤ length (units_of periods) → length (units_of periods) + length between < 2 ^ 64 → IsSplice change periods low high between
-    splice_is within fits =
-        let long : length (units_of (changed change periods)) ≡ length (take low (units_of periods) ++ between ++ drop high (units_of periods)) = ap length units_after in
+    pub splice_is : length (spliced low high between (units_of periods)) < 2 ^ 64 → IsSplice change periods low high between
+    splice_is fits =
+        let long : length (units_of (changed change periods)) ≡ length (spliced low high between (units_of periods)) = ap length units_after in
         record {
           can = record {
             ordered = touched.ordered;
             within = touched.within;
             cut = periods_after;
-            fits = omega (
-              arith,
-              long,
-              length-append (take low (units_of periods) ++ between) (drop high (units_of periods)),
-              length-append (take low (units_of periods)) between,
-              length-take-le low (units_of periods) (omega arith),
-              length-drop high (units_of periods),
-            );
+            fits = omega (arith, long, fits);
           };
           does = units_after;
         }
+
+-- so few are there after a change
+pub length_spliced : (low high : ℕ) (between units : List (Option Shown)) → low ≤ high → high ≤ length units
+    → length (spliced low high between units) ≤ length units + length between
+length_spliced low high between units ordered within = omega (
+  arith,
+  length-append (take low units ++ between) (drop high units),
+  length-append (take low units) between,
+  length-take-le low units (omega (arith, ordered, within)),
+  length-drop high units,
+  ordered,
+)

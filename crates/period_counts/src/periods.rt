@@ -102,7 +102,7 @@ impl Periods {
     ) -> Result<Splice, AllocError>
         requires ordered { low ≤ high }
         requires within { high ≤ length (units_of self.now.periods) }
-        requires fits { length (units_of self.now.periods) + length units.now < 2 ^ 64 }
+        requires fits { length (spliced low high units.now (units_of self.now.periods)) < 2 ^ 64 }
         ensures { IfOk result (λ splice. IsSplice splice self.now.periods low high units.now) }
     {
         let Touched { first, past, start } = self.touched(low, high);

@@ -1,7 +1,6 @@
-use Rattle.std.proofs.Common.{◌≡◌, ◌+◌, ◌-◌, ◌<◌, ◌≤◌, ◌∙◌, List, Option, length, get_or, ap, sym, refl, arith}
+use Rattle.std.proofs.Common.{◌≡◌, ◌-◌, ◌∙◌, length, get_or, ap, arith}
 use Rattle.period_counts.specs.declared.counting.Count.{Count}
-use Rattle.period_counts.specs.Periods.{units_of, valid_in}
-use Rattle.period_counts.specs.Kept.{count_at}
+use Rattle.period_counts.specs.Periods.{valid_in}
 use Rattle.period_counts.proofs.Starts.{next_is, start_fits, earlier_fits}
 use Rattle.period_counts.proofs.counting.next_count.Goals as goal
 

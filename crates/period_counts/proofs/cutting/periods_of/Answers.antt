@@ -1,8 +1,8 @@
-use Rattle.std.proofs.Common.{◌≡◌, ◌<◌, ◌≤◌, length, get_or, true, false, ap, sym, ◌∙◌, arith}
-use Rattle.std.proofs.lemmas.Bool.{and_parts, and_cases, ltb-true, lt-ltb}
+use Rattle.std.proofs.Common.{◌≡◌, length, ap, sym, ◌∙◌, arith}
+use Rattle.std.proofs.lemmas.Bool.{and_parts, ltb-true}
 use Rattle.std.proofs.lemmas.List.{get_or_default}
 use Rattle.period_counts.specs.Shown.{begins_period}
-use Rattle.period_counts.proofs.Cuts.{IsCutUpTo-period, IsCutUpTo-on, periods_last, units_last, units_all}
+use Rattle.period_counts.proofs.Cuts.{IsCutUpTo-period, periods_last, units_last, units_all}
 use Rattle.period_counts.proofs.cutting.periods_of.Goals as goal
 use Rattle.period_counts.proofs.cutting.periods_of.Goals.{then-start-units+in_ok-new-2+in_ok-push-2, else-start-units}
 

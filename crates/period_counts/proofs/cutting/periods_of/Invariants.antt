@@ -1,4 +1,3 @@
-use Rattle.std.proofs.Common.{◌≤◌}
 use Rattle.period_counts.proofs.Cuts.{IsCutUpTo}
 use Rattle.period_counts.proofs.cutting.periods_of.Given as goal
 

@@ -1,8 +1,7 @@
-use Rattle.std.proofs.Common.{◌≡◌, ◌+◌, ◌∙◌, None, Some, ap, sym, rules}
+use Rattle.std.proofs.Common.{rules}
 use Rattle.std.proofs.lemmas.Int.{to_z-of_z}
 use mir.Val.{SFits}
 use mir.Syntax.{w32}
-use Rattle.period_counts.specs.declared.shown.Shown.{Shown}
 use Rattle.period_counts.proofs.OrderedKeys.{keys-fault, keys-valid}
 use Rattle.period_counts.proofs.order_key.order_keys.Goals as goal
 

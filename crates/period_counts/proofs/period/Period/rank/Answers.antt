@@ -1,4 +1,4 @@
-use Rattle.std.proofs.Common.{◌≡◌, ◌+◌, ◌∙◌, cond, ap, sym, length, count_by, arith}
+use Rattle.std.proofs.Common.{◌≡◌, ◌∙◌, cond, ap, length, count_by, arith}
 use Rattle.std.proofs.lemmas.List.Sorted.{length_permutation, sum_by-IsPermutation}
 use Rattle.period_counts.specs.OrderKeys.{is_first, order_keys}
 use Rattle.period_counts.specs.Periods.{valid_in}

@@ -1,4 +1,4 @@
-use Rattle.std.proofs.Common.{◌∙◌, ap, sym, length}
+use Rattle.std.proofs.Common.{◌∙◌, ap}
 use Rattle.std.proofs.lemmas.List.Sorted.{length_permutation}
 use Rattle.period_counts.specs.Periods.{valid_in}
 use Rattle.period_counts.proofs.OrderedKeys.{length-order_keys}

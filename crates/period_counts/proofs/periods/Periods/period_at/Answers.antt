@@ -1,4 +1,3 @@
-use Rattle.std.proofs.Common.{arith}
 use Rattle.period_counts.proofs.Starts.{starts_rise}
 use Rattle.period_counts.proofs.Finds.{found_some, found_is}
 use Rattle.period_counts.proofs.periods.Periods.period_at.Goals as goal

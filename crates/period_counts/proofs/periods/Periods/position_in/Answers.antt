@@ -1,10 +1,9 @@
-use Rattle.std.proofs.Common.{◌≡◌, ℕ, ◌+◌, ◌-◌, ◌<◌, ◌≤◌, ◌∙◌, List, Option, Some, None, length, get_or, count_by, is_some, take, ap, sym, arith, rules}
+use Rattle.std.proofs.Common.{◌≡◌, ℕ, ◌+◌, ◌-◌, ◌≤◌, ◌∙◌, Some, None, length, get_or, count_by, is_some, take, ap, sym, arith, rules}
 use Rattle.std.proofs.lemmas.Int.{to_z-of_z}
 use Rattle.std.proofs.lemmas.List.Sums.{count_by-le-length}
 use mir.Val.{SFits}
 use mir.Syntax.{w32}
 use Rattle.period_counts.specs.declared.order_key.OrderKey.{OrderKey}
-use Rattle.period_counts.specs.declared.counting.Count.{Count}
 use Rattle.period_counts.specs.OrderKeys.{is_first, order_keys}
 use Rattle.period_counts.specs.Periods.{units_of, valid_in}
 use Rattle.period_counts.specs.Kept.{count_at}

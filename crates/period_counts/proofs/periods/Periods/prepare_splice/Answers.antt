@@ -1,4 +1,4 @@
-use Rattle.std.proofs.Common.{◌≡◌, ◌+◌, ◌-◌, ◌<◌, ◌≤◌, ◌^◌, ◌∙◌, length, ap, sym, arith}
+use Rattle.std.proofs.Common.{◌≡◌, ◌-◌, ◌∙◌, ap}
 use Rattle.std.specs.List.{slice_range}
 use Rattle.period_counts.specs.Periods.{units_of, spliced}
 use Rattle.period_counts.proofs.Splices.{high_within, splice_is}
@@ -14,7 +14,6 @@ pub returns : goal.returns
 returns c =
     let periods = c.self.inside.periods.items in
     let touched = rw (← c.self.view_is) at c.touched-first.ensures in
-    let within = rw (← c.self.view_is) at c.requires.within in
     let fits = rw (← c.self.view_is) at c.requires.fits in
     let place = c.touched-first.result in
     let new = c.in_ok-periods_of.field-0.items in
@@ -22,4 +21,4 @@ returns c =
     c.in_ok-periods_of.ensures.units ∙ c.deref-2.ensures.value ∙ c.in_ok-after.ensures
     ∙ ap (λ all. spliced (c.args.low - place.start) (c.args.high - place.start) c.args.units.now (units_of (slice_range all place.first place.past))) c.deref.ensures.value in
     rw (← c.self.view_is) (splice_is periods c.self.invariant.periods_are c.args.low c.args.high place.first place.past place.start c.requires.ordered touched
-    c.args.units.now new c.in_ok-periods_of.ensures.periods units within fits)
+    c.args.units.now new c.in_ok-periods_of.ensures.periods units fits)

@@ -1,4 +1,4 @@
-use Rattle.std.proofs.Common.{◌≡◌, ◌-◌, min, max, length, ◌∙◌, ap, sym, arith}
+use Rattle.std.proofs.Common.{◌≡◌, min, max, length, ◌∙◌, ap}
 use Rattle.period_counts.proofs.Starts.{starts_rise}
 use Rattle.period_counts.proofs.Splices.{touched_is}
 use Rattle.period_counts.proofs.periods.Periods.touched.Goals as goal

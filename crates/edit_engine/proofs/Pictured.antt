@@ -50,6 +50,11 @@ both_seen Holds journal edited old new before after was is holds =
     subst (λ (store : StoreValue). Holds store (store_of (machine_of edited new after))) (sym (store_is journal old before was))
     (subst (λ (store : StoreValue). Holds before store) (sym (store_is edited new after is)) holds)
 
+-- what holds of a store holds of what contracts see of it
+pub one_seen : (Holds : StoreValue → Type 0) (journal : List Edit) (register : Register) (store : StoreValue)
+    → IsOf register.stream store → Holds store → Holds (store_of (machine_of journal register store))
+one_seen Holds journal register store is holds = subst Holds (sym (store_is journal register store is)) holds
+
 -- the pictures after an edit
 pub RefitsTo-stored : (journal : List Edit) (old : Register) (store : StoreValue) (edited : List Edit) (new : Register) (ids : List ℕ) (outcomes : List Outcome) (after : StoreValue)
     → IsOf old.stream store → ids ≡ ids_of new.stream → outcomes ≡ outcomes_of new.stream → Refits store ids outcomes after

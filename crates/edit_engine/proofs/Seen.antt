@@ -1,5 +1,5 @@
 -- What is shown of a unit is what is stored at its place.
-use Rattle.std.proofs.Common.{◌≡◌, ℕ, List, [], length, None, Some, ap, sym, ◌∙◌}
+use Rattle.std.proofs.Common.{◌≡◌, ℕ, List, [], length, Option, None, Some, ap, sym, ◌∙◌}
 use Rattle.std.specs.Prelude.{slice_get, option_and_then}
 use Rattle.std.specs.List.{zip}
 use Rattle.std.proofs.lemmas.List.{length-map}
@@ -12,13 +12,13 @@ use Rattle.stand_in_device.specs.declared.picture.Picture.{Picture}
 use Rattle.picture_keys.specs.Keys.{Key}
 use Rattle.picture_keys.specs.Known.{keys_of}
 use Rattle.picture_store.specs.Stores.{StoreValue, unit_keys}
-use Rattle.picture_store.specs.Showing.{IsPictureAt}
+use Rattle.picture_store.specs.Showing.{IsNumberAt, IsPictureAt}
 use Rattle.edit_engine.specs.declared.edits.Edit.{Edit}
 use Rattle.edit_engine.specs.declared.showing.Shown.TheVariants as shown
 use Rattle.edit_engine.specs.Streams.{Stream, place_of}
 use Rattle.edit_engine.specs.Edits.{Register}
 use Rattle.edit_engine.specs.Kept.{machine_of}
-use Rattle.edit_engine.specs.Showing.{keys_in, HasKey, Shows}
+use Rattle.edit_engine.specs.Showing.{keys_in, HasKey, HasNumber, Shows}
 use Rattle.edit_engine.proofs.Looked.{length-outcomes_of}
 use Rattle.edit_engine.proofs.Pictured.{IsOf, key_of_plan}
 
@@ -60,3 +60,16 @@ module _ (journal : List Edit) (register : Register) (store : StoreValue) (id pl
   shows_fault is stands fault outcome =
       ap (option_and_then (slice_get (outcomes_of register.stream))) stands
       ∙ (ap (λ (outcomes : List Outcome). slice_get outcomes place) (sym is.folded) ∙ outcome)
+
+  -- the number at the place of the unit is that of the unit's key
+  pub number_found : IsOf register.stream store → place_of register.stream id ≡ Some place → (number : Option ℕ)
+      → IsNumberAt store place number → HasNumber (machine_of journal register store) id number
+  number_found is stands (Some number) at = (
+    at.0,
+    key_found is stands at.0 at.1,
+    ap (option_and_then (slice_get store.numbers)) stands ∙ at.2,
+  )
+  number_found is stands None at =
+      ap (option_and_then (slice_get (keys_in register.stream))) stands
+      ∙ (ap (λ (ids : List ℕ). slice_get (keys_of (zip ids (outcomes_of register.stream))) place) (sym is.identified)
+      ∙ (ap (λ (outcomes : List Outcome). slice_get (keys_of (zip store.ids outcomes)) place) (sym is.folded) ∙ at))

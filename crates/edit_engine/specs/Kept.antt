@@ -16,6 +16,7 @@ machine_of journal register store = record {
   room = store.room;
   journal = journal;
   register = register;
+  numbers = store.numbers;
   held = store.held;
   cached = store.cached;
   out = store.out;

@@ -1,5 +1,5 @@
 -- A session as contracts see it, and its edits.
-use Rattle.std.specs.Prelude.{◌≡◌, ℕ, ◌-◌, List, [], ◌∷◌, ◌++◌, length, option_map, slice_get, Result, Ok, Err}
+use Rattle.std.specs.Prelude.{◌≡◌, ℕ, ◌-◌, List, [], ◌∷◌, ◌++◌, length, option_map, slice_get, Option, Result, Ok, Err}
 use Rattle.request_core.specs.Fold.{outcomes_of}
 use Rattle.picture_keys.specs.Keys.{Key}
 use Rattle.picture_store.specs.Stores.{OutValue, StoreValue}
@@ -12,12 +12,14 @@ use Rattle.edit_engine.specs.Streams.{Stream, ids_of}
 use Rattle.edit_engine.specs.Edits.{Register, no_units, Makes}
 use Rattle.edit_engine.specs.Refusals.{IsRefused}
 
--- the room of the cache; the accepted edits in order, and what they leave; the keys whose pictures are held, and those
--- whose pictures are cached, the one put last first; the jobs that are out; and how many numbers of jobs were given
+-- the room of the cache; the accepted edits in order, and what they leave; the number of each unit's key, nothing for a
+-- unit with a fault; the keys whose pictures are held, and those whose pictures are cached, the one put last first; the
+-- jobs that are out; and how many numbers of jobs were given
 pub record Machine : Type 0 where
   pub room : ℕ
   pub journal : List Edit
   pub register : Register
+  pub numbers : List (Option ℕ)
   pub held : List Key
   pub cached : List Key
   pub out : List OutValue
@@ -26,13 +28,14 @@ pub record Machine : Type 0 where
 -- before the first edit
 abbrev pub empty : ℕ → Machine
 empty room =
-    record { room = room; journal = []; register = no_units; held = []; cached = []; out = []; jobs = 0 }
+    record { room = room; journal = []; register = no_units; numbers = []; held = []; cached = []; out = []; jobs = 0 }
 
 -- the pictures of the units, as they are stored: those of the stream's ids and of what becomes of each unit
 abbrev pub store_of : Machine → StoreValue
 store_of machine = record {
   ids = ids_of machine.register.stream;
   outcomes = outcomes_of machine.register.stream;
+  numbers = machine.numbers;
   room = machine.room;
   held = machine.held;
   cached = machine.cached;

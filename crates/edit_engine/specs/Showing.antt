@@ -1,4 +1,4 @@
--- What is shown of a unit.
+-- What is shown of a unit, and the number of its key.
 use Rattle.std.specs.Prelude.{◌≡◌, ℕ, List, Option, None, Some, Contains, slice_get, option_and_then}
 use Rattle.std.specs.List.{zip}
 use Rattle.outcomes.specs.declared.outcome.Outcome.TheVariants as outcomes
@@ -28,3 +28,11 @@ Shows machine id shown.Pending =
     (key : Key) × HasKey machine.register.stream id key × (Contains machine.held key → ⊥)
 Shows machine id (shown.Fault fault) = outcome_in machine.register.stream id ≡ Some (outcomes.Fault fault)
 Shows machine id shown.NoSuchUnit = place_of machine.register.stream id ≡ None
+
+-- the number of the key of the unit that has the id: nothing for a unit with a fault, which has no key
+abbrev pub HasNumber : Machine → ℕ → Option ℕ → Type 0
+HasNumber machine id (Some number) =
+    (key : Key) × HasKey machine.register.stream id key
+    × (option_and_then (slice_get machine.numbers) (place_of machine.register.stream id) ≡ Some (Some number))
+HasNumber machine id None =
+    option_and_then (slice_get (keys_in machine.register.stream)) (place_of machine.register.stream id) ≡ Some None

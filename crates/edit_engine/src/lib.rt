@@ -26,6 +26,7 @@ mod showing;
 
 pub use commands::Command;
 pub use config::{Config, ConfigFault};
+pub use dep_keys::KeyId;
 pub use edits::{Edit, Place};
 pub use laws::ids_differ;
 pub use picture_store::{Landing, Returning, TakeRefused};

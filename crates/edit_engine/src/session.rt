@@ -1,12 +1,13 @@
 //! The session: a stream under edits, and the pictures of its units.
 
-ghost use Rattle.std.specs.Prelude.{◌≡◌, ◌≤◌, ◌↔◌, Some, None, IfOk, IsErrOf, MatchResult};
+ghost use Rattle.std.specs.Prelude.{◌≡◌, ◌≤◌, ◌↔◌, Contains, Some, None, IsTrue, IfOk, IsErrOf, MatchResult};
 ghost use Rattle.request_core.specs.Fold.{outcomes_of};
+ghost use Rattle.picture_store.specs.Stores.{AreOneToOne};
 ghost use Rattle.edit_engine.specs.Streams.{ids_of, place_of, outcome_in, position_in};
 ghost use Rattle.edit_engine.specs.Edits.{no_units, Replays};
-ghost use Rattle.edit_engine.specs.Machines.{empty, AnswersEdit, last_of};
+ghost use Rattle.edit_engine.specs.Machines.{empty, AnswersEdit, last_of, store_of};
 ghost use Rattle.edit_engine.specs.Jobs.{AnswersGiveBack, AnswersLand, AnswersTake, TellsTake};
-ghost use Rattle.edit_engine.specs.Showing.{Shows};
+ghost use Rattle.edit_engine.specs.Showing.{HasNumber, Shows};
 
 use crate::config::{Config, ConfigFault};
 use crate::edits::Edit;
@@ -16,6 +17,7 @@ use crate::receipts::{Last, Receipt};
 use crate::refusals::{EditRefused, NoSuchUnit};
 use crate::showing::Shown;
 use access_unit::Unit;
+use dep_keys::KeyId;
 use outcomes::Outcome;
 use picture_store::{JobAt, Landing, PictureStore, Returning, TakeRefused};
 use pictures::AuId;
@@ -182,6 +184,29 @@ impl Session {
             Some(place) => Ok(self.positions[place]),
             None => Err(NoSuchUnit),
         }
+    }
+
+    /// The number of the key of the unit that has the id: of what its picture is made of. `None` where it has a fault.
+    /// Units have equal numbers exactly where they have equal keys, and while a key stays in use, its number stays. It
+    /// takes no memory.
+    pub fn key(&self, id: AuId) -> Result<Option<KeyId>, NoSuchUnit>
+        ensures value { MatchResult result
+            (λ number. HasNumber self.now id number)
+            (λ _. place_of self.now.register.stream id ≡ None) }
+        ensures one { IfOk result (λ _. AreOneToOne (store_of self.now) (store_of self.now)) }
+    {
+        match place_of(&self.units, id) {
+            Some(place) => Ok(self.store.key_at(place)),
+            None => Err(NoSuchUnit),
+        }
+    }
+
+    /// Whether a number is that of a key in use: of one that some unit of the stream has. It takes no memory.
+    pub fn in_use(&self, key: KeyId) -> bool
+        ensures value { IsTrue result ↔ Contains self.now.numbers (Some key) }
+        ensures one { AreOneToOne (store_of self.now) (store_of self.now) }
+    {
+        self.store.in_use(key)
     }
 
     /// The place of the unit that has the id, in decoding order.

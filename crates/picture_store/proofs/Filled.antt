@@ -46,27 +46,27 @@ module _ (keys : Trees) (ids : List ℕ) (outcomes : List Outcome) (found : List
   -- the answer to a result that is that of a job that is out
   pub landed : (landing : Landing) (more : PlacesValue) (left : List JobOut) → left ≡ remove out at
       → IsFilled places other.key (picture_of job.input) landing more
-      → AnswersLand (viewed keys ids outcomes places cached room out given) job landing
-      (viewed keys ids outcomes more cached room left given)
+      → AnswersLand (viewed keys ids outcomes found places cached room out given) job landing
+      (viewed keys ids outcomes found more cached room left given)
   landed Foreign more left gone filled = absurd filled
   landed Stale more left gone filled = (
     at,
     seen keys other,
-    out_seen keys ids outcomes places cached room out given at job other within is number input,
+    out_seen keys ids outcomes found places cached room out given at job other within is number input,
     not_awaited (place_at places other.key) refl filled.0,
-    ap (λ p. viewed keys ids outcomes p cached room left given) filled.1
-        ∙ seen_without keys ids outcomes places cached room out left given at gone,
+    ap (λ p. viewed keys ids outcomes found p cached room left given) filled.1
+        ∙ seen_without keys ids outcomes found places cached room out left given at gone,
   )
   landed Taken more left gone filled = (
     at,
     seen keys other,
-    out_seen keys ids outcomes places cached room out given at job other within is number input,
+    out_seen keys ids outcomes found places cached room out given at job other within is number input,
     used_for_place keys ids outcomes found places cached out kept other.key right.0 right.1 None filled.0,
     awaited_for keys ids outcomes found places cached out kept other.key right.0 right.1 filled.0,
     held_landed keys ids outcomes found places cached out kept other.key right.0 right.1 (picture_of job.input) right filled.0
         more filled.1 filled.2,
     ap (λ (s : StoreValue). record s { held = keys_for keys (numbers_held more) })
-        (seen_without keys ids outcomes places cached room out left given at gone),
+        (seen_without keys ids outcomes found places cached room out left given at gone),
   )
 
   pub kept_filled : (landing : Landing) (more : PlacesValue) (left : List JobOut) → left ≡ remove out at

@@ -49,22 +49,22 @@ pub foreign_for : (keys : Trees) (out : List JobOut) (job : JobValue)
 foreign_for keys out job none = All-map (λ other. IsOf job other → ⊥) (seen keys) out none
 
 -- without a job that is out
-pub seen_without : (keys : Trees) (ids : List ℕ) (outcomes : List Outcome) (places : PlacesValue)
+pub seen_without : (keys : Trees) (ids : List ℕ) (outcomes : List Outcome) (found : List (Option ℕ)) (places : PlacesValue)
     (cached : List (ℕ × Picture)) (room : ℕ) (out more : List JobOut) (given at : ℕ) → more ≡ remove out at
-    → viewed keys ids outcomes places cached room more given
-    ≡ without (viewed keys ids outcomes places cached room out given) at
-seen_without keys ids outcomes places cached room out more given at is =
-    ap (λ (jobs : List OutValue). record (viewed keys ids outcomes places cached room out given) { out = jobs })
+    → viewed keys ids outcomes found places cached room more given
+    ≡ without (viewed keys ids outcomes found places cached room out given) at
+seen_without keys ids outcomes found places cached room out more given at is =
+    ap (λ (jobs : List OutValue). record (viewed keys ids outcomes found places cached room out given) { out = jobs })
     (ap (jobs_for keys) is ∙ map_remove (seen keys) out at)
 
 -- the job at a place is out
-pub out_seen : (keys : Trees) (ids : List ℕ) (outcomes : List Outcome) (places : PlacesValue)
+pub out_seen : (keys : Trees) (ids : List ℕ) (outcomes : List Outcome) (found : List (Option ℕ)) (places : PlacesValue)
     (cached : List (ℕ × Picture)) (room : ℕ) (out : List JobOut) (given at : ℕ) (job : JobValue) (other : JobOut)
     → at < length out → other ≡ slice_index_or out at other
     → ((d : JobOut) → (slice_index_or out at d).number ≡ job.number)
     → ((d : JobOut) → (slice_index_or out at d).input ≡ job.input)
-    → IsOut (viewed keys ids outcomes places cached room out given) job at (seen keys other)
-out_seen keys ids outcomes places cached room out given at job other within is number input = record {
+    → IsOut (viewed keys ids outcomes found places cached room out given) job at (seen keys other)
+out_seen keys ids outcomes found places cached room out given at job other within is number input = record {
   stands = got_at (seen keys) out at other within is;
   is = (ap (λ (j : JobOut). j.number) is ∙ number other, ap (λ (j : JobOut). j.input) is ∙ input other);
 }
@@ -279,7 +279,7 @@ module _ (keys : Trees) (ids : List ℕ) (outcomes : List Outcome) (found : List
 
     -- a unit without a key shows no picture
     pub shows_none : None ≡ slice_index_or found at None
-        → IsPictureAt (viewed keys ids outcomes places cached room out given) at None
+        → IsPictureAt (viewed keys ids outcomes found places cached room out given) at None
     shows_none is key has held =
         let got : (tree : Option Key) × (slice_get (keys_of (zip ids outcomes)) at ≡ Some tree) × StandsFor keys None tree =
         got_keys keys found (keys_of (zip ids outcomes)) kept.stand at None within is in
@@ -295,7 +295,7 @@ module _ (keys : Trees) (ids : List ℕ) (outcomes : List Outcome) (found : List
 
       -- a picture that is held is shown
       pub shows_held : (picture : Picture) → place_at places number ≡ Some (Some picture)
-          → IsPictureAt (viewed keys ids outcomes places cached room out given) at (Some picture)
+          → IsPictureAt (viewed keys ids outcomes found places cached room out given) at (Some picture)
       shows_held picture held =
           let right : IsRight keys number picture = kept.right.held number picture held in
           let same : key_for keys number ≡ keyed.0 = key_is keys number keyed.0 keyed.2 in (
@@ -308,7 +308,7 @@ module _ (keys : Trees) (ids : List ℕ) (outcomes : List Outcome) (found : List
 
       -- else none is
       pub shows_waited : ((picture : Picture) → place_at places number ≡ Some (Some picture) → ⊥)
-          → IsPictureAt (viewed keys ids outcomes places cached room out given) at None
+          → IsPictureAt (viewed keys ids outcomes found places cached room out given) at None
       shows_waited not key has held =
           let same : keyed.0 ≡ key = one_key keyed.0 key keyed.1 has in
           let source : (n : ℕ) × Contains (numbers_held places) n × (key_for keys n ≡ key) =
@@ -329,11 +329,11 @@ module _ (keys : Trees) (ids : List ℕ) (outcomes : List Outcome) (found : List
 
       -- what stands at the key's place is shown
       pub shows_place : (shown : Option Picture) → place_at places number ≡ Some shown
-          → IsPictureAt (viewed keys ids outcomes places cached room out given) at shown
+          → IsPictureAt (viewed keys ids outcomes found places cached room out given) at shown
       shows_place None is = shows_waited (λ picture held. no_inner (place_at places number) picture is held)
       shows_place (Some picture) is = shows_held picture is
 
       -- where the key has no place, none is
       pub shows_unused : place_at places number ≡ None
-          → IsPictureAt (viewed keys ids outcomes places cached room out given) at None
+          → IsPictureAt (viewed keys ids outcomes found places cached room out given) at None
       shows_unused is = shows_waited (λ picture held. no_picture (place_at places number) picture is held)

@@ -11,6 +11,7 @@ pub mod Shown
 pub mod Prepared
 pub mod Referring
 pub mod Viewed
+pub mod Numbered
 pub mod Stays
 pub mod Refitted
 pub mod Landed

@@ -22,6 +22,7 @@ use Rattle.picture_store.proofs.Members.{among_map, among_source, left_among, Al
 use Rattle.picture_store.proofs.Tables.{none_not_some}
 use Rattle.picture_store.proofs.Lifting.{held_found, found_held, for_contains, contains_for, left_for, put_for, gone_left}
 use Rattle.picture_store.proofs.Viewed.{viewed}
+use Rattle.picture_store.proofs.Numbered.{one_to_one}
 use Rattle.picture_store.proofs.Stays.{key_is, stand_live, stand_number}
 
 -- a picture that is carried was held or another one
@@ -253,14 +254,17 @@ module _ (keys : Trees) (ids : List ℕ) (outcomes : List Outcome) (found : List
       jobs = kept.jobs;
     }
 
-    pub refitted : (given : ℕ) → Refits (viewed keys ids outcomes places cached room out given) more_ids more_outcomes
-        (viewed keys more_ids more_outcomes more_places gone_cached room out given)
+    pub refitted : (given : ℕ) → Refits (viewed keys ids outcomes found places cached room out given) more_ids more_outcomes
+        (viewed keys more_ids more_outcomes more_found more_places gone_cached room out given)
     refitted given = record {
       ids_are = refl;
       outcomes_are = refl;
       room_stays = refl;
       out_stays = refl;
       given_stays = refl;
+      numbers_stay =
+          one_to_one keys kept.right.one found (keys_of (zip ids outcomes)) more_found (keys_of (zip more_ids more_outcomes))
+          kept.stand stand;
       held_are = held_same;
       stay = keys_for keys (numbers_of left);
       leave = cached_leave;

@@ -166,6 +166,6 @@ module _ (keys more : Trees) (ids : List ℕ) (outcomes : List Outcome) (found :
   }
 
   -- what contracts see stays
-  pub viewed_stays : (room given : ℕ) → viewed more ids outcomes places cached room out given
-      ≡ viewed keys ids outcomes places cached room out given
+  pub viewed_stays : (room given : ℕ) → viewed more ids outcomes found places cached room out given
+      ≡ viewed keys ids outcomes found places cached room out given
   viewed_stays room given = rw (held_stay, cached_stay, out_stay) refl

@@ -60,7 +60,7 @@ module _ (keys : Trees) (ids : List ℕ) (outcomes : List Outcome) (found : List
   -- a number that is due is that of a key that is
   pub due_for : (number : ℕ) (key : Key) → tree_at keys number ≡ Some key → Contains found (Some number)
       → IsDueNumber keys places out number
-      → IsDue (viewed keys ids outcomes places cached room out given) key
+      → IsDue (viewed keys ids outcomes found places cached room out given) key
   due_for number key live unit due =
       let same : key_for keys number ≡ key = key_is keys number key live in
       let tree : (k : Key) × (tree_at keys number ≡ Some k) × Contains (keys_of (zip ids outcomes)) (Some k) =
@@ -89,7 +89,7 @@ module _ (keys : Trees) (ids : List ℕ) (outcomes : List Outcome) (found : List
       (held_for keys ids outcomes found places cached out kept number key live picture (sym same))))
 
   -- a key that is due has a number that is
-  pub due_from : (key : Key) → IsDue (viewed keys ids outcomes places cached room out given) key
+  pub due_from : (key : Key) → IsDue (viewed keys ids outcomes found places cached room out given) key
       → (number : ℕ) × Contains found (Some number) × (tree_at keys number ≡ Some key)
       × IsDueNumber keys places out number
   due_from key due =
@@ -112,7 +112,7 @@ module _ (keys : Trees) (ids : List ℕ) (outcomes : List Outcome) (found : List
 
   -- where no unit's number is due, no key is
   pub none_due : All (IsNotDue keys places out) found
-      → IsAnyDue (viewed keys ids outcomes places cached room out given) → ⊥
+      → IsAnyDue (viewed keys ids outcomes found places cached room out given) → ⊥
   none_due none any =
       let from : (number : ℕ) × Contains found (Some number) × (tree_at keys number ≡ Some any.0)
       × IsDueNumber keys places out number = due_from any.0 any.1 in
@@ -156,12 +156,12 @@ module _ (keys : Trees) (ids : List ℕ) (outcomes : List Outcome) (found : List
     contained = (at, within, sym is)
 
     -- some key is due
-    pub any_due : IsAnyDue (viewed keys ids outcomes places cached room out given)
+    pub any_due : IsAnyDue (viewed keys ids outcomes found places cached room out given)
     any_due = (due.key, due_for number due.key due.tree contained due)
 
     none_before : All (IsNotDue keys places out) (take at found) → (key : Option Key)
         → Contains (keys_after [] (take at (zip ids outcomes))) key
-        → IfSome key (λ k. IsDue (viewed keys ids outcomes places cached room out given) k → ⊥)
+        → IfSome key (λ k. IsDue (viewed keys ids outcomes found places cached room out given) k → ⊥)
     none_before none None among = search rules
     none_before none (Some key) among = λ key_due.
         let before : AllStandFor keys (take at found) (keys_after [] (take at (zip ids outcomes))) =
@@ -179,8 +179,8 @@ module _ (keys : Trees) (ids : List ℕ) (outcomes : List Outcome) (found : List
     pub taken : (outcome : Outcome) → unit.0.1 ≡ outcome → All (IsNotDue keys places out) (take at found)
         → (input : InputValue) → IsInputOf known outcome input → (next : ℕ) → next ≡ given + 1
         → (more : List JobOut) → more ≡ out ++ (record { number = next; key = number; input = input }) ∷ []
-        → (takes : Takes (viewed keys ids outcomes places cached room out given) (record { number = next; input = input })
-        (viewed keys ids outcomes places cached room more next))
+        → (takes : Takes (viewed keys ids outcomes found places cached room out given) (record { number = next; input = input })
+        (viewed keys ids outcomes found places cached room more next))
         × (at ≡ length takes.before)
     taken (Faulty fault) same none input made next next_is more more_is = absurd made
     taken (Planned plan) same none input made next next_is more more_is =
@@ -202,7 +202,7 @@ module _ (keys : Trees) (ids : List ℕ) (outcomes : List Outcome) (found : List
             requests_are = made.0;
             shows = made.1;
             new_is =
-                ap (λ (jobs : List OutValue). record (viewed keys ids outcomes places cached room out given) { out = jobs; given = next })
+                ap (λ (jobs : List OutValue). record (viewed keys ids outcomes found places cached room out given) { out = jobs; given = next })
                 (ap (jobs_for keys) more_is
                 ∙ map-append (seen keys) out ((record { number = next; key = number; input = input }) ∷ [])
                 ∙ ap (λ (key : Key). jobs_for keys out ++ (record { number = next; key = key; input = input }) ∷ []) key_same);

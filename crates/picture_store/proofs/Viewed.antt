@@ -1,5 +1,5 @@
 -- A store as contracts see it, from what it stores.
-use Rattle.std.proofs.Common.{ℕ, List, OnErr, Result, Ok, Err, rules}
+use Rattle.std.proofs.Common.{ℕ, List, Option, OnErr, Result, Ok, Err, rules}
 use Rattle.std.specs.Map.{keys_of as numbers_of}
 use Rattle.outcomes.specs.declared.outcome.Outcome.{Outcome}
 use Rattle.stand_in_device.specs.declared.picture.Picture.{Picture}
@@ -13,10 +13,12 @@ abbrev pub seen : Trees → JobOut → OutValue
 seen keys job = record { number = job.number; key = key_for keys job.key; input = job.input }
 
 -- a store as contracts see it
-abbrev pub viewed : Trees → List ℕ → List Outcome → PlacesValue → List (ℕ × Picture) → ℕ → List JobOut → ℕ → StoreValue
-viewed keys ids outcomes places cached room out given = record {
+abbrev pub viewed : Trees → List ℕ → List Outcome → List (Option ℕ) → PlacesValue → List (ℕ × Picture) → ℕ → List JobOut → ℕ
+    → StoreValue
+viewed keys ids outcomes found places cached room out given = record {
   ids = ids;
   outcomes = outcomes;
+  numbers = found;
   room = room;
   held = keys_for keys (numbers_held places);
   cached = keys_for keys (numbers_of cached);

@@ -1,4 +1,4 @@
--- The picture that is shown of a unit.
+-- The picture that is shown of a unit, and the number of its key.
 use Rattle.std.specs.Prelude.{◌≡◌, ℕ, Contains, Option, None, Some, slice_get}
 use Rattle.stand_in_device.specs.declared.picture.Picture.{Picture}
 use Rattle.picture_keys.specs.Keys.{Key}
@@ -14,3 +14,9 @@ abbrev pub IsPictureAt : StoreValue → ℕ → Option Picture → Type 0
 IsPictureAt store at (Some picture) =
     (key : Key) × HasKey store at key × Contains store.held key × (picture ≡ picture_of_key key)
 IsPictureAt store at None = (key : Key) → HasKey store at key → Contains store.held key → ⊥
+
+-- the number of the key of the unit at a place: nothing for a unit with a fault, which has no key
+abbrev pub IsNumberAt : StoreValue → ℕ → Option ℕ → Type 0
+IsNumberAt store at (Some number) =
+    (key : Key) × HasKey store at key × (slice_get store.numbers at ≡ Some (Some number))
+IsNumberAt store at None = slice_get (unit_keys store) at ≡ Some None

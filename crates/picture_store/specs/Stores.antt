@@ -1,5 +1,5 @@
 -- What is kept of the pictures of a stream's units.
-use Rattle.std.specs.Prelude.{ℕ, List, [], Option, Some, Contains}
+use Rattle.std.specs.Prelude.{◌≡◌, ℕ, List, [], Option, Some, Contains, ◌↔◌, slice_get}
 use Rattle.std.specs.List.{zip}
 use Rattle.outcomes.specs.declared.outcome.Outcome.{Outcome}
 use Rattle.dep_keys.specs.Trees.Tree.{Bare, Gap, With}
@@ -13,12 +13,13 @@ pub record OutValue : Type 0 where
   pub key : Key
   pub input : InputValue
 
--- the ids of a stream's units and what becomes of them; how many pictures may be cached; the keys whose pictures are
--- held, those whose pictures are cached, the one put last first; the jobs that are out; and how many numbers of jobs
--- were given
+-- the ids of a stream's units, what becomes of them, and the number of each unit's key; how many pictures may be
+-- cached; the keys whose pictures are held, those whose pictures are cached, the one put last first; the jobs that are
+-- out; and how many numbers of jobs were given
 pub record StoreValue : Type 0 where
   pub ids : List ℕ
   pub outcomes : List Outcome
+  pub numbers : List (Option ℕ)
   pub room : ℕ
   pub held : List Key
   pub cached : List Key
@@ -27,7 +28,7 @@ pub record StoreValue : Type 0 where
 
 -- before the first unit
 abbrev pub empty : ℕ → StoreValue
-empty room = record { ids = []; outcomes = []; room = room; held = []; cached = []; out = []; given = 0 }
+empty room = record { ids = []; outcomes = []; numbers = []; room = room; held = []; cached = []; out = []; given = 0 }
 
 -- the units, each with its id and what becomes of it
 abbrev pub units_of : StoreValue → List (ℕ × Outcome)
@@ -40,6 +41,18 @@ unit_keys store = keys_of (units_of store)
 -- the key is in use: a valid unit has it
 abbrev pub IsInUse : StoreValue → Key → Type 0
 IsInUse store key = Contains (unit_keys store) (Some key)
+
+-- the key has the number: that of a unit's picture, which has the key
+abbrev pub IsNumberOf : StoreValue → Key → ℕ → Type 0
+IsNumberOf store key number =
+    (at : ℕ) × (slice_get (unit_keys store) at ≡ Some (Some key)) × (slice_get store.numbers at ≡ Some (Some number))
+
+-- numbers of keys in use before and after are equal exactly where the keys are: one that stays in use keeps its number,
+-- and no other has that
+abbrev pub AreOneToOne : StoreValue → StoreValue → Type 0
+AreOneToOne old new =
+    (key other : Key) (number another : ℕ) → IsNumberOf old key number → IsNumberOf new other another
+    → (number ≡ another) ↔ (key ≡ other)
 
 -- the pictures of the keys at a key's own entries are held
 abbrev pub IsReady : List Key → Key → Type 0

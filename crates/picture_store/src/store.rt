@@ -1,14 +1,14 @@
 //! The store: pictures that are held or cached, and jobs that are out.
 
-ghost use Rattle.std.specs.Prelude.{◌≡◌, ◌≤◌, ◌<◌, length, IfOk, OnOk, OnErr};
+ghost use Rattle.std.specs.Prelude.{◌≡◌, ◌≤◌, ◌<◌, ◌↔◌, length, Contains, Some, IsTrue, IfOk, OnOk, OnErr};
 ghost use Rattle.std.specs.List.{zip};
 ghost use Rattle.std.specs.Prelude.{[]};
 ghost use Rattle.picture_keys.specs.Decodable.{AllCanDecode};
-ghost use Rattle.picture_store.specs.Stores.{empty};
+ghost use Rattle.picture_store.specs.Stores.{empty, AreOneToOne};
 ghost use Rattle.picture_store.specs.Changes.{Refits};
 ghost use Rattle.picture_store.specs.Jobs.{AnswersGiveBack, AnswersLand, TellsTake};
 ghost use Rattle.picture_store.specs.Filling.{IsFilled};
-ghost use Rattle.picture_store.specs.Showing.{IsPictureAt};
+ghost use Rattle.picture_store.specs.Showing.{IsNumberAt, IsPictureAt};
 
 use crate::answers::{JobAt, Landing, Returning};
 use crate::due::{first_due, first_to_do, is_awaited};
@@ -62,6 +62,7 @@ impl Model for PictureStore {
     ghost view = { λ s. record {
       ids = s.ids.items;
       outcomes = s.outcomes.items;
+      numbers = s.found.items;
       room = s.cache.capacity;
       held = keys_for s.keys (numbers_held s.places);
       cached = keys_for s.keys (numbers_of s.cache.pairs);
@@ -142,6 +143,24 @@ impl PictureStore {
         ensures { IsPictureAt self.now at result }
     {
         self.places.get(self.found[at]?)?
+    }
+
+    /// The number of the key of the unit at a place of the stream; nothing where it has a fault. While a key stays in use,
+    /// its number stays.
+    pub fn key_at(&self, at: usize) -> Option<KeyId>
+        requires { at < length self.now.ids }
+        ensures value { IsNumberAt self.now at result }
+        ensures one { AreOneToOne self.now self.now }
+    {
+        self.found[at]
+    }
+
+    /// Whether a number is that of a key in use: of one that some unit of the stream has.
+    pub fn in_use(&self, key: KeyId) -> bool
+        ensures value { IsTrue result ↔ Contains self.now.numbers (Some key) }
+        ensures one { AreOneToOne self.now self.now }
+    {
+        self.places.get(key).is_some()
     }
 
     /// Gives the earliest picture that is due to be decoded, under the next number.

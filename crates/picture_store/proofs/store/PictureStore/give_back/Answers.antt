@@ -20,10 +20,12 @@ returns-in-Some c =
     rw (← c.self.view_is) (
       c.in-Some.at,
       seen c.self.inside.keys c.remove.result,
-      out_seen c.self.inside.keys c.self.inside.ids.items c.self.inside.outcomes.items c.self.inside.places
+      out_seen c.self.inside.keys c.self.inside.ids.items c.self.inside.outcomes.items c.self.inside.found.items
+          c.self.inside.places
           c.self.inside.cache.pairs c.self.inside.cache.capacity c.self.inside.out.items c.self.inside.given c.in-Some.at
           c.args.job c.remove.result found.0 c.remove.ensures.value found.1 found.2,
-      seen_without c.self.inside.keys c.self.inside.ids.items c.self.inside.outcomes.items c.self.inside.places
+      seen_without c.self.inside.keys c.self.inside.ids.items c.self.inside.outcomes.items c.self.inside.found.items
+          c.self.inside.places
           c.self.inside.cache.pairs c.self.inside.cache.capacity c.self.inside.out.items c.remove.new.self.items
           c.self.inside.given c.in-Some.at c.remove.ensures.items,
     )

@@ -102,13 +102,13 @@ returns-clause-ok c =
     let leaves = rw (c.deref-6.ensures.value) at c.take_out.ensures.left in
     let room : c.put_away.new.cache.capacity ≡ s.cache.capacity = c.put_away.ensures.room ∙ c.take_out.ensures.room in
     let puts = rw (c.take_out.ensures.room) at c.put_away.ensures.puts in
-    let old : StoreValue = viewed s.keys s.ids.items s.outcomes.items s.places s.cache.pairs s.cache.capacity s.out.items s.given in
-    let is : viewed c.numbers_of.new.keys s.ids.items s.outcomes.items s.places s.cache.pairs s.cache.capacity s.out.items s.given ≡ old =
+    let old : StoreValue = viewed s.keys s.ids.items s.outcomes.items s.found.items s.places s.cache.pairs s.cache.capacity s.out.items s.given in
+    let is : viewed c.numbers_of.new.keys s.ids.items s.outcomes.items s.found.items s.places s.cache.pairs s.cache.capacity s.out.items s.given ≡ old =
     viewed_stays s.keys c.numbers_of.new.keys s.ids.items s.outcomes.items s.found.items s.places s.cache.pairs s.out.items
     c.self.invariant.kept (λ n k stored is. c.numbers_of.ensures.stay n k (stay n k stored is)) s.cache.capacity s.given in
     rw (← c.self.view_is, room)
     (subst (λ (store : StoreValue). Refits store c.args.ids.items c.args.outcomes.items
-    (viewed c.numbers_of.new.keys c.args.ids.items c.args.outcomes.items c.in_ok-places.places c.put_away.new.cache.pairs
+    (viewed c.numbers_of.new.keys c.args.ids.items c.args.outcomes.items c.in_ok-found.found.items c.in_ok-places.places c.put_away.new.cache.pairs
     s.cache.capacity s.out.items s.given)) is
     (refitted c.numbers_of.new.keys s.ids.items s.outcomes.items s.found.items s.places s.cache.pairs s.out.items kept
     c.args.ids.items c.args.outcomes.items c.in_ok-found.found.items c.in_ok-places.places stand placed

@@ -90,7 +90,7 @@ returns-in_err-reserve c =
       any_due s.keys s.ids.items s.outcomes.items s.found.items s.places s.cache.pairs s.cache.capacity s.out.items s.given
           c.self.invariant.kept c.in-Some.at first.0 key is due,
       omega (arith, c.in-Some-checked_add.ensures),
-      ap (λ items. viewed s.keys s.ids.items s.outcomes.items s.places s.cache.pairs s.cache.capacity items s.given) c.reserve.ensures.items,
+      ap (λ items. viewed s.keys s.ids.items s.outcomes.items s.found.items s.places s.cache.pairs s.cache.capacity items s.given) c.reserve.ensures.items,
     )
 
 pub returns-in_err-given : goal.returns-in_err-given
@@ -106,7 +106,7 @@ returns-in_err-given c =
       any_due s.keys s.ids.items s.outcomes.items s.found.items s.places s.cache.pairs s.cache.capacity s.out.items s.given
           c.self.invariant.kept c.in-Some.at first.0 key is due,
       omega (arith, c.in-Some-checked_add.ensures),
-      ap (λ items. viewed s.keys s.ids.items s.outcomes.items s.places s.cache.pairs s.cache.capacity items s.given) c.reserve.ensures.items,
+      ap (λ items. viewed s.keys s.ids.items s.outcomes.items s.found.items s.places s.cache.pairs s.cache.capacity items s.given) c.reserve.ensures.items,
     )
 
 pub new-job-requires : goal.new-job-requires

@@ -1,0 +1,15 @@
+use Rattle.picture_store.specs.Stores.{StoreValue, AreOneToOne}
+use Rattle.edit_engine.proofs.Pictured.{IsOf, IsOf-kept, one_seen}
+use Rattle.edit_engine.proofs.session.Session.in_use.Goals as goal
+
+pub returns-clause-value : goal.returns-clause-value
+returns-clause-value c = rw (← c.self.view_is) c.in_use.ensures.value
+
+pub returns-clause-one : goal.returns-clause-one
+returns-clause-one c =
+    let s = c.self.inside in
+    let is : IsOf s.units.items s.store =
+    IsOf-kept s.journal.items (record { given = s.given; stream = s.units.items }) s.store s.positions.items c.self.invariant in
+    rw (← c.self.view_is)
+    (one_seen (λ (store : StoreValue). AreOneToOne store store) s.journal.items (record { given = s.given; stream = s.units.items }) s.store is
+    c.in_use.ensures.one)

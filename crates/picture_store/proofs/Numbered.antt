@@ -1,0 +1,75 @@
+-- The numbers of units' keys.
+use Rattle.std.proofs.Common.{◌≡◌, refl, ap, sym, subst, ◌∙◌, ℕ, zero, suc, List, [], ◌∷◌, Option, None, Some, ◌↔◌}
+use Rattle.std.specs.Prelude.{slice_get}
+use Rattle.dep_keys.specs.KeyMaps.{tree_at, IsKeyMap}
+use Rattle.picture_keys.specs.Keys.{Key}
+use Rattle.picture_keys.specs.Numbered.{StandsFor, AllStandFor}
+use Rattle.picture_store.specs.Stores.{StoreValue, unit_keys}
+use Rattle.picture_store.specs.Showing.{IsNumberAt}
+use Rattle.picture_store.specs.Kept.{Trees}
+
+nothing_there : {X : Type 0} (at : ℕ) (x : X) → slice_get [] at ≡ Some x → ⊥
+nothing_there at x is = cc
+
+one_value : {X : Type 0} (o : Option X) (a b : X) → o ≡ Some a → o ≡ Some b → a ≡ b
+one_value o a b first second = cc
+
+-- what stands for what at a place
+pub stands_at : (keys : Trees) (found : List (Option ℕ)) (trees : List (Option Key)) → AllStandFor keys found trees
+    → (at : ℕ) (number : Option ℕ) → slice_get found at ≡ Some number
+    → (tree : Option Key) × (slice_get trees at ≡ Some tree) × StandsFor keys number tree
+stands_at keys [] trees all at number is = absurd (nothing_there at number is)
+stands_at keys (first ∷ found) [] all at number is = absurd all
+stands_at keys (first ∷ found) (tree ∷ trees) all zero number is =
+    let same : first ≡ number = cc in
+    (tree, refl, subst (λ (n : Option ℕ). StandsFor keys n tree) same all.0)
+stands_at keys (first ∷ found) (tree ∷ trees) all (suc at) number is = stands_at keys found trees all.1 at number is
+
+stands_some : (keys : Trees) (number : ℕ) (tree : Option Key) (key : Key) → StandsFor keys (Some number) tree → tree ≡ Some key
+    → tree_at keys number ≡ Some key
+stands_some keys number None key stands is = absurd stands
+stands_some keys number (Some other) key stands is = stands ∙ is
+
+-- the number of a key is that under which its tree is kept
+pub number_kept : (keys : Trees) (found : List (Option ℕ)) (trees : List (Option Key)) → AllStandFor keys found trees
+    → (at number : ℕ) (key : Key) → slice_get trees at ≡ Some (Some key) → slice_get found at ≡ Some (Some number)
+    → tree_at keys number ≡ Some key
+number_kept keys found trees all at number key tree_is number_is =
+    let stands : (tree : Option Key) × (slice_get trees at ≡ Some tree) × StandsFor keys (Some number) tree =
+    stands_at keys found trees all at (Some number) number_is in
+    stands_some keys number stands.0 key stands.2
+    (one_value (slice_get trees at) stands.0 (Some key) stands.1 tree_is)
+
+-- numbers that stand for keys of one map are equal exactly where the keys are
+pub one_to_one : (keys : Trees) → IsKeyMap keys → (found : List (Option ℕ)) (trees : List (Option Key))
+    (more_found : List (Option ℕ)) (more_trees : List (Option Key))
+    → AllStandFor keys found trees → AllStandFor keys more_found more_trees
+    → (key other : Key) (number another : ℕ)
+    → ((at : ℕ) × (slice_get trees at ≡ Some (Some key)) × (slice_get found at ≡ Some (Some number)))
+    → ((at : ℕ) × (slice_get more_trees at ≡ Some (Some other)) × (slice_get more_found at ≡ Some (Some another)))
+    → (number ≡ another) ↔ (key ≡ other)
+one_to_one keys one found trees more_found more_trees all more_all key other number another first second =
+    let here : tree_at keys number ≡ Some key = number_kept keys found trees all first.0 number key first.1 first.2 in
+    let there : tree_at keys another ≡ Some other =
+    number_kept keys more_found more_trees more_all second.0 another other second.1 second.2 in (
+      λ same. one_value (tree_at keys number) key other here (ap (tree_at keys) same ∙ there),
+      λ same. one.trees number another key here (there ∙ ap Some (sym same)),
+    )
+
+some_key : (keys : Trees) (number : ℕ) (tree : Option Key) → StandsFor keys (Some number) tree
+    → (key : Key) × (tree ≡ Some key)
+some_key keys number None stands = absurd stands
+some_key keys number (Some key) stands = (key, refl)
+
+-- what is stored at a place is the number of the key of the unit that stands there
+pub number_seen : (keys : Trees) (store : StoreValue) → AllStandFor keys store.numbers (unit_keys store)
+    → (at : ℕ) (number : Option ℕ) → slice_get store.numbers at ≡ Some number → IsNumberAt store at number
+number_seen keys store all at None is =
+    let stands : (tree : Option Key) × (slice_get (unit_keys store) at ≡ Some tree) × StandsFor keys None tree =
+    stands_at keys store.numbers (unit_keys store) all at None is in
+    stands.1 ∙ ap (λ (tree : Option Key). Some tree) stands.2
+number_seen keys store all at (Some number) is =
+    let stands : (tree : Option Key) × (slice_get (unit_keys store) at ≡ Some tree) × StandsFor keys (Some number) tree =
+    stands_at keys store.numbers (unit_keys store) all at (Some number) is in
+    let some : (key : Key) × (stands.0 ≡ Some key) = some_key keys number stands.0 stands.2 in
+    (some.0, stands.1 ∙ ap (λ (tree : Option Key). Some tree) some.1, is)

@@ -2,8 +2,10 @@ ghost use Rattle.std.specs.Prelude.{◌≡◌};
 ghost use Rattle.edit_engine.specs.Machines.{empty};
 
 mod edits;
+mod foreign;
 mod jobs;
 mod limits;
+mod many;
 mod random;
 mod refused;
 mod running;

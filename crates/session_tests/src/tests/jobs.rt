@@ -1,9 +1,11 @@
 //! Jobs, results and pictures, through a runner.
 
 use super::{A, I, P1, P2, Told, edit_of, row_holds, runner_of};
-use edit_engine::{Command, Landing, NotOut, Picture, Reply, Returning, Runner, Shown};
+use edit_engine::{
+    Command, Config, Landing, NotOut, Picture, Reply, Returning, Runner, Shown, run,
+};
 use pictures::AuId;
-use std::alloc::AllocError;
+use std::alloc::{AllocError, Global};
 use std::test::Fail;
 
 /// P1 with one byte more of slice data.
@@ -14,8 +16,11 @@ const NON_REFERENCE: &[u8] = &[0, 0, 1, 0x01, 0x9A, 0x47];
 
 const OTHER_NON_REFERENCE: &[u8] = &[0, 0, 1, 0x01, 0x9A, 0x46];
 
+/// The IDR picture alone, with other slice data.
+const I1: &[u8] = &[0, 0, 1, 0x65, 0x88, 0x84, 0x81];
+
 /// A with other slice data, twice.
-const A1: &[u8] = &[
+pub(super) const A1: &[u8] = &[
     0, 0, 1, 0x67, 0x42, 0x00, 0x0A, 0xDA, 0x79, 0, 0, 1, 0x68, 0xCE, 0x38, 0x80, 0, 0, 1, 0x65,
     0x88, 0x84, 0x81,
 ];
@@ -33,7 +38,7 @@ const PICTURE_OF_A: [u8; 32] = [
 
 /// What a runner is told, and what it has to answer.
 #[derive(Clone, Copy)]
-enum Act {
+pub(super) enum Act {
     /// An edit that is accepted.
     Edit(Told),
     /// The job of this number, with this unit.
@@ -45,6 +50,8 @@ enum Act {
     GivesNone(u64),
     Ready(u32),
     Pending(u32),
+    /// Ready or pending.
+    Valid(u32),
     Fault(u32, u8),
     Gone(u32),
     /// Jobs are taken and landed until none is due.
@@ -129,6 +136,53 @@ const EQUAL_UNITS: &[Act] = &[
     Act::TakesNone,
 ];
 
+/// A picture of two units stays where one of them goes, and a third one has it at once.
+const SHARED_PICTURE: &[Act] = &[
+    Act::Edit(Told::First(A)),
+    Act::Edit(Told::After(1, I)),
+    Act::Edit(Told::After(2, I)),
+    Act::Settle,
+    Act::Edit(Told::Delete(2)),
+    Act::Ready(3),
+    Act::Edit(Told::After(1, I)),
+    Act::Ready(4),
+    Act::TakesNone,
+];
+
+/// A result lands where its picture is wanted, and not at the unit that it was taken for.
+const ANOTHER_UNIT: &[Act] = &[
+    Act::Edit(Told::First(A)),
+    Act::Edit(Told::After(1, I)),
+    Act::Take(1, 1),
+    Act::Edit(Told::Replace(1, A1)),
+    Act::Land(1, Landing::Taken),
+    Act::Pending(1),
+    Act::Ready(2),
+    Act::Take(2, 1),
+];
+
+/// Two jobs are out, and the later one lands first.
+const OUT_OF_ORDER: &[Act] = &[
+    Act::Edit(Told::First(A)),
+    Act::Edit(Told::After(1, I1)),
+    Act::Take(1, 1),
+    Act::Take(2, 2),
+    Act::TakesNone,
+    Act::Land(2, Landing::Taken),
+    Act::Pending(1),
+    Act::Ready(2),
+    Act::Land(1, Landing::Taken),
+    Act::Ready(1),
+];
+
+/// Two jobs are out at the end.
+const LEFT_OUT: &[Act] = &[
+    Act::Edit(Told::First(A)),
+    Act::Edit(Told::After(1, I1)),
+    Act::Take(1, 1),
+    Act::Take(2, 2),
+];
+
 /// A job that is given back is given again, under another number.
 const GIVEN_BACK: &[Act] = &[
     Act::TakesNone,
@@ -160,31 +214,34 @@ const CACHE_OF_ONE: &[Act] = &[
 ];
 
 /// What runners are told, and for how many pictures their caches have room.
-const ROWS: &[(u16, &[Act])] = &[
+const ROWS: [(u16, &[Act]); 11] = [
     (64, DELETE_AND_REPAIR),
     (64, REPLACE),
     (64, NON_REFERENCES),
     (64, STALE_AND_LATE),
     (64, EQUAL_UNITS),
+    (64, SHARED_PICTURE),
+    (64, ANOTHER_UNIT),
+    (64, OUT_OF_ORDER),
+    (64, LEFT_OUT),
     (64, GIVEN_BACK),
     (1, CACHE_OF_ONE),
 ];
 
 /// The command of an act that is one command.
-fn command_of(act: Act) -> Command {
+pub(super) fn command_of(act: Act) -> Command {
     match act {
         Act::Edit(told) => Command::Edit(edit_of(told)),
         Act::Take(..) | Act::TakesNone | Act::Settle => Command::Take,
         Act::Land(number, _) | Act::LandsNone(number) => Command::Land(number),
         Act::Give(number) | Act::GivesNone(number) => Command::GiveBack(number),
-        Act::Ready(id) | Act::Pending(id) | Act::Fault(id, _) | Act::Gone(id) => {
-            Command::Show(AuId::new(id))
-        }
+        Act::Ready(id) | Act::Pending(id) | Act::Valid(id) | Act::Fault(id, _) | Act::Gone(id) =>
+            Command::Show(AuId::new(id)),
     }
 }
 
 /// The reply is the one that the act has to have.
-fn is_reply(reply: &Reply, act: Act) -> bool {
+pub(super) fn is_reply(reply: &Reply, act: Act) -> bool {
     match (reply, act) {
         (Reply::Edit(answer), Act::Edit(_)) => answer.is_ok(),
         (Reply::Take(Ok(Some(taken))), Act::Take(number, unit)) => {
@@ -203,8 +260,8 @@ fn is_reply(reply: &Reply, act: Act) -> bool {
 /// What is shown is what the act has to have.
 fn is_shown(shown: Shown, act: Act) -> bool {
     match (shown, act) {
-        (Shown::Ready(_), Act::Ready(_)) => true,
-        (Shown::Pending, Act::Pending(_)) => true,
+        (Shown::Ready(_), Act::Ready(_) | Act::Valid(_)) => true,
+        (Shown::Pending, Act::Pending(_) | Act::Valid(_)) => true,
         (Shown::Fault(fault), Act::Fault(_, number)) => fault.number() == number,
         (Shown::NoSuchUnit, Act::Gone(_)) => true,
         _ => false,
@@ -236,7 +293,7 @@ fn number_taken(reply: &Reply) -> Option<u64> {
 }
 
 /// The runner answers the act so.
-fn holds(runner: &mut Runner, act: Act) -> Result<bool, AllocError> {
+pub(super) fn holds(runner: &mut Runner, act: Act) -> Result<bool, AllocError> {
     match act {
         Act::Settle => settle(runner),
         _ => Ok(is_reply(&runner.step(command_of(act))?, act)),
@@ -258,6 +315,50 @@ fn jobs_and_pictures(rt: HostRuntime) -> Result<(), Fail> {
     for (row, (room, acts)) in ROWS.iter().enumerate() {
         let runner = runner_of(&rt, *room);
         row_holds(&rt, row, all_hold(runner, acts)?);
+    }
+    Ok(())
+}
+
+/// What a run of commands is told, an act a command.
+const RUNS: [&[Act]; 6] = [
+    STALE_AND_LATE,
+    EQUAL_UNITS,
+    ANOTHER_UNIT,
+    OUT_OF_ORDER,
+    LEFT_OUT,
+    GIVEN_BACK,
+];
+
+/// The commands of the acts.
+fn commands_of(alloc: Global, acts: &[Act]) -> Result<Vec<Command>, AllocError> {
+    let mut commands = Vec::new(alloc);
+    for act in acts {
+        commands.push(command_of(*act))?;
+    }
+    Ok(commands)
+}
+
+/// The replies are those that the acts have to have.
+fn are_replies(replies: &[Reply], acts: &[Act]) -> bool {
+    for (reply, act) in replies.iter().zip(acts) {
+        if !is_reply(reply, *act) {
+            return false;
+        }
+    }
+    replies.len() == acts.len()
+}
+
+/// A run of the acts' commands replies so to each, whatever is out at the end.
+fn runs(alloc: Global, acts: &[Act]) -> Result<bool, AllocError> {
+    let commands = commands_of(alloc, acts)?;
+    let replies = run(alloc, Config { cache: 64 }, &commands)?;
+    Ok(are_replies(&replies, acts))
+}
+
+#[test]
+fn a_run_replies_about_jobs(rt: HostRuntime) -> Result<(), Fail> {
+    for (row, acts) in RUNS.iter().enumerate() {
+        row_holds(&rt, row, runs(rt.alloc(), acts)?);
     }
     Ok(())
 }

@@ -11,6 +11,7 @@ use pictures::AuId;
 use request_core::scratch;
 use std::alloc::{AllocError, Global};
 use std::test::Fail;
+use test_builders::Draws;
 
 /// Texts: an IDR picture with sets and one without, P pictures with frame_num 1, 2 and 3, one with adaptive marking, a
 /// picture that is no reference, and a text that is no unit.
@@ -25,28 +26,10 @@ static TEXTS: [&[u8]; 8] = [
     &[0, 0, 1],
 ];
 
-/// Numbers that look random (xorshift).
-#[derive(Drop)]
-struct Draws {
-    state: u64,
-}
-
-impl Draws {
-    /// A number below the bound, or 0.
-    fn below(&mut self, bound: u64) -> u64
-        ensures { 0 < bound → result < bound }
-    {
-        self.state ^= self.state.wrapping_shl(13);
-        self.state ^= self.state >> 7;
-        self.state ^= self.state.wrapping_shl(17);
-        self.state.checked_rem(bound).unwrap_or(0)
-    }
-
-    /// A text, and whether it is a unit.
-    fn text(&mut self) -> (&'static [u8], bool) {
-        let place = self.below(8) as usize;
-        (TEXTS.get(place).copied().unwrap_or(&[]), place < 7)
-    }
+/// Draws a text, and says whether it is a unit.
+fn draw_text(draws: &mut Draws) -> (&'static [u8], bool) {
+    let place = draws.below(8) as usize;
+    (TEXTS.get(place).copied().unwrap_or(&[]), place < 7)
 }
 
 /// A unit of the mirror: its id and its text.
@@ -70,7 +53,7 @@ fn draw_id(draws: &mut Draws, mirror: &[Kept], next: u32) -> u32 {
 
 /// Draws an edit, and says whether its text is a unit.
 fn draw(draws: &mut Draws, mirror: &[Kept], next: u32) -> (Told, bool) {
-    let (text, is_unit) = draws.text();
+    let (text, is_unit) = draw_text(draws);
     let id = draw_id(draws, mirror, next);
     match draws.below(if mirror.len() > 24 { 4 } else { 8 }) {
         0 | 1 => (Told::Delete(id), true),
@@ -232,9 +215,7 @@ fn valid_units(session: &Session, mirror: &[Kept]) -> usize {
 fn a_thousand_edits_equal_the_plain_fold(rt: HostRuntime) -> Result<(), Fail> {
     let mut session = empty_session(&rt);
     let mut mirror = Vec::new(rt.alloc());
-    let mut draws = Draws {
-        state: 0x2545_F491_4F6C_DD1D,
-    };
+    let mut draws = Draws::new(0x2545_F491_4F6C_DD1D);
     let mut tally = Tally {
         accepted: 0,
         next: 1,

@@ -3,7 +3,7 @@
 
 use super::row_holds;
 use access_unit::Refused;
-use edit_engine::{ConfigFault, EditRefused, NoSuchUnit};
+use edit_engine::{ConfigFault, EditRefused, NoSuchUnit, NotOut, TakeRefused};
 use std::test::Fail;
 
 /// Each refusal of an edit with its number, its name and its text.
@@ -45,6 +45,24 @@ fn tells_refusals_of_edits(rt: HostRuntime) -> Result<(), Fail> {
     }
     let none = format!(in rt.alloc(); "{NoSuchUnit}")?;
     assert!(rt; none.as_str() == "no unit has the id");
+    Ok(())
+}
+
+/// Why no job is given though one is due, by number and text.
+const TAKES: [(TakeRefused, u8, &str); 2] = [
+    (TakeRefused::JobsSpent, 1, "all numbers of jobs were given"),
+    (TakeRefused::Memory, 2, "out of memory"),
+];
+
+#[test]
+fn tells_why_no_job_is_given(rt: HostRuntime) -> Result<(), Fail> {
+    for (row, (refused, number, text)) in TAKES.iter().enumerate() {
+        let told = format!(in rt.alloc(); "{refused}")?;
+        let is_told = refused.number() == *number && told.as_str() == *text;
+        row_holds(&rt, row, is_told);
+    }
+    let none = format!(in rt.alloc(); "{NotOut}")?;
+    assert!(rt; none.as_str() == "no job of the number is out");
     Ok(())
 }
 

@@ -2,8 +2,8 @@
 
 ghost use Rattle.std.specs.Prelude.{◌≡◌, IfOk};
 
+use crate::controls_of_sets::small_set_controls;
 use crate::requests::shared;
-use crate::set_controls::small_set_controls;
 use arrayvec::ArrayVec;
 use h264_controls::{
     Controls, DecodeFlags, Dpb, DpbEntryFlags, RefPicList, SetControls, SliceFlags,

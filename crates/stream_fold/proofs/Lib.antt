@@ -1,7 +1,8 @@
 mod Fronts
-mod Changed
-mod Folds
+pub mod Changed
+pub mod Folds
 mod Going
 mod Storage
 mod Anew
 mod Committed
+mod Stretch

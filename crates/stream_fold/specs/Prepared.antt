@@ -1,9 +1,13 @@
 -- A change that is prepared.
-use Rattle.std.specs.Prelude.{◌+◌, ◌^◌, ◌<◌, ◌≤◌, length}
+use Rattle.std.specs.Prelude.{◌≡◌, ℕ, ◌+◌, ◌^◌, ◌<◌, ◌≤◌, List, ◌++◌, length, take, drop}
+use Rattle.outcomes.specs.declared.outcome.Outcome.{Outcome}
+use Rattle.request_core.specs.Fold.{outcomes_of}
+use Rattle.request_core.specs.Agreement.{Stream}
+use Rattle.stream_fold.specs.declared.changes.Change.{Change}
 use Rattle.stream_fold.specs.declared.folded.Prepared.{Prepared}
-use Rattle.stream_fold.specs.Changes.{IsInside}
+use Rattle.stream_fold.specs.Changes.{IsInside, stream_after}
 use Rattle.stream_fold.specs.Kept.{FoldedValue}
-use Rattle.stream_fold.specs.Refolding.{IsMadeAnew}
+use Rattle.stream_fold.specs.Refolding.{IsMadeAnew, end_of}
 
 -- the change is one of this stream, what it changes is folded anew, and there is room for what is found
 pub record IsPrepared (folded : FoldedValue) (prepared : Prepared) : Type 0 where
@@ -13,3 +17,32 @@ pub record IsPrepared (folded : FoldedValue) (prepared : Prepared) : Type 0 wher
   pub units_room : 0 < folded.units_room
   pub outcomes_room : length prepared.fold.outcomes.items ≤ folded.outcomes_room
   pub states_room : length prepared.fold.states.items ≤ folded.stored.room
+
+-- the change that is prepared
+abbrev pub change_in : Prepared → Change
+change_in prepared = prepared.change
+
+-- how many steps of the fold it took
+abbrev pub steps_in : Prepared → ℕ
+steps_in prepared = prepared.fold.steps
+
+-- the first place whose outcome is made anew
+abbrev pub begin_in : Prepared → ℕ
+begin_in prepared = prepared.fold.from
+
+-- the place of the stream as it was from which on outcomes stay
+abbrev pub end_in : Prepared → Stream → ℕ
+end_in prepared stream = end_of stream prepared.met
+
+-- the outcomes that are made anew
+abbrev pub outcomes_in : Prepared → List Outcome
+outcomes_in prepared = prepared.fold.outcomes.items
+
+-- after the change the stream's outcomes are those that they were, but for one stretch, in whose place are new ones, a step
+-- of the fold for each
+pub record IsAnew (prepared : Prepared) (stream : Stream) : Type 0 where
+  pub ordered : begin_in prepared ≤ end_in prepared stream
+  pub within : end_in prepared stream ≤ length stream
+  pub counted : length (outcomes_in prepared) ≡ steps_in prepared
+  pub outcomes_are : outcomes_of (stream_after (change_in prepared) stream)
+      ≡ take (begin_in prepared) (outcomes_of stream) ++ outcomes_in prepared ++ drop (end_in prepared stream) (outcomes_of stream)

@@ -40,7 +40,7 @@ impl Model for Folded {
     ghost invariant = { λ f. IsFolded f.units.items f.outcomes.items f.stored.states f.end };
 }
 
-/// A change that is prepared.
+/// A change that is prepared: what becomes of the units of one stretch, made anew. That of all others stays.
 #[derive(Debug, Drop)]
 pub struct Prepared {
     change: Change,
@@ -50,17 +50,41 @@ pub struct Prepared {
 }
 
 impl Prepared {
+    ghost use Rattle.stream_fold.specs.Prepared.{begin_in, end_in, outcomes_in, steps_in};
+
     /// How many steps of the fold were made.
     pub fn steps(&self) -> u64
-        ensures { result ≡ self.now.fold.steps }
+        ensures { result ≡ steps_in self.now }
     {
         self.fold.steps.count()
+    }
+
+    /// The first place of the stretch, before the change and after it.
+    pub fn begin(&self) -> usize
+        ensures { result ≡ begin_in self.now }
+    {
+        self.fold.from
+    }
+
+    /// The place past the stretch in the stream as it was, which this is: that of the stored state to which the fold came,
+    /// or the end.
+    pub fn end(&self, folded: &Folded) -> usize
+        ensures { result ≡ end_in self.now folded.now.stream }
+    {
+        self.met.unwrap_or(folded.units().len())
+    }
+
+    /// What becomes of the units of the stretch after the change.
+    pub fn outcomes(&self) -> &[Shared<Outcome>]
+        ensures { result.now ≡ outcomes_in self.now }
+    {
+        self.fold.outcomes.as_slice()
     }
 }
 
 impl Folded {
     ghost use Rattle.stream_fold.specs.Refolding.{HasCaughtUp, IsStart, IsMadeAnew, GoesOn};
-    ghost use Rattle.stream_fold.specs.Prepared.{IsPrepared};
+    ghost use Rattle.stream_fold.specs.Prepared.{IsAnew, IsPrepared, change_in, steps_in};
 
     /// A stream of no units.
     pub fn new(alloc: Global) -> Result<Folded, AllocError>
@@ -94,9 +118,10 @@ impl Folded {
         requires short { length self.old.stream + 1 < 2 ^ 64 }
         ensures kept { self.new.stream ≡ self.old.stream }
         ensures ready { IfOk result (λ prepared. IsPrepared self.new prepared) }
-        ensures change { IfOk result (λ prepared. prepared.change ≡ change) }
+        ensures change { IfOk result (λ prepared. change_in prepared ≡ change) }
+        ensures anew { IfOk result (λ prepared. IsAnew prepared self.old.stream) }
         ensures few { IfOk result (λ prepared. (count : ℕ)
-            → IsMeeting change self.old.stream count → prepared.fold.steps ≤ count + 64) }
+            → IsMeeting change self.old.stream count → steps_in prepared ≤ count + 64) }
     {
         let (fold, met) = self.refold(alloc, &change)?;
         self.units.reserve(1)?;
@@ -108,7 +133,7 @@ impl Folded {
     /// Makes a prepared change. Takes no memory.
     pub fn commit(&mut self, prepared: Prepared)
         requires { IsPrepared self.old prepared }
-        ensures { self.new.stream ≡ stream_after prepared.change self.old.stream }
+        ensures { self.new.stream ≡ stream_after (change_in prepared) self.old.stream }
     {
         let Prepared { change, fold, met } = prepared;
         let end = self.units.len();

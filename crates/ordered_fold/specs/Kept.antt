@@ -1,0 +1,18 @@
+-- What is kept of a stream in output order.
+use Rattle.std.specs.Prelude.{◌≡◌, Option, List, map}
+use Rattle.request_core.specs.Fold.{outcomes_of}
+use Rattle.request_core.specs.Agreement.{Stream}
+use Rattle.stream_fold.specs.Kept.{FoldedValue}
+use Rattle.period_counts.specs.declared.shown.Shown.{Shown}
+use Rattle.period_counts.specs.Shown.{shown_of}
+use Rattle.period_counts.specs.Periods.{units_of}
+use Rattle.period_counts.specs.Kept.{Kept}
+
+-- the folded stream, and the periods of its units
+pub record OrderedValue : Type 0 where
+  pub folded : FoldedValue
+  pub order : Kept
+
+-- the periods are those of the stream's outcomes
+abbrev pub AreOrdered : Stream → List (List (Option Shown)) → Type 0
+AreOrdered stream periods = map shown_of (outcomes_of stream) ≡ units_of periods

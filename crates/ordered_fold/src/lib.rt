@@ -1,0 +1,13 @@
+//! A stream under changes in output order: what becomes of each unit, and its place among the pictures that are shown.
+//!
+//! `OrderedFold` joins a `Folded` of stream_fold with the `Periods` of period_counts that its outcomes make. A change is
+//! prepared, which may want memory and leaves all answers as they were, and then committed, which wants none. The positions
+//! of the periods that the stretch of new outcomes touches are made anew, and no others.
+#![tactic(auto)]
+
+mod ordered;
+mod prepared_change;
+mod showing;
+
+pub use ordered::OrderedFold;
+pub use prepared_change::PreparedChange;

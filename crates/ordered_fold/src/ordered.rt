@@ -1,0 +1,113 @@
+//! A stream with what becomes of each unit, and where it is shown.
+
+ghost use Rattle.std.specs.Prelude.{◌≡◌, ℕ, ◌+◌, ◌^◌, ◌<◌, ◌≤◌, [], length, slice_get, Some, IfOk, IfNone};
+ghost use Rattle.request_core.specs.Fold.{outcomes_of};
+ghost use Rattle.output_order.specs.OutputOrder.{positions_of};
+ghost use Rattle.period_counts.specs.Bounds.{period_size};
+ghost use Rattle.stream_fold.specs.Changes.{IsInside, stream_after};
+ghost use Rattle.stream_fold.specs.Meeting.{IsMeeting};
+ghost use Rattle.stream_fold.specs.Prepared.{IsAnew, change_in, steps_in};
+ghost use Rattle.ordered_fold.specs.Prepared.{IsPrepared};
+
+use crate::prepared_change::PreparedChange;
+use crate::showing::shown_of_each;
+use access_unit::Unit;
+use base_types::Shared;
+use outcomes::Outcome;
+use period_counts::{Comparisons, Periods};
+use pictures::AuId;
+use std::alloc::{AllocError, Global};
+use std::marker::Model;
+use stream_fold::{Change, Folded};
+
+/// A stream of access units under their ids, with what becomes of each and its position in output order.
+#[derive(Debug, Drop)]
+pub struct OrderedFold {
+    folded: Folded,
+    periods: Periods,
+}
+
+impl Model for OrderedFold {
+    ghost use Rattle.ordered_fold.specs.Kept.{OrderedValue, AreOrdered};
+
+    ghost Value = { OrderedValue };
+
+    ghost view = { λ f. record { folded = f.folded; order = f.periods } };
+
+    ghost invariant = { λ f. AreOrdered f.folded.stream f.periods.periods };
+}
+
+impl OrderedFold {
+    /// A stream of no units.
+    pub fn new(alloc: Global) -> Result<OrderedFold, AllocError>
+        ensures { IfOk result (λ ordered. ordered.folded.stream ≡ []) }
+    {
+        Ok(OrderedFold {
+            folded: Folded::new(alloc)?,
+            periods: Periods::new(alloc),
+        })
+    }
+
+    /// The units in decoding order, each with its id.
+    pub fn units(&self) -> &[(AuId, Shared<Unit>)]
+        ensures { result.now ≡ self.now.folded.stream }
+    {
+        self.folded.units()
+    }
+
+    /// What becomes of each unit, in the same order.
+    pub fn outcomes(&self) -> &[Shared<Outcome>]
+        ensures { result.now ≡ outcomes_of self.now.folded.stream }
+    {
+        self.folded.outcomes()
+    }
+
+    /// The position in output order of the unit at a place: how many valid units are shown before it. `None` where it isn't
+    /// valid. Each pair of units that is compared is counted. Takes no memory.
+    pub fn position_in(&self, place: usize, comparisons: &mut Comparisons) -> Option<usize>
+        requires within { place < length self.now.folded.stream }
+        requires room { comparisons.old + length self.now.folded.stream < 2 ^ 64 }
+        ensures position { slice_get (positions_of (outcomes_of self.now.folded.stream)) place
+            ≡ Some result }
+        ensures few { comparisons.new
+            ≤ comparisons.old + period_size (outcomes_of self.now.folded.stream) place }
+        ensures none { IfNone result (comparisons.new ≡ comparisons.old) }
+    {
+        self.periods.position_in(place, comparisons)
+    }
+
+    /// Prepares a change: folds anew what it changes, makes the periods anew that this touches, and makes room. All answers
+    /// stay as they were.
+    pub fn prepare(&mut self, alloc: Global, change: Change) -> Result<PreparedChange, AllocError>
+        requires inside { IsInside change self.old.folded.stream }
+        requires short { length self.old.folded.stream + 1 < 2 ^ 64 }
+        ensures kept { self.new.folded.stream ≡ self.old.folded.stream }
+        ensures ready { IfOk result (λ prepared. IsPrepared self.new prepared) }
+        ensures change { IfOk result (λ prepared. change_in prepared.refolded ≡ change) }
+        ensures anew { IfOk result
+            (λ prepared. IsAnew prepared.refolded self.old.folded.stream) }
+        ensures few { IfOk result (λ prepared. (count : ℕ)
+            → IsMeeting change self.old.folded.stream count
+            → steps_in prepared.refolded ≤ count + 64) }
+    {
+        let refolded = self.folded.prepare(alloc, change)?;
+        let shown = shown_of_each(alloc, refolded.outcomes())?;
+        let end = refolded.end(&self.folded);
+        let splice = self
+            .periods
+            .prepare_splice(alloc, refolded.begin(), end, &shown)?;
+        self.periods.reserve(splice.len())?;
+        Ok(PreparedChange { refolded, splice })
+    }
+
+    /// Makes a prepared change. Takes no memory.
+    pub fn commit(&mut self, prepared: PreparedChange)
+        requires { IsPrepared self.old prepared }
+        ensures { self.new.folded.stream
+            ≡ stream_after (change_in prepared.refolded) self.old.folded.stream }
+    {
+        let PreparedChange { refolded, splice } = prepared;
+        self.folded.commit(refolded);
+        self.periods.commit(splice);
+    }
+}

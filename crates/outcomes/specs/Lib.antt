@@ -1,3 +1,1 @@
-pub mod Names
-pub mod Numbers
 pub mod RequestItems

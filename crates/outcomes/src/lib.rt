@@ -5,8 +5,7 @@
 
 mod outcome;
 mod requests;
-mod validity_fault;
 
 pub use outcome::{Outcome, Plan};
 pub use requests::Requests;
-pub use validity_fault::ValidityFault;
+pub use validity_faults::ValidityFault;

@@ -3,9 +3,9 @@
 ghost use Rattle.std.specs.Prelude.{◌≡◌, IfOk};
 
 use crate::requests::Requests;
-use crate::validity_fault::ValidityFault;
 use pictures::Counts;
 use std::alloc::{AllocError, Global};
+use validity_faults::ValidityFault;
 
 /// The plan of a valid unit.
 #[derive(Debug, Drop)]

@@ -1,4 +1,3 @@
-pub mod Gathering
 mod Requested
 mod Pictures
 pub mod Agreement

@@ -6,14 +6,15 @@ use Rattle.pictures.specs.declared.counts.Counts.{Counts}
 use Rattle.order_count.specs.Counting.{counts_of}
 use Rattle.pictures.specs.MarkedFrames.{Marked}
 use Rattle.ref_marking.specs.MarksAfter.{marks_after}
-use Rattle.outcomes.specs.declared.validity_fault.ValidityFault.{ValidityFault}
-use Rattle.request_core.specs.declared.stop.Stop.{Stop}
-use Rattle.request_core.specs.declared.stop.Stop.TheVariants.{Fault, Memory}
-use Rattle.request_core.specs.Answers.{Ends}
+use Rattle.validity_faults.specs.declared.validity_fault.ValidityFault.{ValidityFault}
+use Rattle.unit_slices.specs.declared.stop.Stop.{Stop}
+use Rattle.unit_slices.specs.declared.stop.Stop.TheVariants.{Fault, Memory}
+use Rattle.unit_slices.specs.Answers.{Ends}
 use Rattle.request_core.specs.States.{FoldState}
-use Rattle.request_core.specs.Numbers.{gathered}
-use Rattle.request_core.specs.Slices.{SliceRead}
-use Rattle.request_core.specs.Faults.{first_shown, picture_rows}
+use Rattle.unit_slices.specs.Numbers.{gathered}
+use Rattle.unit_slices.specs.Slices.{SliceRead}
+use Rattle.unit_slices.specs.Faults.{first_shown}
+use Rattle.request_core.specs.Faults.{picture_rows}
 use Rattle.request_core.specs.Requests.{ListedSlice}
 use Rattle.request_core.specs.Fold.{passes, counted, listed, marked, state_after, plan_of, picture_after}
 

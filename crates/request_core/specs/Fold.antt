@@ -17,16 +17,17 @@ use Rattle.ref_marking.specs.MarksAfter.{marks_after}
 use Rattle.ref_lists.specs.declared.fault.ListFault.{ListFault}
 use Rattle.ref_lists.specs.declared.fault.ListFault.TheVariants as listing
 use Rattle.ref_lists.specs.ReferenceLists.{lists_of}
-use Rattle.outcomes.specs.declared.validity_fault.ValidityFault.{ValidityFault}
-use Rattle.outcomes.specs.declared.validity_fault.ValidityFault.TheVariants.{MissingPps, OrderRange, OrderTie, NoReference, BadModification, BadMarking, TooManyReferences}
+use Rattle.validity_faults.specs.declared.validity_fault.ValidityFault.{ValidityFault}
+use Rattle.validity_faults.specs.declared.validity_fault.ValidityFault.TheVariants.{MissingPps, OrderRange, OrderTie, NoReference, BadModification, BadMarking, TooManyReferences}
 use Rattle.outcomes.specs.declared.outcome.Plan.{Plan}
 use Rattle.outcomes.specs.declared.outcome.Outcome.{Outcome}
 use Rattle.outcomes.specs.declared.outcome.Outcome.TheVariants as outcomes
-use Rattle.request_core.specs.ParameterSets.{put_all}
+use Rattle.unit_slices.specs.ParameterSets.{put_all}
 use Rattle.request_core.specs.States.{FoldState, no_units}
-use Rattle.request_core.specs.Numbers.{gathered}
-use Rattle.request_core.specs.Slices.{SliceRead, slice_at}
-use Rattle.request_core.specs.Faults.{first_shown, slice_rows, picture_rows}
+use Rattle.unit_slices.specs.Numbers.{gathered}
+use Rattle.unit_slices.specs.Slices.{SliceRead, slice_at}
+use Rattle.unit_slices.specs.Faults.{first_shown, slice_rows}
+use Rattle.request_core.specs.Faults.{picture_rows}
 use Rattle.request_core.specs.Requests.{ListedSlice, requests_of}
 
 -- nothing, or the fault that is shown

@@ -1,10 +1,5 @@
-pub mod ParameterSets
 pub mod States
-pub mod Numbers
-pub mod Slices
 pub mod Faults
 pub mod Requests
 pub mod Fold
-pub mod Answers
-pub mod Gathering
 pub mod Agreement

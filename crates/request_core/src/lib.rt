@@ -5,18 +5,12 @@
 #![tactic(auto)]
 
 mod checks;
-mod gathered;
 pub mod laws;
-mod places;
 mod planning;
 mod scratching;
-mod sets;
-mod slices;
 mod state;
 mod stepping;
 mod steps;
-mod stop;
-mod tables;
 
 pub use outcomes::{Outcome, Plan, Requests, ValidityFault};
 pub use scratching::scratch;

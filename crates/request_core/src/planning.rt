@@ -6,15 +6,12 @@ ghost use Rattle.order_count.specs.Counting.{counts_of};
 ghost use Rattle.pictures.specs.PicOrderCnt.{are_in_range};
 ghost use Rattle.pictures.specs.Resetting.{counts_after_reset};
 ghost use Rattle.ref_marking.specs.MarksAfter.{marks_after};
-ghost use Rattle.request_core.specs.Numbers.{gathered};
+ghost use Rattle.unit_slices.specs.Numbers.{gathered};
 ghost use Rattle.request_core.specs.Requests.{controls_of, request_of, requests_of};
 ghost use Rattle.request_core.specs.Fold.{counted, listed, marked};
-ghost use Rattle.request_core.specs.Answers.{Answers, AnswersAs};
+ghost use Rattle.unit_slices.specs.Answers.{Answers, AnswersAs};
 
-use crate::gathered::Gathered;
-use crate::slices::Slice;
 use crate::state::State;
-use crate::stop::Stop;
 use base_types::Shared;
 use h264_controls::{
     Controls, References, Request, V4l2CtrlH264DecodeParams, V4l2CtrlH264PredWeights,
@@ -29,6 +26,7 @@ use ref_marking::{MarkFault, mark};
 use set_types::Sps;
 use std::alloc::{AllocError, Global};
 use std::marker::Model;
+use unit_slices::{Gathered, Slice, Stop};
 
 /// A slice with its reference lists.
 #[derive(Debug, Drop)]
@@ -55,7 +53,7 @@ pub(crate) fn count_picture(state: &State, slice: &Slice) -> Result<Counts, Stop
     ensures reset { IfOk result (λ counts. IsTrue
         (are_in_range (counts_after_reset slice.now.header counts))) }
 {
-    match count(&state.anchor, slice.sps(), &slice.header) {
+    match count(&state.anchor, slice.sps(), slice.header()) {
         Ok(counts) => Ok(counts),
         Err(_) => Err(Stop::Fault(ValidityFault::OrderRange)),
     }
@@ -72,7 +70,7 @@ pub(crate) fn mark_picture(
     ensures { Answers result
         (marked (marks_after state.now.marks id slice.now.sps slice.now.header counts)) }
 {
-    match mark(&state.marks, id, slice.sps(), &slice.header, counts) {
+    match mark(&state.marks, id, slice.sps(), slice.header(), counts) {
         Ok(marks) => Ok(marks),
         Err(MarkFault::TooManyReferences) => Err(Stop::Fault(ValidityFault::TooManyReferences)),
         Err(MarkFault::BadMarking | MarkFault::NoShortTerm) => Err(Stop::Fault(
@@ -85,7 +83,7 @@ pub(crate) fn mark_picture(
 fn list_slice<'a>(marks: &Marks, counts: Counts, slice: &'a Slice) -> Result<Listed<'a>, Stop>
     ensures { Answers result (listed marks.now counts slice.now) }
 {
-    match lists(marks, slice.sps(), &slice.header, counts) {
+    match lists(marks, slice.sps(), slice.header(), counts) {
         Ok((list_0, list_1)) => Ok(Listed {
             slice,
             list_0,
@@ -138,11 +136,11 @@ fn controls_of(
     ensures { IfOk result (λ controls. controls ≡ controls_of marks.now.frames counts listed.now) }
 {
     let slice = listed.slice;
-    let header = &slice.header;
+    let header = slice.header();
     let (list_0, list_1) = (&listed.list_0, &listed.list_1);
     let picture = V4l2CtrlH264DecodeParams::of(alloc, marks, slice.sps(), header, counts)?;
     Ok(Controls {
-        sets: slice.sets.controls()?,
+        sets: slice.controls()?,
         pred_weights: pred_weights_of(alloc, slice.sps(), header)?,
         slice_params: V4l2CtrlH264SliceParams::of(alloc, header, list_0, list_1)?,
         decode_params: shared_picture(alloc, picture, before)?,
@@ -211,9 +209,9 @@ fn request_of(
     let slice = listed.slice;
     let work = Work {
         controls: controls_of(alloc, marks, counts, listed, before)?,
-        bytes: slice.nal.coded()?,
+        bytes: slice.coded()?,
     };
-    let references = References::of(alloc, marks, &slice.header)?;
+    let references = References::of(alloc, marks, slice.header())?;
     Ok(Request {
         work: Shared::new(alloc, work)?,
         timestamp: id.timestamp(),

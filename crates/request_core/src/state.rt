@@ -3,13 +3,13 @@
 ghost use Rattle.std.specs.Prelude.{◌≡◌, ◌↔◌, IfOk, IsTrue};
 ghost use Rattle.request_core.specs.States.{no_units};
 
-use crate::tables::Tables;
 use base_types::Shared;
 use order_count::Anchor;
 use pictures::Marks;
 use set_types::Sps;
 use std::alloc::{AllocError, Global};
 use std::marker::Model;
+use unit_slices::Tables;
 
 /// What the fold keeps of the units before: the parameter sets, shared, and little else.
 #[derive(Debug, Drop)]

@@ -1,32 +1,30 @@
 //! One step of the fold over a stream.
 
 ghost use Rattle.std.specs.Prelude.{◌≡◌, ◌<◌, ◌∷◌, ◌++◌, ◌+◌, ◌^◌, List, Result, Ok, Some, None, IsTrue, IfOk, OnOk, OnErr, if◌then◌else◌};
-ghost use Rattle.outcomes.specs.declared.validity_fault.ValidityFault.{ValidityFault};
+ghost use Rattle.validity_faults.specs.declared.validity_fault.ValidityFault.{ValidityFault};
 ghost use Rattle.outcomes.specs.declared.outcome.Plan.{Plan as PlanValue};
 ghost use Rattle.request_core.specs.States.{FoldState};
-ghost use Rattle.request_core.specs.ParameterSets.{put_all};
 ghost use Rattle.order_count.specs.Counting.{counts_of};
 ghost use Rattle.header_types.specs.Pictures.{is_idr};
 ghost use Rattle.pictures.specs.PicOrderCnt.{are_in_range};
 ghost use Rattle.pictures.specs.Resetting.{counts_after_reset};
-ghost use Rattle.request_core.specs.Faults.{first_shown, slice_rows, picture_rows};
+ghost use Rattle.unit_slices.specs.Faults.{first_shown};
+ghost use Rattle.request_core.specs.Faults.{picture_rows};
 ghost use Rattle.request_core.specs.Fold.{passes, picture_after, picture_of, planned, with_sets, outcome_of, fold_step, state_after, plan_of, next_ref_frame_num};
-ghost use Rattle.request_core.specs.Answers.{AnswersAs};
+ghost use Rattle.unit_slices.specs.Answers.{AnswersAs};
 
-use crate::checks::{picture_fault, slice_fault};
+use crate::checks::picture_fault;
 use crate::planning::{Listed, count_picture, list_picture, mark_picture, requests_of};
-use crate::slices::{Slice, read_slices};
 use crate::state::State;
 use crate::steps::Steps;
-use crate::stop::Stop;
-use crate::tables::Tables;
-use access_unit::{ParameterSet, Unit};
+use access_unit::Unit;
 use base_types::Shared;
 use order_count::anchor_after;
 use outcomes::{Outcome, Plan, ValidityFault};
 use pictures::{AuId, Counts, Marks, after_reset, resets};
 use set_types::Sps;
 use std::alloc::{AllocError, Global};
+use unit_slices::{Slice, Stop, read_slices, slice_fault, tables_with};
 
 /// One step of the fold: the state after the unit, and what becomes of the unit.
 ///
@@ -78,34 +76,6 @@ fn with_sets(alloc: Global, state: &State, unit: &Unit) -> Result<State, AllocEr
         prev_ref_frame_num: state.prev_ref_frame_num,
         marks: state.marks.copy(),
     })
-}
-
-/// The tables with these sets; where there are none, the same tables shared.
-fn tables_with(
-    alloc: Global,
-    tables: &Shared<Tables>,
-    sets: &[ParameterSet],
-) -> Result<Shared<Tables>, AllocError>
-    ensures { IfOk result (λ after. after ≡ put_all tables.now sets.now) }
-{
-    if sets.is_empty() {
-        return tables.clone();
-    }
-    let mut after = tables.copy(alloc)?;
-    for set in sets {
-        after.put(alloc, set)?;
-    }
-    Ok(Shared::new(alloc, paired(alloc, after, sets)?)?)
-}
-
-/// The tables, in which the picture parameter sets among these sets are paired to what they name.
-fn paired(alloc: Global, mut tables: Tables, sets: &[ParameterSet]) -> Result<Tables, AllocError>
-    ensures { IfOk result (λ after. after ≡ tables) }
-{
-    for set in sets {
-        tables.pair(alloc, set)?;
-    }
-    Ok(tables)
 }
 
 /// What the unit leads to in a state in which its sets are put.
@@ -168,8 +138,8 @@ fn make_plan(
     Ok(Plan {
         requests: requests_of(alloc, &state.marks, counts, id, slices)?,
         counts,
-        order: after_reset(&first.header, counts).pic_order_cnt(),
-        begins_period: first.header.is_idr() || resets(&first.header),
+        order: after_reset(first.header(), counts).pic_order_cnt(),
+        begins_period: first.header().is_idr() || resets(first.header()),
     })
 }
 
@@ -178,7 +148,7 @@ fn follow(state: &State, first: &Slice) -> Result<(), Stop>
     ensures { AnswersAs (λ passed. record {}) result
         (passes (first_shown (picture_rows state.now first.now.sps first.now.header))) }
 {
-    pass(picture_fault(state, first.sps(), &first.header))
+    pass(picture_fault(state, first.sps(), first.header()))
 }
 
 /// Ends the planning at a fault.
@@ -204,7 +174,7 @@ fn state_after(
     Ok(State {
         tables: state.tables.clone()?,
         active: next_active(state, slice)?,
-        anchor: anchor_after(&state.anchor, slice.sps(), &slice.header, counts),
+        anchor: anchor_after(&state.anchor, slice.sps(), slice.header(), counts),
         prev_ref_frame_num: next_ref_frame_num(state, slice),
         marks,
     })
@@ -215,7 +185,7 @@ fn next_active(state: &State, slice: &Slice) -> Result<Option<Shared<Sps>>, Allo
     ensures { IfOk result (λ active. active
         ≡ (if is_idr slice.now.header then Some slice.now.sps else state.now.active)) }
 {
-    if slice.header.is_idr() {
+    if slice.header().is_idr() {
         Ok(Some(slice.sps().clone()?))
     } else {
         state.active()
@@ -226,11 +196,11 @@ fn next_active(state: &State, slice: &Slice) -> Result<Option<Shared<Sps>>, Allo
 fn next_ref_frame_num(state: &State, slice: &Slice) -> u16
     ensures { result ≡ next_ref_frame_num state.now slice.now }
 {
-    if !slice.header.is_reference() {
+    if !slice.header().is_reference() {
         state.prev_ref_frame_num
-    } else if resets(&slice.header) {
+    } else if resets(slice.header()) {
         0
     } else {
-        slice.header.frame_num
+        slice.header().frame_num
     }
 }

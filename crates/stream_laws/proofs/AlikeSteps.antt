@@ -5,14 +5,15 @@ use Rattle.pictures.specs.declared.counts.Counts.{Counts}
 use Rattle.pictures.specs.MarkedFrames.{Marked}
 use Rattle.order_count.specs.Counting.{counts_of}
 use Rattle.ref_marking.specs.MarksAfter.{marks_after}
-use Rattle.outcomes.specs.declared.validity_fault.ValidityFault.{ValidityFault}
+use Rattle.validity_faults.specs.declared.validity_fault.ValidityFault.{ValidityFault}
 use Rattle.outcomes.specs.declared.outcome.Plan.{Plan}
 use Rattle.outcomes.specs.declared.outcome.Outcome.{Outcome}
 use Rattle.outcomes.specs.declared.outcome.Outcome.TheVariants as outcomes
 use Rattle.request_core.specs.States.{FoldState}
-use Rattle.request_core.specs.Numbers.{gathered}
-use Rattle.request_core.specs.Slices.{SliceRead, slice_at}
-use Rattle.request_core.specs.Faults.{first_shown, slice_rows, picture_rows}
+use Rattle.unit_slices.specs.Numbers.{gathered}
+use Rattle.unit_slices.specs.Slices.{SliceRead, slice_at}
+use Rattle.unit_slices.specs.Faults.{first_shown, slice_rows}
+use Rattle.request_core.specs.Faults.{picture_rows}
 use Rattle.request_core.specs.Requests.{ListedSlice, requests_of}
 use Rattle.request_core.specs.Fold.{passes, counted, listed, marked, state_after, plan_of, picture_after, picture_of, with_sets, planned, outcome_of, fold_step}
 use Rattle.picture_keys.specs.Keys.{Key}

@@ -1,8 +1,8 @@
 -- What several slices give, where all give something.
 use Rattle.std.proofs.Common.{◌≡◌, List, [], ◌∷◌, map, All, Result, Ok, Err, refl, sym, subst}
 use Rattle.std.proofs.lemmas.List.Elements.{All-nil, All-cons, All-head, All-tail}
-use Rattle.outcomes.specs.declared.validity_fault.ValidityFault.{ValidityFault}
-use Rattle.request_core.specs.Numbers.{joined, gathered}
+use Rattle.validity_faults.specs.declared.validity_fault.ValidityFault.{ValidityFault}
+use Rattle.unit_slices.specs.Numbers.{joined, gathered}
 
 -- the first gives something, and so do the others
 joined_ok : {A : Type 0} (answer : Result A ValidityFault) (answers : Result (List A) ValidityFault) (given : List A) → joined answer answers ≡ Ok given

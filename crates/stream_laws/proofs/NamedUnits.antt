@@ -15,7 +15,7 @@ use Rattle.h264_controls.specs.References.{references}
 use Rattle.ref_lists.specs.InitialLists.{Entries}
 use Rattle.ref_lists.specs.ReferenceLists.{has_list_0, has_list_1, active_l0, active_l1, IsMarked, lists_of}
 use Rattle.ref_lists.proofs.ListLaws.{length-lists_of, marked-lists_of}
-use Rattle.request_core.specs.Slices.{SliceRead}
+use Rattle.unit_slices.specs.Slices.{SliceRead}
 use Rattle.request_core.specs.Requests.{ListedSlice}
 use Rattle.request_core.specs.Fold.{with_lists, listed}
 use Rattle.ref_lists.specs.declared.fault.ListFault.{ListFault}

@@ -10,14 +10,15 @@ use Rattle.ref_marking.specs.declared.fault.MarkFault.{MarkFault}
 use Rattle.ref_marking.specs.declared.fault.MarkFault.TheVariants.{BadMarking, NoShortTerm, TooManyReferences}
 use Rattle.ref_marking.specs.MarksAfter.{marks_after}
 use Rattle.stand_in_device.specs.Inputs.{are_of_one_picture}
-use Rattle.outcomes.specs.declared.validity_fault.ValidityFault.{ValidityFault}
+use Rattle.validity_faults.specs.declared.validity_fault.ValidityFault.{ValidityFault}
 use Rattle.outcomes.specs.declared.outcome.Plan.{Plan}
 use Rattle.outcomes.specs.declared.outcome.Outcome.{Outcome}
 use Rattle.outcomes.specs.declared.outcome.Outcome.TheVariants as outcomes
 use Rattle.request_core.specs.States.{FoldState}
-use Rattle.request_core.specs.Numbers.{gathered}
-use Rattle.request_core.specs.Slices.{SliceRead, slice_at}
-use Rattle.request_core.specs.Faults.{first_shown, slice_rows, picture_rows}
+use Rattle.unit_slices.specs.Numbers.{gathered}
+use Rattle.unit_slices.specs.Slices.{SliceRead, slice_at}
+use Rattle.unit_slices.specs.Faults.{first_shown, slice_rows}
+use Rattle.request_core.specs.Faults.{picture_rows}
 use Rattle.request_core.specs.Requests.{ListedSlice, request_of, requests_of}
 use Rattle.request_core.specs.Fold.{passes, counted, listed, marked, state_after, plan_of, picture_after, picture_of, with_sets, planned, outcome_of, fold_step}
 use Rattle.picture_keys.specs.Known.{Known, key_of, key_of_outcome, known_with}

@@ -9,8 +9,8 @@ use Rattle.slice_front.specs.declared.front.HeaderFront.{HeaderFront}
 use Rattle.slice_front.specs.Fronts.{front_at}
 use Rattle.slice_header.specs.SliceHeaders.{header_at}
 use Rattle.ref_lists.specs.ReferenceLists.{has_list_0}
-use Rattle.request_core.specs.ParameterSets.{ParameterSets, sps_under, pps_under}
-use Rattle.request_core.specs.Slices.{SliceRead, with_header, with_sps, with_pps, with_front, slice_at}
+use Rattle.unit_slices.specs.ParameterSets.{ParameterSets, sps_under, pps_under}
+use Rattle.unit_slices.specs.Slices.{SliceRead, with_header, with_sps, with_pps, with_front, slice_at}
 use Rattle.stream_laws.proofs.IntraSlices.{IsAllowed, idr_without_lists}
 
 -- the header stands in the NAL unit

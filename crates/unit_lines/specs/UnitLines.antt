@@ -1,11 +1,11 @@
 -- The lines of a unit (docs/OUTPUT.md).
 use Rattle.std.specs.Prelude.{ℕ, ◌++◌, List, Option, codes, decimal}
 use Rattle.std.specs.Option.{unwrap_or}
-use Rattle.outcomes.specs.declared.validity_fault.ValidityFault.{ValidityFault}
+use Rattle.validity_faults.specs.declared.validity_fault.ValidityFault.{ValidityFault}
 use Rattle.outcomes.specs.declared.outcome.Outcome.{Outcome}
 use Rattle.outcomes.specs.declared.outcome.Outcome.TheVariants.{Plan, Fault}
-use Rattle.outcomes.specs.Names.{name_of}
-use Rattle.outcomes.specs.Numbers.{number_of}
+use Rattle.validity_faults.specs.Names.{name_of}
+use Rattle.validity_faults.specs.Numbers.{number_of}
 use Rattle.unit_lines.specs.declared.lines.FaultLine.{FaultLine}
 use Rattle.unit_lines.specs.declared.lines.UnitLines.{UnitLines}
 use Rattle.unit_lines.specs.Lines.{plan_lines}

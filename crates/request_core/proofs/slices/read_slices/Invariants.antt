@@ -1,7 +1,0 @@
-use Rattle.std.proofs.Common.{◌≡◌, take, map}
-use Rattle.request_core.specs.Numbers.{gathered}
-use Rattle.request_core.specs.Slices.{slice_at}
-use Rattle.request_core.proofs.slices.read_slices.Given as goal
-
-abbrev pub invariant-loop-nal : goal.invariant-loop-nal
-invariant-loop-nal l = l.slices ≡ gathered (map (slice_at l.fn.tables) (take l.nal-index l.nals))

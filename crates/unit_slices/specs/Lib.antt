@@ -1,0 +1,6 @@
+pub mod ParameterSets
+pub mod Numbers
+pub mod Slices
+pub mod Faults
+pub mod Answers
+pub mod Gathering

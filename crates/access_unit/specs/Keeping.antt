@@ -13,22 +13,22 @@ use Rattle.access_unit.specs.Sets.{sets_of}
 -- the NAL units, in order
 abbrev pub nals_in : Kept → List (List ℕ)
 nals_in (Lone nals) = nals
-nals_in (Several nals slices sets) = nals.items
+nals_in (Several several) = several.value.nals.items
 
 -- the slices among them
 abbrev pub slices_in : Kept → List (List ℕ)
 slices_in (Lone nals) = nals
-slices_in (Several nals slices sets) = slices_among nals.items slices
+slices_in (Several several) = slices_among several.value.nals.items several.value.slices
 
 -- the parameter sets among them
 abbrev pub sets_in : Kept → List ParameterSet
 sets_in (Lone nals) = []
-sets_in (Several nals slices sets) = sets.items
+sets_in (Several several) = several.value.sets.items
 
 -- how many NAL units stand before the first slice, where that is kept
 abbrev pub first_place : Kept → ℕ
 first_place (Lone nals) = 0
-first_place (Several nals slices sets) = first_of slices
+first_place (Several several) = first_of several.value.slices
 
 -- what is kept is the access unit of these NAL units
 pub record IsKeptOf (units : List (List ℕ)) (kept : Kept) : Type 0 where

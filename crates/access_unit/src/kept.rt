@@ -14,12 +14,16 @@ use std::alloc::{AllocError, Global};
 pub(crate) enum Kept {
     /// One NAL unit, which is a slice: most take no memory beside their bytes.
     Lone([SharedNal; 1]),
-    /// Any other NAL units.
-    Several {
-        nals: Vec<SharedNal>,
-        slices: Slices,
-        sets: Vec<ParameterSet>,
-    },
+    /// Any other NAL units, apart, so that a unit of one slice takes no room for them.
+    Several(Box<Several>),
+}
+
+/// NAL units that aren't one slice.
+#[derive(Debug, Drop)]
+pub(crate) struct Several {
+    nals: Vec<SharedNal>,
+    slices: Slices,
+    sets: Vec<ParameterSet>,
 }
 
 impl Kept {
@@ -29,7 +33,7 @@ impl Kept {
     {
         match self {
             Kept::Lone(nals) => nals.as_slice(),
-            Kept::Several { nals, .. } => nals.as_slice(),
+            Kept::Several(several) => several.nals.as_slice(),
         }
     }
 
@@ -40,7 +44,7 @@ impl Kept {
     {
         match self {
             Kept::Lone(nals) => nals.as_slice(),
-            Kept::Several { nals, slices, .. } => slices.among(nals),
+            Kept::Several(several) => several.slices.among(&several.nals),
         }
     }
 
@@ -50,7 +54,7 @@ impl Kept {
     {
         match self {
             Kept::Lone(_) => &[],
-            Kept::Several { sets, .. } => sets.as_slice(),
+            Kept::Several(several) => several.sets.as_slice(),
         }
     }
 }
@@ -65,7 +69,8 @@ pub(crate) fn keep(alloc: Global, parts: Parts) -> Result<Kept, AllocError>
         return Ok(lone(nals));
     }
     let slices = placed(alloc, &nals, slices)?;
-    Ok(Kept::Several { nals, slices, sets })
+    let several = Several { nals, slices, sets };
+    Ok(Kept::Several(Box::new(alloc, several)?))
 }
 
 /// The only one of these NAL units.

@@ -8,7 +8,7 @@ ghost use Rattle.pictures.specs.Resetting.{counts_after_reset};
 ghost use Rattle.ref_marking.specs.MarksAfter.{marks_after};
 ghost use Rattle.unit_slices.specs.Numbers.{gathered};
 ghost use Rattle.request_core.specs.Requests.{controls_of, request_of, requests_of};
-ghost use Rattle.request_core.specs.Fold.{counted, listed, marked};
+ghost use Rattle.request_core.specs.Fold.{counted, list_fault, listed, marked};
 ghost use Rattle.unit_slices.specs.Answers.{Answers, AnswersAs};
 
 use crate::state::State;
@@ -89,9 +89,18 @@ fn list_slice<'a>(marks: &Marks, counts: Counts, slice: &'a Slice) -> Result<Lis
             list_0,
             list_1,
         }),
-        Err(ListFault::OrderTie) => Err(Stop::Fault(ValidityFault::OrderTie)),
-        Err(ListFault::NoReference) => Err(Stop::Fault(ValidityFault::NoReference)),
-        Err(ListFault::BadModification) => Err(Stop::Fault(ValidityFault::BadModification)),
+        Err(fault) => Err(Stop::Fault(list_fault(fault))),
+    }
+}
+
+/// The fault of having no lists.
+fn list_fault(fault: ListFault) -> ValidityFault
+    ensures { result ≡ list_fault fault }
+{
+    match fault {
+        ListFault::OrderTie => ValidityFault::OrderTie,
+        ListFault::NoReference => ValidityFault::NoReference,
+        ListFault::BadModification => ValidityFault::BadModification,
     }
 }
 

@@ -29,7 +29,6 @@ use unit_slices::{Slice, Stop, read_slices, slice_fault, tables_with};
 /// One step of the fold: the state after the unit, and what becomes of the unit.
 ///
 /// It counts one step where it answers. Where memory runs out nothing is changed, and nothing counted.
-#[tactic(auto, unfolding(crate::specs::Fold::fold_step))]
 pub fn step(
     alloc: Global,
     state: &State,
@@ -42,11 +41,24 @@ pub fn step(
     ensures counted { OnOk result (steps.new ≡ steps.old + 1) }
     ensures kept { OnErr result (steps.new ≡ steps.old) }
 {
-    let state = with_sets(alloc, state, unit)?;
-    let planned = plan(alloc, &state, id, unit);
-    let answer = answer(state, planned)?;
+    let answer = answer_of(alloc, state, id, unit)?;
     steps.raise();
     Ok(answer)
+}
+
+/// The state after the unit, and what becomes of the unit.
+#[tactic(auto, unfolding(crate::specs::Fold::fold_step))]
+fn answer_of(
+    alloc: Global,
+    state: &State,
+    id: AuId,
+    unit: &Unit,
+) -> Result<(State, Outcome), AllocError>
+    ensures { IfOk result (λ answer. answer ≡ fold_step state.now id unit.now) }
+{
+    let state = with_sets(alloc, state, unit)?;
+    let planned = plan(alloc, &state, id, unit);
+    answer(state, planned)
 }
 
 /// What becomes of the unit, by what the state leads to in which its sets are put.

@@ -71,7 +71,7 @@ impl Slice {
 
 /// The slices of these NAL units, each read against the tables, or the fault of the lowest number that any shows.
 ///
-/// Slices that name the same sets share these and the controls that they decide.
+/// A slice shares its sets and their controls with the tables, or with the slice before it, where those have the same.
 pub fn read_slices(alloc: Global, tables: &Tables, nals: &[SharedNal]) -> Result<Vec<Slice>, Stop>
     ensures { AnswersAs (λ slices. slices.items) result
         (gathered (map (slice_at tables.now) nals.now)) }

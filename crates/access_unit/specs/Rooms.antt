@@ -10,7 +10,7 @@ use Rattle.access_unit.specs.declared.room.ReadFault.TheVariants.{Memory, Refuse
 use Rattle.access_unit.specs.declared.room.Refusal.{Refusal}
 use Rattle.access_unit.specs.declared.room.Refusal.TheVariants.{Split, Unit, StreamFull}
 
--- how many access units a stream has at most that is planned
+-- how many access units a stream has at most
 abbrev pub most_units : ℕ
 most_units = 65536
 

@@ -10,7 +10,7 @@ use std::alloc::Global;
 use std::thread::Threads;
 use thiserror::Error;
 
-/// The most access units of a stream that is planned.
+/// The most access units of a stream.
 pub const MOST_UNITS: usize = 65_536;
 
 /// Why a stream isn't taken.

@@ -5,7 +5,7 @@ use Rattle.outcomes.specs.declared.outcome.Outcome.{Outcome}
 use Rattle.request_core.specs.States.{FoldState, no_units}
 use Rattle.request_core.specs.Fold.{fold_step, outcomes_from}
 use Rattle.edit_engine.specs.declared.folding.Fold.{Fold}
-use Rattle.edit_engine.specs.Streams.{Stream, ids_of}
+use Rattle.stream_edits.specs.Streams.{Stream, ids_of}
 use Rattle.edit_engine.specs.Folding.{state_after, FoldsOn, IsFoldOf}
 
 -- the state after units and others after them

@@ -1,8 +1,6 @@
 pub mod FoldsOnward
-pub mod Edited
 pub mod Looked
 pub mod Ran
-pub mod GivenIds
 pub mod Accepted
 pub mod Pictured
 pub mod Stored

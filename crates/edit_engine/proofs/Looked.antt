@@ -7,7 +7,8 @@ use Rattle.outcomes.specs.declared.outcome.Outcome.{Outcome}
 use Rattle.request_core.specs.States.{no_units}
 use Rattle.request_core.specs.Fold.{outcomes_of}
 use Rattle.output_order.specs.OutputOrder.{positions_of, position_at}
-use Rattle.edit_engine.specs.Streams.{Stream, place_of, outcome_in, position_in}
+use Rattle.stream_edits.specs.Streams.{Stream, place_of}
+use Rattle.edit_engine.specs.Streams.{outcome_in, position_in}
 use Rattle.edit_engine.proofs.FoldsOnward.{length-outcomes_from}
 
 -- each unit has an outcome

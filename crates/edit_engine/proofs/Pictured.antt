@@ -18,9 +18,9 @@ use Rattle.picture_store.specs.declared.answers.Returning.TheVariants as returni
 use Rattle.picture_store.specs.Stores.{StoreValue}
 use Rattle.picture_store.specs.Changes.{Refits}
 use Rattle.picture_store.specs.Jobs as pictures
-use Rattle.edit_engine.specs.declared.edits.Edit.{Edit}
-use Rattle.edit_engine.specs.Streams.{Stream, ids_of}
-use Rattle.edit_engine.specs.Edits.{Register}
+use Rattle.stream_edits.specs.declared.edits.Edit.{Edit}
+use Rattle.stream_edits.specs.Streams.{Stream, ids_of}
+use Rattle.stream_edits.specs.Edits.{Register}
 use Rattle.edit_engine.specs.Machines.{store_of, RefitsTo}
 use Rattle.edit_engine.specs.Kept.{IsKept, machine_of}
 use Rattle.edit_engine.specs.Jobs.{AnswersTake, AnswersLand, AnswersGiveBack}

@@ -13,10 +13,10 @@ use Rattle.picture_keys.specs.Keys.{Key}
 use Rattle.picture_keys.specs.Known.{keys_of}
 use Rattle.picture_store.specs.Stores.{StoreValue, unit_keys}
 use Rattle.picture_store.specs.Showing.{IsNumberAt, IsPictureAt}
-use Rattle.edit_engine.specs.declared.edits.Edit.{Edit}
+use Rattle.stream_edits.specs.declared.edits.Edit.{Edit}
 use Rattle.edit_engine.specs.declared.showing.Shown.TheVariants as shown
-use Rattle.edit_engine.specs.Streams.{Stream, place_of}
-use Rattle.edit_engine.specs.Edits.{Register}
+use Rattle.stream_edits.specs.Streams.{Stream, place_of}
+use Rattle.stream_edits.specs.Edits.{Register}
 use Rattle.edit_engine.specs.Kept.{machine_of}
 use Rattle.edit_engine.specs.Showing.{keys_in, HasKey, HasNumber, Shows}
 use Rattle.edit_engine.proofs.Looked.{length-outcomes_of}

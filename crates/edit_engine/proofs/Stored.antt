@@ -5,14 +5,14 @@ use Rattle.std.proofs.lemmas.List.{length-map}
 use Rattle.picture_keys.specs.Decodable.{AllCanDecode}
 use Rattle.picture_store.specs.Stores.{StoreValue}
 use Rattle.picture_store.specs.Changes.{Refits}
-use Rattle.edit_engine.specs.declared.edits.Edit.{Edit}
+use Rattle.stream_edits.specs.declared.edits.Edit.{Edit}
 use Rattle.edit_engine.specs.declared.preparing.Prepared.{Prepared}
-use Rattle.edit_engine.specs.Edits.{Register, no_units}
-use Rattle.edit_engine.specs.Changes.{id_of, after, stream_after}
+use Rattle.stream_edits.specs.Edits.{Register, no_units}
+use Rattle.stream_edits.specs.Changes.{id_of, after, stream_after}
 use Rattle.edit_engine.specs.Kept.{IsKept, IsPrepared, machine_of}
 use Rattle.edit_engine.specs.Machines.{Edits}
 use Rattle.edit_engine.proofs.Accepted.{decodable-after}
-use Rattle.edit_engine.proofs.Edited.{Replays-push, length-after}
+use Rattle.stream_edits.proofs.Edited.{Replays-push, length-made}
 use Rattle.edit_engine.proofs.Looked.{length-outcomes_of}
 use Rattle.edit_engine.proofs.Pictured.{IsOf-kept, RefitsTo-stored}
 
@@ -39,7 +39,7 @@ module _ (journal : List Edit) (old : Register) (store : StoreValue) (positions 
     identified = refits.ids_are ∙ is.identified;
     folded = refits.outcomes_are ∙ is.folded;
     placed = is.placed;
-    bounded = length-after prepared.change old.stream is.comes_to.inside kept.bounded;
+    bounded = length-made old edit (id_of prepared.change) (after prepared.change old) is.comes_to.makes kept.bounded;
     replayed = Replays-push no_units journal old edit (id_of prepared.change) (after prepared.change old) kept.replayed is.comes_to.makes;
   }
 

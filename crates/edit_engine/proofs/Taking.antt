@@ -12,9 +12,9 @@ use Rattle.picture_store.specs.declared.answers.Returning.{Returning}
 use Rattle.picture_store.specs.declared.answers.Returning.TheVariants as returnings
 use Rattle.picture_store.specs.Stores.{OutValue, StoreValue}
 use Rattle.picture_store.specs.Jobs as pictures
-use Rattle.edit_engine.specs.declared.edits.Edit.{Edit}
-use Rattle.edit_engine.specs.declared.receipts.Receipt.{Receipt}
-use Rattle.edit_engine.specs.Edits.{Register}
+use Rattle.stream_edits.specs.declared.edits.Edit.{Edit}
+use Rattle.stream_edits.specs.declared.receipts.Receipt.{Receipt}
+use Rattle.stream_edits.specs.Edits.{Register}
 use Rattle.edit_engine.specs.Kept.{machine_of}
 use Rattle.edit_engine.specs.Machines.{Machine, store_of, Edits}
 use Rattle.edit_engine.specs.Jobs.{AnswersTake, AnswersLand, AnswersGiveBack, KeepsStream}

@@ -13,9 +13,9 @@ use Rattle.picture_keys.specs.Keys.{Key}
 use Rattle.picture_keys.specs.Known.{Known, key_of, key_of_outcome, known_with, known_after, keys_after, keys_of}
 use Rattle.picture_store.specs.Stores.{OutValue, StoreValue, units_of}
 use Rattle.picture_store.specs.Jobs.{IsDue, Takes}
-use Rattle.edit_engine.specs.declared.edits.Edit.{Edit}
-use Rattle.edit_engine.specs.Streams.{Stream, ids_of}
-use Rattle.edit_engine.specs.Edits.{Register}
+use Rattle.stream_edits.specs.declared.edits.Edit.{Edit}
+use Rattle.stream_edits.specs.Streams.{Stream, ids_of}
+use Rattle.stream_edits.specs.Edits.{Register}
 use Rattle.edit_engine.specs.Machines.{Machine}
 use Rattle.edit_engine.specs.Kept.{machine_of}
 use Rattle.edit_engine.specs.Showing.{keys_in}

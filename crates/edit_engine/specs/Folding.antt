@@ -3,7 +3,7 @@ use Rattle.std.specs.Prelude.{◌≡◌, ◌+◌, [], ◌∷◌, ◌++◌, lengt
 use Rattle.request_core.specs.States.{FoldState}
 use Rattle.request_core.specs.Fold.{fold_step, outcomes_from, outcomes_of}
 use Rattle.edit_engine.specs.declared.folding.Fold.{Fold}
-use Rattle.edit_engine.specs.Streams.{Stream, ids_of}
+use Rattle.stream_edits.specs.Streams.{Stream, ids_of}
 
 -- the state after units
 abbrev pub state_after : FoldState → Stream → FoldState

@@ -7,7 +7,7 @@ use Rattle.picture_store.specs.declared.answers.Returning.{Returning}
 use Rattle.picture_keys.specs.Keys.{Key}
 use Rattle.picture_store.specs.Stores.{OutValue}
 use Rattle.picture_store.specs.Jobs as pictures
-use Rattle.edit_engine.specs.Streams.{Stream, ids_of}
+use Rattle.stream_edits.specs.Streams.{Stream, ids_of}
 use Rattle.edit_engine.specs.Machines.{Machine, store_of}
 use Rattle.edit_engine.specs.Showing.{keys_in}
 

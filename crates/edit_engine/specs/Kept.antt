@@ -2,12 +2,13 @@
 use Rattle.std.specs.Prelude.{◌≡◌, ℕ, ◌≤◌, List, length, Option}
 use Rattle.request_core.specs.Fold.{outcomes_of}
 use Rattle.output_order.specs.OutputOrder.{positions_of}
-use Rattle.edit_engine.specs.declared.edits.Edit.{Edit}
+use Rattle.stream_edits.specs.declared.edits.Edit.{Edit}
 use Rattle.edit_engine.specs.declared.preparing.Prepared.{Prepared}
-use Rattle.edit_engine.specs.Changes.{IsFor, stream_after}
+use Rattle.stream_edits.specs.Changes.{IsFor, stream_after}
 use Rattle.picture_store.specs.Stores.{StoreValue}
-use Rattle.edit_engine.specs.Edits.{Register, no_units, most_units, Replays}
-use Rattle.edit_engine.specs.Streams.{ids_of}
+use Rattle.access_unit.specs.Rooms.{most_units}
+use Rattle.stream_edits.specs.Edits.{Register, no_units, Replays}
+use Rattle.stream_edits.specs.Streams.{ids_of}
 use Rattle.edit_engine.specs.Machines.{Machine}
 
 -- what contracts see of a session, of which this is stored

@@ -1,14 +1,9 @@
 pub mod Streams
-pub mod Edits
-pub mod Refusals
 pub mod Machines
 pub mod Showing
 pub mod Jobs
 pub mod Taken
-pub mod Names
 pub mod Numbers
-pub mod Changes
 pub mod Folding
 pub mod Kept
 pub mod Runs
-pub mod Ids

@@ -1,16 +1,15 @@
 -- A session as contracts see it, and its edits.
-use Rattle.std.specs.Prelude.{◌≡◌, ℕ, ◌-◌, List, [], ◌∷◌, ◌++◌, length, option_map, slice_get, Option, Result, Ok, Err}
+use Rattle.std.specs.Prelude.{◌≡◌, ℕ, List, [], ◌∷◌, ◌++◌, length, Option, Result, Ok, Err}
 use Rattle.request_core.specs.Fold.{outcomes_of}
 use Rattle.picture_keys.specs.Keys.{Key}
 use Rattle.picture_store.specs.Stores.{OutValue, StoreValue}
 use Rattle.picture_store.specs.Changes.{Refits}
-use Rattle.edit_engine.specs.declared.edits.Edit.{Edit}
-use Rattle.edit_engine.specs.declared.receipts.Receipt.{Receipt}
-use Rattle.edit_engine.specs.declared.receipts.Last.{Last}
-use Rattle.edit_engine.specs.declared.refusals.EditRefused.{EditRefused}
-use Rattle.edit_engine.specs.Streams.{Stream, ids_of}
-use Rattle.edit_engine.specs.Edits.{Register, no_units, Makes}
-use Rattle.edit_engine.specs.Refusals.{IsRefused}
+use Rattle.stream_edits.specs.declared.edits.Edit.{Edit}
+use Rattle.stream_edits.specs.declared.receipts.Receipt.{Receipt}
+use Rattle.stream_edits.specs.declared.refusals.EditRefused.{EditRefused}
+use Rattle.stream_edits.specs.Streams.{Stream, ids_of}
+use Rattle.stream_edits.specs.Edits.{Register, no_units, Makes}
+use Rattle.stream_edits.specs.Refusals.{IsRefused}
 
 -- the room of the cache; the accepted edits in order, and what they leave; the number of each unit's key, nothing for a
 -- unit with a fault; the keys whose pictures are held, and those whose pictures are cached, the one put last first; the
@@ -59,8 +58,3 @@ pub record Edits (old : Machine) (edit : Edit) (receipt : Receipt) (new : Machin
 abbrev pub AnswersEdit : Machine → Edit → Result Receipt EditRefused → Machine → Type 0
 AnswersEdit old edit (Ok receipt) new = Edits old edit receipt new
 AnswersEdit old edit (Err refused) new = IsRefused old.register edit refused × (new ≡ old)
-
--- the end of a stream
-abbrev pub last_of : Stream → Last
-last_of stream =
-    record { units = length stream; id = option_map (λ unit. unit.0) (slice_get stream (length stream - 1)) }

@@ -1,27 +1,9 @@
--- The numbers of refusals.
+-- The numbers of faults.
 use Rattle.std.specs.Prelude.{ℕ}
-use Rattle.access_unit.specs.declared.refused.Refused.{Refused}
-use Rattle.access_unit.specs.declared.refused.Refused.TheVariants as texts
-use Rattle.access_unit.specs.Numbers.{number_of as number_of_text}
 use Rattle.edit_engine.specs.declared.config.ConfigFault.{ConfigFault}
-use Rattle.edit_engine.specs.declared.config.ConfigFault.TheVariants as faults
-use Rattle.edit_engine.specs.declared.refusals.EditRefused.{EditRefused}
-use Rattle.edit_engine.specs.declared.refusals.EditRefused.TheVariants as refusals
+use Rattle.edit_engine.specs.declared.config.ConfigFault.TheVariants.{Cache, Memory}
 
 -- the number of a fault of a configuration
 abbrev pub number_of_config : ConfigFault → ℕ
-number_of_config faults.Cache = 1
-number_of_config faults.Memory = 2
-
--- the number of an edit's refusal
-abbrev pub number_of : EditRefused → ℕ
-number_of (refusals.Unit refused) = number_of_text refused
-number_of refusals.NoSuchUnit = 16
-number_of refusals.StreamFull = 17
-number_of refusals.IdsSpent = 18
-number_of refusals.Memory = 15
-
--- the refusal of an edit whose text is refused so
-abbrev pub refusal_of_text : Refused → EditRefused
-refusal_of_text texts.Memory = refusals.Memory
-refusal_of_text refused = refusals.Unit refused
+number_of_config Cache = 1
+number_of_config Memory = 2

@@ -7,8 +7,8 @@ use Rattle.picture_store.specs.declared.answers.Landing.{Landing}
 use Rattle.picture_store.specs.declared.answers.Returning.{Returning}
 use Rattle.edit_engine.specs.declared.commands.Command.{Command}
 use Rattle.edit_engine.specs.declared.commands.Command.TheVariants as commands
-use Rattle.edit_engine.specs.declared.receipts.Receipt.{Receipt}
-use Rattle.edit_engine.specs.declared.refusals.EditRefused.{EditRefused}
+use Rattle.stream_edits.specs.declared.receipts.Receipt.{Receipt}
+use Rattle.stream_edits.specs.declared.refusals.EditRefused.{EditRefused}
 use Rattle.edit_engine.specs.declared.refusals.NoSuchUnit.{NoSuchUnit}
 use Rattle.edit_engine.specs.declared.refusals.NotOut.{NotOut}
 use Rattle.edit_engine.specs.declared.showing.Shown.{Shown}
@@ -16,7 +16,8 @@ use Rattle.edit_engine.specs.declared.replies.Reply.{Reply}
 use Rattle.edit_engine.specs.declared.replies.Reply.TheVariants as replies
 use Rattle.edit_engine.specs.declared.replies.TakenJob.{TakenJob}
 use Rattle.edit_engine.specs.declared.replies.UnitReport.{UnitReport}
-use Rattle.edit_engine.specs.Streams.{Stream, place_of, outcome_in, position_in}
+use Rattle.stream_edits.specs.Streams.{Stream, place_of}
+use Rattle.edit_engine.specs.Streams.{outcome_in, position_in}
 use Rattle.edit_engine.specs.Machines.{Machine, empty, AnswersEdit}
 use Rattle.edit_engine.specs.Jobs.{AnswersTake, AnswersLand, AnswersGiveBack, IsUnitOf}
 use Rattle.edit_engine.specs.Showing.{Shows}

@@ -8,7 +8,8 @@ use Rattle.picture_keys.specs.Known.{keys_of}
 use Rattle.picture_keys.specs.KeyPictures.{picture_of_key}
 use Rattle.edit_engine.specs.declared.showing.Shown.{Shown}
 use Rattle.edit_engine.specs.declared.showing.Shown.TheVariants as shown
-use Rattle.edit_engine.specs.Streams.{Stream, ids_of, place_of, outcome_in}
+use Rattle.stream_edits.specs.Streams.{Stream, ids_of, place_of}
+use Rattle.edit_engine.specs.Streams.{outcome_in}
 use Rattle.edit_engine.specs.Machines.{Machine}
 
 -- the key of each unit's picture, nothing for a unit with a fault

@@ -2,9 +2,9 @@
 
 ghost use Rattle.std.specs.Prelude.{◌≡◌, IfOk};
 
-use crate::edits::Edit;
 use pictures::AuId;
 use std::alloc::AllocError;
+use stream_edits::Edit;
 
 /// What a session is told to do.
 #[derive(Debug, Drop)]

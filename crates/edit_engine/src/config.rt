@@ -10,7 +10,7 @@ use thiserror::Error;
 /// What a session is made with.
 #[derive(Clone, Copy, Debug, PartialEq, Eq)]
 pub struct Config {
-    /// How many pictures the cache has room for, 1 to 4,096.
+    /// How many pictures the cache has room for, 1 to `MOST_ROOM`.
     pub cache: u16,
 }
 

@@ -5,6 +5,7 @@ ghost use Rattle.request_core.specs.States.{no_units};
 ghost use Rattle.edit_engine.specs.Folding.{FoldsOn, IsFoldOf};
 
 use access_unit::Unit;
+use base_types::Shared;
 use outcomes::Outcome;
 use pictures::AuId;
 use request_core::{State, Steps, step};
@@ -23,8 +24,8 @@ impl Fold {
     /// The fold over a stream in two parts.
     pub(crate) fn without(
         alloc: Global,
-        before: &[(AuId, Unit)],
-        after: &[(AuId, Unit)],
+        before: &[(AuId, Shared<Unit>)],
+        after: &[(AuId, Shared<Unit>)],
     ) -> Result<Fold, AllocError>
         requires { length before.now + length after.now < 2 ^ 64 }
         ensures { IfOk result (IsFoldOf (before.now ++ after.now)) }
@@ -38,10 +39,10 @@ impl Fold {
     /// The fold over a stream in two parts, with a unit between them.
     pub(crate) fn with(
         alloc: Global,
-        before: &[(AuId, Unit)],
+        before: &[(AuId, Shared<Unit>)],
         id: AuId,
         unit: &Unit,
-        after: &[(AuId, Unit)],
+        after: &[(AuId, Shared<Unit>)],
     ) -> Result<Fold, AllocError>
         requires { length before.now + length after.now + 1 < 2 ^ 64 }
         ensures { IfOk result (IsFoldOf (before.now ++ (id, unit.now) ∷ after.now)) }
@@ -69,7 +70,7 @@ impl Fold {
     }
 
     /// Units more, in order.
-    fn go_over(&mut self, alloc: Global, units: &[(AuId, Unit)]) -> Result<(), AllocError>
+    fn go_over(&mut self, alloc: Global, units: &[(AuId, Shared<Unit>)]) -> Result<(), AllocError>
         requires { self.old.steps + length units.now < 2 ^ 64 }
         ensures { OnOk result (FoldsOn self.old units.now self.new) }
     {

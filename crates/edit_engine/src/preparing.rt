@@ -2,21 +2,20 @@
 
 ghost use Rattle.std.specs.Prelude.{◌≡◌, ◌<◌, ◌≤◌, ◌∷◌, [], ◌++◌, length, vec_len, IfOk, IfErr, OnOk};
 ghost use Rattle.std.specs.Vec.{vec_capacity};
-ghost use Rattle.edit_engine.specs.Edits.{most_units};
-ghost use Rattle.edit_engine.specs.Refusals.{IsRefused};
-ghost use Rattle.edit_engine.specs.Changes.{IsInside, stream_after};
+ghost use Rattle.access_unit.specs.Rooms.{most_units};
+ghost use Rattle.stream_edits.specs.Refusals.{IsRefused};
+ghost use Rattle.stream_edits.specs.Changes.{IsInside, stream_after};
 ghost use Rattle.edit_engine.specs.Folding.{IsFoldOf};
 ghost use Rattle.edit_engine.specs.Kept.{IsPrepared};
 
-use crate::changes::{Change, change_of};
-use crate::edits::Edit;
 use crate::folding::Fold;
-use crate::refusals::EditRefused;
 use access_unit::Unit;
+use base_types::Shared;
 use outcomes::Outcome;
 use output_order::positions;
 use pictures::AuId;
 use std::alloc::{AllocError, Global};
+use stream_edits::{Change, Edit, EditRefused, change_of};
 
 /// A change of a stream, with the ids of the units after it and what becomes of each.
 #[derive(Debug, Drop)]
@@ -31,7 +30,7 @@ pub(crate) struct Prepared {
 /// Prepares the edit of a stream, with so many ids given.
 pub(crate) fn prepare(
     alloc: Global,
-    units: &[(AuId, Unit)],
+    units: &[(AuId, Shared<Unit>)],
     given: u32,
     edit: &Edit,
 ) -> Result<Prepared, EditRefused>
@@ -52,7 +51,11 @@ pub(crate) fn prepare(
 }
 
 /// The fold over the stream with the change, from its first unit.
-fn refold(alloc: Global, units: &[(AuId, Unit)], change: &Change) -> Result<Fold, AllocError>
+fn refold(
+    alloc: Global,
+    units: &[(AuId, Shared<Unit>)],
+    change: &Change,
+) -> Result<Fold, AllocError>
     requires inside { IsInside change.now units.now }
     requires short { length units.now ≤ most_units }
     ensures { IfOk result (IsFoldOf (stream_after change.now units.now)) }
@@ -70,7 +73,7 @@ fn refold(alloc: Global, units: &[(AuId, Unit)], change: &Change) -> Result<Fold
 
 /// Makes room for a unit and an edit more.
 pub(crate) fn make_room(
-    units: &mut Vec<(AuId, Unit)>,
+    units: &mut Vec<(AuId, Shared<Unit>)>,
     journal: &mut Vec<Edit>,
 ) -> Result<(), AllocError>
     ensures units { units.new.items ≡ units.old.items }
@@ -85,7 +88,7 @@ pub(crate) fn make_room(
 
 /// Makes the change, and writes the edit into the journal; there is room for both.
 pub(crate) fn enter(
-    units: &mut Vec<(AuId, Unit)>,
+    units: &mut Vec<(AuId, Shared<Unit>)>,
     journal: &mut Vec<Edit>,
     change: Change,
     edit: Edit,

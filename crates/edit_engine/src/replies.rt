@@ -1,11 +1,11 @@
 //! Replies to commands.
 
-use crate::receipts::Receipt;
-use crate::refusals::{EditRefused, NoSuchUnit, NotOut};
+use crate::refusals::{NoSuchUnit, NotOut};
 use crate::showing::Shown;
 use outcomes::Outcome;
 use picture_store::{Landing, Returning, TakeRefused};
 use pictures::AuId;
+use stream_edits::{EditRefused, Receipt};
 
 /// What a command is answered, by the variant of the command's name.
 #[derive(Debug, Drop)]

@@ -1,6 +1,7 @@
 //! Commands followed on a session.
 
 ghost use Rattle.std.specs.Prelude.{◌≡◌, ◌≤◌, ◌↔◌, IfOk, IsErrOf, OnErr};
+ghost use Rattle.picture_cache.specs.Bounded.{most_room};
 ghost use Rattle.edit_engine.specs.Machines.{empty};
 ghost use Rattle.edit_engine.specs.Runs.{Answers, IsRun, Reports};
 
@@ -48,7 +49,7 @@ impl Runner {
     pub fn new(alloc: Global, config: Config) -> Result<Runner, ConfigFault>
         ensures ok { IfOk result (λ runner. runner ≡ empty config.cache) }
         ensures cache { IsErrOf result ConfigFault.Cache
-            ↔ ((1 ≤ config.cache) × (config.cache ≤ 4096) → ⊥) }
+            ↔ ((1 ≤ config.cache) × (config.cache ≤ most_room) → ⊥) }
     {
         Ok(Runner {
             alloc,
@@ -109,7 +110,7 @@ fn report(
 /// Follows the commands in turn, from an empty stream, and answers each. An edit that wants memory is answered so; any
 /// other want of memory ends the run.
 pub fn run(alloc: Global, config: Config, commands: &[Command]) -> Result<Vec<Reply>, AllocError>
-    requires { (1 ≤ config.cache) × (config.cache ≤ 4096) }
+    requires { (1 ≤ config.cache) × (config.cache ≤ most_room) }
     ensures { IfOk result (λ replies. IsRun config.cache commands.now replies.items) }
 {
     let Ok(mut runner) = Runner::new(alloc, config) else {

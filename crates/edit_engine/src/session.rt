@@ -2,28 +2,29 @@
 
 ghost use Rattle.std.specs.Prelude.{◌≡◌, ◌≤◌, ◌↔◌, Contains, Some, None, IsTrue, IfOk, IsErrOf, MatchResult};
 ghost use Rattle.request_core.specs.Fold.{outcomes_of};
+ghost use Rattle.picture_cache.specs.Bounded.{most_room};
 ghost use Rattle.picture_store.specs.Stores.{AreOneToOne};
-ghost use Rattle.edit_engine.specs.Streams.{ids_of, place_of, outcome_in, position_in};
-ghost use Rattle.edit_engine.specs.Edits.{no_units, Replays};
-ghost use Rattle.edit_engine.specs.Machines.{empty, AnswersEdit, last_of, store_of};
+ghost use Rattle.stream_edits.specs.Streams.{ids_of, last_of, place_of};
+ghost use Rattle.stream_edits.specs.Edits.{no_units, Replays};
+ghost use Rattle.edit_engine.specs.Streams.{outcome_in, position_in};
+ghost use Rattle.edit_engine.specs.Machines.{empty, AnswersEdit, store_of};
 ghost use Rattle.edit_engine.specs.Jobs.{AnswersGiveBack, AnswersLand, AnswersTake, TellsTake};
 ghost use Rattle.edit_engine.specs.Showing.{HasNumber, Shows};
 
 use crate::config::{Config, ConfigFault};
-use crate::edits::Edit;
-use crate::places::place_of;
 use crate::preparing::{enter, make_room, prepare};
-use crate::receipts::{Last, Receipt};
-use crate::refusals::{EditRefused, NoSuchUnit};
+use crate::refusals::NoSuchUnit;
 use crate::showing::Shown;
 use access_unit::Unit;
+use base_types::Shared;
 use dep_keys::KeyId;
 use outcomes::Outcome;
-use picture_store::{JobAt, Landing, PictureStore, Returning, TakeRefused};
+use picture_store::{JobAt, Landing, MOST_ROOM, PictureStore, Returning, TakeRefused};
 use pictures::AuId;
 use stand_in_device::{Finished, Job};
 use std::alloc::Global;
 use std::marker::Model;
+use stream_edits::{Edit, EditRefused, Last, Receipt, place_of};
 
 /// A stream of access units under edits, with what becomes of each unit, and with pictures, which jobs bring. Clauses see
 /// the accepted edits and what they leave, the keys whose pictures are held or cached, and the jobs that are out.
@@ -32,7 +33,7 @@ pub struct Session {
     alloc: Global,
     journal: Vec<Edit>,
     given: u32,
-    units: Vec<(AuId, Unit)>,
+    units: Vec<(AuId, Shared<Unit>)>,
     positions: Vec<Option<usize>>,
     store: PictureStore,
 }
@@ -56,15 +57,12 @@ impl Model for Session {
         s.store s.positions.items };
 }
 
-/// The greatest room of a cache.
-const MOST_ROOM: u16 = 4096;
-
 impl Session {
     /// A session with an empty stream.
     pub fn new(alloc: Global, config: Config) -> Result<Session, ConfigFault>
         ensures ok { IfOk result (λ session. session ≡ empty config.cache) }
         ensures cache { IsErrOf result ConfigFault.Cache
-            ↔ ((1 ≤ config.cache) × (config.cache ≤ 4096) → ⊥) }
+            ↔ ((1 ≤ config.cache) × (config.cache ≤ most_room) → ⊥) }
     {
         if config.cache == 0 || config.cache > MOST_ROOM {
             return Err(ConfigFault::Cache);
@@ -81,10 +79,8 @@ impl Session {
 
     /// Edits the stream. A refused edit changes nothing and spends no id.
     ///
-    /// The refusal is the first in the order of `EditRefused`, but for Memory, which may stand in for a later one: a
-    /// text that isn't too long and splits into NAL units is read into memory before its units and the edit's place
-    /// are looked at, so where that memory is refused, nothing is said of them. A text that is too long or doesn't
-    /// split, and a deletion of a unit that isn't there, are never answered Memory.
+    /// The refusal is the first in the order of `EditRefused`, but for Memory, which may stand in for a later one, as
+    /// `stream_edits::change_of` says.
     ///
     /// A picture stays held where nothing that it is made of changes. One whose unit is gone or is made of something
     /// else is cached while there is room, and held again at once where a unit is made of the same once more.

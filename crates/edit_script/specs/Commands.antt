@@ -1,10 +1,10 @@
 -- The command that words are (docs/OUTPUT.md).
 use Rattle.std.specs.Prelude.{◌≡◌, ℕ, Bool, true, false, List, [], ◌∷◌, codes, Option, Some, None, option_map, if◌then◌else◌, Result, MatchResult}
 use Rattle.std.specs.Str.{bytes_eq}
-use Rattle.edit_engine.specs.declared.edits.Edit.{Edit}
-use Rattle.edit_engine.specs.declared.edits.Edit.TheVariants.{Insert, Delete, Replace}
-use Rattle.edit_engine.specs.declared.edits.Place.{Place}
-use Rattle.edit_engine.specs.declared.edits.Place.TheVariants.{First, After}
+use Rattle.stream_edits.specs.declared.edits.Edit.{Edit}
+use Rattle.stream_edits.specs.declared.edits.Edit.TheVariants.{Insert, Delete, Replace}
+use Rattle.stream_edits.specs.declared.edits.Place.{Place}
+use Rattle.stream_edits.specs.declared.edits.Place.TheVariants.{First, After}
 use Rattle.edit_script.specs.declared.commands.Command.{Command}
 use Rattle.edit_script.specs.declared.commands.Command.TheVariants as command
 use Rattle.edit_script.specs.declared.commands.LineFault.{LineFault}

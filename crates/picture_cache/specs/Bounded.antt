@@ -4,6 +4,10 @@ use Rattle.std.specs.List.{IsDistinct}
 use Rattle.std.specs.Map.{keys_of, remove_entry}
 use Rattle.std.specs.Coded.{Coded, code_by, coded×, coded_list, coded_ℕ}
 
+-- for how many pairs a cache has room at most
+abbrev pub most_room : ℕ
+most_room = 4096
+
 -- the pairs, the one put last first, and how many there may be
 pub record Bounded (K P : Type 0) : Type 0 where
   pub pairs : List (K × P)
@@ -25,7 +29,7 @@ module _ {K P : Type 0} where
       pub once : IsDistinct eq (keys_of cache.pairs)
       pub within : length cache.pairs ≤ cache.capacity
       pub least : 1 ≤ cache.capacity
-      pub most : cache.capacity ≤ 4096
+      pub most : cache.capacity ≤ most_room
 
     -- without the pair that has the key
     abbrev pub without : Bounded K P → K → Bounded K P

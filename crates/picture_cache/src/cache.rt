@@ -1,12 +1,15 @@
 ghost use Rattle.std.specs.Prelude.{◌≡◌, ◌≤◌, ◌==◌, [], length, is_some, option_copied, IfOk, OnOk, OnErr, IsSome, IsOk};
 ghost use Rattle.std.specs.Map.{lookup, keys_of};
-ghost use Rattle.picture_cache.specs.Bounded.{IsStructural, IsBounded, with_first, without};
+ghost use Rattle.picture_cache.specs.Bounded.{IsStructural, IsBounded, most_room, with_first, without};
 
 use lru::LruCache;
 use std::alloc::{AllocError, Global};
 use std::hash::Hash;
 use std::marker::Model;
 use std::num::NonZeroUsize;
+
+/// For how many pairs a cache has room at most.
+pub const MOST_ROOM: u16 = 4_096;
 
 /// A list of pairs of a key and a picture, the pair put last first, of at most `capacity` pairs.
 ///
@@ -31,11 +34,11 @@ impl<K: Eq + Hash, P> Model for PictureCache<K, P> {
 }
 
 impl<K: Eq + Hash + Drop, P: Drop> PictureCache<K, P> {
-    /// An empty cache of at most `capacity` pairs.
+    /// An empty cache of at most `capacity` pairs, 1 to `MOST_ROOM`.
     pub fn new(alloc: Global, capacity: u16) -> Result<Self, AllocError>
         requires structural { IsStructural K.eq }
         requires least { 1 ≤ capacity }
-        requires most { capacity ≤ 4096 }
+        requires most { capacity ≤ most_room }
         ensures { IfOk result (λ cache. cache ≡ record { pairs = []; capacity = capacity }) }
     {
         let most = NonZeroUsize::new(usize::from(capacity)).unwrap();

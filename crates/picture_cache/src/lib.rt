@@ -7,7 +7,7 @@
 mod cache;
 mod laws;
 
-pub use cache::PictureCache;
+pub use cache::{MOST_ROOM, PictureCache};
 pub use laws::{put_is_found, put_keeps_the_others, take_keeps_the_others};
 
 #[cfg(test)]

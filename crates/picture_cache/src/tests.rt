@@ -1,4 +1,5 @@
 ghost use Rattle.std.specs.Prelude.{◌≤◌};
+ghost use Rattle.picture_cache.specs.Bounded.{most_room};
 
 use super::*;
 use std::alloc::{AllocError, Global};
@@ -11,7 +12,7 @@ struct KeyId(u64);
 /// A cache of three pairs with the keys 1, 2 and 3, put in this order, and the pictures 10, 20 and 30.
 fn three_pairs(alloc: Global, capacity: u16) -> Result<PictureCache<KeyId, u8>, AllocError>
     requires least { 1 ≤ capacity }
-    requires most { capacity ≤ 4096 }
+    requires most { capacity ≤ most_room }
 {
     let mut cache = PictureCache::new(alloc, capacity)?;
     for (key, picture) in [(1, 10), (2, 20), (3, 30)] {
@@ -27,7 +28,7 @@ fn keys(alloc: Global, cache: &PictureCache<KeyId, u8>) -> Result<Vec<u64>, Allo
 
 #[test]
 fn the_pair_put_last_is_first(rt: HostRuntime) -> Result<(), Fail> {
-    let cache = three_pairs(rt.alloc(), 4096)?;
+    let cache = three_pairs(rt.alloc(), MOST_ROOM)?;
     assert_eq!(rt; keys(rt.alloc(), &cache)?.as_slice(), [3, 2, 1].as_slice());
     assert_eq!(rt; cache.len(), 3);
     assert_eq!(rt; cache.capacity(), 4096);

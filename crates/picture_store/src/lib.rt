@@ -18,6 +18,7 @@ mod refusals;
 mod store;
 
 pub use answers::{JobAt, Landing, Returning};
+pub use picture_cache::MOST_ROOM;
 pub use refitting::numbers_of;
 pub use refusals::TakeRefused;
 pub use store::PictureStore;

@@ -3,6 +3,7 @@
 ghost use Rattle.std.specs.Prelude.{◌≡◌, ◌≤◌, ◌<◌, ◌↔◌, length, Contains, Some, IsTrue, IfOk, OnOk, OnErr};
 ghost use Rattle.std.specs.List.{zip};
 ghost use Rattle.std.specs.Prelude.{[]};
+ghost use Rattle.picture_cache.specs.Bounded.{most_room};
 ghost use Rattle.picture_keys.specs.Decodable.{AllCanDecode};
 ghost use Rattle.picture_store.specs.Stores.{empty, AreOneToOne};
 ghost use Rattle.picture_store.specs.Changes.{Refits};
@@ -75,10 +76,10 @@ impl Model for PictureStore {
 }
 
 impl PictureStore {
-    /// A store for an empty stream, which caches so many pictures at most.
+    /// A store for an empty stream, which caches so many pictures at most, 1 to `MOST_ROOM`.
     pub fn new(alloc: Global, room: u16) -> Result<PictureStore, AllocError>
         requires least { 1 ≤ room }
-        requires most { room ≤ 4096 }
+        requires most { room ≤ most_room }
         ensures { IfOk result (λ store. store ≡ empty room) }
     {
         Ok(PictureStore {

@@ -9,7 +9,7 @@ use Rattle.clap.specs.declared.builder.ValueParser.TheVariants.{Unsigned}
 use Rattle.clap.specs.declared.parser.matches.Found.{Found}
 use Rattle.clap.proofs.ValueTestLemmas.{Accepts-accepts, accepts-Accepts}
 use Rattle.clap.proofs.WalkLemmas.{first_value-rows, one_text-rows}
-use Rattle.script_run.specs.Options.{most_cache}
+use Rattle.picture_cache.specs.Bounded.{most_room}
 use Rattle.preview.specs.CommandLine.{Wanted, cache_of, has_flag, is_true, plan, plan_in, run, run_in}
 
 -- the value of FILE is what is planned
@@ -43,14 +43,14 @@ script-read f name room hex script is given = ap (λ (h : Bool). option_map (run
 pub flag-read : (f : Found) (name : Text) (value : Option Text) → value ≡ first_value f name → is_true value ≡ has_flag name (rows_of f)
 flag-read f name value is = ap is_true (is ∙ first_value-rows f name)
 
-in-room : (t : Text) → Accepts false (Unsigned 1 most_cache) t → cache_of t ≡ Some (digits_value 10 (without_leading_plus t))
-in-room t h = ap (λ b. cond b (Some (digits_value 10 (without_leading_plus t))) None) (Accepts-accepts false (Unsigned 1 most_cache) t h)
+in-room : (t : Text) → Accepts false (Unsigned 1 most_room) t → cache_of t ≡ Some (digits_value 10 (without_leading_plus t))
+in-room t h = ap (λ b. cond b (Some (digits_value 10 (without_leading_plus t))) None) (Accepts-accepts false (Unsigned 1 most_room) t h)
 
-no-room : (t : Text) → (Accepts false (Unsigned 1 most_cache) t → ⊥) → cache_of t ≡ None
-no-room t bad = go (is_unsigned_in 1 most_cache t) refl
+no-room : (t : Text) → (Accepts false (Unsigned 1 most_room) t → ⊥) → cache_of t ≡ None
+no-room t bad = go (is_unsigned_in 1 most_room t) refl
   where
-    go : (b : Bool) → is_unsigned_in 1 most_cache t ≡ b → cond b (Some (digits_value 10 (without_leading_plus t))) None ≡ None
-    go true e = absurd (bad (accepts-Accepts false (Unsigned 1 most_cache) t e))
+    go : (b : Bool) → is_unsigned_in 1 most_room t ≡ b → cond b (Some (digits_value 10 (without_leading_plus t))) None ≡ None
+    go true e = absurd (bad (accepts-Accepts false (Unsigned 1 most_room) t e))
     go false e = refl
 
 module _ (E : Type 0) (G : List ℕ → Result ℕ E → Type 0) (only : (u : List ℕ) (x : Result ℕ E) → G u x → ParsesUnsigned 16 10 u x) (f : Found) where
@@ -59,7 +59,7 @@ module _ (E : Type 0) (G : List ℕ → Result ℕ E → Type 0) (only : (u : Li
 
   -- a number in range that `--cache` reads as is the room
   pub room-read : (n : ℕ) → (one_text f (codes "cache") ≡ None → Some n ≡ None)
-      → ((t : List ℕ) → one_text f (codes "cache") ≡ Some t → ReadsOne G t (Some n)) → 1 ≤ n → n ≤ most_cache → room_of f ≡ Some n
+      → ((t : List ℕ) → one_text f (codes "cache") ≡ Some t → ReadsOne G t (Some n)) → 1 ≤ n → n ≤ most_room → room_of f ≡ Some n
   room-read n none value low high = go (one_text f (codes "cache")) refl
     where
       go : (o : Option Text) → one_text f (codes "cache") ≡ o → room_of f ≡ Some n
@@ -71,7 +71,7 @@ module _ (E : Type 0) (G : List ℕ → Result ℕ E → Type 0) (only : (u : Li
 
   -- a number out of range is none
   pub room-out : (n : ℕ) → (one_text f (codes "cache") ≡ None → Some n ≡ None)
-      → ((t : List ℕ) → one_text f (codes "cache") ≡ Some t → ReadsOne G t (Some n)) → (1 ≤ n → n ≤ most_cache → ⊥) → room_of f ≡ None
+      → ((t : List ℕ) → one_text f (codes "cache") ≡ Some t → ReadsOne G t (Some n)) → (1 ≤ n → n ≤ most_room → ⊥) → room_of f ≡ None
   room-out n none value out = go (one_text f (codes "cache")) refl
     where
       go : (o : Option Text) → one_text f (codes "cache") ≡ o → room_of f ≡ None

@@ -13,7 +13,7 @@ use Rattle.clap.specs.declared.builder.ValueParser.{ValueParser}
 use Rattle.clap.specs.declared.builder.ValueParser.TheVariants.{Signed}
 use Rattle.clap.specs.declared.error.ErrorKind.{ErrorKind}
 use Rattle.clap.specs.declared.error.ErrorKind.TheVariants.{DisplayHelp, DisplayVersion, MissingSubcommand, OutOfMemory}
-use Rattle.script_run.specs.Options.{most_cache}
+use Rattle.picture_cache.specs.Bounded.{most_room}
 use Rattle.preview.specs.declared.command_line.Asked.{Asked}
 use Rattle.preview.specs.declared.command_line.Asked.TheVariants.{Plan, Run}
 
@@ -44,7 +44,7 @@ workers_rule = option_rule (codes "workers") (Signed (pos 0) (pos 0)) (codes "0"
 
 -- `--cache N`, from 1 to 4096, and 64 where it isn't given
 abbrev pub cache_rule : Rule
-cache_rule = option_rule (codes "cache") (Signed (pos 1) (pos most_cache)) (codes "64")
+cache_rule = option_rule (codes "cache") (Signed (pos 1) (pos most_room)) (codes "64")
 
 -- `run SCRIPT [--workers N] [--cache N] [--hex]`
 abbrev pub run_app : App
@@ -70,7 +70,7 @@ wanted_of (Run options) = run options.name.now options.cache options.hex
 -- the number from 1 to 4096 that a text reads as
 abbrev pub cache_of : Text → Option ℕ
 cache_of text =
-    if is_unsigned_in 1 most_cache text then Some (digits_value 10 (without_leading_plus text)) else None
+    if is_unsigned_in 1 most_room text then Some (digits_value 10 (without_leading_plus text)) else None
 
 -- whether a value is that of a flag that was given
 abbrev pub is_true : Option Text → Bool

@@ -8,7 +8,7 @@ ghost use Rattle.preview.specs.CommandLine.{run_app, run_in, wanted_from, wanted
 use clap::builder::ValueParser;
 use clap::error::ErrorKind;
 use clap::{Arg, ArgAction, ArgMatches, Command, Error, value_parser};
-use script_run::{MOST_CACHE, Options};
+use script_run::{MOST_ROOM, Options};
 use std::alloc::{AllocError, Global};
 use std::convert::AsStr;
 use std::{env, io};
@@ -71,7 +71,7 @@ fn read_run<'a>(run: &ArgMatches<'a>) -> Option<Asked<'a>>
     let name = run.get_str("SCRIPT")?;
     let cache = run.get_one::<u16>("cache")?;
     let hex = has_flag(run, "hex");
-    if cache == 0 || cache > MOST_CACHE {
+    if cache == 0 || cache > MOST_ROOM {
         return None;
     }
     Some(Asked::Run(Options { name, cache, hex }))
@@ -122,7 +122,7 @@ fn run_command<'a>(alloc: Global) -> Result<Command<'a>, AllocError>
     let none = value_parser!(u8).range(0..=0);
     let help = "How many threads decode; there are none yet";
     let workers = number_option(alloc, "workers", none, "0", help);
-    let room = value_parser!(u16).range(1..=MOST_CACHE as i64);
+    let room = value_parser!(u16).range(1..=MOST_ROOM as i64);
     let help = "For how many pictures that no unit has there is room, 1 to 4096";
     let cache = number_option(alloc, "cache", room, "64", help);
     let hex = flag(alloc, "hex", "Shows the hash of each picture that is ready");

@@ -1,13 +1,13 @@
 -- The lines that answer the commands of a script (docs/OUTPUT.md).
 use Rattle.std.specs.Prelude.{ℕ, ◌++◌, Bool, List, codes, decimal, Option, Some, None, Result, Ok, Err}
-use Rattle.edit_engine.specs.declared.receipts.Receipt.{Receipt}
-use Rattle.edit_engine.specs.declared.refusals.EditRefused.{EditRefused}
+use Rattle.stream_edits.specs.declared.receipts.Receipt.{Receipt}
+use Rattle.stream_edits.specs.declared.refusals.EditRefused.{EditRefused}
 use Rattle.edit_engine.specs.declared.refusals.NoSuchUnit.{NoSuchUnit}
 use Rattle.edit_engine.specs.declared.replies.Reply.{Reply}
 use Rattle.edit_engine.specs.declared.replies.Reply.TheVariants as replies
 use Rattle.edit_engine.specs.declared.replies.UnitReport.{UnitReport}
-use Rattle.edit_engine.specs.Names.{name_of}
-use Rattle.edit_engine.specs.Numbers.{number_of}
+use Rattle.stream_edits.specs.Names.{name_of}
+use Rattle.stream_edits.specs.Numbers.{number_of}
 use Rattle.unit_lines.specs.UnitLines.{outcome_lines}
 use Rattle.edit_script.specs.Words.{id_of}
 use Rattle.script_run.specs.JobLines.{taken_line, landed_line, given_line}

@@ -6,4 +6,3 @@ pub mod RunFaults
 pub mod Running
 pub mod Stops
 pub mod Messages
-pub mod Options

@@ -3,19 +3,20 @@ use Rattle.std.specs.Prelude.{◌≡◌, ℕ, ◌-◌, ◌≤◌, ◌++◌, Bool
 use Rattle.std.specs.Io.KnownBytes.{Appends}
 use Rattle.std.specs.List.{AllZip, filter}
 use Rattle.annexb.specs.ByteStream.{joined}
-use Rattle.edit_engine.specs.declared.edits.Edit.TheVariants.{Insert}
-use Rattle.edit_engine.specs.declared.edits.Place.{Place}
-use Rattle.edit_engine.specs.declared.edits.Place.TheVariants.{First, After}
-use Rattle.edit_engine.specs.declared.receipts.Receipt.{Receipt}
-use Rattle.edit_engine.specs.declared.refusals.EditRefused.{EditRefused}
+use Rattle.stream_edits.specs.declared.edits.Edit.TheVariants.{Insert}
+use Rattle.stream_edits.specs.declared.edits.Place.{Place}
+use Rattle.stream_edits.specs.declared.edits.Place.TheVariants.{First, After}
+use Rattle.stream_edits.specs.declared.receipts.Receipt.{Receipt}
+use Rattle.stream_edits.specs.declared.refusals.EditRefused.{EditRefused}
 use Rattle.edit_engine.specs.declared.commands.Command.{Command as Told}
 use Rattle.edit_engine.specs.declared.commands.Command.TheVariants as told
 use Rattle.edit_engine.specs.declared.replies.Reply.{Reply}
 use Rattle.edit_engine.specs.declared.replies.Reply.TheVariants as replies
 use Rattle.edit_engine.specs.declared.replies.TakenJob.{TakenJob}
-use Rattle.edit_engine.specs.Machines.{Machine, empty, last_of}
+use Rattle.stream_edits.specs.Streams.{last_of}
+use Rattle.edit_engine.specs.Machines.{Machine, empty}
 use Rattle.edit_engine.specs.Runs.{Answers as Replies}
-use Rattle.edit_engine.specs.Streams.{Stream}
+use Rattle.stream_edits.specs.Streams.{Stream}
 use Rattle.script_run.specs.Answers.{refused_line, loaded_line, reply_lines}
 use Rattle.script_run.specs.JobLines.{settled_line}
 use Rattle.script_run.specs.Settling.{Settles}

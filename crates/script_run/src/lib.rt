@@ -15,5 +15,6 @@ mod run_fault;
 mod settling;
 mod shown_lines;
 
-pub use options::{MOST_CACHE, Options};
+pub use edit_engine::MOST_ROOM;
+pub use options::Options;
 pub use run::script_on;

@@ -2,7 +2,7 @@
 
 ghost use Rattle.std.specs.Prelude.{◌≡◌, ℕ, List, length, IfErr, IfOk, IfSome, string_bytes};
 ghost use Rattle.annexb.specs.ByteStream.{joined};
-ghost use Rattle.edit_engine.specs.declared.edits.Edit.TheVariants.{Insert};
+ghost use Rattle.stream_edits.specs.declared.edits.Edit.TheVariants.{Insert};
 ghost use Rattle.edit_engine.specs.Runs.{Answers as Replies};
 ghost use Rattle.script_run.specs.RunFaults.{IsLoadFault};
 ghost use Rattle.script_run.specs.Running.{end_of, InsertsAll, Loads};

@@ -9,10 +9,10 @@ use Rattle.picture_keys.specs.Keys.{Key}
 use Rattle.picture_keys.specs.KeyPictures.{picture_of_key}
 use Rattle.picture_keys.specs.Numbered.{AllStandFor}
 use Rattle.picture_store.proofs.Members.{nowhere}
-use Rattle.edit_engine.specs.declared.edits.Edit.{Edit}
+use Rattle.stream_edits.specs.declared.edits.Edit.{Edit}
 use Rattle.edit_engine.specs.declared.showing.Shown.{Shown}
 use Rattle.edit_engine.specs.declared.showing.Shown.TheVariants as shown
-use Rattle.edit_engine.specs.Edits.{Register, Makes}
+use Rattle.stream_edits.specs.Edits.{Register, Makes}
 use Rattle.edit_engine.specs.Machines.{Machine, empty}
 use Rattle.edit_engine.specs.Showing.{keys_in, HasKey}
 use Rattle.seat_books.specs.declared.book.SeatBook.{SeatBook}

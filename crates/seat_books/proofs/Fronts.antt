@@ -3,10 +3,10 @@ use Rattle.std.proofs.Common.{◌≡◌, ℕ, ◌+◌, List, [], ◌∷◌, ◌+
 use Rattle.std.specs.Prelude.{slice_get}
 use Rattle.std.proofs.lemmas.List.{take_more}
 use Rattle.std.proofs.lemmas.Option.{slice_get_within, get_or_from_slice_get}
-use Rattle.edit_engine.specs.declared.edits.Edit.{Edit}
-use Rattle.edit_engine.specs.Edits.{Register, no_units, Makes, Replays}
+use Rattle.stream_edits.specs.declared.edits.Edit.{Edit}
+use Rattle.stream_edits.specs.Edits.{Register, no_units, Makes, Replays}
 use Rattle.edit_engine.specs.Machines.{Machine}
-use Rattle.edit_engine.proofs.Edited.{Replays-push}
+use Rattle.stream_edits.proofs.Edited.{Replays-push}
 use Rattle.seat_books.specs.Books.{LeadTo}
 use Rattle.seat_books.specs.Following.{IsFront}
 

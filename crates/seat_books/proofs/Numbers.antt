@@ -8,7 +8,7 @@ use Rattle.dep_keys.specs.KeyMaps.{KeyMap, tree_at}
 use Rattle.picture_keys.specs.Keys.{Key}
 use Rattle.picture_keys.specs.Numbered.{StandsFor, AllStandFor}
 use Rattle.request_core.specs.Fold.{outcomes_of}
-use Rattle.edit_engine.specs.Streams.{Stream, ids_of, place_of}
+use Rattle.stream_edits.specs.Streams.{Stream, ids_of, place_of}
 use Rattle.edit_engine.specs.Showing.{keys_in, HasKey}
 use Rattle.edit_engine.proofs.Looked.{length-outcomes_of}
 use Rattle.seat_books.specs.Following.{AddsUsed, IsKeyOf}

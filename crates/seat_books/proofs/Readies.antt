@@ -8,9 +8,9 @@ use Rattle.stand_in_device.specs.declared.picture.Picture.{Picture}
 use Rattle.picture_keys.specs.Keys.{Key}
 use Rattle.picture_keys.specs.Numbered.{AllStandFor}
 use Rattle.picture_store.proofs.Stays.{stand_live, stand_number}
-use Rattle.edit_engine.specs.declared.edits.Edit.{Edit}
+use Rattle.stream_edits.specs.declared.edits.Edit.{Edit}
 use Rattle.edit_engine.specs.declared.showing.Shown.TheVariants as shown
-use Rattle.edit_engine.specs.Edits.{Register}
+use Rattle.stream_edits.specs.Edits.{Register}
 use Rattle.edit_engine.specs.Showing.{keys_in, HasKey}
 use Rattle.seat_books.specs.declared.receipts.SeatReceipt.{SeatReceipt}
 use Rattle.seat_books.specs.declared.receipts.SeatReceipt.TheVariants as receipts

@@ -3,11 +3,11 @@ use Rattle.std.proofs.Common.{◌≡◌, ℕ, List, [], ◌∷◌, Some, ap, sym
 use Rattle.std.specs.Prelude.{insert, remove, set}
 use Rattle.access_unit.specs.Answers.{IsAccepted}
 use Rattle.annexb.proofs.Readings.{same_reading}
-use Rattle.edit_engine.specs.declared.edits.Edit.{Edit}
-use Rattle.edit_engine.specs.declared.edits.Edit.TheVariants.{Insert, Delete, Replace}
-use Rattle.edit_engine.specs.declared.edits.Place.{Place}
-use Rattle.edit_engine.specs.Streams.{Stream}
-use Rattle.edit_engine.specs.Edits.{Register, no_units, Inserts, Deletes, Replaces, Makes, Replays}
+use Rattle.stream_edits.specs.declared.edits.Edit.{Edit}
+use Rattle.stream_edits.specs.declared.edits.Edit.TheVariants.{Insert, Delete, Replace}
+use Rattle.stream_edits.specs.declared.edits.Place.{Place}
+use Rattle.stream_edits.specs.Streams.{Stream}
+use Rattle.stream_edits.specs.Edits.{Register, no_units, Inserts, Deletes, Replaces, Makes, Replays}
 use Rattle.seat_books.specs.Books.{LeadTo}
 
 pub some_same : {X : Type 0} (a b : X) → Some a ≡ Some b → a ≡ b

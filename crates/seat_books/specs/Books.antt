@@ -4,11 +4,12 @@ use Rattle.std.specs.List.{list_any}
 use Rattle.outcomes.specs.declared.outcome.Outcome.TheVariants as outcomes
 use Rattle.picture_keys.specs.Keys.{Key}
 use Rattle.picture_keys.specs.KeyPictures.{picture_of_key}
-use Rattle.edit_engine.specs.declared.edits.Edit.{Edit}
+use Rattle.stream_edits.specs.declared.edits.Edit.{Edit}
 use Rattle.edit_engine.specs.declared.showing.Shown.{Shown}
 use Rattle.edit_engine.specs.declared.showing.Shown.TheVariants as shown
-use Rattle.edit_engine.specs.Streams.{Stream, place_of, outcome_in}
-use Rattle.edit_engine.specs.Edits.{Register, no_units, Makes, Replays}
+use Rattle.stream_edits.specs.Streams.{Stream, place_of}
+use Rattle.edit_engine.specs.Streams.{outcome_in}
+use Rattle.stream_edits.specs.Edits.{Register, no_units, Makes, Replays}
 use Rattle.edit_engine.specs.Showing.{keys_in, HasKey}
 use Rattle.seat_books.specs.declared.book.SeatBook.{SeatBook}
 use Rattle.seat_books.specs.declared.receipts.SeatReceipt.{SeatReceipt}

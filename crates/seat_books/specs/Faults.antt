@@ -1,6 +1,6 @@
 -- The first receipt that doesn't agree with a journal.
 use Rattle.std.specs.Prelude.{◌≡◌, ℕ, ◌+◌, List, Some, take, slice_get}
-use Rattle.edit_engine.specs.declared.edits.Edit.{Edit}
+use Rattle.stream_edits.specs.declared.edits.Edit.{Edit}
 use Rattle.seat_books.specs.declared.book.SeatBook.{SeatBook}
 use Rattle.seat_books.specs.declared.faults.AuditFault.{AuditFault}
 use Rattle.seat_books.specs.declared.faults.AuditFault.TheVariants as faults

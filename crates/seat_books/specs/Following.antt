@@ -3,10 +3,10 @@ use Rattle.std.specs.Prelude.{◌≡◌, ◌⊎◌, ℕ, ◌≤◌, Bool, List, 
 use Rattle.h264_controls.specs.declared.work.Work.{Work}
 use Rattle.dep_keys.specs.KeyMaps.{KeyMap, IsKeyMap, tree_at}
 use Rattle.picture_keys.specs.Keys.{Key}
-use Rattle.edit_engine.specs.declared.edits.Edit.{Edit}
+use Rattle.stream_edits.specs.declared.edits.Edit.{Edit}
 use Rattle.edit_engine.specs.declared.showing.Shown.{Shown}
-use Rattle.edit_engine.specs.Streams.{Stream}
-use Rattle.edit_engine.specs.Edits.{Makes}
+use Rattle.stream_edits.specs.Streams.{Stream}
+use Rattle.stream_edits.specs.Edits.{Makes}
 use Rattle.edit_engine.specs.Machines.{Machine}
 use Rattle.edit_engine.specs.Showing.{HasKey}
 use Rattle.seat_books.specs.declared.book.SeatBook.{SeatBook}

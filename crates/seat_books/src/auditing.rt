@@ -1,7 +1,7 @@
 //! The audit of books.
 
 ghost use Rattle.std.specs.Prelude.{◌≡◌, IfErr, IfOk, MatchOption, OnOk};
-ghost use Rattle.edit_engine.specs.Edits.{Register, no_units, Replays};
+ghost use Rattle.stream_edits.specs.Edits.{Register, no_units, Replays};
 ghost use Rattle.seat_books.specs.Books.{BookAgrees, BooksAgree};
 ghost use Rattle.seat_books.specs.Faults.{IsFaultOf, IsFirstFault};
 

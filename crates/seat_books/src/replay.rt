@@ -2,9 +2,10 @@
 
 ghost use Rattle.std.specs.Bool.{Decides};
 ghost use Rattle.std.specs.Prelude.{◌≡◌, ◌≤◌, ◌∷◌, ◌++◌, [], ℕ, List, None, Some, IfOk, OnOk, length, slice_get};
-ghost use Rattle.edit_engine.specs.declared.edits.Edit.{Edit as EditValue};
-ghost use Rattle.edit_engine.specs.Edits.{Makes};
-ghost use Rattle.edit_engine.specs.Streams.{outcome_in, place_of};
+ghost use Rattle.stream_edits.specs.declared.edits.Edit.{Edit as EditValue};
+ghost use Rattle.stream_edits.specs.Edits.{Makes};
+ghost use Rattle.stream_edits.specs.Streams.{place_of};
+ghost use Rattle.edit_engine.specs.Streams.{outcome_in};
 ghost use Rattle.edit_engine.specs.declared.showing.Shown.TheVariants.{Ready, Pending};
 ghost use Rattle.outcomes.specs.declared.outcome.Outcome.TheVariants as outcomes;
 ghost use Rattle.seat_books.specs.declared.book.SeatBook.{SeatBook as Book};

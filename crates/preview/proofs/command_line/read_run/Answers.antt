@@ -27,5 +27,5 @@ returns c =
     let f = found_of c.args.run.now in
     let low = c.if-cache-eq0.false in
     let room = room-read _ (λ bs r. ParsesUnsigned 16 10 bs r × ExplainsUnsignedError 10 bs r × HasUnsignedDigitsIfOk bs r) (λ u x g. g.0) f c.in_ok-cache.cache
-    c.in_ok-cache.ensures.none c.in_ok-cache.ensures.value (omega (arith, low)) c.if-cache-gt-MOST_CACHE.false in
+    c.in_ok-cache.ensures.none c.in_ok-cache.ensures.value (omega (arith, low)) c.if-cache-gt-MOST_ROOM.false in
     script-read f _ (Some c.in_ok-cache.cache) c.has_flag-hex.result c.in_ok-name.ensures room c.has_flag-hex.ensures

@@ -1,6 +1,6 @@
 use Rattle.std.proofs.Common.{◌∷◌, ◌++◌, [], append_assoc, subst}
 use Rattle.edit_engine.specs.Folding.{IsFoldOf}
-use Rattle.edit_engine.specs.Streams.{Stream}
+use Rattle.stream_edits.specs.Streams.{Stream}
 use Rattle.edit_engine.proofs.FoldsOnward.{FoldsOn-append, FoldsOn-whole}
 use Rattle.edit_engine.proofs.folding.Fold.with.Goals as goal
 

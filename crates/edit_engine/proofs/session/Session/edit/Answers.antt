@@ -1,7 +1,7 @@
 use Rattle.std.proofs.Common.{◌≡◌, List, [], ◌∷◌, ◌++◌, length, refl, ap, arith}
 use Rattle.std.proofs.lemmas.Result.{err_from_is_err_and}
-use Rattle.edit_engine.specs.declared.edits.Edit.{Edit}
-use Rattle.edit_engine.proofs.Edited.{TakesMemory-for}
+use Rattle.stream_edits.specs.declared.edits.Edit.{Edit}
+use Rattle.stream_edits.proofs.Edited.{TakesMemory-for}
 use Rattle.edit_engine.proofs.Stored.{same-prepared, decodable-prepared, IsKept-after, Edits-after}
 use Rattle.edit_engine.proofs.session.Session.edit.Goals as goal
 

@@ -1,6 +1,6 @@
 use Rattle.std.proofs.Common.{◌≡◌, ◌<◌, length, Some, ap, sym, arith}
 use Rattle.picture_store.specs.Stores.{StoreValue, AreOneToOne}
-use Rattle.edit_engine.specs.Streams.{place_of}
+use Rattle.stream_edits.specs.Streams.{place_of}
 use Rattle.edit_engine.proofs.Pictured.{IsOf, IsOf-kept, one_seen}
 use Rattle.edit_engine.proofs.Seen.{length-stored, number_found}
 use Rattle.edit_engine.proofs.session.Session.key.Goals as goal

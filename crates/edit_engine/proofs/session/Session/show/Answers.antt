@@ -3,7 +3,7 @@ use Rattle.std.specs.Prelude.{slice_get}
 use Rattle.std.proofs.lemmas.Option.{slice_get_read}
 use Rattle.outcomes.specs.declared.outcome.Outcome.{Outcome}
 use Rattle.outcomes.specs.declared.outcome.Outcome.TheVariants.{Fault, Plan}
-use Rattle.edit_engine.specs.Streams.{place_of}
+use Rattle.stream_edits.specs.Streams.{place_of}
 use Rattle.edit_engine.proofs.Pictured.{IsOf, IsOf-kept}
 use Rattle.edit_engine.proofs.Seen.{length-folded, shows_fault, shows_pending}
 use Rattle.edit_engine.proofs.session.Session.show.Goals as goal

@@ -1,4 +1,4 @@
-//! What a session answers.
+//! What an edit answers, and the end of a stream.
 
 use pictures::AuId;
 

@@ -1,8 +1,8 @@
 -- The names of refusals.
 use Rattle.std.specs.Prelude.{ℕ, List, codes}
 use Rattle.access_unit.specs.Names.{name_of as name_of_text}
-use Rattle.edit_engine.specs.declared.refusals.EditRefused.{EditRefused}
-use Rattle.edit_engine.specs.declared.refusals.EditRefused.TheVariants.{Unit, NoSuchUnit, StreamFull, IdsSpent, Memory}
+use Rattle.stream_edits.specs.declared.refusals.EditRefused.{EditRefused}
+use Rattle.stream_edits.specs.declared.refusals.EditRefused.TheVariants.{Unit, NoSuchUnit, StreamFull, IdsSpent, Memory}
 
 -- the name that is printed
 abbrev pub name_of : EditRefused → List ℕ

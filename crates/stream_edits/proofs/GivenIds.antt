@@ -7,11 +7,11 @@ use Rattle.std.proofs.lemmas.Bool.Decides.{eqb_tells}
 use Rattle.std.proofs.lemmas.List.{set_split, drop_more}
 use Rattle.std.proofs.lemmas.List.Quantifiers.{position-Some}
 use Rattle.std.proofs.lemmas.List.Sums.{sum_by-append, sum_by-cons, sum_by-take-drop}
-use Rattle.edit_engine.specs.declared.edits.Edit.{Edit}
-use Rattle.edit_engine.specs.declared.edits.Edit.TheVariants.{Insert, Delete, Replace}
-use Rattle.edit_engine.specs.Streams.{Stream, has_id, place_of}
-use Rattle.edit_engine.specs.Edits.{Register, no_units, Makes, Replays, Deletes, Replaces}
-use Rattle.edit_engine.specs.Ids.{units_with, HasIds}
+use Rattle.stream_edits.specs.declared.edits.Edit.{Edit}
+use Rattle.stream_edits.specs.declared.edits.Edit.TheVariants.{Insert, Delete, Replace}
+use Rattle.stream_edits.specs.Streams.{Stream, has_id, place_of}
+use Rattle.stream_edits.specs.Edits.{Register, no_units, Makes, Replays, Deletes, Replaces}
+use Rattle.stream_edits.specs.Ids.{units_with, HasIds}
 
 -- a sum over a list with an item more, with one fewer, and with another in its place
 module _ {X : Type 0} (f : X → ℕ) (xs : List X) (i : ℕ) where

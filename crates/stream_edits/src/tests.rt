@@ -1,9 +1,9 @@
 //! Insertions into streams that no test can make by edits: they would fold some 2,000,000,000 units. So the units and
-//! how many ids were given are given. The tests of public calls stand in session_tests.
+//! how many ids were given are given. The tests of edits of a session stand in session_tests.
 
-use crate::changes::change_of;
-use crate::{Edit, EditRefused, Place};
+use crate::{Edit, EditRefused, Place, change_of};
 use access_unit::{Unit, read_shared};
+use base_types::Shared;
 use bytes::Bytes;
 use pictures::AuId;
 use std::alloc::{AllocError, Global};
@@ -18,12 +18,12 @@ fn equal_units(
     rt: &impl Abort,
     alloc: Global,
     count: u32,
-) -> Result<Vec<(AuId, Unit)>, AllocError> {
+) -> Result<Vec<(AuId, Shared<Unit>)>, AllocError> {
     let text = Bytes::from_static(&I);
     let mut units = Vec::new(alloc);
     for number in 0..count {
         match read_shared(alloc, &text) {
-            Ok(unit) => units.push((AuId::new(number + 1), unit))?,
+            Ok(unit) => units.push((AuId::new(number + 1), Shared::new(alloc, unit)?))?,
             Err(_) => panic!(rt; "the text is no unit"),
         }
     }
@@ -33,7 +33,7 @@ fn equal_units(
 /// The id of the unit that an edit of these changes, or why it is refused.
 fn changed(
     alloc: Global,
-    units: &[(AuId, Unit)],
+    units: &[(AuId, Shared<Unit>)],
     given: u32,
     edit: &Edit,
 ) -> Result<u32, EditRefused> {

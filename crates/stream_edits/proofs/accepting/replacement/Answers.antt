@@ -1,6 +1,6 @@
 use Rattle.std.proofs.lemmas.Result.{err_from_is_err_and}
-use Rattle.edit_engine.proofs.Edited.{Replace-refused}
-use Rattle.edit_engine.proofs.changes.replacement.Goals as goal
+use Rattle.stream_edits.proofs.Edited.{Replace-refused}
+use Rattle.stream_edits.proofs.accepting.replacement.Goals as goal
 
 pub returns-in_err-unit-clause-err : goal.returns-in_err-unit-clause-err
 returns-in_err-unit-clause-err c =

@@ -1,9 +1,9 @@
 //! Laws of the definitions, each the contract of a function that does nothing.
 
 ghost use Rattle.std.specs.Prelude.{List};
-ghost use Rattle.edit_engine.specs.declared.edits.Edit.{Edit as EditValue};
-ghost use Rattle.edit_engine.specs.Edits.{Register, no_units, Replays};
-ghost use Rattle.edit_engine.specs.Ids.{HasIds};
+ghost use Rattle.stream_edits.specs.declared.edits.Edit.{Edit as EditValue};
+ghost use Rattle.stream_edits.specs.Edits.{Register, no_units, Replays};
+ghost use Rattle.stream_edits.specs.Ids.{HasIds};
 
 /// The units of a stream have ids that differ, each of which was given.
 pub fn ids_differ()

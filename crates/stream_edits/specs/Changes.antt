@@ -1,10 +1,16 @@
--- What an edit comes to once its text is read and its places are found.
-use Rattle.std.specs.Prelude.{ℕ, ◌<◌, ◌≤◌, length, insert, remove, set}
-use Rattle.edit_engine.specs.declared.changes.Change.{Change}
-use Rattle.edit_engine.specs.declared.changes.Change.TheVariants.{Insertion, Deletion, Replacement}
-use Rattle.edit_engine.specs.declared.edits.Edit.{Edit}
-use Rattle.edit_engine.specs.Streams.{Stream}
-use Rattle.edit_engine.specs.Edits.{Register, Makes, most_units}
+-- A change of a stream by one unit, and the one that an edit comes to.
+use Rattle.std.specs.Prelude.{ℕ, ◌+◌, ◌<◌, ◌≤◌, [], ◌∷◌, length, insert, remove, set}
+use Rattle.stream_edits.specs.declared.changes.Change.{Change}
+use Rattle.stream_edits.specs.declared.changes.Change.TheVariants.{Insertion, Deletion, Replacement}
+use Rattle.stream_edits.specs.declared.edits.Edit.{Edit}
+use Rattle.stream_edits.specs.Streams.{Stream}
+use Rattle.stream_edits.specs.Edits.{Register, Makes}
+
+-- the place of the unit that is changed
+abbrev pub at_of : Change → ℕ
+at_of (Insertion at id unit) = at
+at_of (Deletion at id) = at
+at_of (Replacement at id unit) = at
 
 -- the id of the unit that is changed
 abbrev pub id_of : Change → ℕ
@@ -12,9 +18,9 @@ id_of (Insertion at id unit) = id
 id_of (Deletion at id) = id
 id_of (Replacement at id unit) = id
 
--- the change is within a stream
+-- the change is within the stream
 abbrev pub IsInside : Change → Stream → Type 0
-IsInside (Insertion at id unit) stream = (at ≤ length stream) × (length stream < most_units)
+IsInside (Insertion at id unit) stream = at ≤ length stream
 IsInside (Deletion at id) stream = at < length stream
 IsInside (Replacement at id unit) stream = at < length stream
 
@@ -23,6 +29,18 @@ abbrev pub stream_after : Change → Stream → Stream
 stream_after (Insertion at id unit) stream = insert stream at (id, unit)
 stream_after (Deletion at id) stream = remove stream at
 stream_after (Replacement at id unit) stream = set stream at (id, unit)
+
+-- the unit that it brings, if it brings one
+abbrev pub units_of : Change → Stream
+units_of (Insertion at id unit) = (id, unit) ∷ []
+units_of (Deletion at id) = []
+units_of (Replacement at id unit) = (id, unit) ∷ []
+
+-- the place at which the units begin that stay behind the changed one
+abbrev pub rest_from : Change → ℕ
+rest_from (Insertion at id unit) = at
+rest_from (Deletion at id) = at + 1
+rest_from (Replacement at id unit) = at + 1
 
 -- how many ids were given after it
 abbrev pub given_after : Change → ℕ → ℕ

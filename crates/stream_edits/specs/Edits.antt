@@ -1,15 +1,13 @@
 -- What an edit makes of a stream.
 use Rattle.std.specs.Prelude.{◌≡◌, ℕ, ◌+◌, ◌<◌, List, [], ◌∷◌, length, Some, insert, remove, set}
 use Rattle.access_unit.specs.Answers.{IsAccepted}
-use Rattle.edit_engine.specs.declared.edits.Edit.{Edit}
-use Rattle.edit_engine.specs.declared.edits.Edit.TheVariants.{Insert, Delete, Replace}
-use Rattle.edit_engine.specs.declared.edits.Place.{Place}
-use Rattle.edit_engine.specs.Streams.{Stream, place_of, start_of}
+use Rattle.access_unit.specs.Rooms.{most_units}
+use Rattle.stream_edits.specs.declared.edits.Edit.{Edit}
+use Rattle.stream_edits.specs.declared.edits.Edit.TheVariants.{Insert, Delete, Replace}
+use Rattle.stream_edits.specs.declared.edits.Place.{Place}
+use Rattle.stream_edits.specs.Streams.{Stream, place_of, start_of}
 
--- how many units a stream has at most, and how many ids are given
-abbrev pub most_units : ℕ
-most_units = 65536
-
+-- how many ids are given at most
 abbrev pub most_ids : ℕ
 most_ids = 4294967295
 

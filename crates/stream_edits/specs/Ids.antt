@@ -1,7 +1,7 @@
 -- The ids of a stream.
 use Rattle.std.specs.Prelude.{ℕ, ◌<◌, ◌≤◌, count_by}
-use Rattle.edit_engine.specs.Streams.{Stream, has_id}
-use Rattle.edit_engine.specs.Edits.{Register}
+use Rattle.stream_edits.specs.Streams.{Stream, has_id}
+use Rattle.stream_edits.specs.Edits.{Register}
 
 -- how many units have the id
 abbrev pub units_with : Stream → ℕ → ℕ

@@ -4,12 +4,13 @@ use Rattle.annexb.specs.ByteStream.{HasUnits}
 use Rattle.access_unit.specs.declared.refused.Refused.{Refused}
 use Rattle.access_unit.specs.Answers.{IsAccepted, IsRefused as IsTextRefused}
 use Rattle.access_unit.specs.Refusals.{most_bytes}
-use Rattle.edit_engine.specs.declared.edits.Edit.{Edit}
-use Rattle.edit_engine.specs.declared.edits.Edit.TheVariants.{Insert, Delete, Replace}
-use Rattle.edit_engine.specs.declared.refusals.EditRefused.{EditRefused}
-use Rattle.edit_engine.specs.declared.refusals.EditRefused.TheVariants as refusals
-use Rattle.edit_engine.specs.Streams.{Stream, place_of, start_of}
-use Rattle.edit_engine.specs.Edits.{Register, most_units, most_ids}
+use Rattle.access_unit.specs.Rooms.{most_units}
+use Rattle.stream_edits.specs.declared.edits.Edit.{Edit}
+use Rattle.stream_edits.specs.declared.edits.Edit.TheVariants.{Insert, Delete, Replace}
+use Rattle.stream_edits.specs.declared.refusals.EditRefused.{EditRefused}
+use Rattle.stream_edits.specs.declared.refusals.EditRefused.TheVariants as refusals
+use Rattle.stream_edits.specs.Streams.{Stream, place_of, start_of}
+use Rattle.stream_edits.specs.Edits.{Register, most_ids}
 
 -- the edit's text is refused so
 abbrev pub IsUnreadable : Edit → Refused → Type 0

@@ -1,20 +1,19 @@
 -- What follows from an edit that is accepted or refused.
-use Rattle.std.proofs.Common.{◌≡◌, ℕ, ◌≤◌, List, [], ◌∷◌, ◌++◌, length, length-set, ⊎_elim, refl, sym, arith, ◌⊎◌}
-use Rattle.std.proofs.lemmas.List.Edits.{length-insert, length-remove}
+use Rattle.std.proofs.Common.{◌≡◌, ℕ, suc, ◌≤◌, List, [], ◌∷◌, ◌++◌, length, take, drop, length-set, length-append, length-drop, ⊎_elim, refl, ap, sym, arith, ◌⊎◌}
+use Rattle.std.proofs.lemmas.List.{take-append-drop, length-take}
 use Rattle.access_unit.specs.declared.refused.Refused.{Refused}
 use Rattle.access_unit.specs.declared.refused.Refused.TheVariants as texts
 use Rattle.access_unit.specs.Answers.{IsRefused as IsTextRefused}
-use Rattle.edit_engine.specs.declared.changes.Change.{Change}
-use Rattle.edit_engine.specs.declared.changes.Change.TheVariants.{Insertion, Deletion, Replacement}
-use Rattle.edit_engine.specs.declared.edits.Edit.{Edit}
-use Rattle.edit_engine.specs.declared.edits.Edit.TheVariants.{Insert, Delete, Replace}
-use Rattle.edit_engine.specs.declared.edits.Place.{Place}
-use Rattle.edit_engine.specs.declared.refusals.EditRefused.TheVariants as refusals
-use Rattle.edit_engine.specs.Numbers.{refusal_of_text}
-use Rattle.edit_engine.specs.Streams.{Stream}
-use Rattle.edit_engine.specs.Edits.{Register, Makes, Replays, most_units}
-use Rattle.edit_engine.specs.Refusals.{IsRefused, IsSplittable, TakesMemory}
-use Rattle.edit_engine.specs.Changes.{IsFor, IsInside, stream_after}
+use Rattle.access_unit.specs.Rooms.{most_units}
+use Rattle.stream_edits.specs.declared.changes.Change.{Change}
+use Rattle.stream_edits.specs.declared.edits.Edit.{Edit}
+use Rattle.stream_edits.specs.declared.edits.Edit.TheVariants.{Insert, Delete, Replace}
+use Rattle.stream_edits.specs.declared.edits.Place.{Place}
+use Rattle.stream_edits.specs.declared.refusals.EditRefused.TheVariants as refusals
+use Rattle.stream_edits.specs.Numbers.{refusal_of_text}
+use Rattle.stream_edits.specs.Edits.{Register, Makes, Replays}
+use Rattle.stream_edits.specs.Refusals.{IsRefused, IsSplittable, TakesMemory}
+use Rattle.stream_edits.specs.Changes.{IsFor}
 
 -- an accepted edit after others
 pub Replays-push : (from : Register) (edits : List Edit) (between : Register) (edit : Edit) (id : ℕ) (to : Register)
@@ -25,14 +24,25 @@ Replays-push from [] between edit id to is makes =
 Replays-push from (first ∷ edits) between edit id to replays makes =
     (replays.0, replays.1, replays.2, Replays-push replays.1 edits between edit id to replays.3 makes)
 
--- a change keeps a stream within the most units
-pub length-after : (change : Change) (stream : Stream) → IsInside change stream → length stream ≤ most_units
-    → length (stream_after change stream) ≤ most_units
-length-after (Insertion at id unit) stream inside short =
-    let within : at ≤ length stream = inside.0 in
-    omega (arith, length-insert stream at (id, unit) within, inside.1)
-length-after (Deletion at id) stream inside short = omega (arith, length-remove stream at inside)
-length-after (Replacement at id unit) stream inside short = omega (arith, length-set stream at (id, unit))
+-- an accepted edit keeps a stream within the most units
+pub length-made : (old : Register) (edit : Edit) (id : ℕ) (new : Register) → Makes old edit id new
+    → length old.stream ≤ most_units → length new.stream ≤ most_units
+length-made old (Insert place text) id new makes short =
+    let whole = length-append (take makes.at old.stream) ((id, makes.unit) ∷ drop makes.at old.stream) in
+    let fits = makes.fits in
+    let parts = ap length (take-append-drop makes.at old.stream) in
+    let both = length-append (take makes.at old.stream) (drop makes.at old.stream) in
+    rw makes.stream_is (omega (arith, whole, both, parts, fits))
+length-made old (Delete deleted) id new makes short =
+    rw makes.1.stream_is (omega (
+      arith,
+      length-append (take makes.1.at old.stream) (drop (suc makes.1.at) old.stream),
+      length-take makes.1.at old.stream,
+      length-drop (suc makes.1.at) old.stream,
+      short,
+    ))
+length-made old (Replace replaced text) id new makes short =
+    rw makes.1.stream_is (omega (arith, length-set old.stream makes.1.at (replaced, makes.1.unit), short))
 
 -- an edit that comes to a change may want memory
 pub TakesMemory-for : (old : Register) (edit : Edit) (change : Change) → IsFor old edit change → TakesMemory old.stream edit

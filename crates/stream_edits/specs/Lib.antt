@@ -1,0 +1,7 @@
+pub mod Streams
+pub mod Edits
+pub mod Refusals
+pub mod Changes
+pub mod Ids
+pub mod Names
+pub mod Numbers

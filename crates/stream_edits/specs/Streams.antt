@@ -1,0 +1,31 @@
+-- A stream of access units, and places in it.
+use Rattle.std.specs.Prelude.{ℕ, ◌+◌, ◌-◌, ◌==◌, Bool, List, length, Option, Some, map, position, slice_get, option_map}
+use Rattle.stream_edits.specs.declared.edits.Place.{Place}
+use Rattle.stream_edits.specs.declared.edits.Place.TheVariants.{First, After}
+use Rattle.stream_edits.specs.declared.receipts.Last.{Last}
+
+-- access units under their ids, in decoding order; each is the list of its NAL units
+abbrev pub Stream : Type 0
+Stream = List (ℕ × List (List ℕ))
+
+-- the ids of the units
+abbrev pub ids_of : Stream → List ℕ
+ids_of stream = map (λ unit. unit.0) stream
+
+-- whether the unit has the id
+abbrev pub has_id : ℕ → ℕ × List (List ℕ) → Bool
+has_id id unit = unit.0 == id
+
+-- the place of the unit that has the id, if one has it
+unfoldable pub place_of : Stream → ℕ → Option ℕ
+place_of stream id = position (has_id id) stream
+
+-- the place at which a unit is inserted, if there is such a place
+abbrev pub start_of : Stream → Place → Option ℕ
+start_of stream First = Some 0
+start_of stream (After id) = option_map (λ place. place + 1) (place_of stream id)
+
+-- the end of a stream
+abbrev pub last_of : Stream → Last
+last_of stream =
+    record { units = length stream; id = option_map (λ unit. unit.0) (slice_get stream (length stream - 1)) }

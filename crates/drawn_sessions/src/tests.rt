@@ -1,0 +1,233 @@
+mod cached;
+mod drawing;
+mod edits;
+mod hands;
+mod jobs;
+mod looks;
+mod plain;
+mod pool;
+mod told;
+mod trees;
+
+use drawing::draw;
+use edit_engine::{Config, Landing, Session};
+use hands::Hands;
+use looks::{Names, agree};
+use plain::Plain;
+use stand_in_device::Device;
+use std::alloc::{AllocError, AllocGlobal, Global};
+use std::process::Abort;
+use std::test::Fail;
+use test_builders::Draws;
+use told::Answer;
+
+/// How many lists a test draws, and the most commands of one.
+const LISTS: u32 = 125;
+
+const COMMANDS: u64 = 60;
+
+/// How often each of what matters was answered.
+#[derive(Debug, Drop)]
+struct Counts {
+    accepted: u32,
+    refused: u32,
+    taken: u32,
+    stale: u32,
+    foreign: u32,
+    restored: u32,
+}
+
+impl Counts {
+    /// Counts an answer.
+    fn count(&mut self, answer: Answer) {
+        let counted = match answer {
+            Answer::Accepted(..) => &mut self.accepted,
+            Answer::Refused(_) => &mut self.refused,
+            Answer::Landed(Landing::Taken) => &mut self.taken,
+            Answer::Landed(Landing::Stale) => &mut self.stale,
+            Answer::Landed(Landing::Foreign) => &mut self.foreign,
+            _ => return,
+        };
+        *counted = counted.saturating_add(1);
+    }
+
+    /// Whether each was answered often enough for the lists to show something.
+    fn are_many(&self) -> bool {
+        self.accepted > 1000
+            && self.refused > 40
+            && self.taken > 250
+            && self.stale > 40
+            && self.foreign > 100
+            && self.restored > 50
+    }
+}
+
+/// A session and the plain model, which follow the same commands.
+#[derive(Drop)]
+struct List {
+    hands: Hands,
+    plain: Plain,
+    names: Names,
+}
+
+impl List {
+    /// Both with an empty stream, and with room for so many pictures in the cache.
+    fn new(alloc: Global, session: Session, room: u16) -> List {
+        List {
+            hands: Hands {
+                session,
+                device: Device::new(alloc),
+                inputs: Vec::new(alloc),
+            },
+            plain: Plain::new(alloc, room),
+            names: Names {
+                now: Vec::new(alloc),
+                seen: Vec::new(alloc),
+            },
+        }
+    }
+
+    /// Draws a command, which both follow: the answer, nothing where they differ in it or in what is seen then.
+    fn step(&mut self, alloc: Global, draws: &mut Draws) -> Result<Option<Answer>, AllocError> {
+        let told = draw(draws, &self.plain);
+        let answer = self.hands.follow(alloc, told)?;
+        let wanted = self.plain.follow(alloc, &self.hands.session, told)?;
+        let is_named = self
+            .names
+            .fit(alloc, &self.hands.session, &self.plain.keys)?;
+        let is_same = answer == wanted && self.is_given(answer) && is_named;
+        if is_same && self.plain.cached.is_possible && agree(&self.hands.session, &self.plain) {
+            Ok(Some(answer))
+        } else {
+            Ok(None)
+        }
+    }
+
+    /// Whether a job that was taken was given what the model gives.
+    fn is_given(&self, answer: Answer) -> bool {
+        match answer {
+            Answer::Taken(number, _) => self.hands.was_given(self.plain.given(number)),
+            _ => true,
+        }
+    }
+
+    /// Whether both agree on up to 60 commands, whose answers are counted.
+    fn agrees(
+        &mut self,
+        alloc: Global,
+        draws: &mut Draws,
+        counts: &mut Counts,
+    ) -> Result<bool, AllocError> {
+        for _ in draws.below(50)..COMMANDS {
+            match self.step(alloc, draws)? {
+                Some(answer) => counts.count(answer),
+                None => return Ok(false),
+            }
+        }
+        counts.restored = counts.restored.saturating_add(self.plain.cached.restored);
+        Ok(true)
+    }
+}
+
+/// Draws lists by a seed that sessions and the plain model agree on, with room for so many pictures in the cache.
+fn agree_on_lists(rt: &(impl Abort + AllocGlobal), seed: u64, room: u16) -> Result<(), AllocError> {
+    let mut draws = Draws::new(seed);
+    let mut counts = Counts {
+        accepted: 0,
+        refused: 0,
+        taken: 0,
+        stale: 0,
+        foreign: 0,
+        restored: 0,
+    };
+    for row in 0..LISTS {
+        let Ok(session) = Session::new(rt.alloc(), Config { cache: room }) else {
+            panic!(rt; "no session is made");
+        };
+        let mut list = List::new(rt.alloc(), session, room);
+        let agrees = list.agrees(rt.alloc(), &mut draws, &mut counts)?;
+        assert!(rt; agrees, "list {row}");
+    }
+    assert!(rt; counts.are_many(), "{counts:?}");
+    Ok(())
+}
+
+#[test]
+fn first_lists_with_room_for_1(rt: HostRuntime) -> Result<(), Fail> {
+    Ok(agree_on_lists(&rt, 0x9F5A_BF21_08F6_4A04, 1)?)
+}
+
+#[test]
+fn second_lists_with_room_for_1(rt: HostRuntime) -> Result<(), Fail> {
+    Ok(agree_on_lists(&rt, 0xD2D8_8F9A_5B3E_BAF2, 1)?)
+}
+
+#[test]
+fn third_lists_with_room_for_1(rt: HostRuntime) -> Result<(), Fail> {
+    Ok(agree_on_lists(&rt, 0x2669_39F8_D918_AB0C, 1)?)
+}
+
+#[test]
+fn last_lists_with_room_for_1(rt: HostRuntime) -> Result<(), Fail> {
+    Ok(agree_on_lists(&rt, 0x8DDC_710E_B8E9_5BC6, 1)?)
+}
+
+#[test]
+fn first_lists_with_room_for_2(rt: HostRuntime) -> Result<(), Fail> {
+    Ok(agree_on_lists(&rt, 0xA07E_0488_92A2_17F3, 2)?)
+}
+
+#[test]
+fn second_lists_with_room_for_2(rt: HostRuntime) -> Result<(), Fail> {
+    Ok(agree_on_lists(&rt, 0xD3FB_D501_E4EA_88E1, 2)?)
+}
+
+#[test]
+fn third_lists_with_room_for_2(rt: HostRuntime) -> Result<(), Fail> {
+    Ok(agree_on_lists(&rt, 0x278C_7F60_62C4_78FB, 2)?)
+}
+
+#[test]
+fn last_lists_with_room_for_2(rt: HostRuntime) -> Result<(), Fail> {
+    Ok(agree_on_lists(&rt, 0x8EFF_B676_4295_29B5, 2)?)
+}
+
+#[test]
+fn first_lists_with_room_for_3(rt: HostRuntime) -> Result<(), Fail> {
+    Ok(agree_on_lists(&rt, 0xA1A1_49F0_1C4D_E5E2, 3)?)
+}
+
+#[test]
+fn second_lists_with_room_for_3(rt: HostRuntime) -> Result<(), Fail> {
+    Ok(agree_on_lists(&rt, 0xD51F_1A69_6E96_56D0, 3)?)
+}
+
+#[test]
+fn third_lists_with_room_for_3(rt: HostRuntime) -> Result<(), Fail> {
+    Ok(agree_on_lists(&rt, 0x28AF_C4C7_EC70_46EA, 3)?)
+}
+
+#[test]
+fn last_lists_with_room_for_3(rt: HostRuntime) -> Result<(), Fail> {
+    Ok(agree_on_lists(&rt, 0x9022_FBDD_CC40_F7A4, 3)?)
+}
+
+#[test]
+fn first_lists_with_room_for_4(rt: HostRuntime) -> Result<(), Fail> {
+    Ok(agree_on_lists(&rt, 0xA2C4_8F57_A5F9_B3D1, 4)?)
+}
+
+#[test]
+fn second_lists_with_room_for_4(rt: HostRuntime) -> Result<(), Fail> {
+    Ok(agree_on_lists(&rt, 0xD642_5FD0_F842_24BF, 4)?)
+}
+
+#[test]
+fn third_lists_with_room_for_4(rt: HostRuntime) -> Result<(), Fail> {
+    Ok(agree_on_lists(&rt, 0x29D3_0A2F_761C_14D9, 4)?)
+}
+
+#[test]
+fn last_lists_with_room_for_4(rt: HostRuntime) -> Result<(), Fail> {
+    Ok(agree_on_lists(&rt, 0x9146_4145_55EC_C593, 4)?)
+}

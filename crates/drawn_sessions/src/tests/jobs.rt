@@ -1,0 +1,208 @@
+//! Jobs of the plain model.
+
+use super::plain::Plain;
+use super::told::Answer;
+use super::trees::{Key, Tree, is_among, key_at, key_with, named};
+use edit_engine::{Landing, Picture, Returning};
+use h264_controls::{Request, digest_form};
+use outcomes::Outcome;
+use pictures::AuId;
+use sha2::{Digest, Sha256};
+use stand_in_device::{Input, Reference};
+use std::alloc::{AllocError, Global};
+
+/// A job that was given: its key, what it was given to decode, and the picture of that.
+#[derive(Drop)]
+pub(super) struct Given {
+    tree: Tree,
+    pub(super) input: Input,
+    picture: Picture,
+}
+
+impl Plain {
+    /// Gives the job of the earliest unit whose key is due, under the next number.
+    pub(super) fn take(&mut self, alloc: Global) -> Result<Answer, AllocError> {
+        let Some(key) = self.due(alloc)? else {
+            return Ok(Answer::NotTaken);
+        };
+        let (tree, timestamp) = (key.tree.copy()?, key.id.timestamp());
+        let requests = self.requests_of(key.id);
+        let input = self.input_of(alloc, requests)?;
+        let picture = match self.picture(Some(key)) {
+            Some(picture) => picture,
+            None => self.picture_of(alloc, requests)?,
+        };
+        self.given.push(Given {
+            tree,
+            input,
+            picture,
+        })?;
+        let number = self.jobs();
+        self.out.push(number)?;
+        Ok(Answer::Taken(number, timestamp))
+    }
+
+    /// The first key that is due.
+    fn due(&self, alloc: Global) -> Result<Option<&Key>, AllocError> {
+        for key in &self.keys {
+            if self.is_due(alloc, key)? {
+                return Ok(Some(key));
+            }
+        }
+        Ok(None)
+    }
+
+    /// Whether a key isn't held and isn't out, and each key at its entries is held.
+    fn is_due(&self, alloc: Global, key: &Key) -> Result<bool, AllocError> {
+        if is_among(&self.held, &key.tree) || self.is_out(&key.tree) {
+            return Ok(false);
+        }
+        for request in self.requests_of(key.id) {
+            if !self.are_held(&named(alloc, request)?) {
+                return Ok(false);
+            }
+        }
+        Ok(true)
+    }
+
+    /// The requests of the unit of an id.
+    fn requests_of(&self, id: AuId) -> &[Request] {
+        match self.outcome(id) {
+            Some(Outcome::Plan(plan)) => plan.requests.as_slice(),
+            _ => &[],
+        }
+    }
+
+    /// Whether the key is that of a job that is out.
+    fn is_out(&self, tree: &Tree) -> bool {
+        for number in &self.out {
+            if let Some(given) = self.given(*number)
+                && given.tree.is(tree)
+            {
+                return true;
+            }
+        }
+        false
+    }
+
+    /// Whether the keys of the units that are named are held.
+    fn are_held(&self, units: &[Option<AuId>]) -> bool {
+        for unit in units {
+            if let Some(key) = key_at(&self.keys, *unit)
+                && !is_among(&self.held, &key.tree)
+            {
+                return false;
+            }
+        }
+        true
+    }
+
+    /// The requests, with the pictures of the units that they name, each once.
+    fn input_of(&self, alloc: Global, requests: &[Request]) -> Result<Input, AllocError> {
+        let (mut copies, mut references) = (Vec::new(alloc), Vec::new(alloc));
+        for request in requests {
+            copies.push(request.copy()?)?;
+            self.add(&mut references, &named(alloc, request)?)?;
+        }
+        Ok(Input::new(copies, references))
+    }
+
+    /// Adds the pictures of units.
+    fn add(
+        &self,
+        references: &mut Vec<Reference>,
+        units: &[Option<AuId>],
+    ) -> Result<(), AllocError> {
+        for unit in units {
+            if let (Some(id), Some(picture)) = (unit, self.picture(key_at(&self.keys, *unit))) {
+                let timestamp = id.timestamp();
+                let reference = Reference { timestamp, picture };
+                if !references.contains(&reference) {
+                    references.push(reference)?;
+                }
+            }
+        }
+        Ok(())
+    }
+
+    /// The picture of a key, if it was given to decode.
+    pub(super) fn picture(&self, key: Option<&Key>) -> Option<Picture> {
+        let tree = &key?.tree;
+        for given in &self.given {
+            if given.tree.is(tree) {
+                return Some(given.picture);
+            }
+        }
+        None
+    }
+
+    /// The SHA-256 of the records of requests: of each the digest form of its controls, the number of its bytes, the
+    /// bytes, and the pictures of the units that it names, zeros for none.
+    fn picture_of(&self, alloc: Global, requests: &[Request]) -> Result<Picture, AllocError> {
+        let mut records = Sha256::new();
+        for request in requests {
+            let mut form = Vec::new(alloc);
+            digest_form(request.controls(), &mut form)?;
+            records.update(form.as_slice());
+            records.update((request.bytes().len() as u64).to_le_bytes());
+            records.update(request.bytes().as_slice());
+            self.feed(&mut records, &named(alloc, request)?);
+        }
+        Ok(Picture {
+            digest: records.finalize(),
+        })
+    }
+
+    /// Feeds the pictures of units.
+    fn feed(&self, records: &mut Sha256, units: &[Option<AuId>]) {
+        for unit in units {
+            records.update(match self.picture(key_at(&self.keys, *unit)) {
+                Some(picture) => picture.digest,
+                None => [0; 32],
+            });
+        }
+    }
+
+    /// How many jobs were given.
+    pub(super) fn jobs(&self) -> u64 {
+        self.given.len() as u64
+    }
+
+    /// The job that was given under a number.
+    pub(super) fn given(&self, number: u64) -> Option<&Given> {
+        self.given.get(number.checked_sub(1)? as usize)
+    }
+
+    /// Takes the result of what a job was given to decode under a number.
+    pub(super) fn land(&mut self, number: u64, of: u64) -> Result<Landing, AllocError> {
+        let Some(tree) = self.leave(number, of)? else {
+            return Ok(Landing::Foreign);
+        };
+        if key_with(&self.keys, &tree).is_none() || is_among(&self.held, &tree) {
+            return Ok(Landing::Stale);
+        }
+        self.held.push(tree)?;
+        Ok(Landing::Taken)
+    }
+
+    /// Takes back what a job was given to decode under a number.
+    pub(super) fn give_back(&mut self, number: u64, of: u64) -> Result<Returning, AllocError> {
+        match self.leave(number, of)? {
+            Some(_) => Ok(Returning::Returned),
+            None => Ok(Returning::Foreign),
+        }
+    }
+
+    /// Where a job of this number is out that was given the same as that one, it's out no more: its key.
+    fn leave(&mut self, number: u64, of: u64) -> Result<Option<Tree>, AllocError> {
+        let (Some(job), Some(brought)) = (self.given(number), self.given(of)) else {
+            return Ok(None);
+        };
+        if !self.out.contains(&number) || !job.input.is_same(&brought.input) {
+            return Ok(None);
+        }
+        let tree = job.tree.copy()?;
+        self.out.retain(|out| *out != number);
+        Ok(Some(tree))
+    }
+}

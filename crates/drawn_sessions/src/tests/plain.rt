@@ -1,0 +1,112 @@
+//! The plain model of a session: lists, and whole trees.
+
+use super::cached::Cached;
+use super::jobs::Given;
+use super::told::{Answer, Change, Told};
+use super::trees::{Key, Tree, Works, is_among, key_at};
+use access_unit::Unit;
+use edit_engine::{Session, Shown};
+use outcomes::Outcome;
+use pictures::AuId;
+use std::alloc::{AllocError, Global};
+
+/// A stream under edits, what becomes of its units, and of their pictures.
+#[derive(Drop)]
+pub(super) struct Plain {
+    pub(super) units: Vec<(AuId, Unit)>,
+    /// What becomes of the units, folded anew after each edit, with the keys of the valid ones.
+    pub(super) outcomes: Vec<Outcome>,
+    pub(super) positions: Vec<Option<usize>>,
+    pub(super) works: Works,
+    pub(super) keys: Vec<Key>,
+    pub(super) held: Vec<Tree>,
+    pub(super) cached: Cached,
+    /// All jobs that were given, and the numbers of those that are out.
+    pub(super) given: Vec<Given>,
+    pub(super) out: Vec<u64>,
+    /// The text of each id that was given, as a place of the pool.
+    pub(super) texts: Vec<usize>,
+    /// For each accepted edit the one that undoes it.
+    pub(super) undoing: Vec<Change>,
+}
+
+impl Plain {
+    /// An empty stream, with room for so many pictures in the cache.
+    pub(super) fn new(alloc: Global, room: u16) -> Plain {
+        Plain {
+            units: Vec::new(alloc),
+            outcomes: Vec::new(alloc),
+            positions: Vec::new(alloc),
+            works: Works {
+                works: Vec::new(alloc),
+            },
+            keys: Vec::new(alloc),
+            held: Vec::new(alloc),
+            cached: Cached::new(alloc, usize::from(room)),
+            given: Vec::new(alloc),
+            out: Vec::new(alloc),
+            texts: Vec::new(alloc),
+            undoing: Vec::new(alloc),
+        }
+    }
+
+    /// Follows a command that the session has followed.
+    pub(super) fn follow(
+        &mut self,
+        alloc: Global,
+        session: &Session,
+        told: Told,
+    ) -> Result<Answer, AllocError> {
+        match told {
+            Told::Edit(change) => self.edit(alloc, session, change),
+            Told::Take => self.take(alloc),
+            Told::Land(number, of) => Ok(Answer::Landed(self.land(number, of)?)),
+            Told::Give(number, of) => Ok(Answer::GivenBack(self.give_back(number, of)?)),
+        }
+    }
+
+    /// The place of the unit of an id.
+    pub(super) fn place_of(&self, id: AuId) -> Option<usize> {
+        self.units.iter().position(|unit| unit.0 == id)
+    }
+
+    /// What becomes of the unit of an id.
+    pub(super) fn outcome(&self, id: AuId) -> Option<&Outcome> {
+        self.outcomes.get(self.place_of(id)?)
+    }
+
+    /// The position of the unit of an id.
+    pub(super) fn position(&self, id: AuId) -> Option<usize> {
+        *self.positions.get(self.place_of(id)?)?
+    }
+
+    /// What is shown of the unit of an id.
+    pub(super) fn show(&self, id: AuId) -> Shown {
+        match (self.outcome(id), key_at(&self.keys, Some(id))) {
+            (Some(Outcome::Fault(fault)), _) => Shown::Fault(*fault),
+            (Some(Outcome::Plan(_)), Some(key)) => self.show_key(key),
+            (Some(Outcome::Plan(_)), None) => Shown::Pending,
+            (None, _) => Shown::NoSuchUnit,
+        }
+    }
+
+    /// What is shown of a unit with this key.
+    fn show_key(&self, key: &Key) -> Shown {
+        match self.picture(Some(key)) {
+            Some(picture) if is_among(&self.held, &key.tree) => Shown::Ready(picture),
+            _ => Shown::Pending,
+        }
+    }
+
+    /// The number of the next id.
+    pub(super) fn next_id(&self) -> u32 {
+        u32::try_from(self.texts.len())
+            .unwrap_or(u32::MAX)
+            .saturating_add(1)
+    }
+
+    /// The text that the unit of an id has or had last.
+    pub(super) fn text_of(&self, id: u32) -> Option<usize> {
+        self.texts.get(id.checked_sub(1)? as usize).copied()
+    }
+}

@@ -1,0 +1,153 @@
+//! Keys as whole trees.
+
+use access_unit::Unit;
+use base_types::Shared;
+use bytes::Bytes;
+use h264_controls::{Request, Work};
+use outcomes::Outcome;
+use pictures::AuId;
+use std::alloc::{AllocError, Global};
+
+/// A tree, written out: for each slice the number of its work, and for each entry of its lists a 0, or a 1 and the whole
+/// tree of the frame that is named.
+#[derive(Drop)]
+pub(super) struct Tree {
+    text: Bytes,
+}
+
+impl Tree {
+    pub(super) fn is(&self, other: &Tree) -> bool {
+        self.text.as_slice() == other.text.as_slice()
+    }
+
+    pub(super) fn copy(&self) -> Result<Tree, AllocError> {
+        Ok(Tree {
+            text: self.text.clone()?,
+        })
+    }
+}
+
+/// The key of a valid unit.
+#[derive(Drop)]
+pub(super) struct Key {
+    pub(super) id: AuId,
+    pub(super) tree: Tree,
+}
+
+/// The works that were seen, each once; its number is its place.
+#[derive(Drop)]
+pub(super) struct Works {
+    pub(super) works: Vec<Shared<Work>>,
+}
+
+impl Works {
+    /// The keys of the valid ones of these units, in order.
+    pub(super) fn keys_of(
+        &mut self,
+        alloc: Global,
+        units: &[(AuId, Unit)],
+        outcomes: &[Outcome],
+    ) -> Result<Vec<Key>, AllocError> {
+        let mut keys = Vec::new(alloc);
+        for (unit, outcome) in units.iter().zip(outcomes) {
+            if let Outcome::Plan(plan) = outcome {
+                let tree = self.tree_of(alloc, &keys, plan.requests.as_slice())?;
+                keys.push(Key { id: unit.0, tree })?;
+            }
+        }
+        Ok(keys)
+    }
+
+    /// The tree of the unit with these requests, after those with these keys.
+    fn tree_of(
+        &mut self,
+        alloc: Global,
+        before: &[Key],
+        requests: &[Request],
+    ) -> Result<Tree, AllocError> {
+        let mut text = Vec::new(alloc);
+        for request in requests {
+            text.extend_from_slice(&self.number_of(&request.work)?.to_le_bytes())?;
+            write_entries(&mut text, before, &named(alloc, request)?)?;
+        }
+        Ok(Tree {
+            text: Bytes::from_vec(text)?,
+        })
+    }
+
+    /// The number of a work.
+    fn number_of(&mut self, work: &Shared<Work>) -> Result<u64, AllocError> {
+        for (number, other) in self.works.iter().enumerate() {
+            if other.is_same(work) {
+                return Ok(number as u64);
+            }
+        }
+        self.works.push(work.clone()?)?;
+        Ok((self.works.len() as u64).saturating_sub(1))
+    }
+}
+
+/// Writes the trees of the units that are named.
+fn write_entries(
+    text: &mut Vec<u8>,
+    before: &[Key],
+    units: &[Option<AuId>],
+) -> Result<(), AllocError> {
+    for unit in units {
+        match key_at(before, *unit) {
+            Some(key) => {
+                text.push(1)?;
+                text.extend_from_slice(key.tree.text.as_slice())?;
+            }
+            None => text.push(0)?,
+        }
+    }
+    Ok(())
+}
+
+/// The units that the entries of both lists of a slice name.
+pub(super) fn named(alloc: Global, request: &Request) -> Result<Vec<Option<AuId>>, AllocError> {
+    let mut units = Vec::new(alloc);
+    let params = &request.controls().slice_params;
+    for list in [&params.ref_pic_list0, &params.ref_pic_list1] {
+        for entry in list.entries() {
+            units.push(unit_of(request, *entry))?;
+        }
+    }
+    Ok(units)
+}
+
+/// The unit that an entry names.
+fn unit_of(request: &Request, entry: Option<u8>) -> Option<AuId> {
+    request.reference(entry?)
+}
+
+/// The key of the unit of an id.
+pub(super) fn key_at(keys: &[Key], id: Option<AuId>) -> Option<&Key> {
+    for key in keys {
+        if Some(key.id) == id {
+            return Some(key);
+        }
+    }
+    None
+}
+
+/// The first key with the tree.
+pub(super) fn key_with<'a>(keys: &'a [Key], tree: &Tree) -> Option<&'a Key> {
+    for key in keys {
+        if key.tree.is(tree) {
+            return Some(key);
+        }
+    }
+    None
+}
+
+/// Whether the tree is among these.
+pub(super) fn is_among(trees: &[Tree], tree: &Tree) -> bool {
+    for other in trees {
+        if other.is(tree) {
+            return true;
+        }
+    }
+    false
+}

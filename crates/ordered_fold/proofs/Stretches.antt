@@ -4,10 +4,10 @@ use Rattle.std.proofs.lemmas.List.{length-map, map-append, take-map, drop-map}
 use Rattle.request_core.specs.States.{no_units}
 use Rattle.request_core.specs.Fold.{outcomes_of}
 use Rattle.request_core.specs.Agreement.{Stream}
-use Rattle.stream_fold.specs.declared.changes.Change as changes
-use Rattle.stream_fold.specs.declared.changes.Change.TheVariants.{Insertion, Deletion, Replacement}
+use Rattle.stream_edits.specs.declared.changes.Change as changes
+use Rattle.stream_edits.specs.declared.changes.Change.TheVariants.{Insertion, Deletion, Replacement}
 use Rattle.stream_fold.specs.declared.folded.Prepared.{Prepared}
-use Rattle.stream_fold.specs.Changes.{IsInside, stream_after}
+use Rattle.stream_edits.specs.Changes.{IsInside, stream_after}
 use Rattle.stream_fold.specs.Prepared.{IsAnew, change_in, begin_in, end_in, outcomes_in}
 use Rattle.stream_fold.proofs.Changed.{length_after}
 use Rattle.stream_fold.proofs.Folds.{length-outcomes_from}
@@ -27,7 +27,7 @@ length-shown stream = length-map (outcomes_of stream) shown_of ∙ length-outcom
 -- a change makes a stream longer by one unit at most
 pub one_longer : (change : changes.Change) (stream : Stream) → IsInside change stream → length (stream_after change stream) ≤ length stream + 1
 one_longer (Insertion at id unit) stream inside = omega (arith, length_after (Insertion at id unit) stream inside)
-one_longer (Deletion at) stream inside = omega (arith, length_after (Deletion at) stream inside)
+one_longer (Deletion at id) stream inside = omega (arith, length_after (Deletion at id) stream inside)
 one_longer (Replacement at id unit) stream inside = omega (arith, length_after (Replacement at id unit) stream inside)
 
 module _ (stream : Stream) (periods : List (List (Option Shown))) (are : AreOrdered stream periods) where

@@ -1,6 +1,6 @@
 -- A change of a stream in output order that is prepared.
 use Rattle.std.specs.Prelude.{◌≤◌, length}
-use Rattle.stream_fold.specs.Changes.{stream_after}
+use Rattle.stream_edits.specs.Changes.{stream_after}
 use Rattle.stream_fold.specs.Prepared as folding
 use Rattle.period_counts.specs.Kept.{IsChange, changed}
 use Rattle.ordered_fold.specs.declared.prepared_change.PreparedChange.{PreparedChange}

@@ -4,7 +4,7 @@ ghost use Rattle.std.specs.Prelude.{◌≡◌, ℕ, ◌+◌, ◌^◌, ◌<◌, �
 ghost use Rattle.request_core.specs.Fold.{outcomes_of};
 ghost use Rattle.output_order.specs.OutputOrder.{positions_of};
 ghost use Rattle.period_counts.specs.Bounds.{period_size};
-ghost use Rattle.stream_fold.specs.Changes.{IsInside, stream_after};
+ghost use Rattle.stream_edits.specs.Changes.{IsInside, stream_after};
 ghost use Rattle.stream_fold.specs.Meeting.{IsMeeting};
 ghost use Rattle.stream_fold.specs.Prepared.{IsAnew, change_in, steps_in};
 ghost use Rattle.ordered_fold.specs.Prepared.{IsPrepared};

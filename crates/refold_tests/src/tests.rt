@@ -1,5 +1,5 @@
 ghost use Rattle.std.specs.Prelude.{◌<◌, length};
-ghost use Rattle.stream_fold.specs.Changes.{IsInside};
+ghost use Rattle.stream_edits.specs.Changes.{IsInside};
 
 use access_unit::{Refused, Unit, read_unit};
 use base_types::Shared;
@@ -112,7 +112,8 @@ fn delete(
     if at >= count || count >= 70_000 {
         panic!(rt; "there is no such unit");
     }
-    changed(rt.alloc(), folded, Change::Deletion { at })
+    let id = AuId::new(at as u32 + 1);
+    changed(rt.alloc(), folded, Change::Deletion { at, id })
 }
 
 /// Whether the unit at the place is valid.

@@ -11,10 +11,11 @@ use Rattle.request_core.specs.States.{FoldState, no_units}
 use Rattle.request_core.specs.Agreement.{Stream, state_from}
 use Rattle.checkpoints.specs.Stored.{IsStoredAt, IsBefore, IsLast}
 use Rattle.checkpoints.proofs.Members.{of_each, le_last}
-use Rattle.stream_fold.specs.declared.changes.Change.{Change}
+use Rattle.stream_edits.specs.declared.changes.Change.{Change}
 use Rattle.stream_fold.specs.declared.refold.Refold.{Refold}
 use Rattle.stream_fold.specs.Streams.{state_past}
-use Rattle.stream_fold.specs.Changes.{IsInside, at_of, units_of, rest_from, stream_after, place_after}
+use Rattle.stream_edits.specs.Changes.{IsInside, at_of, units_of, rest_from, stream_after}
+use Rattle.stream_fold.specs.Changes.{place_after}
 use Rattle.stream_fold.specs.Meeting.{AgreeAt, IsMeeting}
 use Rattle.stream_fold.specs.Kept.{IsFolded, spacing}
 use Rattle.stream_fold.specs.Refolding.{Begins, IsRefolded, GoesOn, IsStart, CatchesUp, HasCaughtUp, IsMadeAnew, end_of}

@@ -15,11 +15,12 @@ use Rattle.checkpoints.specs.Stored.{IsStoredAt}
 use Rattle.checkpoints.specs.Changes.{CanShift, cut, shifted}
 use Rattle.checkpoints.specs.Spacing.{HasNear}
 use Rattle.checkpoints.proofs.Members.{Contains_cases, kept_from_cut}
-use Rattle.stream_fold.specs.declared.changes.Change.{Change}
-use Rattle.stream_fold.specs.declared.changes.Change.TheVariants.{Insertion, Deletion, Replacement}
+use Rattle.stream_edits.specs.declared.changes.Change.{Change}
+use Rattle.stream_edits.specs.declared.changes.Change.TheVariants.{Insertion, Deletion, Replacement}
 use Rattle.stream_fold.specs.declared.refold.Refold.{Refold}
 use Rattle.stream_fold.specs.Streams.{state_past}
-use Rattle.stream_fold.specs.Changes.{IsInside, at_of, rest_from, stream_after, length_change, place_after}
+use Rattle.stream_edits.specs.Changes.{IsInside, at_of, rest_from, stream_after}
+use Rattle.stream_fold.specs.Changes.{length_change, place_after}
 use Rattle.stream_fold.specs.Meeting.{AgreeAt}
 use Rattle.stream_fold.specs.Kept.{IsFolded, IsPast, ArePast, AreNear, spacing}
 use Rattle.stream_fold.specs.Storing.{stored_after}
@@ -40,7 +41,7 @@ can_shift_by : (change : Change) (stays kept most : ℕ) (places : List ℕ) →
     → kept ≤ at_of change → rest_from change < stays → CanShift stays (length_change change) places
 can_shift_by (Insertion at id unit) stays kept most places short within sides low behind =
     λ place there high. omega (arith, within place there, short)
-can_shift_by (Deletion at) stays kept most places short within sides low behind =
+can_shift_by (Deletion at id) stays kept most places short within sides low behind =
     λ place other at-place at-other below past. elim (sides place at-place) [
       | inl le ↦ omega (arith, le, low, behind, past)
       | inr ge ↦ absurd (omega (arith, ge, below))

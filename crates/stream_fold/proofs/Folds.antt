@@ -7,9 +7,10 @@ use Rattle.request_core.specs.States.{FoldState, no_units}
 use Rattle.request_core.specs.Fold.{fold_step, outcomes_from, outcomes_of}
 use Rattle.request_core.specs.Agreement.{Stream, state_from}
 use Rattle.request_core.proofs.Agreement.{outcomes_from-append, state_from-append}
-use Rattle.stream_fold.specs.declared.changes.Change.{Change}
+use Rattle.stream_edits.specs.declared.changes.Change.{Change}
 use Rattle.stream_fold.specs.Streams.{state_past}
-use Rattle.stream_fold.specs.Changes.{IsInside, at_of, rest_from, stream_after, place_after}
+use Rattle.stream_edits.specs.Changes.{IsInside, at_of, rest_from, stream_after}
+use Rattle.stream_fold.specs.Changes.{place_after}
 use Rattle.stream_fold.specs.Meeting.{AgreeAt}
 use Rattle.stream_fold.proofs.Fronts.{take_more_of, take_take}
 use Rattle.stream_fold.proofs.Changed.{take_before, drop_behind, apart_after}

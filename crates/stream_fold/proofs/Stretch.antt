@@ -7,7 +7,7 @@ use Rattle.request_core.specs.Fold.{outcomes_of}
 use Rattle.request_core.specs.Agreement.{Stream}
 use Rattle.stream_fold.specs.declared.folded.Prepared.{Prepared}
 use Rattle.stream_fold.specs.declared.refold.Refold.{Refold}
-use Rattle.stream_fold.specs.Changes.{IsInside, stream_after}
+use Rattle.stream_edits.specs.Changes.{IsInside, stream_after}
 use Rattle.stream_fold.specs.Kept.{IsFolded}
 use Rattle.stream_fold.specs.Refolding.{IsRefolded, IsMadeAnew, end_of}
 use Rattle.stream_fold.specs.Prepared.{IsAnew}

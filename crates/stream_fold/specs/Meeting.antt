@@ -1,9 +1,10 @@
 -- Where the folds over a stream before and after a change of one unit meet.
 use Rattle.std.specs.Prelude.{◌≡◌, ◌⊎◌, ℕ, ◌+◌, ◌≤◌, length}
 use Rattle.request_core.specs.Agreement.{Stream}
-use Rattle.stream_fold.specs.declared.changes.Change.{Change}
+use Rattle.stream_edits.specs.declared.changes.Change.{Change}
 use Rattle.stream_fold.specs.Streams.{state_past}
-use Rattle.stream_fold.specs.Changes.{stream_after, rest_from, place_after}
+use Rattle.stream_edits.specs.Changes.{stream_after, rest_from}
+use Rattle.stream_fold.specs.Changes.{place_after}
 
 -- the folds agree in state past the same units: up to a place before the change, and where that place is after it
 abbrev pub AgreeAt : Change → Stream → ℕ → Type 0

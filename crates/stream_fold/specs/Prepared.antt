@@ -3,9 +3,9 @@ use Rattle.std.specs.Prelude.{◌≡◌, ℕ, ◌+◌, ◌^◌, ◌<◌, ◌≤�
 use Rattle.outcomes.specs.declared.outcome.Outcome.{Outcome}
 use Rattle.request_core.specs.Fold.{outcomes_of}
 use Rattle.request_core.specs.Agreement.{Stream}
-use Rattle.stream_fold.specs.declared.changes.Change.{Change}
+use Rattle.stream_edits.specs.declared.changes.Change.{Change}
 use Rattle.stream_fold.specs.declared.folded.Prepared.{Prepared}
-use Rattle.stream_fold.specs.Changes.{IsInside, stream_after}
+use Rattle.stream_edits.specs.Changes.{IsInside, stream_after}
 use Rattle.stream_fold.specs.Kept.{FoldedValue}
 use Rattle.stream_fold.specs.Refolding.{IsMadeAnew, end_of}
 

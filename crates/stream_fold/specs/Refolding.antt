@@ -7,9 +7,10 @@ use Rattle.request_core.specs.Fold.{outcomes_of}
 use Rattle.request_core.specs.Agreement.{Stream, state_from}
 use Rattle.checkpoints.specs.Stored.{IsStoredAt}
 use Rattle.checkpoints.specs.Spacing.{HasNear}
-use Rattle.stream_fold.specs.declared.changes.Change.{Change}
+use Rattle.stream_edits.specs.declared.changes.Change.{Change}
 use Rattle.stream_fold.specs.declared.refold.Refold.{Refold}
-use Rattle.stream_fold.specs.Changes.{at_of, stream_after, rest_from, place_after}
+use Rattle.stream_edits.specs.Changes.{at_of, stream_after, rest_from}
+use Rattle.stream_fold.specs.Changes.{place_after}
 use Rattle.stream_fold.specs.Meeting.{IsMeeting}
 use Rattle.stream_fold.specs.Kept.{IsPast, spacing}
 

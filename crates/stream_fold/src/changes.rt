@@ -1,83 +1,18 @@
-//! Changes of a stream by one unit.
+//! What a change does to the places behind it.
 
-ghost use Rattle.std.specs.Prelude.{◌≡◌, ◌+◌, ◌^◌, ◌<◌, vec_len};
-ghost use Rattle.std.specs.Vec.{vec_capacity};
-ghost use Rattle.stream_fold.specs.Changes.{IsInside, at_of, length_change, rest_from, stream_after, units_of};
+ghost use Rattle.std.specs.Prelude.{◌≡◌};
+ghost use Rattle.stream_fold.specs.Changes.{length_change};
 
-use access_unit::Unit;
-use base_types::Shared;
 use checkpoints::LengthChange;
-use pictures::AuId;
+use stream_edits::Change;
 
-/// A change of a stream by one unit, at a place: the place past the first `at` units.
-#[derive(Debug, Drop)]
-pub enum Change {
-    /// The unit is there then, in front of the one that was there.
-    Insertion {
-        at: usize,
-        id: AuId,
-        unit: Shared<Unit>,
-    },
-    /// The unit that was there is gone.
-    Deletion {
-        at: usize,
-    },
-    /// The unit is there in place of the one that was there.
-    Replacement {
-        at: usize,
-        id: AuId,
-        unit: Shared<Unit>,
-    },
-}
-
-impl Change {
-    /// The place of the unit that is changed.
-    pub(crate) fn at(&self) -> usize
-        ensures { result ≡ at_of self.now }
-    {
-        match self {
-            Change::Insertion { at, .. }
-            | Change::Deletion { at }
-            | Change::Replacement { at, .. } => *at,
-        }
-    }
-
-    /// The place at which the units begin that stay behind the changed one.
-    pub(crate) fn rest_from(&self) -> usize
-        requires { at_of self.now + 1 < 2 ^ 64 }
-        ensures { result ≡ rest_from self.now }
-    {
-        match self {
-            Change::Insertion { at, .. } => *at,
-            Change::Deletion { at } | Change::Replacement { at, .. } => *at + 1,
-        }
-    }
-
-    /// How the stream's length changes.
-    pub(crate) fn length_change(&self) -> LengthChange
-        ensures { result ≡ length_change self.now }
-    {
-        match self {
-            Change::Insertion { .. } => LengthChange::Longer(1),
-            Change::Deletion { .. } => LengthChange::Shorter(1),
-            Change::Replacement { .. } => LengthChange::Longer(0),
-        }
-    }
-
-    /// Makes the change, for which there is room.
-    pub(crate) fn make(self, units: &mut Vec<(AuId, Shared<Unit>)>)
-        requires inside { IsInside self units.old.items }
-        requires room { vec_len units.old < vec_capacity units.old }
-        ensures { units.new.items ≡ stream_after self units.old.items }
-    {
-        match self {
-            Change::Insertion { at, id, unit } => {
-                let Ok(()) = units.insert(at, (id, unit)) else {
-                    unreachable!()
-                };
-            }
-            Change::Deletion { at } => drop(units.remove(at)),
-            Change::Replacement { at, id, unit } => units[at] = (id, unit),
-        }
+/// How a change changes the stream's length.
+pub(crate) fn length_change(change: &Change) -> LengthChange
+    ensures { result ≡ length_change change.now }
+{
+    match change {
+        Change::Insertion { .. } => LengthChange::Longer(1),
+        Change::Deletion { .. } => LengthChange::Shorter(1),
+        Change::Replacement { .. } => LengthChange::Longer(0),
     }
 }

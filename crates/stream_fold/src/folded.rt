@@ -3,10 +3,10 @@
 ghost use Rattle.std.specs.Prelude.{◌≡◌, ◌↔◌, ◌+◌, ◌-◌, ◌^◌, ◌<◌, ◌≤◌, [], ◌∷◌, take, drop, length, ℕ, IfOk, IsTrue, OnOk};
 ghost use Rattle.request_core.specs.Fold.{outcomes_of};
 ghost use Rattle.checkpoints.specs.Stored.{IsStoredAt};
-ghost use Rattle.stream_fold.specs.Changes.{IsInside, at_of, rest_from, stream_after, units_of};
+ghost use Rattle.stream_edits.specs.Changes.{IsInside, at_of, rest_from, stream_after, units_of};
 ghost use Rattle.stream_fold.specs.Meeting.{IsMeeting};
 
-use crate::changes::Change;
+use crate::changes::length_change;
 use crate::refold::Refold;
 use crate::replacing::replace_range;
 use crate::storing::{keep_end, store_anew};
@@ -18,6 +18,7 @@ use pictures::AuId;
 use request_core::State;
 use std::alloc::{AllocError, Global};
 use std::marker::Model;
+use stream_edits::Change;
 
 /// A stream of access units under their ids, with what becomes of each, and the states of the fold past some of its places.
 #[derive(Debug, Drop)]
@@ -141,7 +142,7 @@ impl Folded {
             &mut self.stored,
             fold.kept,
             met.unwrap_or(end + 1),
-            change.length_change(),
+            length_change(&change),
             fold.states,
         );
         replace_range(

@@ -11,5 +11,5 @@ mod refold;
 mod replacing;
 mod storing;
 
-pub use changes::Change;
 pub use folded::{Folded, Prepared};
+pub use stream_edits::Change;

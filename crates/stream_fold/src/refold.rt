@@ -2,15 +2,15 @@
 
 ghost use Rattle.std.specs.Prelude.{◌≡◌, ◌+◌, ◌-◌, ◌^◌, ◌<◌, ◌≤◌, ◌∷◌, ◌++◌, [], length, IfOk, OnOk};
 ghost use Rattle.request_core.specs.Agreement.{Stream};
-ghost use Rattle.stream_fold.specs.Changes.{units_of};
+ghost use Rattle.stream_edits.specs.Changes.{units_of};
 
-use crate::changes::Change;
 use access_unit::Unit;
 use base_types::Shared;
 use outcomes::Outcome;
 use pictures::AuId;
 use request_core::{State, Steps, step};
 use std::alloc::{AllocError, Global};
+use stream_edits::Change;
 
 /// How far stored states stand apart at most, in units.
 pub(crate) const SPACING: usize = 32;

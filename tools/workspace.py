@@ -29,14 +29,15 @@ def below_all(names):
     return [crate for crate in listed if crate in found]
 
 
-def copy_of(name, folder):
-    """Copies a crate's texts, and what was built of the crates below it, into a folder; the crate's folder there."""
+def copy_of(name, folder, is_built=True):
+    """Copies a crate and those below it, with what was built of these where `is_built`, into a folder; the crate's there."""
     low = below(name)
     lines = (TOP / "crates.txt").read_text().splitlines()
     wanted = [line for line in lines if (re.match(r"\w+", line) or [""])[0] in (*low, name)]
     (folder / "crates.txt").write_text("\n".join(wanted) + "\n")
     shutil.copy(TOP / "HANDLES", folder)
     for crate in (*low, name):
-        left_out = shutil.ignore_patterns(*(["out"] if crate == name else ["incremental", "must-fail", "more-edits"]))
+        made = "incremental" if is_built else "out"
+        left_out = shutil.ignore_patterns(*(["out"] if crate == name else [made, "must-fail", "more-edits"]))
         shutil.copytree(TOP / "crates" / crate, folder / "crates" / crate, ignore=left_out)
     return folder / "crates" / name

@@ -1,4 +1,5 @@
-//! Tests of the queues of a stateless decoder. They call public functions alone, so m2m_queues is proved once.
+//! Tests of the queues of a stateless decoder and of the stand-in for one. They call public functions alone, so
+//! m2m_queues and stand_in_device are proved once.
 #![tactic(auto)]
 
 #[cfg(test)]

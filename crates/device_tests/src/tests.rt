@@ -1,3 +1,4 @@
+mod decoding;
 mod queues;
 
 use std::process::Abort;

@@ -10,8 +10,6 @@ ghost use Rattle.stand_in_device.specs.Pictures.{record_of};
 
 use crate::slice_digest::{SliceControls, SliceDigest};
 use h264_controls::Request;
-#[cfg(test)]
-use m2m_queues::{Buffer, RequestState};
 use m2m_queues::{Dequeued, QueueFault, Queues, RequestId, RunOne};
 use std::alloc::{AllocError, Global};
 use std::marker::Model;
@@ -101,21 +99,6 @@ impl Decoding {
                 let decoding = self.decode_slice(slice, work)?;
                 decoding.decode_slices(more, timestamp, work)
             }
-        }
-    }
-
-    /// The CAPTURE buffer.
-    #[cfg(test)]
-    pub(crate) fn capture(&self) -> Option<Buffer> {
-        self.queues.capture_buffer(0).ok()
-    }
-
-    /// How far the request is.
-    #[cfg(test)]
-    pub(crate) fn request_state(&self) -> RequestState {
-        match self.queues.request_state(self.request) {
-            Ok(state) => state,
-            Err(_) => RequestState::Queued,
         }
     }
 

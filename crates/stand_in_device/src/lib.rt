@@ -19,6 +19,3 @@ pub use device::Device;
 pub use input::{Input, Reference};
 pub use job::{Finished, Job, Undone};
 pub use picture::Picture;
-
-#[cfg(test)]
-mod tests;

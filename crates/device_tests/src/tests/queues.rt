@@ -10,7 +10,8 @@ use calls::Call::{
     Alloc, Close, DequeueCapture, DequeueOutput, LookAtCapture, LookAtOutput, LookAtRequest,
     QueueCapture, QueueOutput, QueueRequest, Reinit, Run, SetControls,
 };
-use calls::{Answer, Call, Recorder, Slice, are_answered};
+pub(super) use calls::Recorder;
+use calls::{Answer, Call, Slice, are_answered};
 use m2m_queues::{BufferState, MOST_BUFFERS, QueueFault, Queues, RequestState, RunOne, Target};
 use std::alloc::{AllocError, Global};
 use std::test::Fail;

@@ -51,14 +51,14 @@ pub(super) struct Slice {
 
 /// Work that remembers its last slice, and may want memory.
 #[derive(Drop)]
-pub(super) struct Recorder {
+pub(in crate::tests) struct Recorder {
     pub(super) slices: u32,
     pub(super) last: Option<Slice>,
     pub(super) is_full: bool,
 }
 
 impl Recorder {
-    pub(super) fn new() -> Recorder {
+    pub(in crate::tests) fn new() -> Recorder {
         Recorder {
             slices: 0,
             last: None,

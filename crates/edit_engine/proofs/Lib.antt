@@ -1,5 +1,5 @@
-pub mod FoldsOnward
 pub mod Looked
+pub mod Stretched
 pub mod Ran
 pub mod Accepted
 pub mod Pictured

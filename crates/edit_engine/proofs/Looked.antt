@@ -1,24 +1,18 @@
 -- What is stored at the place of a unit is what the fold says of the unit.
 use Rattle.std.proofs.Common.{◌≡◌, ℕ, ◌<◌, List, length, get_or, Option, Some, refl, ap, sym, ◌∙◌}
 use Rattle.std.specs.Prelude.{slice_get, option_and_then}
-use Rattle.std.proofs.lemmas.List.FromFn.{length-map-range_with_len}
 use Rattle.std.proofs.lemmas.Option.{slice_get_read}
 use Rattle.outcomes.specs.declared.outcome.Outcome.{Outcome}
 use Rattle.request_core.specs.States.{no_units}
 use Rattle.request_core.specs.Fold.{outcomes_of}
-use Rattle.output_order.specs.OutputOrder.{positions_of, position_at}
+use Rattle.output_order.specs.OutputOrder.{positions_of}
 use Rattle.stream_edits.specs.Streams.{Stream, place_of}
 use Rattle.edit_engine.specs.Streams.{outcome_in, position_in}
-use Rattle.edit_engine.proofs.FoldsOnward.{length-outcomes_from}
+use Rattle.stream_fold.proofs.Folds.{length-outcomes_from}
 
 -- each unit has an outcome
 pub length-outcomes_of : (stream : Stream) → length (outcomes_of stream) ≡ length stream
 length-outcomes_of stream = length-outcomes_from no_units stream
-
--- and a position, or nothing
-pub length-positions_of : (stream : Stream) → length (positions_of (outcomes_of stream)) ≡ length stream
-length-positions_of stream =
-    length-map-range_with_len (position_at (outcomes_of stream)) 0 (length (outcomes_of stream)) ∙ length-outcomes_of stream
 
 -- the outcome at the unit's place
 pub outcome_found : (stream : Stream) (id place : ℕ) (outcomes : List Outcome) (outcome : Outcome)
@@ -30,10 +24,7 @@ outcome_found stream id place outcomes outcome stands folded within read =
     ∙ slice_get_read outcomes (length outcomes) place outcome refl within read)
 
 -- the position at the unit's place
-pub position_found : (stream : Stream) (id place : ℕ) (positions : List (Option ℕ)) (position : Option ℕ)
-    → place_of stream id ≡ Some place → positions ≡ positions_of (outcomes_of stream) → place < length positions
-    → position ≡ get_or positions place position → position_in stream id ≡ Some position
-position_found stream id place positions position stands placed within read =
-    ap (option_and_then (slice_get (positions_of (outcomes_of stream)))) stands
-    ∙ (ap (λ (xs : List (Option ℕ)). slice_get xs place) (sym placed)
-    ∙ slice_get_read positions (length positions) place position refl within read)
+pub position_found : (stream : Stream) (id place : ℕ) (position : Option ℕ) → place_of stream id ≡ Some place
+    → slice_get (positions_of (outcomes_of stream)) place ≡ Some position → position_in stream id ≡ Some position
+position_found stream id place position stands at =
+    ap (option_and_then (slice_get (positions_of (outcomes_of stream)))) stands ∙ at

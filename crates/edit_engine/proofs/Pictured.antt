@@ -31,9 +31,9 @@ pub record IsOf (stream : Stream) (store : StoreValue) : Type 0 where
   pub folded : store.outcomes ≡ outcomes_of stream
 
 -- what is kept is of the stream
-pub IsOf-kept : (journal : List Edit) (register : Register) (store : StoreValue) (positions : List (Option ℕ))
-    → IsKept journal register store positions → IsOf register.stream store
-IsOf-kept journal register store positions kept = record { identified = kept.identified; folded = kept.folded }
+pub IsOf-kept : (journal : List Edit) (register : Register) (store : StoreValue)
+    → IsKept journal register store → IsOf register.stream store
+IsOf-kept journal register store kept = record { identified = kept.identified; folded = kept.folded }
 
 -- what contracts see of the pictures is what is stored
 pub store_is : (journal : List Edit) (register : Register) (store : StoreValue) → IsOf register.stream store
@@ -134,12 +134,11 @@ module _ (journal : List Edit) (register : Register) (old new : StoreValue) (is 
   )
 
 -- and is kept
-pub IsKept-stays : (journal : List Edit) (register : Register) (old new : StoreValue) (positions : List (Option ℕ))
-    → IsKept journal register old positions → UnitsStay old new → IsKept journal register new positions
-IsKept-stays journal register old new positions kept stay = record {
+pub IsKept-stays : (journal : List Edit) (register : Register) (old new : StoreValue)
+    → IsKept journal register old → UnitsStay old new → IsKept journal register new
+IsKept-stays journal register old new kept stay = record {
   identified = stay.ids_stay ∙ kept.identified;
   folded = stay.outcomes_stay ∙ kept.folded;
-  placed = kept.placed;
   bounded = kept.bounded;
   replayed = kept.replayed;
 }

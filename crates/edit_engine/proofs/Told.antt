@@ -1,9 +1,9 @@
 -- The unit of a job that is taken.
 use Rattle.std.proofs.Common.{◌≡◌, ℕ, zero, suc, ◌<◌, ◌+◌, List, [], ◌∷◌, ◌++◌, length, get_or, take, Option, None, Some, refl, ap, sym, ◌∙◌, subst, arith}
-use Rattle.std.specs.Prelude.{slice_get, slice_index_or, option_map, All, Contains, IfSome, Ok}
+use Rattle.std.specs.Prelude.{slice_get, slice_index_or, All, Contains, IfSome, Ok}
 use Rattle.std.specs.List.{zip}
 use Rattle.std.proofs.lemmas.List.Elements.{Contains-push}
-use Rattle.std.proofs.lemmas.Option.{slice_get-map, slice_get_read}
+use Rattle.std.proofs.lemmas.Option.{slice_get_read}
 use Rattle.outcomes.specs.declared.outcome.Outcome.{Outcome}
 use Rattle.outcomes.specs.declared.outcome.Outcome.TheVariants as outcomes
 use Rattle.outcomes.specs.declared.outcome.Plan.{Plan}
@@ -59,13 +59,12 @@ not_this store key (Some other) due none same =
     let is : other ≡ key = cc in
     none (subst (IsDue store) (sym is) due)
 
--- the id of the unit at a place
-pub id_found : (stream : Stream) (at place : ℕ) (unit : ℕ × List (List ℕ)) → at ≡ place → at < length stream
-    → unit ≡ get_or stream at unit → slice_get (ids_of stream) place ≡ Some unit.0
-id_found stream at place unit same within read =
-    subst (λ n. slice_get (ids_of stream) n ≡ Some unit.0) same
-    (slice_get-map (λ (other : ℕ × List (List ℕ)). other.0) stream at
-    ∙ ap (option_map (λ (other : ℕ × List (List ℕ)). other.0)) (slice_get_read stream (length stream) at unit refl within read))
+-- the id that is read at a place
+pub id_read : (stream : Stream) (at place id : ℕ) → at ≡ place → at < length (ids_of stream)
+    → id ≡ get_or (ids_of stream) at id → slice_get (ids_of stream) place ≡ Some id
+id_read stream at place id same within read =
+    subst (λ n. slice_get (ids_of stream) n ≡ Some id) same
+    (slice_get_read (ids_of stream) (length (ids_of stream)) at id refl within read)
 
 module _ (stream : Stream) (old : StoreValue) (is : IsOf stream old) (job : JobValue) (new : StoreValue) (takes : Takes old job new) where
   -- the job's key

@@ -1,9 +1,9 @@
 pub mod Streams
 pub mod Machines
+pub mod Stretches
 pub mod Showing
 pub mod Jobs
 pub mod Taken
 pub mod Numbers
-pub mod Folding
 pub mod Kept
 pub mod Runs

@@ -1,5 +1,5 @@
 -- A session as contracts see it, and its edits.
-use Rattle.std.specs.Prelude.{◌≡◌, ℕ, List, [], ◌∷◌, ◌++◌, length, Option, Result, Ok, Err}
+use Rattle.std.specs.Prelude.{◌≡◌, ℕ, ◌+◌, ◌≤◌, List, [], ◌∷◌, ◌++◌, length, Option, Result, Ok, Err}
 use Rattle.request_core.specs.Fold.{outcomes_of}
 use Rattle.picture_keys.specs.Keys.{Key}
 use Rattle.picture_store.specs.Stores.{OutValue, StoreValue}
@@ -9,6 +9,9 @@ use Rattle.stream_edits.specs.declared.receipts.Receipt.{Receipt}
 use Rattle.stream_edits.specs.declared.refusals.EditRefused.{EditRefused}
 use Rattle.stream_edits.specs.Streams.{Stream, ids_of}
 use Rattle.stream_edits.specs.Edits.{Register, no_units, Makes}
+use Rattle.stream_edits.specs.declared.changes.Change.{Change}
+use Rattle.stream_edits.specs.Changes.{IsFor, after}
+use Rattle.stream_fold.specs.Meeting.{IsMeeting}
 use Rattle.stream_edits.specs.Refusals.{IsRefused}
 
 -- the room of the cache; the accepted edits in order, and what they leave; the number of each unit's key, nothing for a
@@ -46,13 +49,25 @@ store_of machine = record {
 abbrev pub RefitsTo : StoreValue → Stream → StoreValue → Type 0
 RefitsTo old stream new = Refits old (ids_of stream) (outcomes_of stream) new
 
+-- the steps are few: at most 64 more than units past the changed one after which the folds before and after the change
+-- agree, or there are no more units
+abbrev pub AreFew : Change → Stream → ℕ → Type 0
+AreFew change stream steps = (count : ℕ) → IsMeeting change stream count → steps ≤ count + 64
+
+-- the edit comes to a change that leaves this, and takes few steps of the fold
+pub record Refolds (old : Register) (edit : Edit) (steps : ℕ) (new : Register) : Type 0 where
+  pub change : Change
+  pub comes_to : IsFor old edit change
+  pub leaves : new ≡ after change old
+  pub few : AreFew change old.stream steps
+
 -- the edit is accepted with the receipt
 pub record Edits (old : Machine) (edit : Edit) (receipt : Receipt) (new : Machine) : Type 0 where
   pub made : Makes old.register edit receipt.id new.register
   pub journaled : new.journal ≡ old.journal ++ edit ∷ []
   pub refits : RefitsTo (store_of old) new.register.stream (store_of new)
   pub number_is : receipt.number ≡ length new.journal
-  pub steps_are : receipt.steps ≡ length new.register.stream
+  pub refolds : Refolds old.register edit receipt.steps new.register
 
 -- an answer to an edit: its receipt, or why it is refused and changes nothing
 abbrev pub AnswersEdit : Machine → Edit → Result Receipt EditRefused → Machine → Type 0

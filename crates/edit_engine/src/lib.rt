@@ -4,13 +4,12 @@
 //! refusal that changes nothing. What `outcome` and `position` answer is the plain fold over the stream as it is. `take`
 //! gives a job to decode and `land` takes its result, late or twice, and `show` answers the picture of a unit as the
 //! stream is now. A `Runner` follows commands on a session, one at a time, and `run` a list of them. Below are
-//! stream_edits, which says what an edit is, request_core, whose step is made for each unit, and picture_store, which keeps
-//! the pictures; above, the program.
+//! stream_edits, which says what an edit is, ordered_fold, which keeps the stream folded and makes anew what an edit
+//! changes, and picture_store, which keeps the pictures; above, the program.
 #![tactic(auto)]
 
 mod commands;
 mod config;
-mod folding;
 mod held_job;
 mod jobs;
 mod preparing;
@@ -19,6 +18,7 @@ mod replies;
 mod runner;
 mod session;
 mod showing;
+mod stretches;
 
 pub use commands::Command;
 pub use config::{Config, ConfigFault};

@@ -12,13 +12,14 @@ ghost use Rattle.edit_engine.specs.Jobs.{AnswersGiveBack, AnswersLand, AnswersTa
 ghost use Rattle.edit_engine.specs.Showing.{HasNumber, Shows};
 
 use crate::config::{Config, ConfigFault};
-use crate::preparing::{enter, make_room, prepare};
+use crate::preparing::prepare;
 use crate::refusals::NoSuchUnit;
 use crate::showing::Shown;
-use access_unit::Unit;
 use base_types::Shared;
 use dep_keys::KeyId;
+use ordered_fold::OrderedFold;
 use outcomes::Outcome;
+use period_counts::Comparisons;
 use picture_store::{JobAt, Landing, MOST_ROOM, PictureStore, Returning, TakeRefused};
 use pictures::AuId;
 use stand_in_device::{Finished, Job};
@@ -33,8 +34,7 @@ pub struct Session {
     alloc: Global,
     journal: Vec<Edit>,
     given: u32,
-    units: Vec<(AuId, Shared<Unit>)>,
-    positions: Vec<Option<usize>>,
+    ordered: OrderedFold,
     store: PictureStore,
 }
 
@@ -50,11 +50,11 @@ impl Model for Session {
 
     ghost use Rattle.edit_engine.specs.Kept.{IsKept, machine_of};
 
-    ghost view = { λ s. machine_of s.journal.items (record { given = s.given; stream = s.units.items }) s.store };
+    ghost view = { λ s. machine_of s.journal.items (record { given = s.given; stream = s.ordered.folded.stream }) s.store };
 
     ghost invariant = { λ s. IsKept s.journal.items
-        (record { given = s.given; stream = s.units.items })
-        s.store s.positions.items };
+        (record { given = s.given; stream = s.ordered.folded.stream })
+        s.store };
 }
 
 impl Session {
@@ -71,8 +71,7 @@ impl Session {
             alloc,
             journal: Vec::new(alloc),
             given: 0,
-            units: Vec::new(alloc),
-            positions: Vec::new(alloc),
+            ordered: OrderedFold::new(alloc)?,
             store: PictureStore::new(alloc, config.cache)?,
         })
     }
@@ -87,18 +86,17 @@ impl Session {
     pub fn edit(&mut self, edit: Edit) -> Result<Receipt, EditRefused>
         ensures { AnswersEdit self.old edit result self.new }
     {
-        let prepared = prepare(self.alloc, &self.units, self.given, &edit)?;
-        let id = prepared.change.id();
-        let given = prepared.change.given(self.given);
-        make_room(&mut self.units, &mut self.journal)?;
-        self.store.refit(prepared.ids, prepared.outcomes)?;
-        enter(&mut self.units, &mut self.journal, prepared.change, edit);
-        self.given = given;
-        self.positions = prepared.positions;
+        let prepared = prepare(self.alloc, &mut self.ordered, self.given, &edit)?;
+        let steps = prepared.change.refolded().steps();
+        self.journal.reserve(1)?;
+        self.store.refit(prepared.stretch)?;
+        self.ordered.commit(prepared.change);
+        self.journal.push_reserved(edit);
+        self.given = prepared.given;
         Ok(Receipt {
             number: self.journal.len() as u64,
-            id,
-            steps: prepared.steps,
+            id: prepared.id,
+            steps,
         })
     }
 
@@ -121,7 +119,7 @@ impl Session {
         ensures { TellsTake self.old result self.new }
     {
         match self.store.take() {
-            Ok(Some(JobAt { at, job })) => Ok(Some((self.units[at].0, job))),
+            Ok(Some(JobAt { at, job })) => Ok(Some((self.store.ids()[at], job))),
             Ok(None) => Ok(None),
             Err(refused) => Err(refused),
         }
@@ -145,10 +143,11 @@ impl Session {
     pub fn show(&self, id: AuId) -> Shown
         ensures { Shows self.now id result }
     {
-        let Some(place) = place_of(&self.units, id) else {
+        let Some(place) = place_of(self.ordered.units(), id) else {
             return Shown::NoSuchUnit;
         };
-        match &self.store.outcomes()[place] {
+        let outcome: &Outcome = &self.store.outcomes()[place];
+        match outcome {
             Outcome::Fault(fault) => Shown::Fault(*fault),
             Outcome::Plan(_) => match self.store.picture(place) {
                 Some(picture) => Shown::Ready(picture),
@@ -163,8 +162,11 @@ impl Session {
             (λ outcome. outcome_in self.now.register.stream id ≡ Some outcome.now)
             (λ _. place_of self.now.register.stream id ≡ None) }
     {
-        match place_of(&self.units, id) {
-            Some(place) => Ok(&self.store.outcomes()[place]),
+        match place_of(self.ordered.units(), id) {
+            Some(place) => {
+                let outcome: &Outcome = &self.store.outcomes()[place];
+                Ok(outcome)
+            }
             None => Err(NoSuchUnit),
         }
     }
@@ -176,8 +178,11 @@ impl Session {
             (λ position. position_in self.now.register.stream id ≡ Some position)
             (λ _. place_of self.now.register.stream id ≡ None) }
     {
-        match place_of(&self.units, id) {
-            Some(place) => Ok(self.positions[place]),
+        match place_of(self.ordered.units(), id) {
+            Some(place) => {
+                let mut comparisons = Comparisons::new();
+                Ok(self.ordered.position_in(place, &mut comparisons))
+            }
             None => Err(NoSuchUnit),
         }
     }
@@ -191,7 +196,7 @@ impl Session {
             (λ _. place_of self.now.register.stream id ≡ None) }
         ensures one { IfOk result (λ _. AreOneToOne (store_of self.now) (store_of self.now)) }
     {
-        match place_of(&self.units, id) {
+        match place_of(self.ordered.units(), id) {
             Some(place) => Ok(self.store.key_at(place)),
             None => Err(NoSuchUnit),
         }
@@ -209,7 +214,7 @@ impl Session {
     pub fn place(&self, id: AuId) -> Option<usize>
         ensures { result ≡ place_of self.now.register.stream id }
     {
-        place_of(&self.units, id)
+        place_of(self.ordered.units(), id)
     }
 
     /// The ids of all units, in decoding order.
@@ -220,7 +225,7 @@ impl Session {
     }
 
     /// What becomes of each unit, in decoding order.
-    pub fn outcomes(&self) -> &[Outcome]
+    pub fn outcomes(&self) -> &[Shared<Outcome>]
         ensures { result.now ≡ outcomes_of self.now.register.stream }
     {
         self.store.outcomes()
@@ -231,8 +236,8 @@ impl Session {
         ensures { result ≡ last_of self.now.register.stream }
     {
         Last {
-            units: self.units.len(),
-            id: self.units.as_slice().last().map(|unit| unit.0),
+            units: self.ordered.units().len(),
+            id: self.ordered.units().last().map(|unit| unit.0),
         }
     }
 

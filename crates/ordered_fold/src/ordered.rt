@@ -6,7 +6,7 @@ ghost use Rattle.output_order.specs.OutputOrder.{positions_of};
 ghost use Rattle.period_counts.specs.Bounds.{period_size};
 ghost use Rattle.stream_edits.specs.Changes.{IsInside, stream_after};
 ghost use Rattle.stream_fold.specs.Meeting.{IsMeeting};
-ghost use Rattle.stream_fold.specs.Prepared.{IsAnew, change_in, steps_in};
+ghost use Rattle.stream_fold.specs.Prepared.{IsAnew, change_in, end_in, steps_in};
 ghost use Rattle.ordered_fold.specs.Prepared.{IsPrepared};
 
 use crate::prepared_change::PreparedChange;
@@ -74,6 +74,13 @@ impl OrderedFold {
         ensures none { IfNone result (comparisons.new ≡ comparisons.old) }
     {
         self.periods.position_in(place, comparisons)
+    }
+
+    /// The place past the stretch that a prepared change makes anew: from there on outcomes stay.
+    pub fn end_of(&self, prepared: &PreparedChange) -> usize
+        ensures { result ≡ end_in prepared.now.refolded self.now.folded.stream }
+    {
+        prepared.refolded.end(&self.folded)
     }
 
     /// Prepares a change: folds anew what it changes, makes the periods anew that this touches, and makes room. All answers

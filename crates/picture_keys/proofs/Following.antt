@@ -11,7 +11,7 @@ use Rattle.picture_keys.specs.Numbered.{Numbers, number_at, numbers_named, Stand
 use Rattle.picture_keys.specs.Following.{UnitNumbers, Follow, HasNumber}
 use Rattle.picture_keys.proofs.Numbering.{extended, node_stands, numbered_more, numbered_with}
 
-known_more : (known : Known) (units : List (ℕ × Outcome)) (unit : ℕ × Outcome)
+pub known_more : (known : Known) (units : List (ℕ × Outcome)) (unit : ℕ × Outcome)
     → known_after known (units ++ unit ∷ [])
     ≡ known_with (known_after known units) unit.0 (key_of_outcome (known_after known units) unit.1)
 known_more known [] unit = refl
@@ -45,17 +45,17 @@ all_with keys (first ∷ numbers) (second ∷ trees) number tree all stands =
     (all.0, all_with keys numbers trees number tree all.1 stands)
 
 -- a unit more, which was given the number of its key
-pub follow_with : (keys more : KeyMap (List Work)) (units : List (ℕ × Outcome)) (id : ℕ) (outcome : Outcome)
-    (old new : UnitNumbers) (number : Option ℕ) → Extends keys more → Follow keys units old
-    → HasNumber more new.numbers (known_after [] units) id outcome number
+pub follow_with : (keys more : KeyMap (List Work)) (known : Known) (units : List (ℕ × Outcome)) (id : ℕ) (outcome : Outcome)
+    (old new : UnitNumbers) (number : Option ℕ) → Extends keys more → Follow keys known units old
+    → HasNumber more new.numbers (known_after known units) id outcome number
     → new.found ≡ old.found ++ number ∷ []
-    → Follow more (units ++ (id, outcome) ∷ []) new
-follow_with keys more units id outcome old new number extends follow has found = record {
-  numbered = rw (known_more [] units (id, outcome)) has.numbered;
+    → Follow more known (units ++ (id, outcome) ∷ []) new
+follow_with keys more known units id outcome old new number extends follow has found = record {
+  numbered = rw (known_more known units (id, outcome)) has.numbered;
   stand =
-      rw (found, keys_more [] units (id, outcome))
-      (all_with more old.found (keys_after [] units) number (key_of_outcome (known_after [] units) outcome)
-      (all_extended keys more extends old.found (keys_after [] units) follow.stand) has.stands);
+      rw (found, keys_more known units (id, outcome))
+      (all_with more old.found (keys_after known units) number (key_of_outcome (known_after known units) outcome)
+      (all_extended keys more extends old.found (keys_after known units) follow.stand) has.stands);
 }
 
 -- a valid unit is given the number of its key

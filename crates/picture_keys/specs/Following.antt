@@ -1,9 +1,9 @@
 -- The numbers of the keys of a stream's units, found one after the other.
-use Rattle.std.specs.Prelude.{ℕ, List, [], Option}
+use Rattle.std.specs.Prelude.{ℕ, List, Option}
 use Rattle.h264_controls.specs.declared.work.Work.{Work}
 use Rattle.outcomes.specs.declared.outcome.Outcome.{Outcome}
 use Rattle.dep_keys.specs.KeyMaps.{KeyMap}
-use Rattle.picture_keys.specs.Known.{Known, key_of_outcome, known_with, known_after, keys_of}
+use Rattle.picture_keys.specs.Known.{Known, key_of_outcome, known_with, known_after, keys_after}
 use Rattle.picture_keys.specs.Numbered.{Numbers, StandsFor, AreNumbered, AllStandFor}
 
 -- the numbers by the units' ids, and in the order of the units, nothing for one with a fault
@@ -11,14 +11,10 @@ pub record UnitNumbers : Type 0 where
   pub numbers : Numbers
   pub found : List (Option ℕ)
 
--- they are those of the keys of these units, each with its id and what becomes of it
-pub record Follow (keys : KeyMap (List Work)) (units : List (ℕ × Outcome)) (found : UnitNumbers) : Type 0 where
-  pub numbered : AreNumbered keys found.numbers (known_after [] units)
-  pub stand : AllStandFor keys found.found (keys_of units)
-
--- they are those of some units
-abbrev pub FollowSome : KeyMap (List Work) → UnitNumbers → Type 0
-FollowSome keys found = (units : List (ℕ × Outcome)) × Follow keys units found
+-- they are those of the keys of these units, each with its id and what becomes of it, after those whose keys are known
+pub record Follow (keys : KeyMap (List Work)) (known : Known) (units : List (ℕ × Outcome)) (found : UnitNumbers) : Type 0 where
+  pub numbered : AreNumbered keys found.numbers (known_after known units)
+  pub stand : AllStandFor keys found.found (keys_after known units)
 
 -- the numbers stand for some keys
 abbrev pub AreNumberedSome : KeyMap (List Work) → Numbers → Type 0

@@ -1,7 +1,11 @@
 //! The numbers of the keys of units.
 
-ghost use Rattle.std.specs.Prelude.{◌≡◌, ℕ, ◌==◌, [], Some, OnOk, OnErr, if◌then◌else◌};
-ghost use Rattle.picture_keys.specs.Numbered.{number_at};
+ghost use Rattle.std.specs.Prelude.{◌≡◌, ℕ, ◌==◌, List, [], Option, Some, OnOk, OnErr, if◌then◌else◌};
+ghost use Rattle.h264_controls.specs.declared.work.Work.{Work};
+ghost use Rattle.dep_keys.specs.KeyMaps.{KeyMap};
+ghost use Rattle.picture_keys.specs.Keys.{Key};
+ghost use Rattle.picture_keys.specs.Known.{Known, known_with};
+ghost use Rattle.picture_keys.specs.Numbered.{AreNumbered, StandsFor, number_at};
 
 use dep_keys::KeyId;
 use pictures::AuId;
@@ -48,5 +52,17 @@ impl KeyNumbers {
     {
         self.numbers.insert(id.number(), key)?;
         Ok(())
+    }
+
+    /// Gives a unit the number of its key again, where it has one: it was found before.
+    pub fn note(&mut self, id: AuId, key: Option<KeyId>) -> Result<(), AllocError>
+        ensures { OnOk result ((keys : KeyMap (List Work)) (known : Known) (tree : Option Key)
+            → AreNumbered keys self.old known → StandsFor keys key tree
+            → AreNumbered keys self.new (known_with known id tree)) }
+    {
+        match key {
+            Some(key) => self.put(id, key),
+            None => Ok(()),
+        }
     }
 }

@@ -6,7 +6,7 @@ ghost use Rattle.outcomes.specs.declared.outcome.Outcome.{Outcome as Becomes};
 ghost use Rattle.dep_keys.specs.KeyMaps.{AreLive, Extends, IsKeyMap, KeyMap, tree_at, tree_of};
 ghost use Rattle.picture_keys.specs.Known.{Known};
 ghost use Rattle.picture_keys.specs.Numbered.{AreNumbered, number_at, numbers_named};
-ghost use Rattle.picture_keys.specs.Following.{AreNumberedSome, Follow, FollowSome, HasNumber};
+ghost use Rattle.picture_keys.specs.Following.{AreNumberedSome, Follow, HasNumber};
 ghost use Rattle.picture_keys.specs.Adding.{AddsAtMost, AddsAtMostKey, node_over};
 
 use crate::nodes::node_of;
@@ -34,13 +34,12 @@ impl Model for UnitKeys {
 }
 
 impl UnitKeys {
-    /// Before the first unit.
-    pub fn new(alloc: Global) -> UnitKeys
-        ensures start { (keys : KeyMap (List Work)) → Follow keys [] result }
-        ensures some { (keys : KeyMap (List Work)) → FollowSome keys result }
+    /// After units whose keys have these numbers.
+    pub fn after(alloc: Global, numbers: KeyNumbers) -> UnitKeys
+        ensures { result ≡ record { numbers = numbers; found = [] } }
     {
         UnitKeys {
-            numbers: KeyNumbers::new(alloc),
+            numbers,
             found: Vec::new(alloc),
         }
     }
@@ -54,13 +53,14 @@ impl UnitKeys {
         id: AuId,
         outcome: &Outcome,
     ) -> Result<(), AllocError>
-        requires { FollowSome keys.old self.old }
+        requires { AreNumberedSome keys.old self.old.numbers }
         ensures stay { Extends keys.old keys.new }
         ensures one { IsKeyMap keys.old → IsKeyMap keys.new }
         ensures few { AddsAtMost keys.old self.old.numbers outcome.now keys.new }
-        ensures ok { OnOk result ((units : List (ℕ × Becomes)) → Follow keys.old units self.old
-            → Follow keys.new (units ++ (id, outcome.now) ∷ []) self.new) }
-        ensures some { OnOk result (FollowSome keys.new self.new) }
+        ensures ok { OnOk result ((known : Known) (units : List (ℕ × Becomes))
+            → Follow keys.old known units self.old
+            → Follow keys.new known (units ++ (id, outcome.now) ∷ []) self.new) }
+        ensures some { OnOk result (AreNumberedSome keys.new self.new.numbers) }
         ensures err { OnErr result (self.new ≡ self.old) }
     {
         self.found.reserve(1)?;
@@ -69,11 +69,13 @@ impl UnitKeys {
         Ok(())
     }
 
-    /// The number of each unit's key, in the order of the units; nothing for a unit with a fault.
-    pub fn into_numbers(self) -> Vec<Option<KeyId>>
-        ensures { result.items ≡ self.found }
+    /// The numbers by the units' ids, those before the first unit among them; and the number of each unit's key, in the
+    /// order of the units, nothing for a unit with a fault.
+    pub fn into_parts(self) -> (KeyNumbers, Vec<Option<KeyId>>)
+        ensures numbers { result.0 ≡ self.numbers }
+        ensures found { result.1.items ≡ self.found }
     {
-        self.found
+        (self.numbers, self.found)
     }
 }
 

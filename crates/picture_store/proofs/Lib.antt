@@ -4,6 +4,8 @@ pub mod Lifting
 pub mod Caches
 pub mod Turns
 pub mod Loops
+pub mod Fronts
+pub mod Stretched
 pub mod Swept
 pub mod Ready
 pub mod Entries

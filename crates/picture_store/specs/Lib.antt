@@ -8,5 +8,7 @@ pub mod Naming
 pub mod Filling
 pub mod Due
 pub mod Settled
+pub mod Stretches
+pub mod Fronts
 pub mod Inputs
 pub mod Showing

@@ -6,6 +6,8 @@ use Rattle.picture_store.specs.declared.job_out.JobOut.{JobOut}
 use Rattle.picture_store.specs.Places.{PlacesValue}
 use Rattle.picture_store.specs.Kept.{Trees, numbers_out, IsKept}
 use Rattle.picture_store.specs.Due.{IsHeld}
+use Rattle.picture_store.specs.declared.front.Front.{Front}
+use Rattle.picture_store.specs.Fronts.{IsFront}
 
 -- the unit of this number needs no job: it has no key, or the picture of its key is held or that of a job that is out
 abbrev pub NeedsNone : PlacesValue → List JobOut → Option ℕ → Type 0
@@ -15,8 +17,10 @@ NeedsNone places out number = IfSome number (λ n. IsHeld places n ⊎ Contains 
 abbrev pub AreSettled : PlacesValue → List JobOut → List (Option ℕ) → ℕ → Type 0
 AreSettled places out found count = (count ≤ length found) × All (NeedsNone places out) (take count found)
 
--- what is stored: what is kept of the stream, and how many units are known to need no job
+-- what is stored: what is kept of the stream, the numbers of the keys of its first units by their ids, and how many units
+-- are known to need no job
 pub record IsStored (keys : Trees) (ids : List ℕ) (outcomes : List Outcome) (found : List (Option ℕ))
-    (places : PlacesValue) (cached : List (ℕ × Picture)) (out : List JobOut) (count : ℕ) : Type 0 where
+    (places : PlacesValue) (cached : List (ℕ × Picture)) (out : List JobOut) (first : Front) (count : ℕ) : Type 0 where
   pub kept : IsKept keys ids outcomes found places cached out
+  pub front : IsFront keys ids outcomes first
   pub settled : AreSettled places out found count

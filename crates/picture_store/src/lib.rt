@@ -1,14 +1,15 @@
 //! The pictures of a stream's units: which are held, which wait, which are cached after their keys went out of use, and
 //! the jobs that are out.
 //!
-//! `PictureStore` knows a stream by its units' ids and what becomes of each. `refit` takes a changed stream: a picture
-//! whose key stays in use stays held. `take` gives the job of the earliest picture that can be decoded, `land` takes its
+//! `PictureStore` knows a stream by its units' ids and what becomes of each. `refit` takes a stretch of it that changed,
+//! and finds the keys of its units and of those behind it: a picture whose key stays in use stays held. `take` gives the job of the earliest picture that can be decoded, `land` takes its
 //! result, late or twice, `give_back` the job undone, and `picture` shows what is held. Below are picture_keys, which
 //! gives keys their numbers, and picture_cache; above is the session.
 #![tactic(auto)]
 
 mod answers;
 mod due;
+mod front;
 mod inputs;
 mod job_out;
 mod naming;
@@ -16,9 +17,11 @@ mod places;
 mod refitting;
 mod refusals;
 mod store;
+mod stretch;
 
 pub use answers::{JobAt, Landing, Returning};
 pub use picture_cache::MOST_ROOM;
 pub use refitting::numbers_of;
 pub use refusals::TakeRefused;
 pub use store::PictureStore;
+pub use stretch::Stretch;

@@ -1,17 +1,23 @@
 //! The keys of a changed stream.
 
-ghost use Rattle.std.specs.Prelude.{◌≡◌, ℕ, ◌++◌, length, IfOk, OnOk, Contains, Some};
+ghost use Rattle.std.specs.Prelude.{◌≡◌, ℕ, ◌+◌, ◌≤◌, List, [], ◌++◌, drop, length, take, vec_len, IfOk, OnOk, Contains, Some};
+ghost use Rattle.std.specs.Vec.{vec_capacity};
 ghost use Rattle.std.specs.List.{zip};
 ghost use Rattle.dep_keys.specs.KeyMaps.{Extends, IsKeyMap};
-ghost use Rattle.picture_keys.specs.Known.{keys_of};
-ghost use Rattle.picture_keys.specs.Numbered.{AllStandFor};
+ghost use Rattle.outcomes.specs.declared.outcome.Outcome.{Outcome as Becomes};
+ghost use Rattle.picture_keys.specs.Known.{Known, keys_of, known_after};
+ghost use Rattle.picture_keys.specs.Numbered.{AllStandFor, AreNumbered};
+ghost use Rattle.picture_keys.specs.Following.{AreNumberedSome, Follow};
 ghost use Rattle.picture_store.specs.Kept.{numbers_out, IsStored, KeepsStored};
+ghost use Rattle.picture_store.specs.Stretches.{IsStretch};
 
 use crate::job_out::JobOut;
+use crate::stretch::Stretch;
+use base_types::Shared;
 use dep_keys::{Fingerprint, KeyId, Keys};
 use outcomes::Outcome;
 use picture_cache::PictureCache;
-use picture_keys::{UnitKeys, Works};
+use picture_keys::{KeyNumbers, UnitKeys, Works};
 use pictures::AuId;
 use stand_in_device::Picture;
 use std::alloc::{AllocError, Global};
@@ -21,7 +27,7 @@ pub fn numbers_of<F: Fingerprint<Works>>(
     alloc: Global,
     keys: &mut Keys<Works, F>,
     ids: &[AuId],
-    outcomes: &[Outcome],
+    outcomes: &[Shared<Outcome>],
 ) -> Result<Vec<Option<KeyId>>, AllocError>
     requires same { length ids.now ≡ length outcomes.now }
     ensures stay { Extends keys.old keys.new }
@@ -29,11 +35,97 @@ pub fn numbers_of<F: Fingerprint<Works>>(
     ensures ok { IfOk result (λ found. AllStandFor keys.new found.items
         (keys_of (zip ids.now outcomes.now))) }
 {
-    let mut units = UnitKeys::new(alloc);
+    let mut units = UnitKeys::after(alloc, KeyNumbers::new(alloc));
+    go_over(alloc, keys, &mut units, ids, outcomes)?;
+    Ok(units.into_parts().1)
+}
+
+/// Goes over units more.
+fn go_over<F: Fingerprint<Works>>(
+    alloc: Global,
+    keys: &mut Keys<Works, F>,
+    units: &mut UnitKeys,
+    ids: &[AuId],
+    outcomes: &[Shared<Outcome>],
+) -> Result<(), AllocError>
+    requires same { length ids.now ≡ length outcomes.now }
+    requires some { AreNumberedSome keys.old units.old.numbers }
+    ensures stay { Extends keys.old keys.new }
+    ensures one { IsKeyMap keys.old → IsKeyMap keys.new }
+    ensures some { OnOk result (AreNumberedSome keys.new units.new.numbers) }
+    ensures ok { OnOk result ((known : Known) (before : List (ℕ × Becomes))
+        → Follow keys.old known before units.old
+        → Follow keys.new known (before ++ zip ids.now outcomes.now) units.new) }
+{
     for at in 0..ids.len() {
         units.add(alloc, keys, ids[at], &outcomes[at])?;
     }
-    Ok(units.into_numbers())
+    Ok(())
+}
+
+/// The numbers of the keys of a stretch's units and of those behind it, and by their ids of all units of the stream with
+/// the stretch. Those of the units in front of it are as before.
+pub(crate) fn keys_from<F: Fingerprint<Works>>(
+    alloc: Global,
+    keys: &mut Keys<Works, F>,
+    numbers: KeyNumbers,
+    ids: &[AuId],
+    outcomes: &[Shared<Outcome>],
+    stretch: &Stretch,
+) -> Result<(KeyNumbers, Vec<Option<KeyId>>), AllocError>
+    requires stretch { IsStretch stretch.now ids.now }
+    requires same { length ids.now ≡ length outcomes.now }
+    requires numbered { AreNumbered keys.old numbers
+        (known_after [] (zip (take stretch.now.from ids.now) (take stretch.now.from outcomes.now))) }
+    ensures stay { Extends keys.old keys.new }
+    ensures one { IsKeyMap keys.old → IsKeyMap keys.new }
+    ensures ok { IfOk result (λ made. Follow keys.new
+        (known_after [] (zip (take stretch.now.from ids.now) (take stretch.now.from outcomes.now)))
+        (zip stretch.now.ids.items stretch.now.outcomes.items
+        ++ zip (drop stretch.now.to ids.now) (drop stretch.now.to outcomes.now))
+        (record { numbers = made.0; found = made.1.items })) }
+{
+    let mut units = UnitKeys::after(alloc, numbers);
+    go_over(alloc, keys, &mut units, &stretch.ids, &stretch.outcomes)?;
+    go_over(
+        alloc,
+        keys,
+        &mut units,
+        &ids[stretch.to..],
+        &outcomes[stretch.to..],
+    )?;
+    Ok(units.into_parts())
+}
+
+/// Makes room for so many units more.
+pub(crate) fn make_room(
+    ids: &mut Vec<AuId>,
+    outcomes: &mut Vec<Shared<Outcome>>,
+    count: usize,
+) -> Result<(), AllocError>
+    ensures ids { ids.new.items ≡ ids.old.items }
+    ensures outcomes { outcomes.new.items ≡ outcomes.old.items }
+    ensures ids_room { OnOk result (vec_len ids.new + count ≤ vec_capacity ids.new) }
+    ensures outcomes_room { OnOk result (vec_len outcomes.new + count ≤ vec_capacity outcomes.new) }
+{
+    ids.reserve(count)?;
+    outcomes.reserve(count)
+}
+
+/// The first numbers, so many, and then others.
+pub(crate) fn followed_by(
+    alloc: Global,
+    numbers: &[Option<KeyId>],
+    count: usize,
+    mut later: Vec<Option<KeyId>>,
+) -> Result<Vec<Option<KeyId>>, AllocError>
+    requires { count ≤ length numbers.now }
+    ensures { IfOk result (λ all. all.items ≡ take count numbers.now ++ later.items) }
+{
+    let mut all = Vec::with_capacity(alloc, count.saturating_add(later.len()))?;
+    all.extend_from_slice(&numbers[..count])?;
+    all.append(&mut later)?;
+    Ok(all)
 }
 
 /// Forgets the keys that are neither stored nor below one that is.

@@ -10,15 +10,19 @@ ghost use Rattle.picture_store.specs.Changes.{Refits};
 ghost use Rattle.picture_store.specs.Jobs.{AnswersGiveBack, AnswersLand, TellsTake};
 ghost use Rattle.picture_store.specs.Filling.{IsFilled};
 ghost use Rattle.picture_store.specs.Showing.{IsNumberAt, IsPictureAt};
+ghost use Rattle.picture_store.specs.Stretches.{IsStretch, ids_with, outcomes_with};
 
 use crate::answers::{JobAt, Landing, Returning};
 use crate::due::{first_due, first_to_do, is_awaited};
+use crate::front::Front;
 use crate::inputs::input_of;
 use crate::job_out::{JobOut, place_of};
 use crate::naming::references_of;
 use crate::places::{Places, places_of, take_out};
-use crate::refitting::{numbers_of, sweep};
+use crate::refitting::{followed_by, keys_from, make_room, sweep};
 use crate::refusals::TakeRefused;
+use crate::stretch::Stretch;
+use base_types::Shared;
 use dep_keys::{KeyId, Keys, Sha256Fingerprint};
 use outcomes::Outcome;
 use picture_cache::PictureCache;
@@ -27,6 +31,8 @@ use pictures::AuId;
 use stand_in_device::{Finished, Input, Job, Picture};
 use std::alloc::{AllocError, Global};
 use std::marker::Model;
+use std::mem::replace;
+use vec_ranges::replace_range;
 
 /// The pictures of a stream's units. Clauses see the units, each with its id and what becomes of it; the keys whose
 /// pictures are held, and those whose pictures are cached after they went out of use; and the jobs that are out.
@@ -35,8 +41,12 @@ pub struct PictureStore {
     alloc: Global,
     keys: Keys<Works, Sha256Fingerprint>,
     ids: Vec<AuId>,
-    outcomes: Vec<Outcome>,
+    outcomes: Vec<Shared<Outcome>>,
     found: Vec<Option<KeyId>>,
+    // The numbers of the keys of the first units, of all where the last change wanted no memory.
+    front: Front,
+    // How many keys there are where it is time to forget those that aren't needed.
+    enough: usize,
     places: Places,
     cache: PictureCache<KeyId, Picture>,
     out: Vec<JobOut>,
@@ -72,7 +82,7 @@ impl Model for PictureStore {
     } };
 
     ghost invariant = { λ s. IsStored s.keys s.ids.items s.outcomes.items s.found.items s.places s.cache.pairs s.out.items
-        s.settled };
+        s.front s.settled };
 }
 
 impl PictureStore {
@@ -88,6 +98,8 @@ impl PictureStore {
             ids: Vec::new(alloc),
             outcomes: Vec::new(alloc),
             found: Vec::new(alloc),
+            front: Front::none(alloc),
+            enough: 0,
             places: Places::new(alloc),
             cache: PictureCache::new(alloc, room)?,
             out: Vec::new(alloc),
@@ -104,21 +116,68 @@ impl PictureStore {
     }
 
     /// What becomes of each unit, in the order of the stream.
-    pub fn outcomes(&self) -> &[Outcome]
+    pub fn outcomes(&self) -> &[Shared<Outcome>]
         ensures { result.now ≡ self.now.outcomes }
     {
         self.outcomes.as_slice()
     }
 
-    /// Takes the units of a changed stream: their ids, and what becomes of each. A picture whose key stays in use stays
-    /// held, and one that is cached is held again where its key comes into use. Where memory is wanted, nothing changes;
-    /// but a picture whose key goes out of use is cached only where memory is found for it.
-    pub fn refit(&mut self, ids: Vec<AuId>, outcomes: Vec<Outcome>) -> Result<(), AllocError>
-        requires same { length ids.items ≡ length outcomes.items }
-        requires decodable { AllCanDecode [] (zip ids.items outcomes.items) }
-        ensures ok { OnOk result (Refits self.old ids.items outcomes.items self.new) }
+    /// Takes a stretch of units in the place of another one. A picture whose key stays in use stays held, and one that is
+    /// cached is held again where its key comes into use. Where memory is wanted, nothing changes; but a picture whose key
+    /// goes out of use is cached only where memory is found for it.
+    ///
+    /// The keys of the units in front of the stretch stay as they are; those of its units and of the units behind it are
+    /// found anew, as pictures refer to earlier ones.
+    pub fn refit(&mut self, stretch: Stretch) -> Result<(), AllocError>
+        requires stretch { IsStretch stretch self.old.ids }
+        requires decodable { AllCanDecode []
+            (zip (ids_with stretch self.old.ids) (outcomes_with stretch self.old.outcomes)) }
+        ensures ok { OnOk result (Refits self.old (ids_with stretch self.old.ids)
+            (outcomes_with stretch self.old.outcomes) self.new) }
         ensures err { OnErr result (self.new ≡ self.old) }
     {
+        self.sweep()?;
+        make_room(&mut self.ids, &mut self.outcomes, stretch.ids.len())?;
+        let front = replace(&mut self.front, Front::none(self.alloc));
+        let numbers = front.up_to(self.alloc, stretch.from, &self.ids, &self.found)?;
+        let (numbers, later) = keys_from(
+            self.alloc,
+            &mut self.keys,
+            numbers,
+            &self.ids,
+            &self.outcomes,
+            &stretch,
+        )?;
+        let found = followed_by(self.alloc, &self.found, stretch.from, later)?;
+        let places = places_of(self.alloc, &found, &self.places, &self.cache)?;
+        take_out(&mut self.cache, &found);
+        self.places.put_away(&places, &mut self.cache);
+        let Stretch {
+            from,
+            to,
+            ids,
+            outcomes,
+        } = stretch;
+        replace_range(&mut self.ids, from, to, ids);
+        replace_range(&mut self.outcomes, from, to, outcomes);
+        self.front = Front {
+            numbers,
+            count: self.ids.len(),
+        };
+        self.found = found;
+        self.places = places;
+        self.settled = 0;
+        Ok(())
+    }
+
+    /// Forgets the keys that are neither stored nor below one that is, where there may be as many of them as of others.
+    fn sweep(&mut self) -> Result<(), AllocError>
+        ensures { self.new ≡ self.old }
+    {
+        if self.keys.len() < self.enough {
+            return Ok(());
+        }
+        self.front = Front::none(self.alloc);
         sweep(
             self.alloc,
             &mut self.keys,
@@ -126,15 +185,7 @@ impl PictureStore {
             &self.cache,
             &self.out,
         )?;
-        let found = numbers_of(self.alloc, &mut self.keys, &ids, &outcomes)?;
-        let places = places_of(self.alloc, &found, &self.places, &self.cache)?;
-        take_out(&mut self.cache, &found);
-        self.places.put_away(&places, &mut self.cache);
-        self.ids = ids;
-        self.outcomes = outcomes;
-        self.found = found;
-        self.places = places;
-        self.settled = 0;
+        self.enough = self.keys.len().saturating_mul(2).saturating_add(64);
         Ok(())
     }
 

@@ -9,6 +9,7 @@ mod many;
 mod random;
 mod refused;
 mod running;
+mod stretches;
 mod texts;
 
 use bytes::Bytes;
@@ -78,14 +79,17 @@ fn edit_of(told: Told) -> Edit {
     }
 }
 
-/// A receipt's number, id and steps, or a refusal's number.
+/// A receipt's number and id, and after how many units behind the changed one the folds before and after the edit agree, or
+/// there are no more: it makes at most 64 steps more. Or a refusal's number.
 type Answer = Result<(u64, u32, u64), u8>;
 
 /// What an edit is answered is this.
 fn is_answer(answer: Result<Receipt, EditRefused>, wanted: Answer) -> bool {
     match (answer, wanted) {
         (Ok(receipt), Ok(wanted)) => {
-            (receipt.number, receipt.id.number(), receipt.steps) == wanted
+            let (number, id, meeting) = wanted;
+            (receipt.number, receipt.id.number()) == (number, id)
+                && receipt.steps <= meeting.saturating_add(64)
         }
         (Err(refused), Err(number)) => refused.number() == number,
         _ => false,

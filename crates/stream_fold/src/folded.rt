@@ -51,7 +51,14 @@ pub struct Prepared {
 }
 
 impl Prepared {
-    ghost use Rattle.stream_fold.specs.Prepared.{begin_in, end_in, outcomes_in, steps_in};
+    ghost use Rattle.stream_fold.specs.Prepared.{begin_in, change_in, end_in, outcomes_in, steps_in};
+
+    /// The change.
+    pub fn change(&self) -> &Change
+        ensures { result.now ≡ change_in self.now }
+    {
+        &self.change
+    }
 
     /// How many steps of the fold were made.
     pub fn steps(&self) -> u64

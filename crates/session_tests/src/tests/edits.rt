@@ -51,7 +51,7 @@ const REFUSED: [Step; 8] = [
     Step::Edit(Delete(9), Err(16)),
     Step::Edit(Replace(9, &[]), Err(1)),
     Step::Edit(Replace(9, A), Err(16)),
-    Step::Edit(First(A), Ok((1, 1, 1))),
+    Step::Edit(First(A), Ok((1, 1, 0))),
 ];
 
 #[test]
@@ -65,14 +65,14 @@ fn refuses_by_number(rt: HostRuntime) {
 
 /// An IDR picture and two P pictures, of which the first is deleted and inserted again.
 const REPAIRED: [Step; 10] = [
-    Step::Edit(First(A), Ok((1, 1, 1))),
-    Step::Edit(After(1, P1), Ok((2, 2, 2))),
-    Step::Edit(After(2, P2), Ok((3, 3, 3))),
+    Step::Edit(First(A), Ok((1, 1, 0))),
+    Step::Edit(After(1, P1), Ok((2, 2, 0))),
+    Step::Edit(After(2, P2), Ok((3, 3, 0))),
     Unit(3, At(2)),
-    Step::Edit(Delete(2), Ok((4, 2, 2))),
+    Step::Edit(Delete(2), Ok((4, 2, 1))),
     Unit(2, Gone),
     Unit(3, Fault(ValidityFault::FrameNumGap)),
-    Step::Edit(After(1, P1), Ok((5, 4, 3))),
+    Step::Edit(After(1, P1), Ok((5, 4, 1))),
     Unit(4, At(1)),
     Unit(3, At(2)),
 ];
@@ -116,13 +116,13 @@ fn deletes_and_repairs(rt: HostRuntime) {
 
 /// A P picture is replaced by one with the frame_num after it; and a picture is inserted before its sets.
 const REPLACED: [Step; 9] = [
-    Step::Edit(First(A), Ok((1, 1, 1))),
-    Step::Edit(After(1, P1), Ok((2, 2, 2))),
-    Step::Edit(After(2, P2), Ok((3, 3, 3))),
-    Step::Edit(Replace(2, P2), Ok((4, 2, 3))),
+    Step::Edit(First(A), Ok((1, 1, 0))),
+    Step::Edit(After(1, P1), Ok((2, 2, 0))),
+    Step::Edit(After(2, P2), Ok((3, 3, 0))),
+    Step::Edit(Replace(2, P2), Ok((4, 2, 1))),
     Unit(2, Fault(ValidityFault::FrameNumGap)),
     Unit(3, Fault(ValidityFault::FrameNumGap)),
-    Step::Edit(First(I), Ok((5, 4, 4))),
+    Step::Edit(First(I), Ok((5, 4, 3))),
     Unit(4, Fault(ValidityFault::MissingPps)),
     Unit(1, At(0)),
 ];

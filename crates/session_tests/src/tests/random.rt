@@ -180,7 +180,8 @@ impl Tally {
         if is_insertion {
             self.next = self.next.saturating_add(1);
         }
-        (receipt.number, receipt.steps) == (self.accepted, units as u64)
+        receipt.number == self.accepted
+            && receipt.steps <= (units as u64).saturating_add(64)
             && (is_next || !is_insertion)
     }
 }

@@ -8,8 +8,8 @@ returns-clause-value c = rw (← c.self.view_is) c.in_use.ensures.value
 pub returns-clause-one : goal.returns-clause-one
 returns-clause-one c =
     let s = c.self.inside in
-    let is : IsOf s.units.items s.store =
-    IsOf-kept s.journal.items (record { given = s.given; stream = s.units.items }) s.store s.positions.items c.self.invariant in
+    let is : IsOf s.ordered.folded.stream s.store =
+    IsOf-kept s.journal.items (record { given = s.given; stream = s.ordered.folded.stream }) s.store c.self.invariant in
     rw (← c.self.view_is)
-    (one_seen (λ (store : StoreValue). AreOneToOne store store) s.journal.items (record { given = s.given; stream = s.units.items }) s.store is
+    (one_seen (λ (store : StoreValue). AreOneToOne store store) s.journal.items (record { given = s.given; stream = s.ordered.folded.stream }) s.store is
     c.in_use.ensures.one)

@@ -7,24 +7,24 @@ bounds-outcomes-place c =
     omega (
       arith,
       c.in-Some.ensures.inside,
-      ap length c.deref.ensures.value,
+      ap length c.units.ensures,
       ap length c.outcomes.ensures,
       ap length c.self.invariant.folded,
-      length-outcomes_of c.self.inside.units.items,
+      length-outcomes_of c.self.inside.ordered.folded.stream,
     )
 
 pub returns-in-Some : goal.returns-in-Some
 returns-in-Some c =
-    let stands = sym (rw c.deref.ensures.value at c.in-Some.ensures.value) in
+    let stands = sym (rw c.units.ensures at c.in-Some.ensures.value) in
     let within : c.in-Some.place < length c.outcomes.result.now =
     omega (
       arith,
       c.in-Some.ensures.inside,
-      ap length c.deref.ensures.value,
+      ap length c.units.ensures,
       ap length c.outcomes.ensures,
       ap length c.self.invariant.folded,
-      length-outcomes_of c.self.inside.units.items,
+      length-outcomes_of c.self.inside.ordered.folded.stream,
     ) in
-    rw (← c.self.view_is)
-    (outcome_found c.self.inside.units.items c.args.id c.in-Some.place c.outcomes.result.now c.index-outcomes-place.result stands
+    rw (c.deref-outcome.ensures, ← c.self.view_is)
+    (outcome_found c.self.inside.ordered.folded.stream c.args.id c.in-Some.place c.outcomes.result.now c.index-outcomes-place.result stands
     (c.outcomes.ensures ∙ c.self.invariant.folded) within c.index-outcomes-place.is)

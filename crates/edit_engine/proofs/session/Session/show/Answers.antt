@@ -13,52 +13,52 @@ bounds-outcomes-place c =
     omega (
       arith,
       c.in-Some.ensures.inside,
-      ap length c.deref.ensures.value,
+      ap length c.units.ensures,
       ap length c.outcomes.ensures,
-      length-folded c.self.inside.units.items c.self.inside.store
-          (IsOf-kept c.self.inside.journal.items (record { given = c.self.inside.given; stream = c.self.inside.units.items }) c.self.inside.store c.self.inside.positions.items c.self.invariant),
+      length-folded c.self.inside.ordered.folded.stream c.self.inside.store
+          (IsOf-kept c.self.inside.journal.items (record { given = c.self.inside.given; stream = c.self.inside.ordered.folded.stream }) c.self.inside.store c.self.invariant),
     )
 
 pub returns-in-Fault : goal.returns-in-Fault
 returns-in-Fault c =
-    let is : IsOf c.self.inside.units.items c.self.inside.store =
-    IsOf-kept c.self.inside.journal.items (record { given = c.self.inside.given; stream = c.self.inside.units.items }) c.self.inside.store c.self.inside.positions.items c.self.invariant in
-    let stands : place_of c.self.inside.units.items c.args.id ≡ Some c.in-Some.place =
-    sym (rw c.deref.ensures.value at c.in-Some.ensures.value) in
+    let is : IsOf c.self.inside.ordered.folded.stream c.self.inside.store =
+    IsOf-kept c.self.inside.journal.items (record { given = c.self.inside.given; stream = c.self.inside.ordered.folded.stream }) c.self.inside.store c.self.invariant in
+    let stands : place_of c.self.inside.ordered.folded.stream c.args.id ≡ Some c.in-Some.place =
+    sym (rw c.units.ensures at c.in-Some.ensures.value) in
     let within : c.in-Some.place < length c.outcomes.result.now = omega (
       arith,
       c.in-Some.ensures.inside,
-      ap length c.deref.ensures.value,
+      ap length c.units.ensures,
       ap length c.outcomes.ensures,
-      length-folded c.self.inside.units.items c.self.inside.store is,
+      length-folded c.self.inside.ordered.folded.stream c.self.inside.store is,
     ) in
     let read =
     slice_get_read c.outcomes.result.now (length c.outcomes.result.now) c.in-Some.place c.index-outcomes-place.result refl within
     c.index-outcomes-place.is in
     let outcome : slice_get c.self.inside.store.outcomes c.in-Some.place ≡ Some (Fault c.in-Fault.fault) =
-    rw (← c.outcomes.ensures) (read ∙ ap (λ (other : Outcome). Some other) c.in-Fault.is) in
+    rw (← c.outcomes.ensures) (read ∙ ap (λ (other : Outcome). Some other) (sym c.deref-outcome.ensures ∙ c.in-Fault.is)) in
     rw (← c.self.view_is)
-    (shows_fault c.self.inside.journal.items (record { given = c.self.inside.given; stream = c.self.inside.units.items }) c.self.inside.store c.args.id c.in-Some.place
+    (shows_fault c.self.inside.journal.items (record { given = c.self.inside.given; stream = c.self.inside.ordered.folded.stream }) c.self.inside.store c.args.id c.in-Some.place
     is stands c.in-Fault.fault outcome)
 
 pub returns-in-None : goal.returns-in-None
 returns-in-None c =
-    let is : IsOf c.self.inside.units.items c.self.inside.store =
-    IsOf-kept c.self.inside.journal.items (record { given = c.self.inside.given; stream = c.self.inside.units.items }) c.self.inside.store c.self.inside.positions.items c.self.invariant in
-    let stands : place_of c.self.inside.units.items c.args.id ≡ Some c.in-Some.place =
-    sym (rw c.deref.ensures.value at c.in-Some.ensures.value) in
+    let is : IsOf c.self.inside.ordered.folded.stream c.self.inside.store =
+    IsOf-kept c.self.inside.journal.items (record { given = c.self.inside.given; stream = c.self.inside.ordered.folded.stream }) c.self.inside.store c.self.invariant in
+    let stands : place_of c.self.inside.ordered.folded.stream c.args.id ≡ Some c.in-Some.place =
+    sym (rw c.units.ensures at c.in-Some.ensures.value) in
     let within : c.in-Some.place < length c.outcomes.result.now = omega (
       arith,
       c.in-Some.ensures.inside,
-      ap length c.deref.ensures.value,
+      ap length c.units.ensures,
       ap length c.outcomes.ensures,
-      length-folded c.self.inside.units.items c.self.inside.store is,
+      length-folded c.self.inside.ordered.folded.stream c.self.inside.store is,
     ) in
     let read =
     slice_get_read c.outcomes.result.now (length c.outcomes.result.now) c.in-Some.place c.index-outcomes-place.result refl within
     c.index-outcomes-place.is in
     let outcome : slice_get c.self.inside.store.outcomes c.in-Some.place ≡ Some (Plan c.in-Plan.field-0) =
-    rw (← c.outcomes.ensures) (read ∙ ap (λ (other : Outcome). Some other) c.in-Plan.is) in
+    rw (← c.outcomes.ensures) (read ∙ ap (λ (other : Outcome). Some other) (sym c.deref-outcome.ensures ∙ c.in-Plan.is)) in
     rw (← c.self.view_is)
-    (shows_pending c.self.inside.journal.items (record { given = c.self.inside.given; stream = c.self.inside.units.items }) c.self.inside.store c.args.id c.in-Some.place
+    (shows_pending c.self.inside.journal.items (record { given = c.self.inside.given; stream = c.self.inside.ordered.folded.stream }) c.self.inside.store c.args.id c.in-Some.place
     is stands c.in-Plan.field-0 outcome c.in-None.ensures)

@@ -19,6 +19,7 @@ invariant_of-self c =
           kept_filled s.keys s.ids.items s.outcomes.items s.found.items s.places s.cache.pairs s.cache.capacity s.out.items s.given
           c.self.invariant.kept c.args.finished c.in-Some.at found.0 c.remove-job.result c.remove-job.ensures.value found.1 found.2
           c.fill.result c.fill.new.places c.remove-job.new.self.items c.remove-job.ensures.items filled;
+      front = c.self.invariant.front;
       settled =
           settled_landed s.keys s.ids.items s.outcomes.items s.found.items s.places s.cache.pairs s.out.items
           c.self.invariant.kept c.in-Some.at c.remove-job.result c.remove-job.ensures.value _ c.fill.result c.fill.new.places

@@ -54,7 +54,8 @@ input_of-requires-clause-known c =
     let due : IsDueNumber s.keys s.places s.out.items key =
     subst (λ o. IfSome o (IsDueNumber s.keys s.places s.out.items)) (sym is) (first.1 (Some key)) in
     let same = outcome_same s.keys s.ids.items s.outcomes.items s.found.items s.places s.cache.pairs s.cache.capacity s.out.items s.given
-    c.self.invariant.kept c.in-Some.at first.0 key is due c.index-outcome.result.now c.index-outcome.ensures in (
+    c.self.invariant.kept c.in-Some.at first.0 key is due c.index-outcome.result.now c.index-outcome.ensures in
+    rw (c.deref-5.ensures) (
       known s.keys s.ids.items s.outcomes.items s.found.items s.places s.cache.pairs s.cache.capacity s.out.items s.given
           c.self.invariant.kept c.in-Some.at first.0 key is due,
       has_known s.keys s.ids.items s.outcomes.items s.found.items s.places s.cache.pairs s.cache.capacity s.out.items s.given
@@ -119,7 +120,8 @@ new-job-requires c =
     subst (λ o. IfSome o (IsDueNumber s.keys s.places s.out.items)) (sym is) (first.1 (Some key)) in
     let same = outcome_same s.keys s.ids.items s.outcomes.items s.found.items s.places s.cache.pairs s.cache.capacity s.out.items s.given
     c.self.invariant.kept c.in-Some.at first.0 key is due c.index-outcome.result.now c.index-outcome.ensures in
-    let made = c.in_ok-input.ensures (known s.keys s.ids.items s.outcomes.items s.found.items s.places s.cache.pairs s.cache.capacity s.out.items s.given
+    let input = rw (c.deref-5.ensures) at c.in_ok-input.ensures in
+    let made = input (known s.keys s.ids.items s.outcomes.items s.found.items s.places s.cache.pairs s.cache.capacity s.out.items s.given
     c.self.invariant.kept c.in-Some.at first.0 key is due) (has_known s.keys s.ids.items s.outcomes.items s.found.items s.places s.cache.pairs s.cache.capacity s.out.items s.given
     c.self.invariant.kept c.in-Some.at first.0 key is due c.index-outcome.result.now same) in
     whole_of s.keys s.ids.items s.outcomes.items s.found.items s.places s.cache.pairs s.cache.capacity s.out.items s.given
@@ -135,7 +137,8 @@ invariant_of-self-2 c =
     subst (λ o. IfSome o (IsDueNumber s.keys s.places s.out.items)) (sym is) (first.1 (Some key)) in
     let same = outcome_same s.keys s.ids.items s.outcomes.items s.found.items s.places s.cache.pairs s.cache.capacity s.out.items s.given
     c.self.invariant.kept c.in-Some.at first.0 key is due c.index-outcome.result.now c.index-outcome.ensures in
-    let made = c.in_ok-input.ensures (known s.keys s.ids.items s.outcomes.items s.found.items s.places s.cache.pairs s.cache.capacity s.out.items s.given
+    let input = rw (c.deref-5.ensures) at c.in_ok-input.ensures in
+    let made = input (known s.keys s.ids.items s.outcomes.items s.found.items s.places s.cache.pairs s.cache.capacity s.out.items s.given
     c.self.invariant.kept c.in-Some.at first.0 key is due) (has_known s.keys s.ids.items s.outcomes.items s.found.items s.places s.cache.pairs s.cache.capacity s.out.items s.given
     c.self.invariant.kept c.in-Some.at first.0 key is due c.index-outcome.result.now same) in
     let more : c.push_reserved.new.self.items
@@ -148,6 +151,7 @@ invariant_of-self-2 c =
           kept_taken s.keys s.ids.items s.outcomes.items s.found.items s.places s.cache.pairs s.cache.capacity s.out.items s.given
           c.self.invariant.kept c.in-Some.at first.0 key is due c.index-outcome.result.now same c.in_ok-input.input made c.in-Some-checked_add.number
           c.push_reserved.new.self.items more;
+      front = c.self.invariant.front;
       settled =
           settled_more s.places s.out.items (record { number = c.in-Some-checked_add.number; key = key; input = c.in_ok-input.input })
           c.push_reserved.new.self.items s.found.items c.first_to_do-settled.result more settled;
@@ -163,7 +167,8 @@ returns c =
     subst (λ o. IfSome o (IsDueNumber s.keys s.places s.out.items)) (sym is) (first.1 (Some key)) in
     let same = outcome_same s.keys s.ids.items s.outcomes.items s.found.items s.places s.cache.pairs s.cache.capacity s.out.items s.given
     c.self.invariant.kept c.in-Some.at first.0 key is due c.index-outcome.result.now c.index-outcome.ensures in
-    let made = c.in_ok-input.ensures (known s.keys s.ids.items s.outcomes.items s.found.items s.places s.cache.pairs s.cache.capacity s.out.items s.given
+    let input = rw (c.deref-5.ensures) at c.in_ok-input.ensures in
+    let made = input (known s.keys s.ids.items s.outcomes.items s.found.items s.places s.cache.pairs s.cache.capacity s.out.items s.given
     c.self.invariant.kept c.in-Some.at first.0 key is due) (has_known s.keys s.ids.items s.outcomes.items s.found.items s.places s.cache.pairs s.cache.capacity s.out.items s.given
     c.self.invariant.kept c.in-Some.at first.0 key is due c.index-outcome.result.now same) in
     let more : c.push_reserved.new.self.items

@@ -1,0 +1,100 @@
+-- The keys of a stream's units where a stretch of it changed.
+use Rattle.std.proofs.Common.{◌≡◌, refl, ap, sym, subst, ◌∙◌, ℕ, ◌-◌, ◌≤◌, List, [], ◌++◌, length, take, drop, Option, arith, append_assoc}
+use Rattle.std.specs.List.{zip}
+use Rattle.std.proofs.lemmas.List.{take_all, length-append, length-take-le, length-drop}
+use Rattle.outcomes.specs.declared.outcome.Outcome.{Outcome}
+use Rattle.picture_keys.specs.Known.{known_after, keys_after, keys_of}
+use Rattle.picture_keys.specs.Numbered.{AllStandFor, AreNumbered}
+use Rattle.picture_keys.specs.Following.{UnitNumbers, Follow}
+use Rattle.picture_store.specs.declared.stretch.Stretch.{Stretch}
+use Rattle.picture_store.specs.declared.front.Front.{Front}
+use Rattle.picture_store.specs.Stretches.{IsStretch, ids_with, outcomes_with}
+use Rattle.picture_store.specs.Fronts.{IsFront}
+use Rattle.picture_store.specs.Kept.{Trees}
+use Rattle.picture_store.proofs.Fronts.{zip_append, known_append, keys_append, stand_append, stand_front}
+
+-- those before none stand for none
+pub none_front : (keys : Trees) (ids : List ℕ) (outcomes : List Outcome) (front : Front) → front.numbers ≡ []
+    → front.count ≡ 0 → IsFront keys ids outcomes front
+none_front keys ids outcomes front none first = rw (none, first) (λ id. refl)
+
+module _ (ids : List ℕ) (outcomes : List Outcome) (same : length ids ≡ length outcomes) (stretch : Stretch)
+    (is : IsStretch stretch ids) where
+  drop_same : {X Y : Type 0} (n : ℕ) (xs : List X) (ys : List Y) → length xs ≡ length ys
+      → length (drop n xs) ≡ length (drop n ys)
+  drop_same n xs ys e = length-drop n xs ∙ (ap (λ k. k - n) e ∙ sym (length-drop n ys))
+
+  front_same : length (take stretch.from ids) ≡ length (take stretch.from outcomes)
+  front_same =
+      length-take-le stretch.from ids (omega (arith, is.ordered, is.within))
+      ∙ sym (length-take-le stretch.from outcomes (omega (arith, is.ordered, is.within, same)))
+
+  -- each unit of the stream with the stretch has an outcome
+  pub same_with : length (ids_with stretch ids) ≡ length (outcomes_with stretch outcomes)
+  same_with =
+      rw (
+        length-append (take stretch.from ids ++ stretch.ids.items) (drop stretch.to ids),
+        length-append (take stretch.from ids) stretch.ids.items,
+        length-append (take stretch.from outcomes ++ stretch.outcomes.items) (drop stretch.to outcomes),
+        length-append (take stretch.from outcomes) stretch.outcomes.items,
+        front_same,
+        is.same,
+        drop_same stretch.to ids outcomes same,
+      ) refl
+
+  -- the units in front of the stretch, and those from there on
+  units_with : zip (ids_with stretch ids) (outcomes_with stretch outcomes)
+      ≡ zip (take stretch.from ids) (take stretch.from outcomes)
+      ++ (zip stretch.ids.items stretch.outcomes.items ++ zip (drop stretch.to ids) (drop stretch.to outcomes))
+  units_with =
+      ap (λ all. zip all (outcomes_with stretch outcomes))
+      (append_assoc (take stretch.from ids) stretch.ids.items (drop stretch.to ids))
+      ∙ (ap (λ all. zip (take stretch.from ids ++ (stretch.ids.items ++ drop stretch.to ids)) all)
+      (append_assoc (take stretch.from outcomes) stretch.outcomes.items (drop stretch.to outcomes))
+      ∙ (zip_append (take stretch.from ids) (stretch.ids.items ++ drop stretch.to ids) (take stretch.from outcomes)
+      (stretch.outcomes.items ++ drop stretch.to outcomes) front_same
+      ∙ ap (λ later. zip (take stretch.from ids) (take stretch.from outcomes) ++ later)
+      (zip_append stretch.ids.items (drop stretch.to ids) stretch.outcomes.items (drop stretch.to outcomes) is.same)))
+
+  module _ (keys : Trees) (found : List (Option ℕ)) (stand : AllStandFor keys found (keys_of (zip ids outcomes)))
+      (units : UnitNumbers)
+      (follow : Follow keys (known_after [] (zip (take stretch.from ids) (take stretch.from outcomes)))
+      (zip stretch.ids.items stretch.outcomes.items ++ zip (drop stretch.to ids) (drop stretch.to outcomes)) units) where
+    -- the numbers stand for the keys of its units
+    pub stand_with : (all : List (Option ℕ)) → all ≡ take stretch.from found ++ units.found
+        → AllStandFor keys all (keys_of (zip (ids_with stretch ids) (outcomes_with stretch outcomes)))
+    stand_with all all_is =
+        rw (
+          all_is,
+          units_with,
+          keys_append [] (zip (take stretch.from ids) (take stretch.from outcomes))
+              (zip stretch.ids.items stretch.outcomes.items ++ zip (drop stretch.to ids) (drop stretch.to outcomes)),
+        )
+        (stand_append keys (take stretch.from found) units.found
+        (keys_of (zip (take stretch.from ids) (take stretch.from outcomes)))
+        (keys_after (known_after [] (zip (take stretch.from ids) (take stretch.from outcomes)))
+        (zip stretch.ids.items stretch.outcomes.items ++ zip (drop stretch.to ids) (drop stretch.to outcomes)))
+        (stand_front keys [] stretch.from found ids outcomes stand) follow.stand)
+
+    -- and by the units' ids
+    pub numbered_with : AreNumbered keys units.numbers
+        (known_after [] (zip (ids_with stretch ids) (outcomes_with stretch outcomes)))
+    numbered_with =
+        rw (
+          units_with,
+          known_append [] (zip (take stretch.from ids) (take stretch.from outcomes))
+              (zip stretch.ids.items stretch.outcomes.items ++ zip (drop stretch.to ids) (drop stretch.to outcomes)),
+        ) follow.numbered
+
+    -- so they are those of all of them
+    pub front_with : (new_ids : List ℕ) (new_outcomes : List Outcome) (front : Front)
+        → new_ids ≡ ids_with stretch ids → new_outcomes ≡ outcomes_with stretch outcomes
+        → front.numbers ≡ units.numbers → front.count ≡ length new_ids → IsFront keys new_ids new_outcomes front
+    front_with new_ids new_outcomes front ids_are outcomes_are numbers count =
+        rw (
+          numbers,
+          take_all front.count new_ids (omega (arith, count)),
+          take_all front.count new_outcomes (omega (arith, count, ap length ids_are, same_with, ap length outcomes_are)),
+          ids_are,
+          outcomes_are,
+        ) numbered_with

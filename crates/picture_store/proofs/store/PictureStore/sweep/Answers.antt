@@ -1,0 +1,43 @@
+use Rattle.picture_store.proofs.Stays.{kept_stays, viewed_stays}
+use Rattle.picture_store.proofs.Stretched.{none_front}
+use Rattle.picture_store.proofs.store.PictureStore.sweep.Goals as goal
+
+pub invariant_of-self : goal.invariant_of-self
+invariant_of-self c =
+    let s = c.self.inside in
+    let stay = rw (c.deref.ensures.value, c.deref-2.ensures.value) at c.sweep.ensures.stay in
+    record {
+      kept =
+          kept_stays s.keys c.sweep.new.keys s.ids.items s.outcomes.items s.found.items s.places s.cache.pairs s.out.items
+          c.self.invariant.kept stay (c.sweep.ensures.one c.self.invariant.kept.right.one);
+      front = none_front c.sweep.new.keys s.ids.items s.outcomes.items c.none.result c.none.ensures.numbers c.none.ensures.count;
+      settled = c.self.invariant.settled;
+    }
+
+pub returns-in_err-sweep : goal.returns-in_err-sweep
+returns-in_err-sweep c =
+    let s = c.self.inside in
+    let stay = rw (c.deref.ensures.value, c.deref-2.ensures.value) at c.sweep.ensures.stay in
+    rw (← c.self.view_is)
+    (viewed_stays s.keys c.sweep.new.keys s.ids.items s.outcomes.items s.found.items s.places s.cache.pairs s.out.items
+    c.self.invariant.kept stay s.cache.capacity s.given)
+
+pub invariant_of-self-2 : goal.invariant_of-self-2
+invariant_of-self-2 c =
+    let s = c.self.inside in
+    let stay = rw (c.deref.ensures.value, c.deref-2.ensures.value) at c.sweep.ensures.stay in
+    record {
+      kept =
+          kept_stays s.keys c.sweep.new.keys s.ids.items s.outcomes.items s.found.items s.places s.cache.pairs s.out.items
+          c.self.invariant.kept stay (c.sweep.ensures.one c.self.invariant.kept.right.one);
+      front = none_front c.sweep.new.keys s.ids.items s.outcomes.items c.none.result c.none.ensures.numbers c.none.ensures.count;
+      settled = c.self.invariant.settled;
+    }
+
+pub returns : goal.returns
+returns c =
+    let s = c.self.inside in
+    let stay = rw (c.deref.ensures.value, c.deref-2.ensures.value) at c.sweep.ensures.stay in
+    rw (← c.self.view_is)
+    (viewed_stays s.keys c.sweep.new.keys s.ids.items s.outcomes.items s.found.items s.places s.cache.pairs s.out.items
+    c.self.invariant.kept stay s.cache.capacity s.given)

@@ -3,7 +3,9 @@ ghost use Rattle.stream_edits.specs.Changes.{IsInside};
 
 use access_unit::{Refused, Unit, read_unit};
 use base_types::Shared;
+use ordered_fold::OrderedFold;
 use outcomes::Outcome;
+use period_counts::Comparisons;
 use pictures::AuId;
 use std::alloc::{AllocError, AllocGlobal, Global};
 use std::process::Abort;
@@ -170,6 +172,55 @@ fn a_deletion_of_what_nobody_refers_to_makes_few_steps(rt: HostRuntime) -> Resul
     assert!(rt; is_valid(&folded, 2) && is_valid(&folded, 3));
     assert!(rt; delete(&rt, &mut folded, 2)? <= 65);
     assert!(rt; folded.units().len() == 3 && is_valid(&folded, 2));
+    Ok(())
+}
+
+/// Puts the unit of a text at the end of a stream in output order, under the next id.
+fn append_in_order(
+    rt: &(impl Abort + AllocGlobal),
+    ordered: &mut OrderedFold,
+    text: &[u8],
+) -> Result<(), AllocError> {
+    let at = ordered.units().len();
+    if at >= 69_999 {
+        panic!(rt; "the stream is too long");
+    }
+    let id = AuId::new(at as u32 + 1);
+    let unit = unit(rt, text)?;
+    let prepared = ordered.prepare(rt.alloc(), Change::Insertion { at, id, unit })?;
+    ordered.commit(prepared);
+    Ok(())
+}
+
+/// The thousand units in output order.
+fn thousand_in_order(rt: &(impl Abort + AllocGlobal)) -> Result<OrderedFold, AllocError> {
+    let mut ordered = OrderedFold::new(rt.alloc())?;
+    append_in_order(rt, &mut ordered, &A)?;
+    for frame_num in 1..600 {
+        append_in_order(rt, &mut ordered, &p_text(frame_num))?;
+    }
+    append_in_order(rt, &mut ordered, &IDR)?;
+    for frame_num in 1..400 {
+        append_in_order(rt, &mut ordered, &p_text(frame_num))?;
+    }
+    Ok(ordered)
+}
+
+/// Whether the unit at a place has the position, which takes so many comparisons at most.
+fn stands_at(ordered: &OrderedFold, place: usize, position: usize, most: usize) -> bool {
+    let count = ordered.units().len();
+    if place >= count || count > 70_000 {
+        return false;
+    }
+    let mut comparisons = Comparisons::new();
+    let found = ordered.position_in(place, &mut comparisons);
+    found == Some(position) && comparisons.count() <= most
+}
+
+#[test]
+fn a_position_takes_few_comparisons(rt: HostRuntime) -> Result<(), Fail> {
+    let ordered = thousand_in_order(&rt)?;
+    assert!(rt; stands_at(&ordered, 699, 699, 400));
     Ok(())
 }
 

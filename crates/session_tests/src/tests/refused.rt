@@ -1,7 +1,8 @@
 //! Calls of which any growth of memory may be refused.
 
 use super::jobs::{Act, command_of, is_reply};
-use super::{A, P1, P2, Told, edit_of, empty_session, row_holds, runner_of};
+use super::stretches::appended;
+use super::{A, P1, P2, Told, edit_of, empty_session, is_answer, row_holds, runner_of};
 use Told::{After, Delete, First, Replace};
 use edit_engine::{
     Command, Config, EditRefused, Job, Landing, Last, NotOut, Receipt, Reply, Returning, Runner,
@@ -69,6 +70,20 @@ fn refused_growth_of_edits(rt: HostRuntime) {
     let mut session = empty_session(&rt);
     assert!(rt; edits(&rt, &mut session));
     assert!(rt; is_edited(&session));
+}
+
+/// A picture in the middle of a hundred becomes another one.
+#[test]
+fn refused_growth_of_an_edit_in_the_middle(rt: HostRuntime) {
+    let mut session = empty_session(&rt);
+    for last in 0..100 {
+        let answer = edit(&rt, &mut session, appended(last));
+        row_holds(&rt, last as usize, answer.is_ok());
+    }
+    let answer = edit(&rt, &mut session, Replace(50, P1));
+    assert!(rt; is_answer(answer, Ok((101, 50, 1))));
+    assert!(rt; session.position(AuId::new(50)) == Ok(Some(49)));
+    assert!(rt; session.position(AuId::new(100)) == Ok(Some(99)));
 }
 
 /// Takes the step; where memory is wanted nothing is changed, and it is taken once more.
@@ -273,7 +288,7 @@ fn are_replies_of_run(replies: &[Reply]) -> bool {
 /// An edit is accepted, or refused for want of memory.
 fn is_receipt_or_memory(answer: &Result<Receipt, EditRefused>) -> bool {
     match answer {
-        Ok(receipt) => receipt.steps == 2,
+        Ok(receipt) => receipt.number == 2,
         Err(refused) => *refused == EditRefused::Memory,
     }
 }

@@ -1,0 +1,6 @@
+pub mod Lists
+pub mod Counting
+pub mod Agreed
+pub mod Outs
+pub mod Gathered
+pub mod Ended

@@ -1,0 +1,195 @@
+-- Jobs that are out stay different, whatever a session does.
+use Rattle.std.proofs.Common.{◌≡◌, ◌⊎◌, ℕ, ◌+◌, ◌<◌, ◌≤◌, List, [], ◌∷◌, ◌++◌, length, map, Option, None, Some, ◌∙◌, ap, subst, inl, inr, arith}
+use Rattle.std.specs.Prelude.{slice_get, option_map, remove, Contains, Result, Ok, Err}
+use Rattle.std.proofs.lemmas.Bool.{cases_lt}
+use Rattle.std.proofs.lemmas.Option.{slice_get_within, slice_get-map}
+use Rattle.stand_in_device.specs.Jobs.{JobValue}
+use Rattle.picture_keys.specs.Keys.{Key}
+use Rattle.picture_keys.specs.Known.{key_of, known_after}
+use Rattle.picture_store.specs.declared.refusals.TakeRefused.{TakeRefused}
+use Rattle.picture_store.specs.declared.refusals.TakeRefused.TheVariants as take
+use Rattle.picture_store.specs.declared.answers.Landing.{Landing}
+use Rattle.picture_store.specs.declared.answers.Landing.TheVariants as landings
+use Rattle.picture_store.specs.declared.answers.Returning.{Returning}
+use Rattle.picture_store.specs.declared.answers.Returning.TheVariants as returnings
+use Rattle.picture_store.specs.Stores.{OutValue, StoreValue}
+use Rattle.picture_store.specs.Jobs as pictures
+use Rattle.stream_edits.specs.declared.edits.Edit.{Edit}
+use Rattle.stream_edits.specs.declared.receipts.Receipt.{Receipt}
+use Rattle.stream_edits.specs.declared.refusals.EditRefused.{EditRefused}
+use Rattle.edit_engine.specs.Machines.{Machine, AnswersEdit, empty, store_of}
+use Rattle.edit_engine.specs.Jobs.{AnswersTake, AnswersLand, AnswersGiveBack}
+use Rattle.decode_pool.specs.Jobs.{JobsDiffer}
+use Rattle.decode_pool.specs.Seats.{AnswersEditIn}
+use Rattle.decode_pool.proofs.Lists.{StoodAt, among, get_push, get_remove_above, get_remove_below}
+
+-- before the first edit none is out
+pub none_differ : (room : ℕ) → JobsDiffer (empty room)
+none_differ room = record {
+  given = λ at job is. absurd (cc);
+  differ = λ at later job other low is so. absurd (cc);
+}
+
+-- the same jobs
+same_differ : (old new : Machine) → new.out ≡ old.out → new.jobs ≡ old.jobs → JobsDiffer old → JobsDiffer new
+same_differ old new outs jobs apart = record {
+  given = λ at job is.
+      let was = apart.given at job (subst (λ (out : List OutValue). slice_get out at ≡ Some job) outs is) in
+      (was.0, omega (arith, was.1, jobs));
+  differ = λ at later job other low is so.
+      apart.differ at later job other low
+      (subst (λ (out : List OutValue). slice_get out at ≡ Some job) outs is)
+      (subst (λ (out : List OutValue). slice_get out later ≡ Some other) outs so);
+}
+
+-- one more, under the next number and with a key that no other has
+record IsNext (old : Machine) (more : OutValue) : Type 0 where
+  number : more.number ≡ old.jobs + 1
+  free : Contains (map (λ (job : OutValue). job.key) old.out) more.key → ⊥
+
+given_more : (old : Machine) (more : OutValue) → IsNext old more → JobsDiffer old → (at : ℕ) (job : OutValue)
+    → (slice_get old.out at ≡ Some job) ⊎ ((at ≡ length old.out) × (job ≡ more))
+    → (0 < job.number) × (job.number ≤ old.jobs + 1)
+given_more old more next apart at job (inl there) =
+    let was = apart.given at job there in (was.0, omega (arith, was.1))
+given_more old more next apart at job (inr last) =
+    let same : job.number ≡ more.number = ap (λ (j : OutValue). j.number) last.1 in
+    let number : more.number ≡ old.jobs + 1 = next.number in
+    (omega arith, omega arith)
+
+differ_more : (old : Machine) (more : OutValue) → IsNext old more → JobsDiffer old
+    → (at later : ℕ) (job other : OutValue) → at < later
+    → (slice_get old.out at ≡ Some job) ⊎ ((at ≡ length old.out) × (job ≡ more))
+    → (slice_get old.out later ≡ Some other) ⊎ ((later ≡ length old.out) × (other ≡ more))
+    → (job.number < other.number) × (job.key ≡ other.key → ⊥)
+differ_more old more next apart at later job other low (inl is) (inl so) = apart.differ at later job other low is so
+differ_more old more next apart at later job other low (inl is) (inr so) =
+    let was = apart.given at job is in
+    let number : more.number ≡ old.jobs + 1 = next.number in
+    let last : other.number ≡ more.number = ap (λ (j : OutValue). j.number) so.1 in
+    let keyed : slice_get (map (λ (j : OutValue). j.key) old.out) at ≡ Some job.key =
+    slice_get-map (λ (j : OutValue). j.key) old.out at ∙ ap (option_map (λ (j : OutValue). j.key)) is in (
+      omega (arith, was.1),
+      λ same.
+          next.free
+          (subst (λ (key : Key). Contains (map (λ (j : OutValue). j.key) old.out) key)
+          (same ∙ ap (λ (j : OutValue). j.key) so.1)
+          (among (map (λ (j : OutValue). j.key) old.out) at job.key keyed)),
+    )
+differ_more old more next apart at later job other low (inr is) (inl so) =
+    let within : later < length old.out = slice_get_within old.out later other so in
+    let past : at ≡ length old.out = is.0 in absurd (omega arith)
+differ_more old more next apart at later job other low (inr is) (inr so) =
+    let here : at ≡ length old.out = is.0 in
+    let there : later ≡ length old.out = so.0 in absurd (omega arith)
+
+more_differ : (old new : Machine) (more : OutValue) → IsNext old more → new.out ≡ old.out ++ more ∷ []
+    → new.jobs ≡ more.number → JobsDiffer old → JobsDiffer new
+more_differ old new more next outs jobs apart = record {
+  given = λ at job is.
+      let place = get_push old.out more job at (subst (λ (out : List OutValue). slice_get out at ≡ Some job) outs is) in
+      let was = given_more old more next apart at job place in
+      (was.0, omega (arith, was.1, jobs, next.number));
+  differ = λ at later job other low is so.
+      differ_more old more next apart at later job other low
+      (get_push old.out more job at (subst (λ (out : List OutValue). slice_get out at ≡ Some job) outs is))
+      (get_push old.out more other later (subst (λ (out : List OutValue). slice_get out later ≡ Some other) outs so));
+}
+
+-- one less
+stood : (old : Machine) (gone at : ℕ) (job : OutValue) → gone < length old.out → (at < gone) ⊎ (gone ≤ at)
+    → slice_get (remove old.out gone) at ≡ Some job → StoodAt old.out gone at job
+stood old gone at job within (inl low) is = get_remove_below old.out gone at job within low is
+stood old gone at job within (inr high) is = get_remove_above old.out gone at job within high is
+
+side : (at gone : ℕ) → (at < gone) ⊎ (gone ≤ at)
+side at gone = cases_lt at gone
+
+moved : (old : Machine) (gone at later : ℕ) (job other : OutValue) → at < later
+    → (a : StoodAt old.out gone at job) (b : StoodAt old.out gone later other)
+    → (at < gone) ⊎ (gone ≤ at) → (later < gone) ⊎ (gone ≤ later) → a.from < b.from
+moved old gone at later job other low a b (inl left) (inl right) = omega (arith, a.below left, b.below right)
+moved old gone at later job other low a b (inl left) (inr right) = omega (arith, a.below left, b.above right)
+moved old gone at later job other low a b (inr left) (inl right) = absurd (omega arith)
+moved old gone at later job other low a b (inr left) (inr right) = omega (arith, a.above left, b.above right)
+
+less_differ : (old new : Machine) (gone : ℕ) → gone < length old.out → new.out ≡ remove old.out gone
+    → new.jobs ≡ old.jobs → JobsDiffer old → JobsDiffer new
+less_differ old new gone within outs jobs apart = record {
+  given = λ at job is.
+      let left = subst (λ (out : List OutValue). slice_get out at ≡ Some job) outs is in
+      let from = stood old gone at job within (side at gone) left in
+      let was = apart.given from.from job from.stood in (was.0, omega (arith, was.1, jobs));
+  differ = λ at later job other low is so.
+      let left = subst (λ (out : List OutValue). slice_get out at ≡ Some job) outs is in
+      let right = subst (λ (out : List OutValue). slice_get out later ≡ Some other) outs so in
+      let from = stood old gone at job within (side at gone) left in
+      let behind = stood old gone later other within (side later gone) right in
+      apart.differ from.from behind.from job other
+      (moved old gone at later job other low from behind (side at gone) (side later gone)) from.stood behind.stood;
+}
+
+-- after a worker asks for a job
+pub taken_differ : (old new : Machine) (answer : Result (Option JobValue) TakeRefused) → AnswersTake old answer new
+    → JobsDiffer old → JobsDiffer new
+taken_differ old new (Ok (Some job)) answers apart =
+    let takes : pictures.Takes (store_of old) job (store_of new) = answers.0 in
+    let more : OutValue = record {
+      number = job.number;
+      key = key_of (known_after [] takes.before) takes.plan.requests;
+      input = job.input;
+    } in
+    more_differ old new more (record { number = takes.number_is; free = takes.due.free })
+    (ap (λ (store : StoreValue). store.out) takes.new_is) (ap (λ (store : StoreValue). store.given) takes.new_is) apart
+taken_differ old new (Ok None) answers apart =
+    same_differ old new (ap (λ (store : StoreValue). store.out) answers.0.1)
+    (ap (λ (store : StoreValue). store.given) answers.0.1) apart
+taken_differ old new (Err take.JobsSpent) answers apart =
+    same_differ old new (ap (λ (store : StoreValue). store.out) answers.0.2)
+    (ap (λ (store : StoreValue). store.given) answers.0.2) apart
+taken_differ old new (Err take.Memory) answers apart =
+    same_differ old new (ap (λ (store : StoreValue). store.out) answers.0.2)
+    (ap (λ (store : StoreValue). store.given) answers.0.2) apart
+
+-- after a worker brings a result
+pub landed_differ : (old new : Machine) (job : JobValue) (landing : Landing) → AnswersLand old job landing new
+    → JobsDiffer old → JobsDiffer new
+landed_differ old new job landings.Foreign answers apart =
+    same_differ old new (ap (λ (store : StoreValue). store.out) answers.0.1)
+    (ap (λ (store : StoreValue). store.given) answers.0.1) apart
+landed_differ old new job landings.Stale answers apart =
+    let gone = answers.0 in
+    less_differ old new gone.0 (slice_get_within old.out gone.0 gone.1 gone.2.stands)
+    (ap (λ (store : StoreValue). store.out) gone.4) (ap (λ (store : StoreValue). store.given) gone.4) apart
+landed_differ old new job landings.Taken answers apart =
+    let gone = answers.0 in
+    less_differ old new gone.0 (slice_get_within old.out gone.0 gone.1 gone.2.stands)
+    (ap (λ (store : StoreValue). store.out) gone.6) (ap (λ (store : StoreValue). store.given) gone.6) apart
+
+-- after a worker gives a job back
+pub given_back_differ : (old new : Machine) (job : JobValue) (returning : Returning)
+    → AnswersGiveBack old job returning new → JobsDiffer old → JobsDiffer new
+given_back_differ old new job returnings.Foreign answers apart =
+    same_differ old new (ap (λ (store : StoreValue). store.out) answers.0.1)
+    (ap (λ (store : StoreValue). store.given) answers.0.1) apart
+given_back_differ old new job returnings.Returned answers apart =
+    let gone = answers.0 in
+    less_differ old new gone.0 (slice_get_within old.out gone.0 gone.1 gone.2.stands)
+    (ap (λ (store : StoreValue). store.out) gone.3) (ap (λ (store : StoreValue). store.given) gone.3) apart
+
+-- after a session edits
+edited_differ : (old new : Machine) (edit : Edit) (answer : Result Receipt EditRefused) → AnswersEdit old edit answer new
+    → JobsDiffer old → JobsDiffer new
+edited_differ old new edit (Ok receipt) edits apart =
+    same_differ old new edits.refits.out_stays edits.refits.given_stays apart
+edited_differ old new edit (Err refused) edits apart =
+    same_differ old new (ap (λ (machine : Machine). machine.out) edits.1)
+    (ap (λ (machine : Machine). machine.jobs) edits.1) apart
+
+-- after a seat edits
+pub seat_differ : (old new : Machine) (edit : Edit) (answer : Result Receipt EditRefused)
+    → AnswersEditIn old edit answer new → JobsDiffer old → JobsDiffer new
+seat_differ old new edit answer (inl edits) apart = edited_differ old new edit answer edits apart
+seat_differ old new edit answer (inr stays) apart =
+    same_differ old new (ap (λ (machine : Machine). machine.out) stays.1)
+    (ap (λ (machine : Machine). machine.jobs) stays.1) apart

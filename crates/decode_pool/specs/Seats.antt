@@ -1,0 +1,90 @@
+-- What seats are answered and note.
+use Rattle.std.specs.Prelude.{◌≡◌, ◌⊎◌, ℕ, ◌+◌, ◌≤◌, List, [], ◌∷◌, ◌++◌, length, slice_get, Some, IfOk, Result, Ok, Err}
+use Rattle.std.specs.declared.alloc.AllocError.{AllocError}
+use Rattle.stream_edits.specs.declared.edits.Edit.{Edit}
+use Rattle.stream_edits.specs.declared.receipts.Receipt.{Receipt}
+use Rattle.stream_edits.specs.declared.receipts.Last.{Last}
+use Rattle.stream_edits.specs.declared.refusals.EditRefused.{EditRefused}
+use Rattle.stream_edits.specs.declared.refusals.EditRefused.TheVariants as refusals
+use Rattle.edit_engine.specs.declared.showing.Shown.{Shown}
+use Rattle.edit_engine.specs.declared.showing.Shown.TheVariants as shown
+use Rattle.stream_edits.specs.Streams.{ids_of, last_of}
+use Rattle.stream_edits.specs.Edits.{no_units, Replays}
+use Rattle.edit_engine.specs.Machines.{Machine, AnswersEdit}
+use Rattle.edit_engine.specs.Showing.{Shows}
+use Rattle.seat_books.specs.declared.receipts.SeatReceipt.{SeatReceipt}
+use Rattle.seat_books.specs.declared.receipts.SeatReceipt.TheVariants as receipts
+use Rattle.decode_pool.specs.declared.seat.Seat.{Seat}
+use Rattle.decode_pool.specs.declared.settling.Settled.{Settled}
+use Rattle.decode_pool.specs.declared.settling.Settled.TheVariants as settled
+
+-- seats with the numbers from 1 on, so many, that have noted nothing
+abbrev pub AreNew : ℕ → List Seat → Type 0
+AreNew n seats =
+    (length seats ≡ n)
+    × ((at : ℕ) (seat : Seat) → slice_get seats at ≡ Some seat
+    → (seat.number ≡ at + 1) × (seat.book.receipts.items ≡ []))
+
+-- what a seat answers to an edit of a session that is lent: what the session answers; or memory for the book is refused,
+-- and nothing changes
+abbrev pub AnswersEditIn : Machine → Edit → Result Receipt EditRefused → Machine → Type 0
+AnswersEditIn old edit answer new =
+    AnswersEdit old edit answer new ⊎ ((answer ≡ Err refusals.Memory) × (new ≡ old))
+
+-- the seat's book has one receipt more
+abbrev pub Notes : Seat → SeatReceipt → Seat → Type 0
+Notes old receipt new =
+    (new.number ≡ old.number) × (new.book.receipts.items ≡ old.book.receipts.items ++ receipt ∷ [])
+
+-- the seat's book has the same receipts
+abbrev pub NotesNothing : Seat → Seat → Type 0
+NotesNothing old new = (new.number ≡ old.number) × (new.book.receipts.items ≡ old.book.receipts.items)
+
+-- an accepted edit is noted with the id that it was answered and the journal's length, a refused one isn't
+abbrev pub NotesEdit : Seat → Edit → Result Receipt EditRefused → ℕ → Seat → Type 0
+NotesEdit old edit (Ok receipt) n new = Notes old (receipts.Edit edit receipt.id n) new
+NotesEdit old edit (Err refused) n new = NotesNothing old new
+
+-- what is shown is noted with the journal's length; where memory is wanted, nothing is shown
+abbrev pub NotesShow : Seat → ℕ → Result Shown AllocError → ℕ → Seat → Type 0
+NotesShow old id (Ok answer) n new = Notes old (receipts.Show id answer n) new
+NotesShow old id (Err wanted) n new = NotesNothing old new
+
+-- the session's stream is what its journal leads to
+abbrev pub IsReached : Machine → Type 0
+IsReached machine = Replays no_units machine.journal machine.register
+
+-- a seat edits a session, which no clause can name
+abbrev pub EditsOne : Seat → Edit → Result Receipt EditRefused → Seat → Type 0
+EditsOne old edit answer new =
+    (before : Machine) × (after : Machine) × IsReached before × AnswersEditIn before edit answer after
+    × NotesEdit old edit answer (length after.journal) new
+
+-- a seat is shown a unit of a session, which no clause can name
+abbrev pub ShowsOne : Seat → ℕ → Result Shown AllocError → Seat → Type 0
+ShowsOne old id answer new =
+    (machine : Machine) × IsReached machine × IfOk answer (λ it. Shows machine id it)
+    × NotesShow old id answer (length machine.journal) new
+
+-- the end of the stream of a session, which no clause can name
+abbrev pub IsLastOfOne : Last → Type 0
+IsLastOfOne last = (machine : Machine) × IsReached machine × (last ≡ last_of machine.register.stream)
+
+-- something else is shown of the unit that has the id than that it is pending
+abbrev pub IsSettled : Machine → ℕ → Type 0
+IsSettled machine id = (answer : Shown) × Shows machine id answer × (answer ≡ shown.Pending → ⊥)
+
+-- no unit is pending from the place on
+abbrev pub AreSettledFrom : Machine → ℕ → Type 0
+AreSettledFrom machine from =
+    (at id : ℕ) → from ≤ at → slice_get (ids_of machine.register.stream) at ≡ Some id → IsSettled machine id
+
+-- the unit at the place is pending
+abbrev pub IsPendingAt : Machine → ℕ → Type 0
+IsPendingAt machine at =
+    (id : ℕ) × (slice_get (ids_of machine.register.stream) at ≡ Some id) × Shows machine id shown.Pending
+
+-- no unit is pending, or one is, of a session that no clause can name
+abbrev pub WaitsForOne : Settled → Type 0
+WaitsForOne settled.Done = (machine : Machine) × IsReached machine × AreSettledFrom machine 0
+WaitsForOne settled.Idle = (machine : Machine) × IsReached machine × (at : ℕ) × IsPendingAt machine at

@@ -1,0 +1,131 @@
+//! The end of a desk.
+
+ghost use Rattle.std.specs.Prelude.{◌≡◌, IfErr, IfOk, OnOk, option_map};
+ghost use Rattle.decode_pool.specs.Jobs.{JobsDiffer};
+ghost use Rattle.decode_pool.specs.Finishing.{IsFault, IsFinished, IsRefusal, Tells, TellsAudit};
+ghost use Rattle.decode_pool.specs.declared.faults.FinishFault.TheVariants.{Memory};
+
+use crate::desk::Desk;
+use crate::faults::{FinishFault, Unfinished};
+use crate::gathering::{are_all_noted, are_numbered, books_of};
+use crate::seat::Seat;
+use crate::state::State;
+use edit_engine::{Edit, Session};
+use seat_books::{AuditFault, audit};
+use std::alloc::{AllocError, Global};
+use std::sync::Mutex;
+
+/// Why a desk isn't finished, and the journal of which that is said.
+#[derive(Drop)]
+struct Refusal {
+    cause: FinishFault,
+    journal: Option<Vec<Edit>>,
+}
+
+impl From<AllocError> for Refusal {
+    ghost from_gives = { λ _ refusal. refusal.cause ≡ Memory };
+
+    fn from(_: AllocError) -> Refusal {
+        Refusal {
+            cause: FinishFault::Memory,
+            journal: None,
+        }
+    }
+}
+
+/// Ends a desk. Its session is handed out where the seats are those that the desk was opened with and their books bear out
+/// the session's journal: each receipt agrees with it, and each of its edits stands in one book. Else all that was handed
+/// in is handed back. A seat of another desk is known by its number and its book alone.
+pub fn finish(alloc: Global, desk: Desk, seats: Vec<Seat>) -> Result<Session, Unfinished>
+    ensures ok { IfOk result (λ session. IsFinished desk.seats seats.items session.journal) }
+    ensures jobs { IfOk result JobsDiffer }
+    ensures err { IfErr result (λ unfinished. IsFault desk.seats seats.items unfinished.cause (option_map (λ copy. copy.items) unfinished.journal)) }
+    ensures seats { IfErr result (λ unfinished. unfinished.seats ≡ seats) }
+    ensures desk { IfErr result (λ unfinished. (unfinished.desk.seats ≡ desk.seats)
+        × (unfinished.desk.workers ≡ desk.workers)) }
+{
+    let Desk {
+        state,
+        changed,
+        workers,
+        seats: opened,
+    } = desk;
+    let state = state.into_inner();
+    match look_through(alloc, opened, &seats, &state.session) {
+        Ok(()) => Ok(state.session),
+        Err(refusal) => Err(Unfinished {
+            desk: Desk {
+                state: Mutex::new(state),
+                changed,
+                workers,
+                seats: opened,
+            },
+            seats,
+            cause: refusal.cause,
+            journal: refusal.journal,
+        }),
+    }
+}
+
+/// Whether the seats are those that were opened, and their books bear out the session's journal.
+fn look_through(
+    alloc: Global,
+    opened: usize,
+    seats: &[Seat],
+    session: &Session,
+) -> Result<(), Refusal>
+    ensures ok { OnOk result (IsFinished opened seats.now session.now.journal) }
+    ensures err { IfErr result (IsRefusal opened seats.now) }
+{
+    if !are_numbered(seats, opened) {
+        return Err(Refusal {
+            cause: FinishFault::SeatMissing,
+            journal: None,
+        });
+    }
+    let books = books_of(alloc, seats, opened)?;
+    let journal = session.journal();
+    if let Err(fault) = audit(alloc, journal, &books) {
+        return Err(refusal_of(alloc, fault, journal));
+    }
+    if !are_all_noted(journal, &books) {
+        return Err(with_journal(alloc, FinishFault::SeatMissing, journal));
+    }
+    Ok(())
+}
+
+/// Why a desk isn't finished whose books don't pass their audit.
+fn refusal_of(alloc: Global, fault: AuditFault, journal: &[Edit]) -> Refusal
+    ensures { TellsAudit fault journal.now result }
+{
+    match fault {
+        AuditFault::SeatDisagrees { seat, number } => {
+            with_journal(alloc, FinishFault::SeatDisagrees { seat, number }, journal)
+        }
+        AuditFault::Memory => Refusal::from(AllocError),
+    }
+}
+
+/// Why a desk isn't finished, with a copy of the journal of which that is said.
+fn with_journal(alloc: Global, cause: FinishFault, journal: &[Edit]) -> Refusal
+    ensures { Tells cause journal.now result }
+{
+    match copy_of(alloc, journal) {
+        Ok(journal) => Refusal {
+            cause,
+            journal: Some(journal),
+        },
+        Err(wanted) => Refusal::from(wanted),
+    }
+}
+
+/// The edits once more.
+fn copy_of(alloc: Global, journal: &[Edit]) -> Result<Vec<Edit>, AllocError>
+    ensures { IfOk result (λ copy. copy.items ≡ journal.now) }
+{
+    let mut copy = Vec::with_capacity(alloc, journal.len())?;
+    for edit in journal {
+        copy.push(edit.copy()?)?;
+    }
+    Ok(copy)
+}

@@ -1,0 +1,104 @@
+//! A seat: one user of a desk, and its book.
+
+ghost use Rattle.std.specs.Prelude.{◌≡◌, [], length, IfOk};
+ghost use Rattle.stream_edits.specs.Streams.{last_of};
+ghost use Rattle.edit_engine.specs.Showing.{Shows};
+ghost use Rattle.decode_pool.specs.Seats.{AnswersEditIn, EditsOne, IsLastOfOne, NotesEdit, NotesShow, ShowsOne, WaitsForOne};
+
+use crate::desk::Desk;
+use crate::settling::Settled;
+use edit_engine::{Edit, EditRefused, Last, Receipt, Session, Shown};
+use pictures::AuId;
+use seat_books::{SeatBook, SeatReceipt};
+use std::alloc::{AllocError, Global};
+use std::sync::Wait;
+
+/// One user of a desk, with the book of what it did and was shown.
+#[derive(Debug, Drop)]
+pub struct Seat {
+    pub(crate) number: usize,
+    pub(crate) book: SeatBook,
+}
+
+impl Seat {
+    /// The seat of this number, whose book is empty.
+    pub(crate) fn new(alloc: Global, number: usize) -> Seat
+        ensures number { result.number ≡ number }
+        ensures book { result.book.receipts.items ≡ [] }
+    {
+        Seat {
+            number,
+            book: SeatBook::new(alloc),
+        }
+    }
+
+    /// The seat's book.
+    pub fn book(&self) -> &SeatBook
+        ensures { result.now ≡ self.now.book }
+    {
+        &self.book
+    }
+
+    /// Edits a session that is lent, and notes the edit where it is accepted. What the book needs is made first: where
+    /// memory for that is refused, the session isn't asked.
+    pub fn edit_in(&mut self, session: &mut Session, edit: Edit) -> Result<Receipt, EditRefused>
+        ensures session { AnswersEditIn session.old edit result session.new }
+        ensures book { NotesEdit self.old edit result (length session.new.journal) self.new }
+    {
+        self.book.receipts.reserve(1)?;
+        let noted = edit.copy()?;
+        let receipt = session.edit(edit)?;
+        self.book.receipts.push_reserved(SeatReceipt::Edit {
+            edit: noted,
+            id: receipt.id,
+            length: receipt.number,
+        });
+        Ok(receipt)
+    }
+
+    /// What a session that is lent shows of the unit that has the id, which is noted.
+    pub fn show_in(&mut self, session: &Session, id: AuId) -> Result<Shown, AllocError>
+        ensures session { IfOk result (λ shown. Shows session.now id shown) }
+        ensures book { NotesShow self.old id result (length session.now.journal) self.new }
+    {
+        self.book.receipts.reserve(1)?;
+        let shown = session.show(id);
+        self.book.receipts.push_reserved(SeatReceipt::Show {
+            id,
+            shown,
+            length: session.journal().len() as u64,
+        });
+        Ok(shown)
+    }
+
+    /// Edits the desk's session as `edit_in` does, while no one else does.
+    pub fn edit<R: Wait>(&mut self, rt: &R, desk: &Desk, edit: Edit) -> Result<Receipt, EditRefused>
+        ensures { EditsOne self.old edit result self.new }
+    {
+        let answer = desk.state.lock(rt).edit(self, edit);
+        desk.changed.notify_all();
+        answer
+    }
+
+    /// What the desk's session shows of the unit that has the id, as `show_in` does.
+    pub fn show<R: Wait>(&mut self, rt: &R, desk: &Desk, id: AuId) -> Result<Shown, AllocError>
+        ensures { ShowsOne self.old id result self.new }
+    {
+        desk.state.lock(rt).show(self, id)
+    }
+
+    /// How many units the desk's stream has, and the id of the last one.
+    pub fn last<R: Wait>(&self, rt: &R, desk: &Desk) -> Last
+        ensures { IsLastOfOne result }
+    {
+        desk.state.lock(rt).last()
+    }
+
+    /// Waits until no unit of the desk's stream is pending, or until no worker is left though one is: as many have ended
+    /// as the desk was opened for.
+    pub fn settle<R: Wait>(&self, rt: &R, desk: &Desk) -> Settled
+        ensures { WaitsForOne result }
+    {
+        desk.settle(rt)
+    }
+}

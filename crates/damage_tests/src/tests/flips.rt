@@ -1,0 +1,137 @@
+//! One bit of three units' texts is another: each text is read or refused, and the session says of each unit that is
+//! there what the plain fold says.
+
+use super::{empty_session, row_holds};
+use access_unit::{Unit, read_unit};
+use bytes::Bytes;
+use edit_engine::{Edit, EditRefused, Place, Session};
+use outcomes::Outcome;
+use output_order::positions;
+use pictures::AuId;
+use request_core::scratch;
+use std::alloc::{AllocError, Global};
+use std::process::Abort;
+use std::test::Fail;
+
+/// An IDR picture with its sets, a P picture, and a B picture that is shown between them.
+static TEXTS: [&[u8]; 3] = [
+    &[
+        0, 0, 1, 0x67, 0x4D, 0x00, 0x0A, 0xF6, 0xF2, 0, 0, 1, 0x68, 0xCE, 0x38, 0x80, 0, 0, 1,
+        0x65, 0x88, 0x84, 0x0C,
+    ],
+    &[0, 0, 1, 0x41, 0x9A, 0x28, 0x30],
+    &[0, 0, 1, 0x01, 0x9E, 0x45, 0x18],
+];
+
+/// A byte with each of its bits alone.
+const BITS: [u8; 8] = [1, 2, 4, 8, 16, 32, 64, 128];
+
+/// Which bit is another: of which text, which byte, and which of its bits.
+#[derive(Clone, Copy)]
+struct Flip {
+    text: usize,
+    byte: usize,
+    bit: u8,
+}
+
+/// The text at the place, with the bit as it is damaged.
+fn damaged(alloc: Global, place: usize, text: &[u8], flip: Flip) -> Result<Vec<u8>, AllocError> {
+    let mut bytes = Vec::from_slice(alloc, text)?;
+    if place == flip.text {
+        if let Some(byte) = bytes.get_mut(flip.byte) {
+            *byte ^= flip.bit;
+        }
+    }
+    Ok(bytes)
+}
+
+/// Inserts the text after the last unit, and among the units where it is one; says whether it was answered so.
+fn inserts(
+    alloc: Global,
+    session: &mut Session,
+    units: &mut Vec<(AuId, Unit)>,
+    text: Vec<u8>,
+) -> Result<bool, AllocError> {
+    let read = read_unit(alloc, text.as_slice());
+    let place = match session.last().id {
+        Some(id) => Place::After(id),
+        None => Place::First,
+    };
+    let edit = Edit::Insert(place, Bytes::from_vec(text)?);
+    match (read, session.edit(edit)) {
+        (Ok(unit), Ok(receipt)) => {
+            units.push((receipt.id, unit))?;
+            Ok(true)
+        }
+        (Err(refused), Err(EditRefused::Unit(told))) => Ok(refused == told),
+        _ => Ok(false),
+    }
+}
+
+/// The session says this of the unit.
+fn tells(
+    alloc: Global,
+    session: &Session,
+    id: AuId,
+    outcome: &Outcome,
+    position: Option<usize>,
+) -> Result<bool, Fail> {
+    let Ok(kept) = session.outcome(id) else {
+        return Ok(false);
+    };
+    let kept = format!(in alloc; "{kept:?}")?;
+    let plain = format!(in alloc; "{outcome:?}")?;
+    Ok(kept.as_str() == plain.as_str() && session.position(id) == Ok(position))
+}
+
+/// The session says of each of the units what the plain fold says.
+fn tells_each(alloc: Global, session: &Session, units: &[(AuId, Unit)]) -> Result<bool, Fail> {
+    let outcomes = scratch(alloc, units)?;
+    let places = positions(alloc, &outcomes)?;
+    for (at, unit) in units.iter().enumerate() {
+        let (Some(outcome), Some(place)) = (outcomes.get(at), places.get(at)) else {
+            return Ok(false);
+        };
+        if !tells(alloc, session, unit.0, outcome, *place)? {
+            return Ok(false);
+        }
+    }
+    Ok(true)
+}
+
+/// An empty session takes the texts, of which one is damaged, as the plain reader and the plain fold say.
+fn survives(alloc: Global, session: &mut Session, flip: Flip) -> Result<bool, Fail> {
+    let mut units = Vec::new(alloc);
+    for (place, text) in TEXTS.iter().enumerate() {
+        let bytes = damaged(alloc, place, text, flip)?;
+        if !inserts(alloc, session, &mut units, bytes)? {
+            return Ok(false);
+        }
+    }
+    Ok(session.last().units == units.len() && tells_each(alloc, session, &units)?)
+}
+
+/// Empty sessions take the texts, with each bit of this byte damaged in turn.
+fn survives_each_bit(
+    rt: &(impl Abort + AllocGlobal),
+    text: usize,
+    byte: usize,
+) -> Result<bool, Fail> {
+    for bit in BITS {
+        let mut session = empty_session(rt);
+        if !survives(rt.alloc(), &mut session, Flip { text, byte, bit })? {
+            return Ok(false);
+        }
+    }
+    Ok(true)
+}
+
+#[test]
+fn each_bit_of_three_units_may_be_another(rt: HostRuntime) -> Result<(), Fail> {
+    for (text, bytes) in TEXTS.iter().enumerate() {
+        for byte in 0..bytes.len() {
+            row_holds(&rt, byte, survives_each_bit(&rt, text, byte)?);
+        }
+    }
+    Ok(())
+}

@@ -15,9 +15,7 @@ use hands::Hands;
 use looks::{Names, agree};
 use plain::Plain;
 use stand_in_device::Device;
-use std::alloc::{AllocError, AllocGlobal, Global};
-use std::process::Abort;
-use std::test::Fail;
+use std::alloc::{AllocError, Global};
 use test_builders::Draws;
 use told::Answer;
 
@@ -27,7 +25,7 @@ const LISTS: u32 = 125;
 const COMMANDS: u64 = 60;
 
 /// How often each of what matters was answered.
-#[derive(Debug, Drop)]
+#[derive(Drop)]
 struct Counts {
     accepted: u32,
     refused: u32,
@@ -87,20 +85,22 @@ impl List {
         }
     }
 
-    /// Draws a command, which both follow: the answer, nothing where they differ in it or in what is seen then.
-    fn step(&mut self, alloc: Global, draws: &mut Draws) -> Result<Option<Answer>, AllocError> {
+    /// Draws a command, which both follow and whose answer is counted: whether they agree in it and in what is seen then.
+    fn step(
+        &mut self,
+        alloc: Global,
+        draws: &mut Draws,
+        counts: &mut Counts,
+    ) -> Result<bool, AllocError> {
         let told = draw(draws, &self.plain);
         let answer = self.hands.follow(alloc, told)?;
         let wanted = self.plain.follow(alloc, &self.hands.session, told)?;
         let is_named = self
             .names
             .fit(alloc, &self.hands.session, &self.plain.keys)?;
+        counts.count(answer);
         let is_same = answer == wanted && self.is_given(answer) && is_named;
-        if is_same && self.plain.cached.is_possible && agree(&self.hands.session, &self.plain) {
-            Ok(Some(answer))
-        } else {
-            Ok(None)
-        }
+        Ok(is_same && self.plain.cached.is_possible && agree(&self.hands.session, &self.plain))
     }
 
     /// Whether a job that was taken was given what the model gives.
@@ -119,9 +119,8 @@ impl List {
         counts: &mut Counts,
     ) -> Result<bool, AllocError> {
         for _ in draws.below(50)..COMMANDS {
-            match self.step(alloc, draws)? {
-                Some(answer) => counts.count(answer),
-                None => return Ok(false),
+            if !self.step(alloc, draws, counts)? {
+                return Ok(false);
             }
         }
         counts.restored = counts.restored.saturating_add(self.plain.cached.restored);
@@ -129,8 +128,21 @@ impl List {
     }
 }
 
-/// Draws lists by a seed that sessions and the plain model agree on, with room for so many pictures in the cache.
-fn agree_on_lists(rt: &(impl Abort + AllocGlobal), seed: u64, room: u16) -> Result<(), AllocError> {
+/// Whether a session and the plain model agree on a list that is drawn, with room for so many pictures in the cache.
+fn list_agrees(
+    alloc: Global,
+    draws: &mut Draws,
+    counts: &mut Counts,
+    room: u16,
+) -> Result<bool, AllocError> {
+    let Ok(session) = Session::new(alloc, Config { cache: room }) else {
+        return Ok(false);
+    };
+    List::new(alloc, session, room).agrees(alloc, draws, counts)
+}
+
+/// Whether they agree on lists that are drawn by a seed, which show something.
+fn lists_agree(alloc: Global, seed: u64, room: u16) -> Result<bool, AllocError> {
     let mut draws = Draws::new(seed);
     let mut counts = Counts {
         accepted: 0,
@@ -140,94 +152,90 @@ fn agree_on_lists(rt: &(impl Abort + AllocGlobal), seed: u64, room: u16) -> Resu
         foreign: 0,
         restored: 0,
     };
-    for row in 0..LISTS {
-        let Ok(session) = Session::new(rt.alloc(), Config { cache: room }) else {
-            panic!(rt; "no session is made");
-        };
-        let mut list = List::new(rt.alloc(), session, room);
-        let agrees = list.agrees(rt.alloc(), &mut draws, &mut counts)?;
-        assert!(rt; agrees, "list {row}");
+    for _ in 0..LISTS {
+        if !list_agrees(alloc, &mut draws, &mut counts, room)? {
+            return Ok(false);
+        }
     }
-    assert!(rt; counts.are_many(), "{counts:?}");
-    Ok(())
+    Ok(counts.are_many())
 }
 
 #[test]
-fn first_lists_with_room_for_1(rt: HostRuntime) -> Result<(), Fail> {
-    Ok(agree_on_lists(&rt, 0x9F5A_BF21_08F6_4A04, 1)?)
+fn first_lists_with_room_for_1(rt: HostRuntime) {
+    assert!(rt; lists_agree(rt.alloc(), 0x9F5A_BF21_08F6_4A04, 1) == Ok(true));
 }
 
 #[test]
-fn second_lists_with_room_for_1(rt: HostRuntime) -> Result<(), Fail> {
-    Ok(agree_on_lists(&rt, 0xD2D8_8F9A_5B3E_BAF2, 1)?)
+fn second_lists_with_room_for_1(rt: HostRuntime) {
+    assert!(rt; lists_agree(rt.alloc(), 0xD2D8_8F9A_5B3E_BAF2, 1) == Ok(true));
 }
 
 #[test]
-fn third_lists_with_room_for_1(rt: HostRuntime) -> Result<(), Fail> {
-    Ok(agree_on_lists(&rt, 0x2669_39F8_D918_AB0C, 1)?)
+fn third_lists_with_room_for_1(rt: HostRuntime) {
+    assert!(rt; lists_agree(rt.alloc(), 0x2669_39F8_D918_AB0C, 1) == Ok(true));
 }
 
 #[test]
-fn last_lists_with_room_for_1(rt: HostRuntime) -> Result<(), Fail> {
-    Ok(agree_on_lists(&rt, 0x8DDC_710E_B8E9_5BC6, 1)?)
+fn last_lists_with_room_for_1(rt: HostRuntime) {
+    assert!(rt; lists_agree(rt.alloc(), 0x8DDC_710E_B8E9_5BC6, 1) == Ok(true));
 }
 
 #[test]
-fn first_lists_with_room_for_2(rt: HostRuntime) -> Result<(), Fail> {
-    Ok(agree_on_lists(&rt, 0xA07E_0488_92A2_17F3, 2)?)
+fn first_lists_with_room_for_2(rt: HostRuntime) {
+    assert!(rt; lists_agree(rt.alloc(), 0xA07E_0488_92A2_17F3, 2) == Ok(true));
 }
 
 #[test]
-fn second_lists_with_room_for_2(rt: HostRuntime) -> Result<(), Fail> {
-    Ok(agree_on_lists(&rt, 0xD3FB_D501_E4EA_88E1, 2)?)
+fn second_lists_with_room_for_2(rt: HostRuntime) {
+    assert!(rt; lists_agree(rt.alloc(), 0xD3FB_D501_E4EA_88E1, 2) == Ok(true));
 }
 
 #[test]
-fn third_lists_with_room_for_2(rt: HostRuntime) -> Result<(), Fail> {
-    Ok(agree_on_lists(&rt, 0x278C_7F60_62C4_78FB, 2)?)
+fn third_lists_with_room_for_2(rt: HostRuntime) {
+    assert!(rt; lists_agree(rt.alloc(), 0x278C_7F60_62C4_78FB, 2) == Ok(true));
 }
 
 #[test]
-fn last_lists_with_room_for_2(rt: HostRuntime) -> Result<(), Fail> {
-    Ok(agree_on_lists(&rt, 0x8EFF_B676_4295_29B5, 2)?)
+fn last_lists_with_room_for_2(rt: HostRuntime) {
+    assert!(rt; lists_agree(rt.alloc(), 0x8EFF_B676_4295_29B5, 2) == Ok(true));
 }
 
 #[test]
-fn first_lists_with_room_for_3(rt: HostRuntime) -> Result<(), Fail> {
-    Ok(agree_on_lists(&rt, 0xA1A1_49F0_1C4D_E5E2, 3)?)
+fn first_lists_with_room_for_3(rt: HostRuntime) {
+    assert!(rt; lists_agree(rt.alloc(), 0xA1A1_49F0_1C4D_E5E2, 3) == Ok(true));
 }
 
 #[test]
-fn second_lists_with_room_for_3(rt: HostRuntime) -> Result<(), Fail> {
-    Ok(agree_on_lists(&rt, 0xD51F_1A69_6E96_56D0, 3)?)
+fn second_lists_with_room_for_3(rt: HostRuntime) {
+    assert!(rt; lists_agree(rt.alloc(), 0xD51F_1A69_6E96_56D0, 3) == Ok(true));
 }
 
 #[test]
-fn third_lists_with_room_for_3(rt: HostRuntime) -> Result<(), Fail> {
-    Ok(agree_on_lists(&rt, 0x28AF_C4C7_EC70_46EA, 3)?)
+fn third_lists_with_room_for_3(rt: HostRuntime) {
+    assert!(rt; lists_agree(rt.alloc(), 0x28AF_C4C7_EC70_46EA, 3) == Ok(true));
 }
 
 #[test]
-fn last_lists_with_room_for_3(rt: HostRuntime) -> Result<(), Fail> {
-    Ok(agree_on_lists(&rt, 0x9022_FBDD_CC40_F7A4, 3)?)
+fn last_lists_with_room_for_3(rt: HostRuntime) {
+    assert!(rt; lists_agree(rt.alloc(), 0x9022_FBDD_CC40_F7A4, 3) == Ok(true));
 }
 
 #[test]
-fn first_lists_with_room_for_4(rt: HostRuntime) -> Result<(), Fail> {
-    Ok(agree_on_lists(&rt, 0xA2C4_8F57_A5F9_B3D1, 4)?)
+fn first_lists_with_room_for_4(rt: HostRuntime) {
+    assert!(rt; lists_agree(rt.alloc(), 0xA2C4_8F57_A5F9_B3D1, 4) == Ok(true));
 }
 
 #[test]
-fn second_lists_with_room_for_4(rt: HostRuntime) -> Result<(), Fail> {
-    Ok(agree_on_lists(&rt, 0xD642_5FD0_F842_24BF, 4)?)
+fn second_lists_with_room_for_4(rt: HostRuntime) {
+    assert!(rt; lists_agree(rt.alloc(), 0xD642_5FD0_F842_24BF, 4) == Ok(true));
 }
 
 #[test]
-fn third_lists_with_room_for_4(rt: HostRuntime) -> Result<(), Fail> {
-    Ok(agree_on_lists(&rt, 0x29D3_0A2F_761C_14D9, 4)?)
+fn third_lists_with_room_for_4(rt: HostRuntime) {
+    assert!(rt; lists_agree(rt.alloc(), 0x29D3_0A2F_761C_14D9, 4) == Ok(true));
 }
 
 #[test]
-fn last_lists_with_room_for_4(rt: HostRuntime) -> Result<(), Fail> {
-    Ok(agree_on_lists(&rt, 0x9146_4145_55EC_C593, 4)?)
+fn last_lists_with_room_for_4(rt: HostRuntime) {
+    assert!(rt; lists_agree(rt.alloc(), 0x9146_4145_55EC_C593, 4) == Ok(true));
 }

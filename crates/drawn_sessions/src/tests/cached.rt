@@ -3,6 +3,7 @@
 
 use super::trees::{Key, Tree, key_with};
 use edit_engine::{Session, Shown};
+use pictures::AuId;
 use std::alloc::{AllocError, Global};
 use std::mem;
 
@@ -64,9 +65,9 @@ impl Cached {
         let (mut ready, mut pending) = (0usize, 0usize);
         let mut left = Vec::new(alloc);
         for tree in trees {
-            match key_with(keys, &tree) {
+            match key_with(keys, tree) {
                 None => left.push(tree)?,
-                Some(key) if is_ready(session, key) => {
+                Some(key) if is_ready(session, key.id) => {
                     held.push(tree)?;
                     ready = ready.saturating_add(1);
                     self.restored = self.restored.saturating_add(1);
@@ -103,7 +104,7 @@ impl Cached {
     }
 }
 
-/// Whether the picture of a key is shown.
-fn is_ready(session: &Session, key: &Key) -> bool {
-    matches!(session.show(key.id), Shown::Ready(_))
+/// Whether the picture of the unit of an id is shown.
+fn is_ready(session: &Session, id: AuId) -> bool {
+    matches!(session.show(id), Shown::Ready(_))
 }

@@ -115,10 +115,10 @@ impl Plain {
     fn fold(&mut self, alloc: Global, session: &Session) -> Result<(), AllocError> {
         self.outcomes = scratch(alloc, &self.units)?;
         self.positions = positions(alloc, &self.outcomes)?;
-        self.keys = self.works.keys_of(alloc, &self.units, &self.outcomes)?;
+        self.keys = self.seen.keys_of(alloc, &self.units, &self.outcomes)?;
         let mut gone = Vec::new(alloc);
         for tree in mem::replace(&mut self.held, Vec::new(alloc)) {
-            match key_with(&self.keys, &tree) {
+            match key_with(&self.keys, tree) {
                 Some(_) => self.held.push(tree)?,
                 None => gone.push(tree)?,
             }

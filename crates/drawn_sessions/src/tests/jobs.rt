@@ -2,7 +2,7 @@
 
 use super::plain::Plain;
 use super::told::Answer;
-use super::trees::{Key, Tree, is_among, key_at, key_with, named};
+use super::trees::{Key, Tree, key_at, key_with, named};
 use edit_engine::{Landing, Picture, Returning};
 use h264_controls::{Request, digest_form};
 use outcomes::Outcome;
@@ -25,36 +25,45 @@ impl Plain {
         let Some(key) = self.due(alloc)? else {
             return Ok(Answer::NotTaken);
         };
-        let (tree, timestamp) = (key.tree.copy()?, key.id.timestamp());
-        let requests = self.requests_of(key.id);
-        let input = self.input_of(alloc, requests)?;
-        let picture = match self.picture(Some(key)) {
-            Some(picture) => picture,
-            None => self.picture_of(alloc, requests)?,
-        };
-        self.given.push(Given {
-            tree,
-            input,
-            picture,
-        })?;
+        let Key { id, tree } = key;
+        let given = self.given_of(alloc, id, tree)?;
+        self.given.push(given)?;
         let number = self.jobs();
         self.out.push(number)?;
-        Ok(Answer::Taken(number, timestamp))
+        Ok(Answer::Taken(number, id.timestamp()))
+    }
+
+    /// The job of a unit with this key.
+    fn given_of(&self, alloc: Global, id: AuId, tree: Tree) -> Result<Given, AllocError> {
+        let requests = self.requests_of(id);
+        Ok(Given {
+            tree,
+            input: self.input_of(alloc, requests)?,
+            picture: self.made(alloc, tree, requests)?,
+        })
+    }
+
+    /// The picture of a key: that which was made before, or that of its requests.
+    fn made(&self, alloc: Global, tree: Tree, requests: &[Request]) -> Result<Picture, AllocError> {
+        match self.picture(tree) {
+            Some(picture) => Ok(picture),
+            None => self.picture_of(alloc, requests),
+        }
     }
 
     /// The first key that is due.
-    fn due(&self, alloc: Global) -> Result<Option<&Key>, AllocError> {
+    fn due(&self, alloc: Global) -> Result<Option<Key>, AllocError> {
         for key in &self.keys {
-            if self.is_due(alloc, key)? {
-                return Ok(Some(key));
+            if self.is_due(alloc, *key)? {
+                return Ok(Some(*key));
             }
         }
         Ok(None)
     }
 
     /// Whether a key isn't held and isn't out, and each key at its entries is held.
-    fn is_due(&self, alloc: Global, key: &Key) -> Result<bool, AllocError> {
-        if is_among(&self.held, &key.tree) || self.is_out(&key.tree) {
+    fn is_due(&self, alloc: Global, key: Key) -> Result<bool, AllocError> {
+        if self.held.contains(&key.tree) || self.is_out(key.tree) {
             return Ok(false);
         }
         for request in self.requests_of(key.id) {
@@ -74,10 +83,10 @@ impl Plain {
     }
 
     /// Whether the key is that of a job that is out.
-    fn is_out(&self, tree: &Tree) -> bool {
+    fn is_out(&self, tree: Tree) -> bool {
         for number in &self.out {
             if let Some(given) = self.given(*number)
-                && given.tree.is(tree)
+                && given.tree == tree
             {
                 return true;
             }
@@ -89,7 +98,7 @@ impl Plain {
     fn are_held(&self, units: &[Option<AuId>]) -> bool {
         for unit in units {
             if let Some(key) = key_at(&self.keys, *unit)
-                && !is_among(&self.held, &key.tree)
+                && !self.held.contains(&key.tree)
             {
                 return false;
             }
@@ -114,22 +123,31 @@ impl Plain {
         units: &[Option<AuId>],
     ) -> Result<(), AllocError> {
         for unit in units {
-            if let (Some(id), Some(picture)) = (unit, self.picture(key_at(&self.keys, *unit))) {
-                let timestamp = id.timestamp();
-                let reference = Reference { timestamp, picture };
-                if !references.contains(&reference) {
-                    references.push(reference)?;
-                }
+            if let Some(reference) = self.reference(*unit)
+                && !references.contains(&reference)
+            {
+                references.push(reference)?;
             }
         }
         Ok(())
     }
 
+    /// The picture of the unit that is named, as a reference.
+    fn reference(&self, unit: Option<AuId>) -> Option<Reference> {
+        let timestamp = unit?.timestamp();
+        let picture = self.picture_at(unit)?;
+        Some(Reference { timestamp, picture })
+    }
+
+    /// The picture of the unit that is named, if it was given to decode.
+    fn picture_at(&self, unit: Option<AuId>) -> Option<Picture> {
+        self.picture(key_at(&self.keys, unit)?.tree)
+    }
+
     /// The picture of a key, if it was given to decode.
-    pub(super) fn picture(&self, key: Option<&Key>) -> Option<Picture> {
-        let tree = &key?.tree;
+    pub(super) fn picture(&self, tree: Tree) -> Option<Picture> {
         for given in &self.given {
-            if given.tree.is(tree) {
+            if given.tree == tree {
                 return Some(given.picture);
             }
         }
@@ -156,7 +174,7 @@ impl Plain {
     /// Feeds the pictures of units.
     fn feed(&self, records: &mut Sha256, units: &[Option<AuId>]) {
         for unit in units {
-            records.update(match self.picture(key_at(&self.keys, *unit)) {
+            records.update(match self.picture_at(*unit) {
                 Some(picture) => picture.digest,
                 None => [0; 32],
             });
@@ -175,10 +193,10 @@ impl Plain {
 
     /// Takes the result of what a job was given to decode under a number.
     pub(super) fn land(&mut self, number: u64, of: u64) -> Result<Landing, AllocError> {
-        let Some(tree) = self.leave(number, of)? else {
+        let Some(tree) = self.leave(number, of) else {
             return Ok(Landing::Foreign);
         };
-        if key_with(&self.keys, &tree).is_none() || is_among(&self.held, &tree) {
+        if key_with(&self.keys, tree).is_none() || self.held.contains(&tree) {
             return Ok(Landing::Stale);
         }
         self.held.push(tree)?;
@@ -186,23 +204,21 @@ impl Plain {
     }
 
     /// Takes back what a job was given to decode under a number.
-    pub(super) fn give_back(&mut self, number: u64, of: u64) -> Result<Returning, AllocError> {
-        match self.leave(number, of)? {
-            Some(_) => Ok(Returning::Returned),
-            None => Ok(Returning::Foreign),
+    pub(super) fn give_back(&mut self, number: u64, of: u64) -> Returning {
+        match self.leave(number, of) {
+            Some(_) => Returning::Returned,
+            None => Returning::Foreign,
         }
     }
 
     /// Where a job of this number is out that was given the same as that one, it's out no more: its key.
-    fn leave(&mut self, number: u64, of: u64) -> Result<Option<Tree>, AllocError> {
-        let (Some(job), Some(brought)) = (self.given(number), self.given(of)) else {
-            return Ok(None);
-        };
+    fn leave(&mut self, number: u64, of: u64) -> Option<Tree> {
+        let (job, brought) = (self.given(number)?, self.given(of)?);
         if !self.out.contains(&number) || !job.input.is_same(&brought.input) {
-            return Ok(None);
+            return None;
         }
-        let tree = job.tree.copy()?;
+        let tree = job.tree;
         self.out.retain(|out| *out != number);
-        Ok(Some(tree))
+        Some(tree)
     }
 }

@@ -29,10 +29,10 @@ impl Names {
             let Ok(Some(number)) = session.key(key.id) else {
                 return Ok(false);
             };
-            if !agrees(&now, &key.tree, number) || !stays(&self.now, &key.tree, number) {
+            if !agrees(&now, key.tree, number) || !stays(&self.now, key.tree, number) {
                 return Ok(false);
             }
-            now.push((key.tree.copy()?, number))?;
+            now.push((key.tree, number))?;
             if !self.seen.contains(&number) {
                 self.seen.push(number)?;
             }
@@ -53,9 +53,9 @@ impl Names {
 }
 
 /// Whether the number is that of the same key, and of no other one.
-fn agrees(named: &[(Tree, KeyId)], tree: &Tree, number: KeyId) -> bool {
+fn agrees(named: &[(Tree, KeyId)], tree: Tree, number: KeyId) -> bool {
     for (other, given) in named {
-        if other.is(tree) != (*given == number) {
+        if (*other == tree) != (*given == number) {
             return false;
         }
     }
@@ -63,9 +63,9 @@ fn agrees(named: &[(Tree, KeyId)], tree: &Tree, number: KeyId) -> bool {
 }
 
 /// Whether the key has the number, if it has one.
-fn stays(named: &[(Tree, KeyId)], tree: &Tree, number: KeyId) -> bool {
+fn stays(named: &[(Tree, KeyId)], tree: Tree, number: KeyId) -> bool {
     for (other, given) in named {
-        if other.is(tree) && *given != number {
+        if *other == tree && *given != number {
             return false;
         }
     }

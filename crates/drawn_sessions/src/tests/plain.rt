@@ -3,7 +3,7 @@
 use super::cached::Cached;
 use super::jobs::Given;
 use super::told::{Answer, Change, Told};
-use super::trees::{Key, Tree, Works, is_among, key_at};
+use super::trees::{Key, Seen, Tree, key_at};
 use access_unit::Unit;
 use edit_engine::{Session, Shown};
 use outcomes::Outcome;
@@ -17,7 +17,7 @@ pub(super) struct Plain {
     /// What becomes of the units, folded anew after each edit, with the keys of the valid ones.
     pub(super) outcomes: Vec<Outcome>,
     pub(super) positions: Vec<Option<usize>>,
-    pub(super) works: Works,
+    pub(super) seen: Seen,
     pub(super) keys: Vec<Key>,
     pub(super) held: Vec<Tree>,
     pub(super) cached: Cached,
@@ -37,8 +37,9 @@ impl Plain {
             units: Vec::new(alloc),
             outcomes: Vec::new(alloc),
             positions: Vec::new(alloc),
-            works: Works {
+            seen: Seen {
                 works: Vec::new(alloc),
+                trees: Vec::new(alloc),
             },
             keys: Vec::new(alloc),
             held: Vec::new(alloc),
@@ -61,7 +62,7 @@ impl Plain {
             Told::Edit(change) => self.edit(alloc, session, change),
             Told::Take => self.take(alloc),
             Told::Land(number, of) => Ok(Answer::Landed(self.land(number, of)?)),
-            Told::Give(number, of) => Ok(Answer::GivenBack(self.give_back(number, of)?)),
+            Told::Give(number, of) => Ok(Answer::GivenBack(self.give_back(number, of))),
         }
     }
 
@@ -84,16 +85,16 @@ impl Plain {
     pub(super) fn show(&self, id: AuId) -> Shown {
         match (self.outcome(id), key_at(&self.keys, Some(id))) {
             (Some(Outcome::Fault(fault)), _) => Shown::Fault(*fault),
-            (Some(Outcome::Plan(_)), Some(key)) => self.show_key(key),
+            (Some(Outcome::Plan(_)), Some(key)) => self.show_key(key.tree),
             (Some(Outcome::Plan(_)), None) => Shown::Pending,
             (None, _) => Shown::NoSuchUnit,
         }
     }
 
     /// What is shown of a unit with this key.
-    fn show_key(&self, key: &Key) -> Shown {
-        match self.picture(Some(key)) {
-            Some(picture) if is_among(&self.held, &key.tree) => Shown::Ready(picture),
+    fn show_key(&self, tree: Tree) -> Shown {
+        match self.picture(tree) {
+            Some(picture) if self.held.contains(&tree) => Shown::Ready(picture),
             _ => Shown::Pending,
         }
     }

@@ -1,46 +1,34 @@
-//! Keys as whole trees.
+//! Keys as whole trees, each written out once.
 
 use access_unit::Unit;
 use base_types::Shared;
-use bytes::Bytes;
 use h264_controls::{Request, Work};
 use outcomes::Outcome;
 use pictures::AuId;
 use std::alloc::{AllocError, Global};
 
-/// A tree, written out: for each slice the number of its work, and for each entry of its lists a 0, or a 1 and the whole
-/// tree of the frame that is named.
-#[derive(Drop)]
+/// A tree, by its place among those that were seen: equal trees have one place.
+#[derive(Clone, Copy, PartialEq, Eq)]
 pub(super) struct Tree {
-    text: Bytes,
-}
-
-impl Tree {
-    pub(super) fn is(&self, other: &Tree) -> bool {
-        self.text.as_slice() == other.text.as_slice()
-    }
-
-    pub(super) fn copy(&self) -> Result<Tree, AllocError> {
-        Ok(Tree {
-            text: self.text.clone()?,
-        })
-    }
+    place: usize,
 }
 
 /// The key of a valid unit.
-#[derive(Drop)]
+#[derive(Clone, Copy)]
 pub(super) struct Key {
     pub(super) id: AuId,
     pub(super) tree: Tree,
 }
 
-/// The works that were seen, each once; its number is its place.
+/// The works and the trees that were seen, each once. A work's number is its place. A tree is written out whole: for each
+/// slice the number of its work, and for each entry of its lists a 0, or a 1 and the whole tree of the frame that is named.
 #[derive(Drop)]
-pub(super) struct Works {
+pub(super) struct Seen {
     pub(super) works: Vec<Shared<Work>>,
+    pub(super) trees: Vec<Vec<u8>>,
 }
 
-impl Works {
+impl Seen {
     /// The keys of the valid ones of these units, in order.
     pub(super) fn keys_of(
         &mut self,
@@ -68,11 +56,48 @@ impl Works {
         let mut text = Vec::new(alloc);
         for request in requests {
             text.extend_from_slice(&self.number_of(&request.work)?.to_le_bytes())?;
-            write_entries(&mut text, before, &named(alloc, request)?)?;
+            self.write_entries(&mut text, before, &named(alloc, request)?)?;
         }
-        Ok(Tree {
-            text: Bytes::from_vec(text)?,
-        })
+        self.tree_with(text)
+    }
+
+    /// Writes the trees of the units that are named.
+    fn write_entries(
+        &self,
+        text: &mut Vec<u8>,
+        before: &[Key],
+        units: &[Option<AuId>],
+    ) -> Result<(), AllocError> {
+        for unit in units {
+            match key_at(before, *unit) {
+                Some(key) => {
+                    text.push(1)?;
+                    text.extend_from_slice(self.text_of(key.tree))?;
+                }
+                None => text.push(0)?,
+            }
+        }
+        Ok(())
+    }
+
+    /// How a tree is written.
+    fn text_of(&self, tree: Tree) -> &[u8] {
+        match self.trees.get(tree.place) {
+            Some(text) => text.as_slice(),
+            None => &[],
+        }
+    }
+
+    /// The tree that is written so.
+    fn tree_with(&mut self, text: Vec<u8>) -> Result<Tree, AllocError> {
+        for (place, other) in self.trees.iter().enumerate() {
+            if other.as_slice() == text.as_slice() {
+                return Ok(Tree { place });
+            }
+        }
+        let place = self.trees.len();
+        self.trees.push(text)?;
+        Ok(Tree { place })
     }
 
     /// The number of a work.
@@ -85,24 +110,6 @@ impl Works {
         self.works.push(work.clone()?)?;
         Ok((self.works.len() as u64).saturating_sub(1))
     }
-}
-
-/// Writes the trees of the units that are named.
-fn write_entries(
-    text: &mut Vec<u8>,
-    before: &[Key],
-    units: &[Option<AuId>],
-) -> Result<(), AllocError> {
-    for unit in units {
-        match key_at(before, *unit) {
-            Some(key) => {
-                text.push(1)?;
-                text.extend_from_slice(key.tree.text.as_slice())?;
-            }
-            None => text.push(0)?,
-        }
-    }
-    Ok(())
 }
 
 /// The units that the entries of both lists of a slice name.
@@ -123,31 +130,21 @@ fn unit_of(request: &Request, entry: Option<u8>) -> Option<AuId> {
 }
 
 /// The key of the unit of an id.
-pub(super) fn key_at(keys: &[Key], id: Option<AuId>) -> Option<&Key> {
+pub(super) fn key_at(keys: &[Key], id: Option<AuId>) -> Option<Key> {
     for key in keys {
         if Some(key.id) == id {
-            return Some(key);
+            return Some(*key);
         }
     }
     None
 }
 
 /// The first key with the tree.
-pub(super) fn key_with<'a>(keys: &'a [Key], tree: &Tree) -> Option<&'a Key> {
+pub(super) fn key_with(keys: &[Key], tree: Tree) -> Option<Key> {
     for key in keys {
-        if key.tree.is(tree) {
-            return Some(key);
+        if key.tree == tree {
+            return Some(*key);
         }
     }
     None
-}
-
-/// Whether the tree is among these.
-pub(super) fn is_among(trees: &[Tree], tree: &Tree) -> bool {
-    for other in trees {
-        if other.is(tree) {
-            return true;
-        }
-    }
-    false
 }

@@ -2,10 +2,11 @@
 
 ghost use Rattle.std.specs.Prelude.{◌≡◌, IfOk, IfSome, IsErr, codes, false};
 ghost use Rattle.std.specs.Str.{bytes_eq};
+ghost use Rattle.console_io.specs.declared.input.InputFault.TheVariants.{Memory};
 ghost use Rattle.console_io.specs.Inputs.{input_fault, is_standard, remaining_of, text_named};
 
 use crate::source::Directory;
-use std::alloc::Global;
+use std::alloc::{AllocError, Global};
 use std::io;
 use std::io::{ErrorKind, Read};
 
@@ -61,6 +62,14 @@ impl From<ErrorKind> for InputFault {
             ErrorKind::OutOfMemory => InputFault::Memory,
             _ => InputFault::Unread,
         }
+    }
+}
+
+impl From<AllocError> for InputFault {
+    ghost from_gives = { λ _ fault. fault ≡ Memory };
+
+    fn from(_error: AllocError) -> InputFault {
+        InputFault::Memory
     }
 }
 

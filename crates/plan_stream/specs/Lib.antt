@@ -2,3 +2,8 @@ pub mod Faults
 pub mod StreamText
 pub mod Plans
 pub mod Streams
+pub mod Shown
+pub mod Folds
+pub mod Gathering
+pub mod KeptLines
+pub mod RefusalWith

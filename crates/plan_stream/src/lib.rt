@@ -1,12 +1,16 @@
 //! `preview plan`: a stream read, planned and printed.
 //!
-//! `plan_on` reads a byte stream to its end, has it folded by request_core, and writes the lines of its access units,
-//! or the line of its refusal. What it reads and writes is generic; below are console_io and unit_lines, above is
-//! preview.
+//! `plan_on` reads a byte stream to its end, access unit after access unit, has each folded by request_core and keeps of it
+//! what its lines need; then it writes the lines, or the line of the stream's refusal. What it reads and writes is
+//! generic; below are stream_window, console_io and unit_lines, above is preview.
 #![tactic(auto)]
 
 mod fault;
+mod folded;
+mod gathered;
 mod plan;
+mod printing;
+mod shown;
 
 pub use fault::PlanFault;
 pub use plan::plan_on;

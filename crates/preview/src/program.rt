@@ -101,9 +101,7 @@ pub fn run_on<T: AsStr, D: Directory, I: Read + Drop, W: Sink, E: Sink>(
         (E.contents errors.new) text }
 {
     match parse(alloc, words) {
-        Ok(Asked::Plan { file }) => {
-            plan_named(threads, alloc, file, directory, standard, output, errors)
-        }
+        Ok(Asked::Plan { file }) => plan_named(alloc, file, directory, standard, output, errors),
         Ok(Asked::Run(options)) => {
             run_named(threads, alloc, options, directory, standard, output, errors)
         }
@@ -113,7 +111,6 @@ pub fn run_on<T: AsStr, D: Directory, I: Read + Drop, W: Sink, E: Sink>(
 
 /// Prints the plan of the stream that the name stands for.
 fn plan_named<D: Directory, I: Read + Drop, W: Sink, E: Sink>(
-    threads: &(impl Threads + Sync),
     alloc: Global,
     name: &str,
     directory: &D,
@@ -134,7 +131,7 @@ fn plan_named<D: Directory, I: Read + Drop, W: Sink, E: Sink>(
     ensures usage { result.status ≢ Status.Usage }
 {
     match open_input(directory, standard, name) {
-        Ok(mut input) => plan_on(threads, alloc, name, &mut input, output, errors),
+        Ok(mut input) => plan_on(alloc, name, &mut input, output, errors),
         Err(fault) => Ended::failed(say_input_fault(fault, name, errors)),
     }
 }

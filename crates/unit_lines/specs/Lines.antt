@@ -8,15 +8,18 @@ use Rattle.h264_controls.specs.declared.v4l2_ctrl_h264_decode_params.V4l2H264Dpb
 use Rattle.h264_controls.specs.References.{timestamp}
 use Rattle.h264_controls.specs.DecodeParamsForm.{dpb_entry_flags}
 use Rattle.h264_controls.specs.SliceParamsForm.{slice_type_number}
+use Rattle.pictures.specs.declared.counts.Counts.{Counts}
 use Rattle.outcomes.specs.declared.outcome.Plan.{Plan}
-use Rattle.unit_lines.specs.declared.lines.UnitLine.{UnitLine}
 use Rattle.unit_lines.specs.declared.lines.RequestLine.{RequestLine}
 
--- the line of the unit itself
-abbrev pub unit_line : UnitLine → List ℕ
-unit_line line = codes "unit " ++ (decimal line.id ++ (codes " position " ++ (decimal line.position
-    ++ (codes " counts " ++ (signed_decimal line.counts.top ++ (codes " " ++ (signed_decimal line.counts.bottom
-    ++ (codes " requests " ++ (decimal line.requests ++ codes "\n")))))))))
+-- the line of the unit itself, up to its position
+abbrev pub plan_head : ℕ → ℕ → List ℕ
+plan_head id position = codes "unit " ++ (decimal id ++ (codes " position " ++ decimal position))
+
+-- and from there on: the counts, and how many requests there are
+abbrev pub counts_text : Counts → ℕ → List ℕ
+counts_text counts requests = codes " counts " ++ (signed_decimal counts.top ++ (codes " " ++ (signed_decimal counts.bottom
+    ++ (codes " requests " ++ (decimal requests ++ codes "\n")))))
 
 -- an entry, with the unit of its frame: timestamp, number and flags
 abbrev pub entry_text : ℕ × V4l2H264DpbEntry → List ℕ
@@ -58,8 +61,6 @@ abbrev pub request_lines : ℕ → ℕ → List Request → List ℕ
 request_lines id slice [] = []
 request_lines id slice (request ∷ requests) = request_text id slice request ++ request_lines id (slice + 1) requests
 
--- the lines of a valid unit
-abbrev pub plan_lines : ℕ → ℕ → Plan → List ℕ
-plan_lines id position plan =
-    unit_line (record { id = id; position = position; counts = plan.counts; requests = length plan.requests })
-    ++ request_lines id 0 plan.requests
+-- the lines of a valid unit after its position
+abbrev pub plan_tail : ℕ → Plan → List ℕ
+plan_tail id plan = counts_text plan.counts (length plan.requests) ++ request_lines id 0 plan.requests

@@ -1,5 +1,5 @@
 -- The lines of a unit (docs/OUTPUT.md).
-use Rattle.std.specs.Prelude.{ℕ, ◌++◌, List, Option, codes, decimal}
+use Rattle.std.specs.Prelude.{ℕ, ◌++◌, List, [], Option, codes, decimal}
 use Rattle.std.specs.Option.{unwrap_or}
 use Rattle.validity_faults.specs.declared.validity_fault.ValidityFault.{ValidityFault}
 use Rattle.outcomes.specs.declared.outcome.Outcome.{Outcome}
@@ -7,8 +7,10 @@ use Rattle.outcomes.specs.declared.outcome.Outcome.TheVariants.{Plan, Fault}
 use Rattle.validity_faults.specs.Names.{name_of}
 use Rattle.validity_faults.specs.Numbers.{number_of}
 use Rattle.unit_lines.specs.declared.lines.FaultLine.{FaultLine}
+use Rattle.unit_lines.specs.declared.lines.UnitHead.{UnitHead}
 use Rattle.unit_lines.specs.declared.lines.UnitLines.{UnitLines}
-use Rattle.unit_lines.specs.Lines.{plan_lines}
+use Rattle.unit_lines.specs.declared.lines.UnitTail.{UnitTail}
+use Rattle.unit_lines.specs.Lines.{plan_head, plan_tail}
 
 -- the line of a unit with a fault
 abbrev pub fault_text : ℕ → ValidityFault → List ℕ
@@ -18,11 +20,27 @@ fault_text id fault = codes "unit " ++ (decimal id ++ (codes " fault " ++ (decim
 abbrev pub fault_line : FaultLine → List ℕ
 fault_line line = fault_text line.id line.fault
 
--- the lines of what becomes of a unit; a plan has a position
+-- the lines of what becomes of a unit up to its position, which a plan has; nothing where it has a fault
+abbrev pub outcome_head : ℕ → Option ℕ → Outcome → List ℕ
+outcome_head id position (Plan plan) = plan_head id (unwrap_or position 0)
+outcome_head id position (Fault fault) = []
+
+-- and after it, which doesn't depend on the position
+abbrev pub outcome_tail : ℕ → Outcome → List ℕ
+outcome_tail id (Plan plan) = plan_tail id plan
+outcome_tail id (Fault fault) = fault_text id fault
+
+-- the lines of what becomes of a unit
 abbrev pub outcome_lines : ℕ → Option ℕ → Outcome → List ℕ
-outcome_lines id position (Plan plan) = plan_lines id (unwrap_or position 0) plan
-outcome_lines id position (Fault fault) = fault_text id fault
+outcome_lines id position outcome = outcome_head id position outcome ++ outcome_tail id outcome
 
 -- the lines of a unit
 abbrev pub unit_lines : UnitLines → List ℕ
 unit_lines lines = outcome_lines lines.id lines.position lines.outcome.now
+
+-- in two parts
+abbrev pub unit_head : UnitHead → List ℕ
+unit_head head = outcome_head head.id head.position head.outcome.now
+
+abbrev pub unit_tail : UnitTail → List ℕ
+unit_tail tail = outcome_tail tail.id tail.outcome.now

@@ -2,8 +2,8 @@
 
 ghost use Rattle.std.specs.Prelude.{Some};
 ghost use Rattle.std.specs.List.{flat_map, zip};
-ghost use Rattle.unit_lines.specs.Lines.{entry_text, list_text, next_text, place_text, plan_lines, request_line, unit_line};
-ghost use Rattle.unit_lines.specs.UnitLines.{fault_line, unit_lines};
+ghost use Rattle.unit_lines.specs.Lines.{counts_text, entry_text, list_text, next_text, place_text, plan_head, plan_tail, request_line};
+ghost use Rattle.unit_lines.specs.UnitLines.{fault_line, unit_head, unit_lines, unit_tail};
 
 use h264_controls::{Request, V4l2H264DpbEntry};
 use outcomes::{Outcome, Plan, ValidityFault};
@@ -24,37 +24,95 @@ impl<'a> Display for UnitLines<'a> {
     ghost output = { λ lines. Some (unit_lines lines) };
 
     fn fmt<W: Write>(&self, f: &mut Formatter<W>) -> fmt::Result {
+        let (id, outcome, position) = (self.id, self.outcome, self.position);
+        write!(
+            f,
+            "{}{}",
+            UnitHead {
+                id,
+                outcome,
+                position,
+            },
+            UnitTail { id, outcome }
+        )
+    }
+}
+
+/// The lines of a unit up to its place in output order; nothing where it has a fault.
+#[derive(Drop)]
+pub struct UnitHead<'a> {
+    pub id: AuId,
+    pub outcome: &'a Outcome,
+    pub position: Option<usize>,
+}
+
+impl<'a> Display for UnitHead<'a> {
+    ghost output = { λ head. Some (unit_head head) };
+
+    fn fmt<W: Write>(&self, f: &mut Formatter<W>) -> fmt::Result {
         let id = self.id;
         match self.outcome {
-            Outcome::Plan(plan) => {
+            Outcome::Plan(_) => {
                 let position = self.position.unwrap_or_default();
-                write!(f, "{}", PlanLines { id, position, plan })
+                write!(f, "{}", PlanHead { id, position })
             }
+            Outcome::Fault(_) => Ok(()),
+        }
+    }
+}
+
+/// The lines of a unit after its place in output order, which don't depend on it; all of them where it has a fault.
+#[derive(Drop)]
+pub struct UnitTail<'a> {
+    pub id: AuId,
+    pub outcome: &'a Outcome,
+}
+
+impl<'a> Display for UnitTail<'a> {
+    ghost output = { λ tail. Some (unit_tail tail) };
+
+    fn fmt<W: Write>(&self, f: &mut Formatter<W>) -> fmt::Result {
+        let id = self.id;
+        match self.outcome {
+            Outcome::Plan(plan) => write!(f, "{}", PlanTail { id, plan }),
             Outcome::Fault(fault) => write!(f, "{}", FaultLine { id, fault: *fault }),
         }
     }
 }
 
-/// The lines of a valid unit.
+/// The line of a valid unit itself, up to its position.
 #[derive(Drop)]
-struct PlanLines<'a> {
+struct PlanHead {
     id: AuId,
     position: usize,
+}
+
+impl Display for PlanHead {
+    ghost output = { λ head. Some (plan_head head.id head.position) };
+
+    fn fmt<W: Write>(&self, f: &mut Formatter<W>) -> fmt::Result {
+        let (id, position) = (self.id.number(), self.position);
+        write!(f, "unit {id} position {position}")
+    }
+}
+
+/// The lines of a valid unit after its position.
+#[derive(Drop)]
+struct PlanTail<'a> {
+    id: AuId,
     plan: &'a Plan,
 }
 
-impl<'a> Display for PlanLines<'a> {
-    ghost output = { λ lines. Some (plan_lines lines.id lines.position lines.plan.now) };
+impl<'a> Display for PlanTail<'a> {
+    ghost output = { λ tail. Some (plan_tail tail.id tail.plan.now) };
 
     fn fmt<W: Write>(&self, f: &mut Formatter<W>) -> fmt::Result {
         let (id, requests) = (self.id, self.plan.requests.as_slice());
-        let line = UnitLine {
-            id,
-            position: self.position,
+        let counts = CountsText {
             counts: self.plan.counts,
             requests: requests.len(),
         };
-        write!(f, "{line}")?;
+        write!(f, "{counts}")?;
         for (slice, request) in requests.iter().enumerate() {
             write!(f, "{}", RequestLine { id, slice, request })?;
         }
@@ -62,23 +120,20 @@ impl<'a> Display for PlanLines<'a> {
     }
 }
 
-/// The line of a valid unit itself.
+/// The line of a valid unit itself, after its position.
 #[derive(Drop)]
-struct UnitLine {
-    id: AuId,
-    position: usize,
+struct CountsText {
     counts: Counts,
     requests: usize,
 }
 
-impl Display for UnitLine {
-    ghost output = { λ line. Some (unit_line line) };
+impl Display for CountsText {
+    ghost output = { λ text. Some (counts_text text.counts text.requests) };
 
     fn fmt<W: Write>(&self, f: &mut Formatter<W>) -> fmt::Result {
-        let (id, position, requests) = (self.id.number(), self.position, self.requests);
         let Counts { top, bottom } = self.counts;
-        write!(f, "unit {id} position {position} ")?;
-        writeln!(f, "counts {top} {bottom} requests {requests}")
+        let requests = self.requests;
+        writeln!(f, " counts {top} {bottom} requests {requests}")
     }
 }
 

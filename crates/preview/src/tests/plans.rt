@@ -24,7 +24,7 @@ pub(super) fn is_planned(
 ) -> bool {
     let (mut output, mut errors) = (Vec::new(rt.alloc()), Vec::new(rt.alloc()));
     let mut reader = text;
-    let ended = plan_on(rt, rt.alloc(), "-", &mut reader, &mut output, &mut errors);
+    let ended = plan_on(rt.alloc(), "-", &mut reader, &mut output, &mut errors);
     ended.status == status && output.as_slice() == lines && errors.is_empty()
 }
 
@@ -96,7 +96,7 @@ fn is_told(
     message: &str,
 ) -> bool {
     let (mut output, mut errors) = (Vec::new(rt.alloc()), Vec::new(rt.alloc()));
-    let ended = plan_on(rt, rt.alloc(), "-", &mut reader, &mut output, &mut errors);
+    let ended = plan_on(rt.alloc(), "-", &mut reader, &mut output, &mut errors);
     ended.status == Failure && output.is_empty() && errors.as_slice() == message.as_bytes()
 }
 

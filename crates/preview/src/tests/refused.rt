@@ -48,7 +48,7 @@ fn plans_or_wants_memory(
 ) -> bool {
     let (mut output, mut errors) = ([0u8; 512], [0u8; 64]);
     let (mut writer, mut teller) = (output.as_mut_slice(), errors.as_mut_slice());
-    let ended = plan_on(rt, rt.alloc(), "-", &mut &*text, &mut writer, &mut teller);
+    let ended = plan_on(rt.alloc(), "-", &mut &*text, &mut writer, &mut teller);
     let (left, quiet) = (writer.len(), teller.len());
     let (output, errors) = (front(&output, left), front(&errors, quiet));
     is_told_or_out_of_memory(ended.status, output, errors, wanted)

@@ -85,7 +85,7 @@ fn plan_to(
 ) -> Option<Ended> {
     let mut errors = Vec::new(rt.alloc());
     let mut reader = text;
-    let ended = plan_on(rt, rt.alloc(), "-", &mut reader, writer, &mut errors);
+    let ended = plan_on(rt.alloc(), "-", &mut reader, writer, &mut errors);
     errors.is_empty().then_some(ended)
 }
 

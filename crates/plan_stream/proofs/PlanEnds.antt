@@ -1,0 +1,30 @@
+-- What was written of a text, by how its plan ended.
+use Rattle.std.proofs.Common.{◌⊎◌, inr, ℕ, List, Option, refl}
+use Rattle.std.specs.Prelude.{Err, IsErrOf}
+use Rattle.access_unit.specs.Rooms.{IsStreamRefused, most_units}
+use Rattle.access_unit.specs.declared.room.Refusal.{Refusal}
+use Rattle.console_io.specs.Chunks.{AppendsFront}
+use Rattle.console_io.specs.declared.chunks.PrintFault.{PrintFault}
+use Rattle.console_io.specs.declared.chunks.PrintFault.TheVariants as print
+use Rattle.unit_lines.specs.Refusals.{refusal_text}
+use Rattle.plan_stream.specs.declared.folded.Folded.{Folded}
+use Rattle.plan_stream.specs.Faults.{fault_of_print}
+use Rattle.plan_stream.specs.Folds.{IsFoldOfStream}
+use Rattle.plan_stream.specs.Plans.{EndsBy, IsPlanned, IsRefused}
+use Rattle.plan_stream.specs.Streams.{numbered_from}
+use Rattle.plan_stream.specs.StreamText.{stream_text}
+
+-- the lines of a stream that was folded
+pub planned : (text : List ℕ) (folded : Folded) (is : IsFoldOfStream text folded) → IsPlanned text (stream_text (numbered_from 1 is.parts))
+planned text folded is = record { parts = is.parts; stream = is.stream; bounded = is.bounded; lines_are = refl }
+
+-- the line of one that is refused
+pub refused : (text : List ℕ) (refusal : Refusal) → IsStreamRefused text most_units refusal → IsRefused text (refusal_text refusal)
+refused text refusal is = record { refusal = refusal; refused = is; lines_are = refl }
+
+-- a front of them, where they aren't printed whole
+pub ends-print : {T : Type 0} (text lines : List ℕ) (old new : Option (List ℕ)) (refuses : Type 0) (fault : PrintFault)
+    → (IsPlanned text lines ⊎ IsRefused text lines) → AppendsFront old new lines → (IsErrOf {T = T} (Err fault) print.Unwritten → refuses)
+    → EndsBy text (fault_of_print fault) refuses old new
+ends-print text lines old new refuses print.Memory are front told = inr (lines, are, front)
+ends-print text lines old new refuses print.Unwritten are front told = (told refl, inr (lines, are, front))

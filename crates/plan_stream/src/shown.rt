@@ -1,0 +1,22 @@
+//! What is kept of what becomes of a unit.
+
+ghost use Rattle.std.specs.Prelude.{◌≡◌};
+ghost use Rattle.plan_stream.specs.Shown.{shown_of};
+
+use outcomes::{Outcome, Plan, Requests};
+use std::alloc::Global;
+
+/// What becomes of the unit, without its requests.
+pub(crate) fn shown_of(alloc: Global, outcome: &Outcome) -> Outcome
+    ensures { result ≡ shown_of outcome.now }
+{
+    match outcome {
+        Outcome::Plan(plan) => Outcome::Plan(Plan {
+            requests: Requests::new(Vec::new(alloc)),
+            counts: plan.counts,
+            order: plan.order,
+            begins_period: plan.begins_period,
+        }),
+        Outcome::Fault(fault) => Outcome::Fault(*fault),
+    }
+}

@@ -1,0 +1,4 @@
+pub mod Seen
+pub mod Fronts
+pub mod Windows
+pub mod Readings

@@ -1,3 +1,5 @@
 pub mod Commands
 pub mod Scripts
+pub mod SeatCommands
+pub mod SeatScripts
 pub mod Words

@@ -8,10 +8,10 @@ ghost use Rattle.edit_script.specs.Commands.{edit_of, insertion_of, IsHexAnswer,
 ghost use Rattle.edit_script.specs.declared.commands.LineFault.TheVariants.{Memory};
 
 use bytes::Bytes;
-use edit_engine::{Edit, Place};
 use hex::FromHexError;
 use pictures::AuId;
 use std::alloc::{AllocError, AllocFailed, Global};
+use stream_edits::{Edit, Place};
 
 /// What a line of a script asks for.
 #[derive(Debug, Drop)]
@@ -118,7 +118,7 @@ fn read_pair<'a>(alloc: Global, name: &'a str, word: &'a str) -> Result<Command<
 }
 
 /// The edit that the words of a line ask for.
-fn read_edit(alloc: Global, words: &[&str]) -> Result<Edit, LineFault>
+pub(crate) fn read_edit(alloc: Global, words: &[&str]) -> Result<Edit, LineFault>
     ensures { IsEditAnswer (edit_of (texts_of words.now)) result }
 {
     match words {
@@ -179,7 +179,7 @@ pub fn id_of_number(number: u64) -> AuId
 }
 
 /// The number that a word has to be.
-fn read_given(word: &str) -> Result<u64, LineFault>
+pub(crate) fn read_given(word: &str) -> Result<u64, LineFault>
     ensures { MatchResult result (λ number. number_of word.now ≡ Some number)
         (λ fault. (fault ≡ LineFault.Wrong) × (number_of word.now ≡ None)) }
 {

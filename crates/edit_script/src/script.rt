@@ -52,14 +52,14 @@ pub fn read_script<'a>(alloc: Global, text: &'a [u8]) -> Result<Vec<Command<'a>>
 }
 
 /// The lines of a text.
-fn split_lines<'a>(alloc: Global, text: &'a [u8]) -> Result<Vec<&'a [u8]>, AllocError>
+pub(crate) fn split_lines<'a>(alloc: Global, text: &'a [u8]) -> Result<Vec<&'a [u8]>, AllocError>
     ensures { IfOk result (λ lines. texts_of lines.items ≡ lines_of text.now) }
 {
     text.split(|byte| *byte == b'\n').collect(alloc)
 }
 
 /// Whether a line is skipped: it is empty, or a comment, which may have any bytes.
-fn is_comment(line: &[u8]) -> bool
+pub(crate) fn is_comment(line: &[u8]) -> bool
     ensures { result ≡ is_skipped line.now }
 {
     line.is_empty() || line[0] == b'#'
@@ -76,7 +76,7 @@ fn read_line<'a>(alloc: Global, line: &'a [u8]) -> Result<Command<'a>, LineFault
 }
 
 /// The words of a line, which spaces part.
-fn split_words<'a>(alloc: Global, line: &'a str) -> Result<Vec<&'a str>, AllocError>
+pub(crate) fn split_words<'a>(alloc: Global, line: &'a str) -> Result<Vec<&'a str>, AllocError>
     ensures { IfOk result (λ words. texts_of words.items ≡ words_of line.now) }
 {
     line.split(' ')

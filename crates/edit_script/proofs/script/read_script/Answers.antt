@@ -1,4 +1,5 @@
 use Rattle.std.proofs.Common.{◌<◌, length, inl, inr, arith, Bor, List, [], ℕ, sym, ◌∙◌, refl}
+use Rattle.edit_script.specs.Scripts.{IsLine, IsRightLine}
 use Rattle.edit_script.proofs.ScriptLines.{first-wrong, before-more, read-command, read-skipped}
 use Rattle.edit_script.proofs.script.read_script.Goals as goal
 use Rattle.edit_script.proofs.script.read_script.Goals.{then-not-is_comment+in-Ok+in_ok-push-in-Ok, else-not-is_comment}
@@ -27,14 +28,14 @@ loop-index-preserved c =
           let it = w.in-Ok.ensures in
           record {
             lines = before.lines;
-            so_far = rw (w.commands-is, w.in_ok-push-in-Ok.ensures.items) (read-command items i _ below _ _ kept it before.so_far);
-            before = before-more items i _ below (inr (_, it)) before.before;
+            so_far = rw (w.commands-is, w.in_ok-push-in-Ok.ensures.items) (read-command IsLine items i _ below _ _ kept it before.so_far);
+            before = before-more IsRightLine items i _ below (inr (_, it)) before.before;
           }
       | else-not-is_comment w ↦
           let skipped = sym c.is_comment.ensures ∙ w.if-not-is_comment.false in
           record {
             lines = before.lines;
-            so_far = rw w.commands-is (read-skipped items i _ below _ skipped before.so_far);
-            before = before-more items i _ below (inl skipped) before.before;
+            so_far = rw w.commands-is (read-skipped IsLine items i _ below _ skipped before.so_far);
+            before = before-more IsRightLine items i _ below (inl skipped) before.before;
           }
     ]

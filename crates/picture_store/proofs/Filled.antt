@@ -13,7 +13,8 @@ use Rattle.picture_store.specs.declared.answers.Landing.TheVariants.{Taken, Stal
 use Rattle.picture_store.specs.declared.job_out.JobOut.{JobOut}
 use Rattle.picture_store.specs.Stores.{StoreValue}
 use Rattle.picture_store.specs.Jobs.{AnswersLand}
-use Rattle.picture_store.specs.Places.{PlacesValue, place_at, numbers_held}
+use Rattle.key_places.specs.Places.{place_at, numbers_held}
+use Rattle.picture_store.specs.Places.{PlacesValue}
 use Rattle.picture_store.specs.Filling.{IsFilled}
 use Rattle.picture_store.specs.Kept.{Trees, key_for, keys_for, IsRight, IsJobRight, IsKept}
 use Rattle.picture_store.proofs.Viewed.{seen, viewed}
@@ -64,7 +65,7 @@ module _ (keys : Trees) (ids : List ℕ) (outcomes : List Outcome) (found : List
     used_for_place keys ids outcomes found places cached out kept other.key right.0 right.1 None filled.0,
     awaited_for keys ids outcomes found places cached out kept other.key right.0 right.1 filled.0,
     held_landed keys ids outcomes found places cached out kept other.key right.0 right.1 (picture_of job.input) right filled.0
-        more filled.1 filled.2,
+        more filled.1,
     ap (λ (s : StoreValue). record s { held = keys_for keys (numbers_held more) })
         (seen_without keys ids outcomes found places cached room out left given at gone),
   )
@@ -81,4 +82,4 @@ module _ (keys : Trees) (ids : List ℕ) (outcomes : List Outcome) (found : List
       subst (λ jobs. IsKept keys ids outcomes found more cached jobs) (sym gone)
       (kept_without keys ids outcomes found more cached out
       (kept_landed keys ids outcomes found places cached out kept other.key right.0 right.1 (picture_of job.input) right
-      filled.0 more filled.1 filled.2) at)
+      filled.0 more filled.1) at)

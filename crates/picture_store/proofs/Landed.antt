@@ -18,9 +18,11 @@ use Rattle.picture_store.specs.declared.job_out.JobOut.{JobOut}
 use Rattle.picture_store.specs.Stores.{OutValue}
 use Rattle.picture_store.specs.Showing.{IsPictureAt}
 use Rattle.picture_store.specs.Jobs.{IsOf, IsOut, without}
-use Rattle.picture_store.specs.Places.{PlacesValue, place_at, numbers_held, IsTable}
+use Rattle.key_places.specs.Places.{place_at, numbers_held}
+use Rattle.picture_store.specs.Places.{PlacesValue}
 use Rattle.picture_store.specs.Kept.{Trees, key_for, keys_for, jobs_for, IsRight, IsJobRight, IsKept}
-use Rattle.picture_store.proofs.Lifting.{held_found, found_held, for_contains, contains_for}
+use Rattle.key_places.proofs.Held.{held_found, found_held}
+use Rattle.picture_store.proofs.Lifting.{for_contains, contains_for}
 use Rattle.picture_store.proofs.Tables.{none_not_some}
 use Rattle.picture_store.proofs.Viewed.{seen, viewed}
 use Rattle.picture_store.proofs.Stays.{key_is, stand_live, stand_number}
@@ -100,7 +102,7 @@ module _ (keys : Trees) (ids : List ℕ) (outcomes : List Outcome) (found : List
     pub held_for : (picture : Picture) → place_at places number ≡ Some (Some picture)
         → Contains (keys_for keys (numbers_held places)) (key_for keys number)
     held_for picture is =
-        contains_for keys (numbers_held places) number (found_held places kept.right.table number picture is)
+        contains_for keys (numbers_held places) number (found_held places number picture is)
 
     -- a key that has a place is in use
     pub used_for_place : (picture : Option Picture) → place_at places number ≡ Some picture
@@ -120,7 +122,7 @@ module _ (keys : Trees) (ids : List ℕ) (outcomes : List Outcome) (found : List
         let source : (n : ℕ) × Contains (numbers_held places) n × (key_for keys n ≡ key_for keys number) =
         for_contains keys (numbers_held places) (key_for keys number) is in
         let held : (picture : Picture) × (place_at places source.0 ≡ Some (Some picture)) =
-        held_found places kept.right.table source.0 source.1 in
+        held_found places source.0 source.1 in
         let right : IsRight keys source.0 held.0 = kept.right.held source.0 held.0 held.1 in
         let tree : tree_at keys source.0 ≡ Some key =
         right.1 ∙ ap Some (sym (key_is keys source.0 right.0 right.1) ∙ source.2 ∙ key_is keys number key live) in
@@ -134,7 +136,7 @@ module _ (keys : Trees) (ids : List ℕ) (outcomes : List Outcome) (found : List
 
     -- a picture is put into the place of the key
     module _ (picture : Picture) (right : IsRight keys number picture) (awaited : place_at places number ≡ Some None)
-        (more : PlacesValue) (table : IsTable more)
+        (more : PlacesValue)
         (put : (other : ℕ) → place_at more other
         ≡ (if number == other then Some (Some picture) else place_at places other)) where
       put_there : place_at more number ≡ Some (Some picture)
@@ -181,7 +183,7 @@ module _ (keys : Trees) (ids : List ℕ) (outcomes : List Outcome) (found : List
 
       pub kept_landed : IsKept keys ids outcomes found more cached out
       kept_landed = record {
-        right = record { one = kept.right.one; table = table; held = right_then };
+        right = record { one = kept.right.one; held = right_then };
         same = kept.same;
         stand = kept.stand;
         decodable = kept.decodable;
@@ -198,26 +200,26 @@ module _ (keys : Trees) (ids : List ℕ) (outcomes : List Outcome) (found : List
             let source : (n : ℕ) × Contains (numbers_held more) n × (key_for keys n ≡ other) =
             for_contains keys (numbers_held more) other is in
             let held : (shown : Picture) × (place_at more source.0 ≡ Some (Some shown)) =
-            held_found more table source.0 source.1 in
+            held_found more source.0 source.1 in
             elim (held_then source.0 held.0 held.1) [
               | inl same ↦ inr (sym source.2 ∙ ap (key_for keys) (sym same.0))
               | inr before ↦ inl (subst (Contains (keys_for keys (numbers_held places))) source.2
-                  (contains_for keys (numbers_held places) source.0 (found_held places kept.right.table source.0 held.0 before)))
+                  (contains_for keys (numbers_held places) source.0 (found_held places source.0 held.0 before)))
             ],
         λ is. elim is [
           | inl was ↦
               let source : (n : ℕ) × Contains (numbers_held places) n × (key_for keys n ≡ other) =
               for_contains keys (numbers_held places) other was in
               let held : (shown : Picture) × (place_at places source.0 ≡ Some (Some shown)) =
-              held_found places kept.right.table source.0 source.1 in
+              held_found places source.0 source.1 in
               let still : (shown : Picture) × ((if number == source.0 then Some (Some picture) else place_at places source.0) ≡ Some (Some shown)) =
               stays_held (number == source.0) source.0 held.0 held.1 in
               subst (Contains (keys_for keys (numbers_held more))) source.2
               (contains_for keys (numbers_held more) source.0
-              (found_held more table source.0 still.0 (put source.0 ∙ still.1)))
+              (found_held more source.0 still.0 (put source.0 ∙ still.1)))
           | inr new ↦
               subst (Contains (keys_for keys (numbers_held more))) (sym new)
-              (contains_for keys (numbers_held more) number (found_held more table number picture put_there))
+              (contains_for keys (numbers_held more) number (found_held more number picture put_there))
         ],
       )
 
@@ -302,7 +304,7 @@ module _ (keys : Trees) (ids : List ℕ) (outcomes : List Outcome) (found : List
             keyed.0,
             keyed.1,
             subst (Contains (keys_for keys (numbers_held places))) same
-                (contains_for keys (numbers_held places) number (found_held places kept.right.table number picture held)),
+                (contains_for keys (numbers_held places) number (found_held places number picture held)),
             right.2 ∙ ap picture_of_key (sym (key_is keys number right.0 right.1) ∙ same),
           )
 
@@ -314,7 +316,7 @@ module _ (keys : Trees) (ids : List ℕ) (outcomes : List Outcome) (found : List
           let source : (n : ℕ) × Contains (numbers_held places) n × (key_for keys n ≡ key) =
           for_contains keys (numbers_held places) key held in
           let there : (picture : Picture) × (place_at places source.0 ≡ Some (Some picture)) =
-          held_found places kept.right.table source.0 source.1 in
+          held_found places source.0 source.1 in
           let right : IsRight keys source.0 there.0 = kept.right.held source.0 there.0 there.1 in
           let tree : tree_at keys source.0 ≡ Some keyed.0 =
           right.1 ∙ ap Some (sym (key_is keys source.0 right.0 right.1) ∙ source.2 ∙ sym same) in

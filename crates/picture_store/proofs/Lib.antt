@@ -1,8 +1,5 @@
 pub mod Tables
-pub mod Members
 pub mod Lifting
-pub mod Caches
-pub mod Turns
 pub mod Loops
 pub mod Fronts
 pub mod Stretched
@@ -15,9 +12,11 @@ pub mod Referring
 pub mod Viewed
 pub mod Numbered
 pub mod Stays
+pub mod Using
 pub mod Refitted
 pub mod Landed
 pub mod Filled
 pub mod Units
 pub mod Taken
 pub mod Settled
+pub mod Same

@@ -1,18 +1,14 @@
 -- What holds of numbers holds of the keys that they stand for, and which numbers have a picture.
-use Rattle.std.proofs.Common.{◌≡◌, refl, ap, sym, ◌∙◌, subst, ℕ, zero, suc, List, [], ◌∷◌, take, Option, None, Some, IsSome, inl, inr, ◌⊎◌}
-use Rattle.std.specs.Prelude.{Contains, is_none, is_some, if◌then◌else◌}
-use Rattle.std.specs.List.{cons_option}
+use Rattle.std.proofs.Common.{◌≡◌, refl, ap, sym, ◌∙◌, subst, ℕ, List, [], ◌∷◌, Option, None, Some, IsSome, inl, inr, ◌⊎◌}
+use Rattle.std.specs.Prelude.{Contains}
 use Rattle.std.specs.Option.{unwrap_or}
 use Rattle.std.proofs.lemmas.List.{take-map}
 use Rattle.dep_keys.specs.KeyMaps.{tree_at, IsOneToOne}
 use Rattle.dep_keys.specs.Trees.Tree.{Bare}
-use Rattle.stand_in_device.specs.declared.picture.Picture.{Picture}
 use Rattle.picture_keys.specs.Keys.{Key}
-use Rattle.picture_store.specs.Changes.{IsLeft, IsPut, ArePut}
-use Rattle.picture_store.specs.Places.{PlacesValue, place_at, numbers_held, numbers_gone, IsTable}
+use Rattle.key_places.specs.Left.{IsLeft, IsPut, ArePut}
 use Rattle.picture_store.specs.Kept.{Trees, key_for, keys_for}
-use Rattle.picture_store.proofs.Members.{here, there, nowhere, first_or_among, among_map, among_source, left_among}
-use Rattle.picture_store.proofs.Tables.{none_not_some}
+use Rattle.key_places.proofs.Members.{here, there, first_or_among, among_map, among_source, left_among, among_take}
 
 pub for_contains : (keys : Trees) (numbers : List ℕ) (key : Key) → Contains (keys_for keys numbers) key
     → (number : ℕ) × Contains numbers number × (key_for keys number ≡ key)
@@ -21,52 +17,6 @@ for_contains keys numbers key is = among_source (key_for keys) numbers key is
 pub contains_for : (keys : Trees) (numbers : List ℕ) (number : ℕ) → Contains numbers number
     → Contains (keys_for keys numbers) (key_for keys number)
 contains_for keys numbers number is = among_map (key_for keys) numbers number is
-
-none_some : (picture : Picture) → None ≡ Some picture → ⊥
-none_some picture same = cc
-
--- the number of a picture that is held is among the numbers of those that are
-among_held : (places : PlacesValue) (number : ℕ) (picture : Picture) → Contains places (number, Some picture)
-    → Contains (numbers_held places) number
-among_held [] number picture is = absurd (nowhere _ is)
-among_held ((n, None) ∷ places) number picture is =
-    elim (first_or_among (n, None) (number, Some picture) places is) [
-      | inl same ↦ absurd (none_some picture (ap (λ pair. pair.1) same))
-      | inr later ↦ among_held places number picture later
-    ]
-among_held ((n, Some p) ∷ places) number picture is =
-    elim (first_or_among (n, Some p) (number, Some picture) places is) [
-      | inl same ↦
-          subst (λ other. Contains (n ∷ numbers_held places) other) (ap (λ pair. pair.0) same)
-          (here n (numbers_held places))
-      | inr later ↦ there n number (numbers_held places) (among_held places number picture later)
-    ]
-
--- each of these numbers has a picture that is held
-held_among : (places : PlacesValue) (number : ℕ) → Contains (numbers_held places) number
-    → (picture : Picture) × Contains places (number, Some picture)
-held_among [] number is = absurd (nowhere number is)
-held_among ((n, None) ∷ places) number is =
-    let found : (picture : Picture) × Contains places (number, Some picture) = held_among places number is in
-    (found.0, there (n, None) (number, Some found.0) places found.1)
-held_among ((n, Some p) ∷ places) number is =
-    elim (first_or_among n number (numbers_held places) is) [
-      | inl same ↦
-          (p, subst (λ other. Contains ((n, Some p) ∷ places) (other, Some p)) same (here (n, Some p) places))
-      | inr later ↦
-          let found : (picture : Picture) × Contains places (number, Some picture) = held_among places number later in
-          (found.0, there (n, Some p) (number, Some found.0) places found.1)
-    ]
-
-pub held_found : (places : PlacesValue) → IsTable places → (number : ℕ) → Contains (numbers_held places) number
-    → (picture : Picture) × (place_at places number ≡ Some (Some picture))
-held_found places table number is =
-    let found : (picture : Picture) × Contains places (number, Some picture) = held_among places number is in
-    (found.0, (table number (Some found.0)).1 found.1)
-
-pub found_held : (places : PlacesValue) → IsTable places → (number : ℕ) (picture : Picture)
-    → place_at places number ≡ Some (Some picture) → Contains (numbers_held places) number
-found_held places table number picture is = among_held places number picture ((table number (Some picture)).0 is)
 
 -- what is left of the keys is what is left of their numbers
 pub left_for : (keys : Trees) (Goes : ℕ → Type 0) (Out : Key → Type 0) (numbers left : List ℕ)
@@ -105,16 +55,6 @@ one_for : (keys : Trees) (a b : ℕ) → IsOneToOne keys → IsSome (tree_at key
 one_for keys a b one live_a live_b same =
     one a b (key_for keys a) (some_or (Bare []) (tree_at keys a) live_a)
     (some_or (Bare []) (tree_at keys b) live_b ∙ ap Some (sym same))
-
--- what is among the first of a list is in it
-pub among_take : {X : Type 0} (n : ℕ) (xs : List X) (x : X) → Contains (take n xs) x → Contains xs x
-among_take zero xs x is = absurd (nowhere x is)
-among_take (suc n) [] x is = is
-among_take (suc n) (first ∷ xs) x is =
-    elim (first_or_among first x (take n xs) is) [
-      | inl same ↦ subst (λ y. Contains (first ∷ xs) y) same (here first xs)
-      | inr later ↦ there first x xs (among_take n xs x later)
-    ]
 
 -- what is cached after a put is live
 live_after : (keys : Trees) (room n : ℕ) (cached next : List ℕ) → IsSome (tree_at keys n)
@@ -164,19 +104,3 @@ put_for keys room (n ∷ numbers) cached new one live all is = (
   put_for keys room numbers is.0 new one (λ m among. live m (there n m numbers among))
       (live_after keys room n cached is.0 (live n (here n numbers)) all is.1) is.2,
 )
-
--- a number that is held goes where it has a place among those that are used, and else is left
-gone_one : (place : Option (Option Picture)) (n : ℕ) (used : PlacesValue) (held gone : List ℕ)
-    → place_at used n ≡ place → IsLeft (λ number. IsSome (place_at used number)) held gone
-    → IsLeft (λ number. IsSome (place_at used number)) (n ∷ held)
-    (cons_option (if is_none place then Some n else None) gone)
-gone_one None n used held gone is rest =
-    inr (λ some. none_not_some _ is some, (gone, refl, rest))
-gone_one (Some place) n used held gone is rest = inl (ap is_some is, rest)
-
-pub gone_left : (used places : PlacesValue)
-    → IsLeft (λ number. IsSome (place_at used number)) (numbers_held places) (numbers_gone used places)
-gone_left used [] = refl
-gone_left used ((n, None) ∷ places) = gone_left used places
-gone_left used ((n, Some picture) ∷ places) =
-    gone_one (place_at used n) n used (numbers_held places) (numbers_gone used places) refl (gone_left used places)

@@ -13,7 +13,8 @@ use Rattle.stand_in_device.specs.Inputs.{InputValue}
 use Rattle.picture_keys.specs.Keys.{Key, works_of, named_by_all}
 use Rattle.picture_keys.specs.Known.{Known, key_of, key_of_outcome}
 use Rattle.picture_keys.specs.Decodable.{CanDecode, OutcomeCanDecode}
-use Rattle.picture_store.specs.Places.{PlacesValue, numbers_held}
+use Rattle.key_places.specs.Places.{numbers_held}
+use Rattle.picture_store.specs.Places.{PlacesValue}
 use Rattle.picture_store.specs.Stores.{IsReady}
 use Rattle.picture_store.specs.Kept.{Trees, AreRight, keys_for}
 use Rattle.picture_store.specs.Due.{AreHeld}

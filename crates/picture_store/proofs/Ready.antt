@@ -1,16 +1,16 @@
 -- When the pictures of the keys at a key's own entries are held, by the numbers that a node names.
 use Rattle.std.proofs.Common.{◌≡◌, refl, sym, ap, subst, ◌∙◌, ℕ, List, [], ◌∷◌, map, Option, Some, None, IsSome, Contains, inl, inr, arith}
 use Rattle.std.specs.Option.{unwrap_or}
-use Rattle.std.proofs.lemmas.Option.{none-some}
 use Rattle.h264_controls.specs.declared.work.Work.{Work}
 use Rattle.dep_keys.specs.KeyMaps.{tree_at, tree_from, entered, AreLive}
 use Rattle.dep_keys.specs.Trees.Tree.{Bare}
-use Rattle.stand_in_device.specs.declared.picture.Picture.{Picture}
 use Rattle.picture_keys.specs.Keys.{Key}
-use Rattle.picture_store.specs.Places.{PlacesValue, place_at, numbers_held}
+use Rattle.key_places.specs.Places.{place_at, numbers_held}
+use Rattle.picture_store.specs.Places.{PlacesValue}
 use Rattle.picture_store.specs.Stores.{IsReady}
 use Rattle.picture_store.specs.Kept.{Trees, AreRight, key_for, keys_for}
 use Rattle.picture_store.specs.Due.{IsHeld, AreHeld}
+use Rattle.key_places.proofs.Held.{held_found, found_held}
 use Rattle.picture_store.proofs.Loops.{first_in, later_in, in_cases}
 
 -- what is there of an element is there of the list
@@ -30,36 +30,6 @@ of_map f (x ∷ xs) y there =
       | inr later ↦ let r = of_map f xs y later in (r.0, later_in x xs r.0 r.1, r.2)
     ]
 
-number_in : (places : PlacesValue) (number : ℕ) (picture : Picture) → Contains places (number, Some picture)
-    → Contains (numbers_held places) number
-number_in [] number picture (k, within, is) = absurd (omega (arith, within))
-number_in ((other, None) ∷ places) number picture there =
-    elim (in_cases (other, None) places (number, Some picture) there) [
-      | inl here ↦ absurd (none-some picture (ap (λ (pair : ℕ × Option Picture). pair.1) here))
-      | inr later ↦ number_in places number picture later
-    ]
-number_in ((other, Some shown) ∷ places) number picture there =
-    elim (in_cases (other, Some shown) places (number, Some picture) there) [
-      | inl here ↦
-          let e : other ≡ number = ap (λ (pair : ℕ × Option Picture). pair.0) here in
-          subst (λ n. Contains (other ∷ numbers_held places) n) e (first_in other (numbers_held places))
-      | inr later ↦ later_in other (numbers_held places) number (number_in places number picture later)
-    ]
-
-of_number : (places : PlacesValue) (number : ℕ) → Contains (numbers_held places) number
-    → (picture : Picture) × Contains places (number, Some picture)
-of_number [] number (k, within, is) = absurd (omega (arith, within))
-of_number ((other, None) ∷ places) number there =
-    let r = of_number places number there in
-    (r.0, later_in (other, None) places (number, Some r.0) r.1)
-of_number ((other, Some shown) ∷ places) number there =
-    elim (in_cases other (numbers_held places) number there) [
-      | inl here ↦ (shown, subst (λ n. Contains ((other, Some shown) ∷ places) (n, Some shown)) here (first_in (other, Some shown) places))
-      | inr later ↦
-          let r = of_number places number later in
-          (r.0, later_in (other, Some shown) places (number, Some r.0) r.1)
-    ]
-
 key_of : (keys : Trees) (number : ℕ) (key : Key) → tree_at keys number ≡ Some key → key_for keys number ≡ key
 key_of keys number key there = ap (λ (tree : Option Key). unwrap_or tree (Bare [])) there
 
@@ -69,14 +39,14 @@ module _ (keys : Trees) (places : PlacesValue) (right : AreRight keys places) wh
   held_key number key there held =
       subst (λ k. Contains (keys_for keys (numbers_held places)) k) (key_of keys number key there)
       (map_in (key_for keys) (numbers_held places) number
-      (number_in places number held.0 ((right.table number (Some held.0)).0 held.1)))
+      (found_held places number held.0 held.1))
 
   key_held : (number : ℕ) (key : Key) → tree_at keys number ≡ Some key → Contains (keys_for keys (numbers_held places)) key
       → IsHeld places number
   key_held number key there among =
       let by_key = of_map (key_for keys) (numbers_held places) key among in
-      let by_number = of_number places by_key.0 by_key.1 in
-      let placed : place_at places by_key.0 ≡ Some (Some by_number.0) = (right.table by_key.0 (Some by_number.0)).1 by_number.1 in
+      let by_number = held_found places by_key.0 by_key.1 in
+      let placed : place_at places by_key.0 ≡ Some (Some by_number.0) = by_number.1 in
       let of_it = right.held by_key.0 by_number.0 placed in
       let same : of_it.0 ≡ key = sym (key_of keys by_key.0 of_it.0 of_it.1) ∙ by_key.2 in
       let found : tree_at keys by_key.0 ≡ Some key = of_it.1 ∙ ap (λ k. Some k) same in

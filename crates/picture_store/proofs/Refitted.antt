@@ -15,12 +15,15 @@ use Rattle.picture_keys.specs.Known.{keys_of}
 use Rattle.picture_keys.specs.Numbered.{AllStandFor}
 use Rattle.picture_keys.specs.Decodable.{AllCanDecode}
 use Rattle.picture_store.specs.declared.job_out.JobOut.{JobOut}
-use Rattle.picture_store.specs.Changes.{IsLeft, ArePut, Refits}
-use Rattle.picture_store.specs.Places.{PlacesValue, place_at, numbers_held, numbers_gone, carried, held_or, ArePlaced, IsTable}
+use Rattle.key_places.specs.Left.{IsLeft, ArePut}
+use Rattle.picture_store.specs.Changes.{Refits}
+use Rattle.key_places.specs.Places.{place_at, numbers_held}
+use Rattle.picture_store.specs.Places.{PlacesValue, carried, held_or, ArePlaced}
 use Rattle.picture_store.specs.Kept.{Trees, key_for, keys_for, IsRight, IsKept}
-use Rattle.picture_store.proofs.Members.{among_map, among_source, left_among, All-from_contains}
+use Rattle.key_places.proofs.Members.{among_map, among_source, left_among, All-from_contains}
 use Rattle.picture_store.proofs.Tables.{none_not_some}
-use Rattle.picture_store.proofs.Lifting.{held_found, found_held, for_contains, contains_for, left_for, put_for, gone_left}
+use Rattle.key_places.proofs.Held.{held_found, found_held}
+use Rattle.picture_store.proofs.Lifting.{for_contains, contains_for, left_for, put_for}
 use Rattle.picture_store.proofs.Viewed.{viewed}
 use Rattle.picture_store.proofs.Numbered.{one_to_one}
 use Rattle.picture_store.proofs.Stays.{key_is, stand_live, stand_number}
@@ -58,7 +61,7 @@ module _ (keys : Trees) (ids : List ℕ) (outcomes : List Outcome) (found : List
     (cached : List (ℕ × Picture)) (out : List JobOut) (kept : IsKept keys ids outcomes found places cached out)
     (more_ids : List ℕ) (more_outcomes : List Outcome) (more_found : List (Option ℕ)) (more_places : PlacesValue)
     (stand : AllStandFor keys more_found (keys_of (zip more_ids more_outcomes)))
-    (placed : ArePlaced more_found places cached more_places) (table : IsTable more_places) where
+    (placed : ArePlaced more_found places cached more_places) where
   -- a key in use has the place of its number
   placed_used : (number : ℕ) → Contains more_found (Some number)
       → place_at more_places number ≡ Some (carried places cached number)
@@ -120,7 +123,7 @@ module _ (keys : Trees) (ids : List ℕ) (outcomes : List Outcome) (found : List
   held_live : (number : ℕ) → Contains (numbers_held places) number → (key : Key) × (tree_at keys number ≡ Some key)
   held_live number is =
       let held : (picture : Picture) × (place_at places number ≡ Some (Some picture)) =
-      held_found places kept.right.table number is in
+      held_found places number is in
       let right : IsRight keys number held.0 = kept.right.held number held.0 held.1 in
       (right.0, right.1)
 
@@ -141,7 +144,7 @@ module _ (keys : Trees) (ids : List ℕ) (outcomes : List Outcome) (found : List
       let there : place_at more_places number ≡ Some (Some picture.0) =
       placed_used number (used_for number key live in_use) ∙ ap Some picture.1 in
       subst (Contains (keys_for keys (numbers_held more_places))) (key_is keys number key live)
-      (contains_for keys (numbers_held more_places) number (found_held more_places table number picture.0 there))
+      (contains_for keys (numbers_held more_places) number (found_held more_places number picture.0 there))
 
   was_held : (key : Key) → Contains (keys_of (zip more_ids more_outcomes)) (Some key)
       → Contains (keys_for keys (numbers_held places)) key → Contains (keys_for keys (numbers_held more_places)) key
@@ -152,7 +155,7 @@ module _ (keys : Trees) (ids : List ℕ) (outcomes : List Outcome) (found : List
       let tree : tree_at keys source.0 ≡ Some key =
       live.1 ∙ ap Some (sym (key_is keys source.0 live.0 live.1) ∙ source.2) in
       let held : (picture : Picture) × (place_at places source.0 ≡ Some (Some picture)) =
-      held_found places kept.right.table source.0 source.1 in
+      held_found places source.0 source.1 in
       held_after source.0 key tree in_use
       (held_or_held (place_at places source.0) (lookup (λ other. source.0 == other) cached) held.0 held.1)
 
@@ -175,12 +178,12 @@ module _ (keys : Trees) (ids : List ℕ) (outcomes : List Outcome) (found : List
       let source : (number : ℕ) × Contains (numbers_held more_places) number × (key_for keys number ≡ key) =
       for_contains keys (numbers_held more_places) key is in
       let held : (picture : Picture) × (place_at more_places source.0 ≡ Some (Some picture)) =
-      held_found more_places table source.0 source.1 in (
+      held_found more_places source.0 source.1 in (
         subst (λ (k : Key). Contains (keys_of (zip more_ids more_outcomes)) (Some k)) source.2
             (in_use_for source.0 (used_placed source.0 (ap is_some held.1))),
         elim (held_before source.0 held.0 held.1) [
           | inl before ↦ inl (subst (Contains (keys_for keys (numbers_held places))) source.2
-              (contains_for keys (numbers_held places) source.0 (found_held places kept.right.table source.0 held.0 before)))
+              (contains_for keys (numbers_held places) source.0 (found_held places source.0 held.0 before)))
           | inr stored ↦ inr (subst (Contains (keys_for keys (numbers_of cached))) source.2
               (contains_for keys (numbers_of cached) source.0 (among_map (λ (pair : ℕ × Picture). pair.0) cached (source.0, held.0) stored)))
         ],
@@ -196,9 +199,10 @@ module _ (keys : Trees) (ids : List ℕ) (outcomes : List Outcome) (found : List
   module _ (left gone_cached : List (ℕ × Picture))
       (leaves : IsLeft (λ number. Contains more_found (Some number)) (numbers_of cached) (numbers_of left))
       (left_pairs : (number : ℕ) (picture : Picture) → Contains left (number, picture) → Contains cached (number, picture))
-      (room : ℕ) (puts : ArePut room (numbers_gone more_places places) (numbers_of left) (numbers_of gone_cached))
+      (room : ℕ) (gone : List ℕ) (go : IsLeft (λ number. IsSome (place_at more_places number)) (numbers_held places) gone)
+      (puts : ArePut room gone (numbers_of left) (numbers_of gone_cached))
       (put_pairs : (number : ℕ) (picture : Picture) → Contains gone_cached (number, picture)
-      → Contains left (number, picture) ⊎ Contains places (number, Some picture)) where
+      → Contains left (number, picture) ⊎ (place_at places number ≡ Some (Some picture))) where
     pub cached_leave : IsLeft (λ key. Contains (keys_of (zip more_ids more_outcomes)) (Some key))
         (keys_for keys (numbers_of cached)) (keys_for keys (numbers_of left))
     cached_leave =
@@ -208,30 +212,30 @@ module _ (keys : Trees) (ids : List ℕ) (outcomes : List Outcome) (found : List
         (λ number is in_use. used_for_key number (cached_live number is).0 (cached_live number is).1 in_use) leaves
 
     pub held_go : IsLeft (λ key. Contains (keys_of (zip more_ids more_outcomes)) (Some key))
-        (keys_for keys (numbers_held places)) (keys_for keys (numbers_gone more_places places))
+        (keys_for keys (numbers_held places)) (keys_for keys gone)
     held_go =
         left_for keys (λ number. IsSome (place_at more_places number))
         (λ key. Contains (keys_of (zip more_ids more_outcomes)) (Some key)) (numbers_held places)
-        (numbers_gone more_places places)
+        gone
         (λ number is used. in_use_for number (used_placed number used))
         (λ number is in_use. (used_same number).1 (used_for_key number (held_live number is).0 (held_live number is).1 in_use))
-        (gone_left more_places places)
+        go
 
-    gone_live : (number : ℕ) → Contains (numbers_gone more_places places) number → IsSome (tree_at keys number)
+    gone_live : (number : ℕ) → Contains gone number → IsSome (tree_at keys number)
     gone_live number is =
         ap is_some (held_live number
-        (left_among (λ n. IsSome (place_at more_places n)) (numbers_held places) (numbers_gone more_places places)
-        (gone_left more_places places) number is)).1
+        (left_among (λ n. IsSome (place_at more_places n)) (numbers_held places) gone
+        go number is)).1
 
     left_live : (number : ℕ) → Contains (numbers_of left) number → IsSome (tree_at keys number)
     left_live number is =
         ap is_some (cached_live number
         (left_among (λ n. Contains more_found (Some n)) (numbers_of cached) (numbers_of left) leaves number is)).1
 
-    pub cached_put : ArePut room (keys_for keys (numbers_gone more_places places)) (keys_for keys (numbers_of left))
+    pub cached_put : ArePut room (keys_for keys gone) (keys_for keys (numbers_of left))
         (keys_for keys (numbers_of gone_cached))
     cached_put =
-        put_for keys room (numbers_gone more_places places) (numbers_of left) (numbers_of gone_cached)
+        put_for keys room gone (numbers_of left) (numbers_of gone_cached)
         kept.right.one.trees gone_live left_live puts
 
     stored_right : (pair : ℕ × Picture) → Contains gone_cached pair → IsRight keys pair.0 pair.1
@@ -239,13 +243,13 @@ module _ (keys : Trees) (ids : List ℕ) (outcomes : List Outcome) (found : List
         elim (put_pairs pair.0 pair.1 is) [
           | inl before ↦
               All-contains (λ (p : ℕ × Picture). IsRight keys p.0 p.1) cached pair kept.stored (left_pairs pair.0 pair.1 before)
-          | inr held ↦ kept.right.held pair.0 pair.1 ((kept.right.table pair.0 (Some pair.1)).1 held)
+          | inr held ↦ kept.right.held pair.0 pair.1 held
         ]
 
     pub kept_after : length more_ids ≡ length more_outcomes → AllCanDecode [] (zip more_ids more_outcomes)
         → IsKept keys more_ids more_outcomes more_found more_places gone_cached out
     kept_after same decodable = record {
-      right = record { one = kept.right.one; table = table; held = held_right };
+      right = record { one = kept.right.one; held = held_right };
       same = same;
       stand = stand;
       decodable = decodable;
@@ -268,7 +272,7 @@ module _ (keys : Trees) (ids : List ℕ) (outcomes : List Outcome) (found : List
       held_are = held_same;
       stay = keys_for keys (numbers_of left);
       leave = cached_leave;
-      gone = keys_for keys (numbers_gone more_places places);
+      gone = keys_for keys gone;
       go = held_go;
       cached_are = cached_put;
     }

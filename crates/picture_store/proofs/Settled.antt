@@ -1,5 +1,5 @@
 -- Units that need no job.
-use Rattle.std.proofs.Common.{◌≡◌, refl, ap, ℕ, zero, suc, ◌<◌, ◌≤◌, List, [], ◌∷◌, ◌++◌, length, take, drop, Bool, true, false, ◌==◌, Option, None, Some, IsSome, if◌then◌else◌, inl, inr, ◌⊎◌, subst, sym, ◌∙◌, take-append-drop, arith, rules}
+use Rattle.std.proofs.Common.{◌≡◌, refl, ap, ℕ, zero, suc, List, [], ◌∷◌, ◌++◌, take, drop, Bool, true, false, ◌==◌, Option, None, Some, IsSome, if◌then◌else◌, inl, inr, ◌⊎◌, subst, sym, ◌∙◌, take-append-drop, arith, rules}
 use Rattle.std.specs.Prelude.{All, Contains, remove, slice_index_or}
 use Rattle.std.proofs.lemmas.Bool.{eqb-true, eq-eqb}
 use Rattle.std.proofs.lemmas.List.{map-append}
@@ -9,12 +9,13 @@ use Rattle.stand_in_device.specs.declared.picture.Picture.{Picture}
 use Rattle.picture_store.specs.declared.answers.Landing.{Landing}
 use Rattle.picture_store.specs.declared.answers.Landing.TheVariants.{Taken, Stale, Foreign}
 use Rattle.picture_store.specs.declared.job_out.JobOut.{JobOut}
-use Rattle.picture_store.specs.Places.{PlacesValue, place_at}
+use Rattle.key_places.specs.Places.{place_at}
+use Rattle.picture_store.specs.Places.{PlacesValue}
 use Rattle.picture_store.specs.Filling.{IsFilled}
 use Rattle.picture_store.specs.Kept.{Trees, numbers_out, IsKept}
-use Rattle.picture_store.specs.Due.{IsDueNumber, IsHeld, IsNotDue}
+use Rattle.picture_store.specs.Due.{IsHeld, IsNotDue}
 use Rattle.picture_store.specs.Settled.{NeedsNone, AreSettled}
-use Rattle.picture_store.proofs.Members.{here, there, nowhere, first_or_among}
+use Rattle.key_places.proofs.Members.{here, there, nowhere, first_or_among}
 
 two_places : (o : Option (Option Picture)) (picture : Picture) → o ≡ Some (Some picture) → o ≡ Some None → ⊥
 two_places o picture held awaited = cc
@@ -38,7 +39,7 @@ pub none_settled : (places : PlacesValue) (out : List JobOut) (found : List (Opt
 none_settled places out found = (omega arith, λ k d within. absurd (omega (arith, within)))
 
 -- what needs no job needs none where it stays so for each unit
-settled_stay : (places more : PlacesValue) (out left : List JobOut) (found : List (Option ℕ)) (count : ℕ)
+pub settled_stay : (places more : PlacesValue) (out left : List JobOut) (found : List (Option ℕ)) (count : ℕ)
     → ((number : Option ℕ) → Contains found number → NeedsNone places out number → NeedsNone more left number)
     → AreSettled places out found count → AreSettled more left found count
 settled_stay places more out left found count stays are = (
@@ -137,9 +138,9 @@ module _ (keys : Trees) (ids : List ℕ) (outcomes : List Outcome) (found : List
       (λ number held.
       let still : (p : Picture) × ((if other.key == number then Some (Some picture) else place_at places number) ≡ Some (Some p)) =
       held_still (other.key == number) (place_at places number) picture held.0 held.1 in
-      (still.0, filled.2 number ∙ still.1))
+      (still.0, filled.1 number ∙ still.1))
       (λ among. (
         picture,
-        filled.2 other.key
+        filled.1 other.key
             ∙ ap (λ b. if b then Some (Some picture) else place_at places other.key) (eq-eqb other.key other.key refl),
       ))) are)

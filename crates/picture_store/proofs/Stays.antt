@@ -15,10 +15,11 @@ use Rattle.picture_keys.specs.Keys.{Key}
 use Rattle.picture_keys.specs.Known.{keys_of}
 use Rattle.picture_keys.specs.Numbered.{StandsFor, AllStandFor}
 use Rattle.picture_store.specs.declared.job_out.JobOut.{JobOut}
-use Rattle.picture_store.specs.Places.{PlacesValue, place_at, numbers_held}
+use Rattle.key_places.specs.Places.{place_at, numbers_held}
+use Rattle.picture_store.specs.Places.{PlacesValue}
 use Rattle.picture_store.specs.Kept.{Trees, key_for, keys_for, jobs_for, IsRight, IsJobRight, IsKept, IsStored, KeepsStored}
-use Rattle.picture_store.proofs.Members.{here, there, nowhere, first_or_among, among_map, among_source, map_same, All-from_contains}
-use Rattle.picture_store.proofs.Lifting.{held_found}
+use Rattle.key_places.proofs.Members.{here, there, nowhere, first_or_among, among_map, among_source, map_same, All-from_contains}
+use Rattle.key_places.proofs.Held.{held_found}
 use Rattle.picture_store.proofs.Viewed.{viewed}
 
 -- the key of a number
@@ -119,7 +120,7 @@ module _ (keys more : Trees) (ids : List ℕ) (outcomes : List Outcome) (found :
       map_same (key_for keys) (key_for more) (numbers_held places)
       (λ number is.
       let found : (picture : Picture) × (place_at places number ≡ Some (Some picture)) =
-      held_found places kept.right.table number is in
+      held_found places number is in
       for_stays number found.0 (place_stored number (Some found.0) found.1) (kept.right.held number found.0 found.1))
 
   stored_right : (number : ℕ) → Contains (numbers_of cached) number → (picture : Picture) × IsRight keys number picture
@@ -149,7 +150,6 @@ module _ (keys more : Trees) (ids : List ℕ) (outcomes : List Outcome) (found :
   kept_stays one = record {
     right = record {
       one = one;
-      table = kept.right.table;
       held = λ number picture is.
           right_stays number picture (place_stored number (Some picture) is) (kept.right.held number picture is);
     };

@@ -1,5 +1,5 @@
 -- The keys of a stream's units where a stretch of it changed.
-use Rattle.std.proofs.Common.{◌≡◌, refl, ap, sym, subst, ◌∙◌, ℕ, ◌-◌, ◌≤◌, List, [], ◌++◌, length, take, drop, Option, arith, append_assoc}
+use Rattle.std.proofs.Common.{◌≡◌, refl, ap, sym, ◌∙◌, ℕ, ◌-◌, List, [], ◌++◌, length, take, drop, Option, arith, append_assoc}
 use Rattle.std.specs.List.{zip}
 use Rattle.std.proofs.lemmas.List.{take_all, length-append, length-take-le, length-drop}
 use Rattle.outcomes.specs.declared.outcome.Outcome.{Outcome}

@@ -18,11 +18,12 @@ use Rattle.picture_keys.proofs.Pictured.{shows_its_key}
 use Rattle.picture_store.specs.declared.job_out.JobOut.{JobOut}
 use Rattle.picture_store.specs.Stores.{OutValue, IsReady}
 use Rattle.picture_store.specs.Jobs.{IsDue, IsAnyDue, Takes}
-use Rattle.picture_store.specs.Places.{PlacesValue, place_at, numbers_held}
+use Rattle.key_places.specs.Places.{place_at, numbers_held}
+use Rattle.picture_store.specs.Places.{PlacesValue}
 use Rattle.picture_store.specs.Due.{IsDueNumber, IsNotDue}
 use Rattle.picture_store.specs.Inputs.{HasKnown, IsInputOf}
 use Rattle.picture_store.specs.Kept.{Trees, key_for, keys_for, jobs_for, numbers_out, IsRight, IsJobRight, IsKept}
-use Rattle.picture_store.proofs.Members.{among_map, among_source, All-from_contains}
+use Rattle.key_places.proofs.Members.{among_map, among_source, All-from_contains}
 use Rattle.picture_store.proofs.Viewed.{seen, viewed}
 use Rattle.picture_store.proofs.Stays.{key_is, stand_live, stand_number}
 use Rattle.picture_store.proofs.Tables.{none_not_some}

@@ -1,25 +1,9 @@
 -- What becomes of held and of cached pictures where a stream changes.
-use Rattle.std.specs.Prelude.{◌≡◌, ℕ, List, [], ◌∷◌, ◌⊎◌, ◌↔◌, take, Contains}
+use Rattle.std.specs.Prelude.{◌≡◌, ℕ, List, ◌⊎◌, ◌↔◌, Contains}
 use Rattle.outcomes.specs.declared.outcome.Outcome.{Outcome}
 use Rattle.picture_keys.specs.Keys.{Key}
+use Rattle.key_places.specs.Left.{IsLeft, ArePut}
 use Rattle.picture_store.specs.Stores.{StoreValue, AreOneToOne, IsInUse}
-
--- what is left of a list without those that go, in its order
-abbrev pub IsLeft : {X : Type 0} → (X → Type 0) → List X → List X → Type 0
-IsLeft Goes [] left = left ≡ []
-IsLeft {X} Goes (x ∷ xs) left =
-    (Goes x × IsLeft Goes xs left) ⊎ ((Goes x → ⊥) × ((rest : List X) × (left ≡ x ∷ rest) × IsLeft Goes xs rest))
-
--- a key is put into a bounded list: it goes first, one like it goes out, and there are no more than have room
-abbrev pub IsPut : {X : Type 0} → ℕ → X → List X → List X → Type 0
-IsPut {X} room key cached new =
-    (rest : List X) × IsLeft (λ other. other ≡ key) cached rest × (new ≡ take room (key ∷ rest))
-
--- keys are put in turn, each or, for want of memory, nothing
-abbrev pub ArePut : {X : Type 0} → ℕ → List X → List X → List X → Type 0
-ArePut room [] cached new = new ≡ cached
-ArePut {X} room (key ∷ keys) cached new =
-    (next : List X) × ((IsPut room key cached next) ⊎ (next ≡ cached)) × ArePut room keys next new
 
 -- a store takes the units of a changed stream: the keys in use that were held or cached are held, and leave the cache;
 -- then those that were held and are no longer in use are put into it; a key that stays in use keeps its number

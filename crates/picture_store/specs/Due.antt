@@ -4,7 +4,8 @@ use Rattle.dep_keys.specs.KeyMaps.{tree_at}
 use Rattle.stand_in_device.specs.declared.picture.Picture.{Picture}
 use Rattle.picture_keys.specs.Keys.{Key}
 use Rattle.picture_store.specs.declared.job_out.JobOut.{JobOut}
-use Rattle.picture_store.specs.Places.{PlacesValue, place_at, numbers_held}
+use Rattle.key_places.specs.Places.{place_at, numbers_held}
+use Rattle.picture_store.specs.Places.{PlacesValue}
 use Rattle.picture_store.specs.Stores.{IsReady}
 use Rattle.picture_store.specs.Kept.{Trees, keys_for, numbers_out}
 

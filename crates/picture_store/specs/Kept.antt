@@ -16,7 +16,8 @@ use Rattle.picture_keys.specs.Decodable.{AllCanDecode}
 use Rattle.picture_keys.specs.KeyPictures.{picture_of_key}
 use Rattle.picture_store.specs.declared.job_out.JobOut.{JobOut}
 use Rattle.picture_store.specs.Stores.{OutValue}
-use Rattle.picture_store.specs.Places.{PlacesValue, place_at, IsTable}
+use Rattle.key_places.specs.Places.{place_at}
+use Rattle.picture_store.specs.Places.{PlacesValue}
 
 -- the keys that are stored, under their numbers
 abbrev pub Trees : Type 0
@@ -46,10 +47,9 @@ IsJobRight keys job = IsRight keys job.key (picture_of job.input)
 abbrev pub numbers_out : List JobOut → List ℕ
 numbers_out jobs = map (λ job. job.key) jobs
 
--- each place stands once, and each picture that is held is that of its key, where no key has two numbers
+-- each picture that is held is that of its key, where no key has two numbers
 pub record AreRight (keys : Trees) (places : PlacesValue) : Type 0 where
   pub one : IsKeyMap keys
-  pub table : IsTable places
   pub held : (number : ℕ) (picture : Picture) → place_at places number ≡ Some (Some picture) → IsRight keys number picture
 
 -- the units' numbers are those of their keys, each key in use has its place and no other has one, each picture is that

@@ -2,6 +2,7 @@ pub mod Stores
 pub mod Changes
 pub mod Jobs
 pub mod Places
+pub mod Recounts
 pub mod Kept
 pub mod Numbers
 pub mod Naming

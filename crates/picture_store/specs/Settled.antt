@@ -1,7 +1,10 @@
 -- How many units, from the first on, need no job.
-use Rattle.std.specs.Prelude.{ℕ, ◌≤◌, List, ◌⊎◌, length, take, All, Contains, Option, IfSome}
+use Rattle.std.specs.Prelude.{◌≡◌, ℕ, ◌<◌, ◌≤◌, List, ◌⊎◌, length, take, All, Contains, Option, IfSome}
+use Rattle.std.specs.Map.{keys_of as numbers_of}
 use Rattle.outcomes.specs.declared.outcome.Outcome.{Outcome}
 use Rattle.stand_in_device.specs.declared.picture.Picture.{Picture}
+use Rattle.key_places.specs.Counting.{times}
+use Rattle.key_places.specs.Places.{uses_at}
 use Rattle.picture_store.specs.declared.job_out.JobOut.{JobOut}
 use Rattle.picture_store.specs.Places.{PlacesValue}
 use Rattle.picture_store.specs.Kept.{Trees, numbers_out, IsKept}
@@ -17,10 +20,12 @@ NeedsNone places out number = IfSome number (λ n. IsHeld places n ⊎ Contains 
 abbrev pub AreSettled : PlacesValue → List JobOut → List (Option ℕ) → ℕ → Type 0
 AreSettled places out found count = (count ≤ length found) × All (NeedsNone places out) (take count found)
 
--- what is stored: what is kept of the stream, the numbers of the keys of its first units by their ids, and how many units
--- are known to need no job
+-- what is stored: what is kept of the stream, where each place counts the units that use its key and no key in use is cached;
+-- the numbers of the keys of its first units by their ids; and how many units are known to need no job
 pub record IsStored (keys : Trees) (ids : List ℕ) (outcomes : List Outcome) (found : List (Option ℕ))
     (places : PlacesValue) (cached : List (ℕ × Picture)) (out : List JobOut) (first : Front) (count : ℕ) : Type 0 where
   pub kept : IsKept keys ids outcomes found places cached out
+  pub counted : (number : ℕ) → uses_at places number ≡ times number found
+  pub apart : (number : ℕ) → 0 < uses_at places number → Contains (numbers_of cached) number → ⊥
   pub front : IsFront keys ids outcomes first
   pub settled : AreSettled places out found count

@@ -2,18 +2,19 @@
 
 ghost use Rattle.std.specs.Prelude.{◌≡◌, ◌<◌, ◌↔◌, ℕ, Option, Some, None, length, take, All, IfSome, IsSome, IsTrue, MatchOption, slice_index_or};
 ghost use Rattle.picture_store.specs.Kept.{AreRight};
-ghost use Rattle.picture_store.specs.Places.{place_at};
+ghost use Rattle.key_places.specs.Places.{place_at};
 ghost use Rattle.picture_store.specs.Due.{AreHeld, IsDueNumber, IsHeld, IsNotDue};
 ghost use Rattle.picture_store.specs.Settled.{AreSettled, NeedsNone};
 
 use crate::job_out::{JobOut, is_out};
-use crate::places::Places;
 use dep_keys::{Fingerprint, KeyId, Keys};
+use key_places::Places;
 use picture_keys::Works;
+use stand_in_device::Picture;
 
 /// The first unit, from one on before which all are known to need no job, that needs one.
 pub(crate) fn first_to_do(
-    places: &Places,
+    places: &Places<Picture>,
     out: &[JobOut],
     found: &[Option<KeyId>],
     settled: usize,
@@ -30,7 +31,7 @@ pub(crate) fn first_to_do(
 }
 
 /// Whether a unit has no key, or one whose picture is held or that of a job that is out.
-fn needs_none(places: &Places, out: &[JobOut], key: Option<KeyId>) -> bool
+fn needs_none(places: &Places<Picture>, out: &[JobOut], key: Option<KeyId>) -> bool
     ensures { IsTrue result → NeedsNone places.now out.now key }
 {
     match key {
@@ -42,7 +43,7 @@ fn needs_none(places: &Places, out: &[JobOut], key: Option<KeyId>) -> bool
 /// The place of the first unit whose key is due, where those before one are known to need no job.
 pub(crate) fn first_due<F: Fingerprint<Works>>(
     keys: &Keys<Works, F>,
-    places: &Places,
+    places: &Places<Picture>,
     out: &[JobOut],
     found: &[Option<KeyId>],
     settled: usize,
@@ -67,7 +68,7 @@ pub(crate) fn first_due<F: Fingerprint<Works>>(
 /// Whether a unit has a key that is due.
 fn has_due<F: Fingerprint<Works>>(
     keys: &Keys<Works, F>,
-    places: &Places,
+    places: &Places<Picture>,
     out: &[JobOut],
     key: Option<KeyId>,
 ) -> bool
@@ -85,7 +86,7 @@ fn has_due<F: Fingerprint<Works>>(
 /// Whether the key is due.
 fn is_due<F: Fingerprint<Works>>(
     keys: &Keys<Works, F>,
-    places: &Places,
+    places: &Places<Picture>,
     out: &[JobOut],
     key: KeyId,
 ) -> bool
@@ -99,14 +100,14 @@ fn is_due<F: Fingerprint<Works>>(
 }
 
 /// Whether the key has a place without a picture.
-pub(crate) fn is_awaited(places: &Places, key: KeyId) -> bool
+pub(crate) fn is_awaited(places: &Places<Picture>, key: KeyId) -> bool
     ensures { IsTrue result ↔ (place_at places.now key ≡ Some None) }
 {
     matches!(places.get(key), Some(None))
 }
 
 /// Whether the pictures of the keys at these entries are held.
-fn are_held(places: &Places, entries: &[Option<KeyId>]) -> bool
+fn are_held(places: &Places<Picture>, entries: &[Option<KeyId>]) -> bool
     ensures { IsTrue result ↔ AreHeld places.now entries.now }
 {
     for entry in entries {
@@ -120,7 +121,7 @@ fn are_held(places: &Places, entries: &[Option<KeyId>]) -> bool
 }
 
 /// Whether the picture of a key is held.
-fn is_held(places: &Places, key: KeyId) -> bool
+fn is_held(places: &Places<Picture>, key: KeyId) -> bool
     ensures { IsTrue result ↔ IsHeld places.now key }
 {
     matches!(places.get(key), Some(Some(_)))

@@ -5,24 +5,24 @@ ghost use Rattle.dep_keys.specs.KeyMaps.{tree_at};
 ghost use Rattle.picture_keys.specs.Keys.{Key};
 ghost use Rattle.picture_keys.specs.Known.{Known};
 ghost use Rattle.picture_store.specs.Stores.{IsReady};
-ghost use Rattle.picture_store.specs.Places.{numbers_held};
+ghost use Rattle.key_places.specs.Places.{numbers_held};
 ghost use Rattle.picture_store.specs.Kept.{keys_for, AreRight};
 ghost use Rattle.picture_store.specs.Inputs.{HasKnown, IsInputOf};
 
 use crate::naming::references_of;
-use crate::places::Places;
 use dep_keys::{Fingerprint, KeyId, Keys};
 use h264_controls::Request;
+use key_places::Places;
 use outcomes::Outcome;
 use picture_keys::{Works, units_named};
-use stand_in_device::Input;
+use stand_in_device::{Input, Picture};
 use std::alloc::{AllocError, Global};
 
 /// The requests of a unit with this key, and the pictures that they refer to, each of which is held.
 pub(crate) fn input_of<F: Fingerprint<Works>>(
     alloc: Global,
     keys: &Keys<Works, F>,
-    places: &Places,
+    places: &Places<Picture>,
     outcome: &Outcome,
     key: KeyId,
 ) -> Result<Input, AllocError>

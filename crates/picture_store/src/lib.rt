@@ -13,7 +13,7 @@ mod front;
 mod inputs;
 mod job_out;
 mod naming;
-mod places;
+mod recounting;
 mod refitting;
 mod refusals;
 mod store;

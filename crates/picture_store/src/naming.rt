@@ -6,8 +6,8 @@ ghost use Rattle.stand_in_device.specs.declared.picture.Picture.{Picture as Show
 ghost use Rattle.stand_in_device.specs.Inputs.{picture_at};
 ghost use Rattle.picture_store.specs.Naming.{AddsAtMostEntry, AreCovered, AreShown, AreThere, IsShown, picture_in};
 
-use crate::places::Places;
 use dep_keys::KeyId;
+use key_places::Places;
 use pictures::AuId;
 use stand_in_device::{Picture, Reference};
 use std::alloc::{AllocError, Global};
@@ -15,7 +15,7 @@ use std::alloc::{AllocError, Global};
 /// The pictures of the units that are named, each once, by the numbers of the keys that stand at the same entries.
 pub(crate) fn references_of(
     alloc: Global,
-    places: &Places,
+    places: &Places<Picture>,
     units: &[Option<AuId>],
     entries: &[Option<KeyId>],
 ) -> Result<Vec<Reference>, AllocError>
@@ -35,7 +35,7 @@ pub(crate) fn references_of(
 /// Adds the picture of an entry for the unit that is named there, if one is.
 fn add_named(
     references: &mut Vec<Reference>,
-    places: &Places,
+    places: &Places<Picture>,
     unit: Option<AuId>,
     entry: Option<KeyId>,
 ) -> Result<(), AllocError>
@@ -55,7 +55,7 @@ fn add_named(
 }
 
 /// The picture of an entry, where it is held.
-fn picture_in(places: &Places, entry: Option<KeyId>) -> Option<Picture>
+fn picture_in(places: &Places<Picture>, entry: Option<KeyId>) -> Option<Picture>
     ensures { result ≡ picture_in places.now entry }
 {
     places.get(entry?)?

@@ -8,6 +8,7 @@ ghost use Rattle.outcomes.specs.declared.outcome.Outcome.{Outcome as Becomes};
 ghost use Rattle.picture_keys.specs.Known.{Known, keys_of, known_after};
 ghost use Rattle.picture_keys.specs.Numbered.{AllStandFor, AreNumbered};
 ghost use Rattle.picture_keys.specs.Following.{AreNumberedSome, Follow};
+ghost use Rattle.key_places.specs.Counting.{times, times_in};
 ghost use Rattle.picture_store.specs.Kept.{numbers_out, IsStored, KeepsStored};
 ghost use Rattle.picture_store.specs.Stretches.{IsStretch};
 
@@ -112,22 +113,6 @@ pub(crate) fn make_room(
     outcomes.reserve(count)
 }
 
-/// The first numbers, so many, and then others.
-pub(crate) fn followed_by(
-    alloc: Global,
-    numbers: &[Option<KeyId>],
-    count: usize,
-    mut later: Vec<Option<KeyId>>,
-) -> Result<Vec<Option<KeyId>>, AllocError>
-    requires { count ≤ length numbers.now }
-    ensures { IfOk result (λ all. all.items ≡ take count numbers.now ++ later.items) }
-{
-    let mut all = Vec::with_capacity(alloc, count.saturating_add(later.len()))?;
-    all.extend_from_slice(&numbers[..count])?;
-    all.append(&mut later)?;
-    Ok(all)
-}
-
 /// Forgets the keys that are neither stored nor below one that is.
 pub(crate) fn sweep<F: Fingerprint<Works>>(
     alloc: Global,
@@ -160,11 +145,13 @@ fn roots(
 }
 
 /// Adds the keys of units.
-fn add_found(roots: &mut Vec<KeyId>, found: &[Option<KeyId>]) -> Result<(), AllocError>
+pub(crate) fn add_found(roots: &mut Vec<KeyId>, found: &[Option<KeyId>]) -> Result<(), AllocError>
     ensures old { OnOk result ((number : ℕ) → Contains roots.old.items number
         → Contains roots.new.items number) }
     ensures added { OnOk result ((number : ℕ) → Contains found.now (Some number)
         → Contains roots.new.items number) }
+    ensures counted { OnOk result ((number : ℕ) → times_in number roots.new.items
+        ≡ times_in number roots.old.items + times number found.now) }
 {
     for key in found {
         if let Some(key) = key {

@@ -1,6 +1,6 @@
 //! The store: pictures that are held or cached, and jobs that are out.
 
-ghost use Rattle.std.specs.Prelude.{◌≡◌, ◌≤◌, ◌<◌, ◌↔◌, length, Contains, Some, IsTrue, IfOk, OnOk, OnErr};
+ghost use Rattle.std.specs.Prelude.{◌≡◌, ℕ, ◌≤◌, ◌<◌, ◌↔◌, length, Contains, Some, IsTrue, IfOk, OnOk, OnErr};
 ghost use Rattle.std.specs.List.{zip};
 ghost use Rattle.std.specs.Prelude.{[]};
 ghost use Rattle.picture_cache.specs.Bounded.{most_room};
@@ -8,6 +8,7 @@ ghost use Rattle.picture_keys.specs.Decodable.{AllCanDecode};
 ghost use Rattle.picture_store.specs.Stores.{empty, AreOneToOne};
 ghost use Rattle.picture_store.specs.Changes.{Refits};
 ghost use Rattle.picture_store.specs.Jobs.{AnswersGiveBack, AnswersLand, TellsTake};
+ghost use Rattle.key_places.specs.Places.{uses_at};
 ghost use Rattle.picture_store.specs.Filling.{IsFilled};
 ghost use Rattle.picture_store.specs.Showing.{IsNumberAt, IsPictureAt};
 ghost use Rattle.picture_store.specs.Stretches.{IsStretch, ids_with, outcomes_with};
@@ -18,12 +19,13 @@ use crate::front::Front;
 use crate::inputs::input_of;
 use crate::job_out::{JobOut, place_of};
 use crate::naming::references_of;
-use crate::places::{Places, places_of, take_out};
-use crate::refitting::{followed_by, keys_from, make_room, sweep};
+use crate::recounting::{make_ready, recount};
+use crate::refitting::{keys_from, make_room, sweep};
 use crate::refusals::TakeRefused;
 use crate::stretch::Stretch;
 use base_types::Shared;
 use dep_keys::{KeyId, Keys, Sha256Fingerprint};
+use key_places::Places;
 use outcomes::Outcome;
 use picture_cache::PictureCache;
 use picture_keys::Works;
@@ -47,7 +49,7 @@ pub struct PictureStore {
     front: Front,
     // How many keys there are where it is time to forget those that aren't needed.
     enough: usize,
-    places: Places,
+    places: Places<Picture>,
     cache: PictureCache<KeyId, Picture>,
     out: Vec<JobOut>,
     given: u64,
@@ -66,7 +68,7 @@ impl Model for PictureStore {
 
     ghost coded = { Prim.hlevel (codes, tree_code works.the_row.coded) };
 
-    ghost use Rattle.picture_store.specs.Places.{numbers_held};
+    ghost use Rattle.key_places.specs.Places.{numbers_held};
     ghost use Rattle.picture_store.specs.Kept.{keys_for, jobs_for};
     ghost use Rattle.picture_store.specs.Settled.{IsStored};
 
@@ -148,10 +150,16 @@ impl PictureStore {
             &self.outcomes,
             &stretch,
         )?;
-        let found = followed_by(self.alloc, &self.found, stretch.from, later)?;
-        let places = places_of(self.alloc, &found, &self.places, &self.cache)?;
-        take_out(&mut self.cache, &found);
-        self.places.put_away(&places, &mut self.cache);
+        let end = self.found.len();
+        let leaving = make_ready(
+            self.alloc,
+            &mut self.found,
+            &mut self.places,
+            stretch.from,
+            end,
+            &later,
+        )?;
+        recount(&mut self.places, &mut self.cache, &later, &leaving);
         let Stretch {
             from,
             to,
@@ -160,12 +168,11 @@ impl PictureStore {
         } = stretch;
         replace_range(&mut self.ids, from, to, ids);
         replace_range(&mut self.outcomes, from, to, outcomes);
+        replace_range(&mut self.found, from, end, later);
         self.front = Front {
             numbers,
             count: self.ids.len(),
         };
-        self.found = found;
-        self.places = places;
         self.settled = 0;
         Ok(())
     }
@@ -274,12 +281,13 @@ impl PictureStore {
 }
 
 /// Puts the picture of a result into the place of its key, where that waits for one.
-fn fill(places: &mut Places, key: KeyId, picture: Picture) -> Landing
-    ensures { IsFilled places.old key picture result places.new }
+fn fill(places: &mut Places<Picture>, key: KeyId, picture: Picture) -> Landing
+    ensures filled { IsFilled places.old key picture result places.new }
+    ensures uses { (number : ℕ) → uses_at places.new number ≡ uses_at places.old number }
 {
     if !is_awaited(places, key) {
         return Landing::Stale;
     }
-    let _ = places.put(key, Some(picture));
+    places.fill(key, picture);
     Landing::Taken
 }

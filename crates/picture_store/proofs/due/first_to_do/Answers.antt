@@ -1,4 +1,4 @@
-use Rattle.std.proofs.Common.{◌≡◌, length, subst, sym, All, IsTrue, arith, refl}
+use Rattle.std.proofs.Common.{length, subst, sym, All, IsTrue, arith}
 use Rattle.std.proofs.lemmas.List.{take_all}
 use Rattle.std.proofs.lemmas.List.Elements.{All-more}
 use Rattle.picture_store.specs.Settled.{NeedsNone}

@@ -1,4 +1,5 @@
-use Rattle.std.proofs.Common.{ℕ, Contains, Some, take}
+use Rattle.std.proofs.Common.{◌≡◌, ◌+◌, ℕ, Contains, Some, take}
+use Rattle.key_places.specs.Counting.{times, times_in}
 use Rattle.picture_store.proofs.refitting.add_found.Given as goal
 
 abbrev pub invariant-loop-key : goal.invariant-loop-key
@@ -6,4 +7,5 @@ invariant-loop-key l =
     record {
       old : (number : ℕ) → Contains l.initial.roots.items number → Contains l.roots.items number;
       added : (number : ℕ) → Contains (take l.key-index l.found) (Some number) → Contains l.roots.items number;
+      counted : (number : ℕ) → times_in number l.roots.items ≡ times_in number l.initial.roots.items + times number (take l.key-index l.found);
     }

@@ -1,4 +1,4 @@
-use Rattle.std.proofs.Common.{[], ◌-◌, List, take, drop, length, arith}
+use Rattle.std.proofs.Common.{[], ◌-◌, take, drop, length, arith}
 use Rattle.std.specs.List.{zip}
 use Rattle.std.proofs.lemmas.List.{take_all, length-drop}
 use Rattle.picture_keys.specs.Known.{Known, known_after}

@@ -1,4 +1,4 @@
-use Rattle.std.proofs.Common.{refl}
+use Rattle.std.proofs.Common.{refl, subst, ◌∙◌, ◌<◌}
 use Rattle.picture_store.proofs.Landed.{foreign_for}
 use Rattle.picture_store.proofs.Filled.{landed, kept_filled}
 use Rattle.picture_store.proofs.Settled.{settled_landed}
@@ -13,12 +13,14 @@ pub invariant_of-self : goal.invariant_of-self
 invariant_of-self c =
     let s = c.self.inside in
     let found = rw (c.deref.ensures.value, c.into_parts-number.ensures) at c.in-Some.ensures in
-    let filled = rw (c.into_parts-number.ensures) at c.fill.ensures in
+    let filled = rw (c.into_parts-number.ensures) at c.fill.ensures.filled in
     record {
       kept =
           kept_filled s.keys s.ids.items s.outcomes.items s.found.items s.places s.cache.pairs s.cache.capacity s.out.items s.given
           c.self.invariant.kept c.args.finished c.in-Some.at found.0 c.remove-job.result c.remove-job.ensures.value found.1 found.2
           c.fill.result c.fill.new.places c.remove-job.new.self.items c.remove-job.ensures.items filled;
+      counted = λ number. c.fill.ensures.uses number ∙ c.self.invariant.counted number;
+      apart = λ number used. c.self.invariant.apart number (subst (λ n. 0 < n) (c.fill.ensures.uses number) used);
       front = c.self.invariant.front;
       settled =
           settled_landed s.keys s.ids.items s.outcomes.items s.found.items s.places s.cache.pairs s.out.items
@@ -30,7 +32,7 @@ pub returns : goal.returns
 returns c =
     let s = c.self.inside in
     let found = rw (c.deref.ensures.value, c.into_parts-number.ensures) at c.in-Some.ensures in
-    let filled = rw (c.into_parts-number.ensures) at c.fill.ensures in
+    let filled = rw (c.into_parts-number.ensures) at c.fill.ensures.filled in
     rw (← c.self.view_is)
     (landed s.keys s.ids.items s.outcomes.items s.found.items s.places s.cache.pairs s.cache.capacity s.out.items s.given
     c.self.invariant.kept c.args.finished c.in-Some.at found.0 c.remove-job.result c.remove-job.ensures.value found.1 found.2

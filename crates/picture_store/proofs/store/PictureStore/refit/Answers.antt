@@ -1,16 +1,27 @@
-use Rattle.std.proofs.Common.{◌≡◌, ◌∙◌, ap, List, ◌++◌, length, take, drop, subst, refl, arith}
-use Rattle.std.specs.List.{zip}
+use Rattle.std.proofs.Common.{◌≡◌, ◌∙◌, ◌≤◌, ◌-◌, ap, ℕ, List, [], Option, ◌++◌, take, drop, subst, refl, arith}
+use Rattle.std.proofs.lemmas.List.{drop_all, append-nil}
+use Rattle.std.proofs.lemmas.List.Sums.{sum_by-take-le, sum_by-take-drop}
+use Rattle.key_places.specs.Counting.{once_at, times, times_in}
+use Rattle.key_places.specs.Places.{AreSame}
+use Rattle.key_places.proofs.Taking.{times_at_most}
 use Rattle.picture_keys.specs.Following.{UnitNumbers}
+use Rattle.picture_store.specs.Places.{PlacesValue}
+use Rattle.picture_store.specs.Recounts.{IsRecounted}
 use Rattle.picture_store.specs.Stores.{StoreValue}
 use Rattle.picture_store.specs.Changes.{Refits}
 use Rattle.picture_store.specs.Stretches.{IsStretch, ids_with, outcomes_with}
 use Rattle.picture_store.proofs.Viewed.{viewed, on_any_err}
 use Rattle.picture_store.proofs.Landed.{found_length}
 use Rattle.picture_store.proofs.Stays.{kept_stays, viewed_stays}
-use Rattle.picture_store.proofs.Stretched.{none_front, same_with, stand_with, front_with}
+use Rattle.picture_store.proofs.Stretched.{same_with, stand_with, front_with}
 use Rattle.picture_store.proofs.Refitted.{kept_after, refitted}
 use Rattle.picture_store.proofs.Settled.{none_settled}
+use Rattle.picture_store.proofs.Same.{stored_still, viewed_still}
+use Rattle.picture_store.proofs.Using.{countable, recounted_same}
 use Rattle.picture_store.proofs.store.PictureStore.refit.Goals as goal
+
+same_self : (places : PlacesValue) → AreSame places places
+same_self places = record { slots = λ number. refl; held = refl }
 
 pub up_to-requires-clause-same : goal.up_to-requires-clause-same
 up_to-requires-clause-same c =
@@ -31,16 +42,10 @@ pub invariant_of-self-in_err-numbers-2 : goal.invariant_of-self-in_err-numbers-2
 invariant_of-self-in_err-numbers-2 c =
     let s = c.self.inside in
     rw (c.make_room.ensures.ids, c.make_room.ensures.outcomes, c.replace-front.ensures.after)
-    (record {
-      kept =
-          kept_stays s.keys c.keys_from.new.keys s.ids.items s.outcomes.items s.found.items s.places s.cache.pairs s.out.items
-          c.self.invariant.kept (λ n k stored is. c.keys_from.ensures.stay n k is)
-          (c.keys_from.ensures.one c.self.invariant.kept.right.one);
-      front =
-          none_front c.keys_from.new.keys s.ids.items s.outcomes.items c.none.result c.none.ensures.numbers
-          c.none.ensures.count;
-      settled = c.self.invariant.settled;
-    })
+    (stored_still s.keys c.keys_from.new.keys s.ids.items s.outcomes.items s.found.items s.places s.places s.cache.pairs s.out.items
+    s.front s.settled c.self.invariant (λ n k stored is. c.keys_from.ensures.stay n k is)
+    (c.keys_from.ensures.one c.self.invariant.kept.right.one) (same_self s.places) c.none.result c.none.ensures.numbers
+    c.none.ensures.count)
 
 pub returns-in_err-numbers-2-clause-err : goal.returns-in_err-numbers-2-clause-err
 returns-in_err-numbers-2-clause-err c =
@@ -50,65 +55,87 @@ returns-in_err-numbers-2-clause-err c =
     (viewed_stays s.keys c.keys_from.new.keys s.ids.items s.outcomes.items s.found.items s.places s.cache.pairs s.out.items
     c.self.invariant.kept (λ n k stored is. c.keys_from.ensures.stay n k is) s.cache.capacity s.given))
 
-pub followed_by-requires : goal.followed_by-requires
-followed_by-requires c =
+pub make_ready-requires-clause-ordered : goal.make_ready-requires-clause-ordered
+make_ready-requires-clause-ordered c =
     let s = c.self.inside in
     let stretch : IsStretch c.args.stretch s.ids.items = rw (← c.sweep.ensures, ← c.self.view_is) at c.requires.stretch in
-    let value : c.deref-5.result.now ≡ s.found.items = c.deref-5.ensures.value in
     omega (
       arith,
       stretch.ordered,
       stretch.within,
-      ap length value,
+      c.len-end.ensures,
+      s.found.ok.0,
       found_length s.keys s.ids.items s.outcomes.items s.found.items s.places s.cache.pairs s.cache.capacity s.out.items s.given
           c.self.invariant.kept,
     )
 
-pub invariant_of-self-in_err-found : goal.invariant_of-self-in_err-found
-invariant_of-self-in_err-found c =
+pub invariant_of-self-in_err-leaving : goal.invariant_of-self-in_err-leaving
+invariant_of-self-in_err-leaving c =
     let s = c.self.inside in
-    rw (c.make_room.ensures.ids, c.make_room.ensures.outcomes, c.replace-front.ensures.after)
-    (record {
-      kept =
-          kept_stays s.keys c.keys_from.new.keys s.ids.items s.outcomes.items s.found.items s.places s.cache.pairs s.out.items
-          c.self.invariant.kept (λ n k stored is. c.keys_from.ensures.stay n k is)
-          (c.keys_from.ensures.one c.self.invariant.kept.right.one);
-      front =
-          none_front c.keys_from.new.keys s.ids.items s.outcomes.items c.none.result c.none.ensures.numbers
-          c.none.ensures.count;
-      settled = c.self.invariant.settled;
-    })
+    rw (c.make_room.ensures.ids, c.make_room.ensures.outcomes, c.replace-front.ensures.after, c.make_ready.ensures.found)
+    (stored_still s.keys c.keys_from.new.keys s.ids.items s.outcomes.items s.found.items s.places c.make_ready.new.places
+    s.cache.pairs s.out.items s.front s.settled c.self.invariant (λ n k stored is. c.keys_from.ensures.stay n k is)
+    (c.keys_from.ensures.one c.self.invariant.kept.right.one) c.make_ready.ensures.same c.none.result c.none.ensures.numbers
+    c.none.ensures.count)
 
-pub returns-in_err-found-clause-err : goal.returns-in_err-found-clause-err
-returns-in_err-found-clause-err c =
+pub returns-in_err-leaving-clause-err : goal.returns-in_err-leaving-clause-err
+returns-in_err-leaving-clause-err c =
     let s = c.self.inside in
-    on_any_err c.from_residual-in_err-found.result
-    (rw (← c.sweep.ensures, ← c.self.view_is, c.make_room.ensures.ids, c.make_room.ensures.outcomes)
-    (viewed_stays s.keys c.keys_from.new.keys s.ids.items s.outcomes.items s.found.items s.places s.cache.pairs s.out.items
-    c.self.invariant.kept (λ n k stored is. c.keys_from.ensures.stay n k is) s.cache.capacity s.given))
+    on_any_err c.from_residual-in_err-leaving.result
+    (rw (← c.sweep.ensures, ← c.self.view_is, c.make_room.ensures.ids, c.make_room.ensures.outcomes, c.make_ready.ensures.found)
+    (viewed_still s.keys c.keys_from.new.keys s.ids.items s.outcomes.items s.found.items s.places c.make_ready.new.places
+    s.cache.pairs s.out.items s.front s.settled c.self.invariant (λ n k stored is. c.keys_from.ensures.stay n k is)
+    (c.keys_from.ensures.one c.self.invariant.kept.right.one) c.make_ready.ensures.same s.cache.capacity s.given))
 
-pub invariant_of-self-in_err-places : goal.invariant_of-self-in_err-places
-invariant_of-self-in_err-places c =
-    let s = c.self.inside in
-    rw (c.make_room.ensures.ids, c.make_room.ensures.outcomes, c.replace-front.ensures.after)
-    (record {
-      kept =
-          kept_stays s.keys c.keys_from.new.keys s.ids.items s.outcomes.items s.found.items s.places s.cache.pairs s.out.items
-          c.self.invariant.kept (λ n k stored is. c.keys_from.ensures.stay n k is)
-          (c.keys_from.ensures.one c.self.invariant.kept.right.one);
-      front =
-          none_front c.keys_from.new.keys s.ids.items s.outcomes.items c.none.result c.none.ensures.numbers
-          c.none.ensures.count;
-      settled = c.self.invariant.settled;
-    })
+pub recount-requires-clause-room : goal.recount-requires-clause-room
+recount-requires-clause-room c =
+    rw (c.deref-6.ensures.value) (rw (c.deref-5.ensures.value) at c.in_ok-leaving.ensures.room)
 
-pub returns-in_err-places-clause-err : goal.returns-in_err-places-clause-err
-returns-in_err-places-clause-err c =
+pub recount-requires-clause-fits : goal.recount-requires-clause-fits
+recount-requires-clause-fits c =
     let s = c.self.inside in
-    on_any_err c.from_residual-in_err-places.result
-    (rw (← c.sweep.ensures, ← c.self.view_is, c.make_room.ensures.ids, c.make_room.ensures.outcomes)
-    (viewed_stays s.keys c.keys_from.new.keys s.ids.items s.outcomes.items s.found.items s.places s.cache.pairs s.out.items
-    c.self.invariant.kept (λ n k stored is. c.keys_from.ensures.stay n k is) s.cache.capacity s.given))
+    let later = c.in_ok-numbers-2.later in
+    rw (c.deref-6.ensures.value)
+    (λ number.
+    omega (
+      arith,
+      ap (λ slot. slot.uses) (c.make_ready.ensures.same.slots number),
+      c.self.invariant.counted number,
+      times_at_most number s.found.items,
+      s.found.ok,
+      s.found.small,
+      later.ok,
+      later.small,
+    ))
+
+pub recount-requires-clause-enough : goal.recount-requires-clause-enough
+recount-requires-clause-enough c =
+    let s = c.self.inside in
+    let from = c.args.stretch.from in
+    rw (c.deref-7.ensures.value)
+    (λ number.
+    omega (
+      arith,
+      c.in_ok-leaving.ensures.counted number,
+      sum_by-take-le (once_at number) (drop from s.found.items) (c.len-end.result - from),
+      sum_by-take-drop (once_at number) s.found.items from,
+      ap (λ slot. slot.uses) (c.make_ready.ensures.same.slots number),
+      c.self.invariant.counted number,
+    ))
+
+pub replace_range-requires-3-clause-ordered : goal.replace_range-requires-3-clause-ordered
+replace_range-requires-3-clause-ordered c =
+    let s = c.self.inside in
+    let stretch : IsStretch c.args.stretch s.ids.items = rw (← c.sweep.ensures, ← c.self.view_is) at c.requires.stretch in
+    omega (
+      arith,
+      stretch.ordered,
+      stretch.within,
+      c.len-end.ensures,
+      s.found.ok.0,
+      found_length s.keys s.ids.items s.outcomes.items s.found.items s.places s.cache.pairs s.cache.capacity s.out.items s.given
+          c.self.invariant.kept,
+    )
 
 pub invariant_of-self-2 : goal.invariant_of-self-2
 invariant_of-self-2 c =
@@ -125,30 +152,56 @@ invariant_of-self-2 c =
     let follow =
     rw (c.deref-3.ensures.value, c.deref-4.ensures.value, c.make_room.ensures.ids, c.make_room.ensures.outcomes) at
     c.in_ok-numbers-2.ensures.ok in
-    let found = rw (c.deref-5.ensures.value) at c.in_ok-found.ensures in
+    let later = c.in_ok-numbers-2.later in
+    let end = c.len-end.result in
+    let ordered : c.args.stretch.from ≤ end =
+    omega (
+      arith,
+      stretch.ordered,
+      stretch.within,
+      c.len-end.ensures,
+      s.found.ok.0,
+      found_length c.keys_from.new.keys ids outcomes s.found.items s.places s.cache.pairs s.cache.capacity s.out.items s.given kept,
+    ) in
+    let found : List (Option ℕ) = take c.args.stretch.from s.found.items ++ later.items ++ drop end s.found.items in
+    let none : drop end s.found.items ≡ [] = drop_all end s.found.items (omega (arith, c.len-end.ensures, s.found.ok.0)) in
+    let found_is : found ≡ take c.args.stretch.from s.found.items ++ later.items =
+    ap (λ rest. take c.args.stretch.from s.found.items ++ later.items ++ rest) none
+    ∙ append-nil (take c.args.stretch.from s.found.items ++ later.items) in
     let stand =
     stand_with ids outcomes kept.same c.args.stretch stretch c.keys_from.new.keys s.found.items kept.stand units follow
-    c.in_ok-found.found.items found in
-    let placed = rw (c.deref-6.ensures.value) at c.in_ok-places.ensures.placed in
-    let leaves = rw (c.deref-7.ensures.value) at c.take_out.ensures.left in
+    found found_is in
+    let leave : (number : ℕ) → times_in number c.deref-7.result.now
+    ≡ times number (take (end - c.args.stretch.from) (drop c.args.stretch.from s.found.items)) =
+    rw (c.deref-7.ensures.value) c.in_ok-leaving.ensures.counted in
+    let counted = rw (c.deref-6.ensures.value) at
+    c.recount.ensures.recounted (take c.args.stretch.from s.found.items)
+    (take (end - c.args.stretch.from) (drop c.args.stretch.from s.found.items)) (drop end s.found.items)
+    (countable s.places c.make_ready.new.places s.cache.pairs s.found.items c.args.stretch.from end c.deref-7.result.now ordered
+    c.make_ready.ensures.same c.self.invariant.counted c.self.invariant.apart leave) in
+    let recounted : IsRecounted s.places s.cache.pairs s.cache.capacity found c.recount.new.places c.recount.new.cache.pairs =
+    recounted_same s.places c.make_ready.new.places s.cache.pairs s.cache.capacity found c.recount.new.places
+    c.recount.new.cache.pairs c.make_ready.ensures.same counted in
+    let found_are : c.replace_range-3.new.items.items ≡ found = rw (c.make_ready.ensures.found) at c.replace_range-3.ensures in
     let ids_are : c.replace_range.new.items.items ≡ ids_with c.args.stretch ids =
     rw (c.make_room.ensures.ids) at c.replace_range.ensures in
     let outcomes_are : c.replace_range-2.new.items.items ≡ outcomes_with c.args.stretch outcomes =
     rw (c.make_room.ensures.outcomes) at c.replace_range-2.ensures in
     record {
       kept =
-          rw (ids_are, outcomes_are)
+          rw (ids_are, outcomes_are, found_are)
           (kept_after c.keys_from.new.keys ids outcomes s.found.items s.places s.cache.pairs s.out.items kept
-          (ids_with c.args.stretch ids) (outcomes_with c.args.stretch outcomes) c.in_ok-found.found.items
-          c.in_ok-places.places stand placed c.in_ok-places.ensures.table c.take_out.new.cache.pairs
-          c.put_away.new.cache.pairs leaves c.take_out.ensures.those c.take_out.new.cache.capacity
-          c.put_away.ensures.puts c.put_away.ensures.those (same_with ids outcomes kept.same c.args.stretch stretch)
-          decodable);
+          (ids_with c.args.stretch ids) (outcomes_with c.args.stretch outcomes) found
+          c.recount.new.places stand recounted.placed recounted.left c.recount.new.cache.pairs recounted.leaves
+          recounted.left_pairs s.cache.capacity recounted.gone recounted.go recounted.puts recounted.put_pairs
+          (same_with ids outcomes kept.same c.args.stretch stretch) decodable);
+      counted = rw (found_are) recounted.counted;
+      apart = recounted.apart;
       front =
           front_with ids outcomes kept.same c.args.stretch stretch c.keys_from.new.keys s.found.items kept.stand units
           follow c.replace_range.new.items.items c.replace_range-2.new.items.items _ ids_are outcomes_are refl
           (omega (arith, c.len-2.ensures, c.replace_range.new.items.ok.0));
-      settled = none_settled c.in_ok-places.places s.out.items c.in_ok-found.found.items;
+      settled = none_settled c.recount.new.places s.out.items c.replace_range-3.new.items.items;
     }
 
 pub returns-clause-ok : goal.returns-clause-ok
@@ -166,27 +219,51 @@ returns-clause-ok c =
     let follow =
     rw (c.deref-3.ensures.value, c.deref-4.ensures.value, c.make_room.ensures.ids, c.make_room.ensures.outcomes) at
     c.in_ok-numbers-2.ensures.ok in
-    let found = rw (c.deref-5.ensures.value) at c.in_ok-found.ensures in
+    let later = c.in_ok-numbers-2.later in
+    let end = c.len-end.result in
+    let ordered : c.args.stretch.from ≤ end =
+    omega (
+      arith,
+      stretch.ordered,
+      stretch.within,
+      c.len-end.ensures,
+      s.found.ok.0,
+      found_length c.keys_from.new.keys ids outcomes s.found.items s.places s.cache.pairs s.cache.capacity s.out.items s.given kept,
+    ) in
+    let found : List (Option ℕ) = take c.args.stretch.from s.found.items ++ later.items ++ drop end s.found.items in
+    let none : drop end s.found.items ≡ [] = drop_all end s.found.items (omega (arith, c.len-end.ensures, s.found.ok.0)) in
+    let found_is : found ≡ take c.args.stretch.from s.found.items ++ later.items =
+    ap (λ rest. take c.args.stretch.from s.found.items ++ later.items ++ rest) none
+    ∙ append-nil (take c.args.stretch.from s.found.items ++ later.items) in
     let stand =
     stand_with ids outcomes kept.same c.args.stretch stretch c.keys_from.new.keys s.found.items kept.stand units follow
-    c.in_ok-found.found.items found in
-    let placed = rw (c.deref-6.ensures.value) at c.in_ok-places.ensures.placed in
-    let leaves = rw (c.deref-7.ensures.value) at c.take_out.ensures.left in
+    found found_is in
+    let leave : (number : ℕ) → times_in number c.deref-7.result.now
+    ≡ times number (take (end - c.args.stretch.from) (drop c.args.stretch.from s.found.items)) =
+    rw (c.deref-7.ensures.value) c.in_ok-leaving.ensures.counted in
+    let counted = rw (c.deref-6.ensures.value) at
+    c.recount.ensures.recounted (take c.args.stretch.from s.found.items)
+    (take (end - c.args.stretch.from) (drop c.args.stretch.from s.found.items)) (drop end s.found.items)
+    (countable s.places c.make_ready.new.places s.cache.pairs s.found.items c.args.stretch.from end c.deref-7.result.now ordered
+    c.make_ready.ensures.same c.self.invariant.counted c.self.invariant.apart leave) in
+    let recounted : IsRecounted s.places s.cache.pairs s.cache.capacity found c.recount.new.places c.recount.new.cache.pairs =
+    recounted_same s.places c.make_ready.new.places s.cache.pairs s.cache.capacity found c.recount.new.places
+    c.recount.new.cache.pairs c.make_ready.ensures.same counted in
+    let found_are : c.replace_range-3.new.items.items ≡ found = rw (c.make_ready.ensures.found) at c.replace_range-3.ensures in
     let ids_are : c.replace_range.new.items.items ≡ ids_with c.args.stretch ids =
     rw (c.make_room.ensures.ids) at c.replace_range.ensures in
     let outcomes_are : c.replace_range-2.new.items.items ≡ outcomes_with c.args.stretch outcomes =
     rw (c.make_room.ensures.outcomes) at c.replace_range-2.ensures in
-    let room : c.put_away.new.cache.capacity ≡ s.cache.capacity = c.put_away.ensures.room ∙ c.take_out.ensures.room in
-    let puts = rw (c.take_out.ensures.room) at c.put_away.ensures.puts in
+    let room : c.recount.new.cache.capacity ≡ s.cache.capacity = c.recount.ensures.room in
     let old : StoreValue = viewed s.keys ids outcomes s.found.items s.places s.cache.pairs s.cache.capacity s.out.items s.given in
     let is : viewed c.keys_from.new.keys ids outcomes s.found.items s.places s.cache.pairs s.cache.capacity s.out.items s.given ≡ old =
     viewed_stays s.keys c.keys_from.new.keys ids outcomes s.found.items s.places s.cache.pairs s.out.items
     c.self.invariant.kept (λ n k stored is. c.keys_from.ensures.stay n k is) s.cache.capacity s.given in
-    rw (← c.sweep.ensures, ← c.self.view_is, room, ids_are, outcomes_are)
+    rw (← c.sweep.ensures, ← c.self.view_is, room, ids_are, outcomes_are, found_are)
     (subst (λ (store : StoreValue). Refits store (ids_with c.args.stretch ids) (outcomes_with c.args.stretch outcomes)
     (viewed c.keys_from.new.keys (ids_with c.args.stretch ids) (outcomes_with c.args.stretch outcomes)
-    c.in_ok-found.found.items c.in_ok-places.places c.put_away.new.cache.pairs s.cache.capacity s.out.items s.given)) is
+    found c.recount.new.places c.recount.new.cache.pairs s.cache.capacity s.out.items s.given)) is
     (refitted c.keys_from.new.keys ids outcomes s.found.items s.places s.cache.pairs s.out.items kept
-    (ids_with c.args.stretch ids) (outcomes_with c.args.stretch outcomes) c.in_ok-found.found.items
-    c.in_ok-places.places stand placed c.in_ok-places.ensures.table c.take_out.new.cache.pairs
-    c.put_away.new.cache.pairs leaves c.take_out.ensures.those s.cache.capacity puts c.put_away.ensures.those s.given))
+    (ids_with c.args.stretch ids) (outcomes_with c.args.stretch outcomes) found c.recount.new.places stand
+    recounted.placed recounted.left c.recount.new.cache.pairs recounted.leaves recounted.left_pairs s.cache.capacity
+    recounted.gone recounted.go recounted.puts recounted.put_pairs s.given))

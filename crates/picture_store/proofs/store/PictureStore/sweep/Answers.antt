@@ -10,6 +10,8 @@ invariant_of-self c =
       kept =
           kept_stays s.keys c.sweep.new.keys s.ids.items s.outcomes.items s.found.items s.places s.cache.pairs s.out.items
           c.self.invariant.kept stay (c.sweep.ensures.one c.self.invariant.kept.right.one);
+      counted = c.self.invariant.counted;
+      apart = c.self.invariant.apart;
       front = none_front c.sweep.new.keys s.ids.items s.outcomes.items c.none.result c.none.ensures.numbers c.none.ensures.count;
       settled = c.self.invariant.settled;
     }
@@ -30,6 +32,8 @@ invariant_of-self-2 c =
       kept =
           kept_stays s.keys c.sweep.new.keys s.ids.items s.outcomes.items s.found.items s.places s.cache.pairs s.out.items
           c.self.invariant.kept stay (c.sweep.ensures.one c.self.invariant.kept.right.one);
+      counted = c.self.invariant.counted;
+      apart = c.self.invariant.apart;
       front = none_front c.sweep.new.keys s.ids.items s.outcomes.items c.none.result c.none.ensures.numbers c.none.ensures.count;
       settled = c.self.invariant.settled;
     }

@@ -151,6 +151,8 @@ invariant_of-self-2 c =
           kept_taken s.keys s.ids.items s.outcomes.items s.found.items s.places s.cache.pairs s.cache.capacity s.out.items s.given
           c.self.invariant.kept c.in-Some.at first.0 key is due c.index-outcome.result.now same c.in_ok-input.input made c.in-Some-checked_add.number
           c.push_reserved.new.self.items more;
+      counted = c.self.invariant.counted;
+      apart = c.self.invariant.apart;
       front = c.self.invariant.front;
       settled =
           settled_more s.places s.out.items (record { number = c.in-Some-checked_add.number; key = key; input = c.in_ok-input.input })

@@ -1,0 +1,74 @@
+-- What is stored stays where more keys have numbers and more of these have slots.
+use Rattle.std.proofs.Common.{◌≡◌, sym, ap, subst, ◌∙◌, ℕ, ◌<◌, List, [], Option, None, Some, IsSome, inl, inr, rules}
+use Rattle.outcomes.specs.declared.outcome.Outcome.{Outcome}
+use Rattle.dep_keys.specs.KeyMaps.{IsKeyMap}
+use Rattle.stand_in_device.specs.declared.picture.Picture.{Picture}
+use Rattle.key_places.specs.Places.{AreSame, place_of, place_at}
+use Rattle.picture_store.specs.declared.front.Front.{Front}
+use Rattle.picture_store.specs.declared.job_out.JobOut.{JobOut}
+use Rattle.picture_store.specs.Places.{PlacesValue}
+use Rattle.picture_store.specs.Kept.{Trees, IsKept, KeepsStored, keys_for}
+use Rattle.picture_store.specs.Settled.{NeedsNone, AreSettled, IsStored}
+use Rattle.picture_store.proofs.Viewed.{viewed}
+use Rattle.picture_store.proofs.Stays.{kept_stays, viewed_stays}
+use Rattle.picture_store.proofs.Stretched.{none_front}
+use Rattle.picture_store.proofs.Settled.{settled_stay}
+
+module _ (places grown : PlacesValue) (same : AreSame places grown) where
+  pub place_same : (number : ℕ) → place_at grown number ≡ place_at places number
+  place_same number = ap place_of (same.slots number)
+
+  kept_same : (keys : Trees) (ids : List ℕ) (outcomes : List Outcome) (found : List (Option ℕ)) (cached : List (ℕ × Picture))
+      (out : List JobOut) → IsKept keys ids outcomes found places cached out → IsKept keys ids outcomes found grown cached out
+  kept_same keys ids outcomes found cached out kept = record {
+    right = record {
+      one = kept.right.one;
+      held = λ number picture is. kept.right.held number picture (sym (place_same number) ∙ is);
+    };
+    same = kept.same;
+    stand = kept.stand;
+    decodable = kept.decodable;
+    used = λ number. (
+      λ some. (kept.used number).0 (subst IsSome (place_same number) some),
+      λ is. subst IsSome (sym (place_same number)) ((kept.used number).1 is),
+    );
+    stored = kept.stored;
+    jobs = kept.jobs;
+  }
+
+  needs_same : (out : List JobOut) (number : Option ℕ) → NeedsNone places out number → NeedsNone grown out number
+  needs_same out None needs = search rules
+  needs_same out (Some number) needs =
+      elim needs [ inl held ↦ inl (held.0, place_same number ∙ held.1) | inr one ↦ inr one ]
+
+  settled_same : (out : List JobOut) (found : List (Option ℕ)) (count : ℕ) → AreSettled places out found count
+      → AreSettled grown out found count
+  settled_same out found count are =
+      settled_stay places grown out out found count (λ number among needs. needs_same out number needs) are
+
+module _ (keys more : Trees) (ids : List ℕ) (outcomes : List Outcome) (found : List (Option ℕ)) (places grown : PlacesValue)
+    (cached : List (ℕ × Picture)) (out : List JobOut) (front : Front) (count : ℕ)
+    (stored : IsStored keys ids outcomes found places cached out front count) (stay : KeepsStored found cached out keys more)
+    (one : IsKeyMap more) (same : AreSame places grown) where
+  pub kept_still : IsKept more ids outcomes found grown cached out
+  kept_still =
+      kept_same places grown same more ids outcomes found cached out
+      (kept_stays keys more ids outcomes found places cached out stored.kept stay one)
+
+  -- with the numbers of no units
+  pub stored_still : (none : Front) → none.numbers ≡ [] → none.count ≡ 0
+      → IsStored more ids outcomes found grown cached out none count
+  stored_still none numbers first = record {
+    kept = kept_still;
+    counted = λ number. ap (λ slot. slot.uses) (same.slots number) ∙ stored.counted number;
+    apart = λ number used. stored.apart number (subst (λ n. 0 < n) (ap (λ slot. slot.uses) (same.slots number)) used);
+    front = none_front more ids outcomes none numbers first;
+    settled = settled_same places grown same out found count stored.settled;
+  }
+
+  -- what contracts see stays
+  pub viewed_still : (room given : ℕ) → viewed more ids outcomes found grown cached room out given
+      ≡ viewed keys ids outcomes found places cached room out given
+  viewed_still room given =
+      ap (λ held. record (viewed more ids outcomes found places cached room out given) { held = keys_for more held }) same.held
+      ∙ viewed_stays keys more ids outcomes found places cached out stored.kept stay room given

@@ -38,7 +38,8 @@ def program():
 def once(command, output, log):
     """Seconds and peak bytes of one run, its standard output in a file, its standard error in another.
 
-    Linux counts to a child's peak what its parent had at the fork, so the parent has to be small.
+    Linux counts to a child's peak what its parent had at the fork, so the parent has to be small: GNU time where
+    it's installed, by which the last of several runs is made, and else a process of its own, of some 16 MB.
     """
     with open(output, "wb") as out, open(log, "wb") as err:
         start = time.monotonic()
@@ -55,15 +56,18 @@ def small_process():
     return concurrent.futures.ProcessPoolExecutor(1, multiprocessing.get_context("spawn"))
 
 
-def run(command, folder, repeats=REPEATS):
-    """The best seconds of several runs, and the peak bytes; output and log lie in the folder."""
-    runs = []
-    for _ in range(repeats):
-        *measured, status = small_process().submit(once, command, folder / "output", folder / "log").result()
+def run(command, folder, repeats=REPEATS, output=None):
+    """The best seconds of several runs, and the peak bytes; output, unless it goes elsewhere, and log lie in the folder."""
+    runs, gnu_time, told = [], shutil.which("time"), folder / "peak"
+    for turn in range(repeats):
+        is_last = gnu_time and turn + 1 == repeats
+        words = [gnu_time, "-f", "%M", "-o", str(told), *command] if is_last else command
+        *measured, status = small_process().submit(once, words, output or folder / "output", folder / "log").result()
         if status != 0:
             sys.exit(f"{command[0]} ended with status {status}")
         runs.append(measured)
-    return min(seconds for seconds, _ in runs), max(peak for _, peak in runs)
+    peak = int(told.read_text()) * 1024 if gnu_time else max(peak for _, peak in runs)
+    return min(seconds for seconds, _ in runs), peak
 
 
 def copying(file, folder):

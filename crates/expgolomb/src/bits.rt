@@ -62,6 +62,7 @@ impl<'a> Bits<'a> {
     }
 
     /// Reads `n` bits, u(n), as a number.
+    #[inline(never)]
     pub fn fixed(&mut self, n: u8) -> Result<u32, CodeFault>
         requires some { 1 ≤ n }
         requires few { n ≤ 32 }
@@ -79,6 +80,7 @@ impl<'a> Bits<'a> {
     }
 
     /// Reads an unsigned Exp-Golomb code, ue(v).
+    #[inline(never)]
     pub fn ue(&mut self) -> Result<u32, CodeFault>
         ensures found { IfOk result (λ v. (word : List Bool) × IsUe word v
             × Follows word self.old self.new) }
@@ -97,6 +99,7 @@ impl<'a> Bits<'a> {
     }
 
     /// Reads a signed Exp-Golomb code, se(v).
+    #[inline(never)]
     pub fn se(&mut self) -> Result<i32, CodeFault>
         ensures found { IfOk result (λ v. (word : List Bool) × IsSe word v
             × Follows word self.old self.new) }
@@ -122,6 +125,7 @@ impl<'a> Bits<'a> {
     }
 
     // Whether n bits are left.
+    #[inline(always)]
     fn has(&self, n: u8) -> bool
         requires { n ≤ 32 }
         ensures { IsTrue result ↔ (n ≤ length self.now.rest) }
@@ -130,6 +134,7 @@ impl<'a> Bits<'a> {
     }
 
     // The next 57 bits and more, most significant first.
+    #[inline(always)]
     fn window(&self) -> u64
         ensures { IsWindow self.now.rest result }
     {
@@ -138,6 +143,7 @@ impl<'a> Bits<'a> {
     }
 
     // A reader n bits further on.
+    #[inline(always)]
     fn ahead(&self, n: u8) -> Bits<'a>
         requires short { n ≤ 32 }
         requires left { n ≤ length self.now.rest }
@@ -152,6 +158,7 @@ impl<'a> Bits<'a> {
     }
 
     // The next n bits as a number, and a reader after them.
+    #[inline(always)]
     fn fixed_code(&self, n: u8) -> Result<(u32, Bits<'a>), CodeFault>
         requires some { 1 ≤ n }
         requires few { n ≤ 32 }
@@ -165,6 +172,7 @@ impl<'a> Bits<'a> {
     }
 
     // The next ue(v) value, and a reader after its code.
+    #[inline(always)]
     fn ue_code(&self) -> Result<(u32, Bits<'a>), CodeFault>
         ensures exact { result ≡ ue_at self.now }
         ensures below { IfOk result (λ read. read.0 < 2 ^ 32 - 1) }
@@ -175,6 +183,7 @@ impl<'a> Bits<'a> {
     }
 
     // The next se(v) value, and a reader after its code.
+    #[inline(always)]
     fn se_code(&self) -> Result<(i32, Bits<'a>), CodeFault>
         ensures { result ≡ se_at self.now }
     {
@@ -183,6 +192,7 @@ impl<'a> Bits<'a> {
     }
 
     // Goes after a code that was read.
+    #[inline(always)]
     fn take<V>(&mut self, code: Result<(V, Bits<'a>), CodeFault>) -> Result<V, CodeFault>
         ensures { Gives (λ v. v) result self.old self.new code.entry }
     {
@@ -192,6 +202,7 @@ impl<'a> Bits<'a> {
     }
 
     // How many zeros the next code begins with, where a 1 comes after them.
+    #[inline(always)]
     fn zeros(&self) -> Result<u8, CodeFault>
         ensures { MatchResult result (IsZeros self.now.rest) (λ fault. ue_at self.now ≡ Err fault) }
     {

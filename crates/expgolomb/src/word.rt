@@ -5,6 +5,7 @@ ghost use Rattle.expgolomb.specs.Bits.{number, bits_of};
 ghost use Rattle.expgolomb.specs.Window.{IsWindow};
 
 // The next eight bytes, most significant first, with zeros past the end.
+#[inline(always)]
 fn word(bytes: &[u8]) -> u64
     ensures { result ≡ number (bits_of (take 8 (bytes.now ++ replicate 8 0))) }
 {
@@ -14,6 +15,7 @@ fn word(bytes: &[u8]) -> u64
     }
 }
 
+#[cold]
 fn last_word(bytes: &[u8]) -> u64
     ensures { result ≡ number (bits_of (take 8 (bytes.now ++ replicate 8 0))) }
 {
@@ -25,6 +27,7 @@ fn last_word(bytes: &[u8]) -> u64
 }
 
 /// The bits of `bytes` after the first few of the first byte.
+#[inline(always)]
 pub fn window(bytes: &[u8], bit: u8) -> u64
     requires bit { bit < 8 }
     requires within { bit ≤ 8 * length bytes.now }

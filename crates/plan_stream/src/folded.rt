@@ -1,7 +1,8 @@
 //! The fold over the units of a stream, with what is kept of each.
 
-ghost use Rattle.std.specs.Prelude.{◌≡◌, ◌+◌, ◌<◌, ◌≤◌, ◌++◌, [], ◌∷◌, List, ℕ, IfOk, OnOk, vec_len};
+ghost use Rattle.std.specs.Prelude.{◌≡◌, ◌+◌, ◌<◌, ◌≤◌, ◌++◌, [], ◌∷◌, List, ℕ, IfOk, OnOk, string_bytes, vec_len};
 ghost use Rattle.access_unit.specs.Rooms.{most_units};
+ghost use Rattle.unit_lines.specs.UnitLines.{outcome_tail};
 
 use crate::shown::shown_of;
 use access_unit::Unit;
@@ -19,6 +20,8 @@ pub(crate) struct Folded {
     pub(crate) outcomes: Vec<Outcome>,
     /// The lines of each unit after its position.
     pub(crate) tails: Vec<String>,
+    /// Where the lines of a unit are written before they are kept.
+    text: String,
     ghost kept: { vec_len outcomes ≤ vec_len tails },
     ghost few: { vec_len tails ≤ most_units },
 }
@@ -34,6 +37,7 @@ impl Folded {
             state: State::new(alloc)?,
             outcomes: Vec::new(alloc),
             tails: Vec::new(alloc),
+            text: String::new(alloc),
         })
     }
 
@@ -46,13 +50,24 @@ impl Folded {
         let id = AuId::new(self.tails.len() as u32 + 1);
         let mut steps = Steps::new();
         let (state, outcome) = step(alloc, &self.state, id, unit, &mut steps)?;
-        let tail = UnitTail {
-            id,
-            outcome: &outcome,
-        };
-        self.tails.push(tail.to_string(alloc)?)?;
+        let tail = kept_tail(alloc, &mut self.text, id, &outcome)?;
+        self.tails.push(tail)?;
         self.outcomes.push(shown_of(alloc, &outcome))?;
         self.state = state;
         Ok(())
     }
+}
+
+/// The lines of a unit after its position, in just the bytes that they take. They are written into the text first.
+fn kept_tail(
+    alloc: Global,
+    text: &mut String,
+    id: AuId,
+    outcome: &Outcome,
+) -> Result<String, AllocError>
+    ensures { IfOk result (λ tail. string_bytes tail ≡ outcome_tail id outcome.now) }
+{
+    text.clear();
+    text.write(UnitTail { id, outcome })?;
+    String::from_str(alloc, text.as_str())
 }

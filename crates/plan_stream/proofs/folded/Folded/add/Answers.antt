@@ -14,7 +14,7 @@ returns c = λ done is.
     let id = c.new-id.result in
     let id_is : id ≡ 1 + length done = omega (arith, c.new-id.ensures, c.len.ensures, old.tails.ok.0, count_is done old is) in
     let pair = c.in_ok-state.ensures.value in
-    let tail = c.in_ok-to_string.ensures.ok ∙ ap (λ (p : FoldState × Outcome). outcome_tail id p.1) pair in
+    let tail = c.in_ok-tail.ensures ∙ ap (λ (p : FoldState × Outcome). outcome_tail id p.1) pair in
     record {
       state_is = ap (λ (p : FoldState × Outcome). p.0) pair ∙ state_more done old is unit id id_is;
       outcomes_are =
@@ -22,6 +22,6 @@ returns c = λ done is.
           ∙ ap (λ (o : Outcome). old.outcomes.items ++ o ∷ []) (c.shown_of.ensures ∙ ap (λ (p : FoldState × Outcome). shown_of p.1) pair)
           ∙ outcomes_more done old is unit id id_is;
       tails_are =
-          ap (map string_bytes) c.in_ok-push.ensures.items ∙ map-append string_bytes old.tails.items (c.in_ok-to_string.field-0 ∷ [])
+          ap (map string_bytes) c.in_ok-push.ensures.items ∙ map-append string_bytes old.tails.items (c.in_ok-tail.tail ∷ [])
           ∙ ap (λ (t : List ℕ). map string_bytes old.tails.items ++ t ∷ []) tail ∙ tails_more done old is unit id id_is;
     }

@@ -2,7 +2,7 @@
 //!
 //! `script_on` reads a script, runs its commands one after the other over a session of edit_engine, and writes what
 //! answers each. What it reads and writes, and the files that it loads, are generic. Below are edit_script, unit_lines
-//! and console_io; above is preview.
+//! and console_io; above are pool_run, whose lines are the same, and preview.
 #![tactic(auto)]
 
 mod answers;
@@ -15,6 +15,11 @@ mod run_fault;
 mod settling;
 mod shown_lines;
 
+pub use answers::{AcceptedLine, LoadedLine, RefusedLine};
 pub use edit_engine::MOST_ROOM;
+pub use loading::text_of;
+pub use messages::say_run_fault;
 pub use options::Options;
 pub use run::script_on;
+pub use run_fault::RunFault;
+pub use shown_lines::shown_line;

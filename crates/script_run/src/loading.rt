@@ -83,7 +83,7 @@ fn end_of(session: &Session) -> Place
 }
 
 /// The text of a unit of these NAL units.
-fn text_of(alloc: Global, nals: &[SharedNal]) -> Result<Bytes, AllocError>
+pub fn text_of(alloc: Global, nals: &[SharedNal]) -> Result<Bytes, AllocError>
     ensures { IfOk result (λ text. text ≡ joined nals.now) }
 {
     let mut text = Vec::new(alloc);

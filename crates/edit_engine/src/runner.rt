@@ -19,12 +19,23 @@ use std::marker::Model;
 
 /// A session that follows commands, one at a time, with the jobs that are out and a device that decodes them. Clauses
 /// see it as the session.
-#[derive(Drop)]
 pub struct Runner {
     alloc: Global,
     session: Session,
     jobs: Vec<HeldJob>,
     device: Device,
+}
+
+// By hand, as a session's.
+impl Drop for Runner {
+    fn drop(self) {
+        let Runner {
+            alloc: _,
+            session: _,
+            jobs: _,
+            device: _,
+        } = self;
+    }
 }
 
 impl Model for Runner {

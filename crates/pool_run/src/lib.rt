@@ -1,13 +1,11 @@
-//! Scripts that a seat runs while workers decode in threads: `preview run --workers` and `preview audit`.
+//! Scripts that a seat runs while workers decode in threads.
 //!
 //! One seat of a desk runs the lines of a script, and each worker decodes by a gate in a thread of its own. `script_with`
-//! writes what answers each line, `audit_with` runs the script and then audits the seat's book against the session's
-//! journal; `script_with_workers` and `audit_with_workers` make the gates. Below are decode_pool and edit_script, and
-//! script_run, whose lines and faults are the same; above is preview.
+//! writes what answers each line; `script_with_workers` makes the gates. Below are decode_pool and edit_script, and
+//! script_run, whose lines and faults are the same.
 //!
 //! No clause names the session under the desk's lock. What is written is that of the answers that the seat got, each of
-//! which is one of a session that its journal leads to; what was answered in turn agrees with one journal where an audit
-//! says so.
+//! which is one of a session that its journal leads to.
 #![tactic(auto)]
 
 mod commands;

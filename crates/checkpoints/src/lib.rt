@@ -16,6 +16,3 @@ pub use laws::{
     one_before, spaced_where_near, stored_after_cut, stored_after_put, stored_after_shift,
 };
 pub use length_change::LengthChange;
-
-#[cfg(test)]
-mod tests;

@@ -1,4 +1,5 @@
-//! Tests of keys under numbers. They call public functions alone, so dep_keys is proved once.
+//! Tests of keys under numbers, and of the cache of pictures. They call public functions alone, so what they test is
+//! proved once.
 #![tactic(auto)]
 
 #[cfg(test)]

@@ -1,3 +1,4 @@
+mod bounded_cache;
 mod growth;
 mod sweeps;
 

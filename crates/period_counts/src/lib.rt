@@ -21,6 +21,3 @@ pub use comparisons::Comparisons;
 pub use periods::Periods;
 pub use shown::Shown;
 pub use splice::Splice;
-
-#[cfg(test)]
-mod tests;

@@ -25,11 +25,22 @@ use std::marker::Model;
 ///
 /// A look-up takes time that grows with the logarithms of the number of periods and of the size of one. A change makes
 /// the periods that it touches anew and counts those after them.
-#[derive(Debug, Drop)]
+#[derive(Debug)]
 pub struct Periods {
     periods: Vec<Period>,
     counts: Vec<Count>,
     room: usize,
+}
+
+// By hand, so that whoever drops one is proved over one call.
+impl Drop for Periods {
+    fn drop(self) {
+        let Periods {
+            periods: _,
+            counts: _,
+            room: _,
+        } = self;
+    }
 }
 
 impl Model for Periods {

@@ -9,6 +9,3 @@ mod laws;
 
 pub use cache::{MOST_ROOM, PictureCache};
 pub use laws::{put_is_found, put_keeps_the_others, take_keeps_the_others};
-
-#[cfg(test)]
-mod tests;

@@ -1,3 +1,6 @@
+mod period_rows;
+mod stored_states;
+
 ghost use Rattle.std.specs.Prelude.{◌<◌, length};
 ghost use Rattle.stream_edits.specs.Changes.{IsInside};
 

@@ -1,7 +1,9 @@
+//! The bounded cache of pictures.
+
 ghost use Rattle.std.specs.Prelude.{◌≤◌};
 ghost use Rattle.picture_cache.specs.Bounded.{most_room};
 
-use super::*;
+use picture_cache::{MOST_ROOM, PictureCache};
 use std::alloc::{AllocError, Global};
 use std::test::Fail;
 
@@ -21,17 +23,22 @@ fn three_pairs(alloc: Global, capacity: u16) -> Result<PictureCache<KeyId, u8>, 
     Ok(cache)
 }
 
-/// The keys of a cache, the one put last first.
-fn keys(alloc: Global, cache: &PictureCache<KeyId, u8>) -> Result<Vec<u64>, AllocError> {
-    cache.keys(alloc)?.iter().map(|key| key.0).collect(alloc)
+/// Whether a cache has just these keys, the one put last first.
+fn has_keys(
+    alloc: Global,
+    cache: &PictureCache<KeyId, u8>,
+    wanted: &[u64],
+) -> Result<bool, AllocError> {
+    let keys: Vec<u64> = cache.keys(alloc)?.iter().map(|key| key.0).collect(alloc)?;
+    Ok(keys.as_slice() == wanted)
 }
 
 #[test]
 fn the_pair_put_last_is_first(rt: HostRuntime) -> Result<(), Fail> {
     let cache = three_pairs(rt.alloc(), MOST_ROOM)?;
-    assert_eq!(rt; keys(rt.alloc(), &cache)?.as_slice(), [3, 2, 1].as_slice());
-    assert_eq!(rt; cache.len(), 3);
-    assert_eq!(rt; cache.capacity(), 4096);
+    assert!(rt; has_keys(rt.alloc(), &cache, &[3, 2, 1])?);
+    assert!(rt; cache.len() == 3);
+    assert!(rt; cache.capacity() == 4096);
     assert!(rt; !cache.is_empty());
     Ok(())
 }
@@ -39,11 +46,11 @@ fn the_pair_put_last_is_first(rt: HostRuntime) -> Result<(), Fail> {
 #[test]
 fn a_full_cache_drops_the_pair_put_first(rt: HostRuntime) -> Result<(), Fail> {
     let mut cache = three_pairs(rt.alloc(), 2)?;
-    assert_eq!(rt; keys(rt.alloc(), &cache)?.as_slice(), [3, 2].as_slice());
+    assert!(rt; has_keys(rt.alloc(), &cache, &[3, 2])?);
     cache.put(KeyId(4), 40)?;
-    assert_eq!(rt; keys(rt.alloc(), &cache)?.as_slice(), [4, 3].as_slice());
-    assert_eq!(rt; cache.take(KeyId(2)), None);
-    assert_eq!(rt; cache.take(KeyId(3)), Some(30));
+    assert!(rt; has_keys(rt.alloc(), &cache, &[4, 3])?);
+    assert!(rt; cache.take(KeyId(2)) == None);
+    assert!(rt; cache.take(KeyId(3)) == Some(30));
     Ok(())
 }
 
@@ -51,10 +58,10 @@ fn a_full_cache_drops_the_pair_put_first(rt: HostRuntime) -> Result<(), Fail> {
 fn a_key_that_is_there_goes_first_with_its_new_picture(rt: HostRuntime) -> Result<(), Fail> {
     let mut cache = three_pairs(rt.alloc(), 3)?;
     cache.put(KeyId(1), 11)?;
-    assert_eq!(rt; keys(rt.alloc(), &cache)?.as_slice(), [1, 3, 2].as_slice());
+    assert!(rt; has_keys(rt.alloc(), &cache, &[1, 3, 2])?);
     cache.put(KeyId(4), 40)?;
-    assert_eq!(rt; keys(rt.alloc(), &cache)?.as_slice(), [4, 1, 3].as_slice());
-    assert_eq!(rt; cache.take(KeyId(1)), Some(11));
+    assert!(rt; has_keys(rt.alloc(), &cache, &[4, 1, 3])?);
+    assert!(rt; cache.take(KeyId(1)) == Some(11));
     Ok(())
 }
 
@@ -62,20 +69,20 @@ fn a_key_that_is_there_goes_first_with_its_new_picture(rt: HostRuntime) -> Resul
 fn what_is_taken_is_out(rt: HostRuntime) -> Result<(), Fail> {
     let mut cache = three_pairs(rt.alloc(), 3)?;
     assert!(rt; cache.contains(&KeyId(2)));
-    assert_eq!(rt; cache.take(KeyId(2)), Some(20));
-    assert_eq!(rt; cache.take(KeyId(2)), None);
+    assert!(rt; cache.take(KeyId(2)) == Some(20));
+    assert!(rt; cache.take(KeyId(2)) == None);
     assert!(rt; !cache.contains(&KeyId(2)));
-    assert_eq!(rt; keys(rt.alloc(), &cache)?.as_slice(), [3, 1].as_slice());
+    assert!(rt; has_keys(rt.alloc(), &cache, &[3, 1])?);
     cache.put(KeyId(2), 21)?;
-    assert_eq!(rt; keys(rt.alloc(), &cache)?.as_slice(), [2, 3, 1].as_slice());
+    assert!(rt; has_keys(rt.alloc(), &cache, &[2, 3, 1])?);
     Ok(())
 }
 
 #[test]
 fn one_pair_at_most(rt: HostRuntime) -> Result<(), Fail> {
     let mut cache = three_pairs(rt.alloc(), 1)?;
-    assert_eq!(rt; keys(rt.alloc(), &cache)?.as_slice(), [3].as_slice());
-    assert_eq!(rt; cache.take(KeyId(3)), Some(30));
+    assert!(rt; has_keys(rt.alloc(), &cache, &[3])?);
+    assert!(rt; cache.take(KeyId(3)) == Some(30));
     assert!(rt; cache.is_empty());
     Ok(())
 }
@@ -90,15 +97,15 @@ fn refused_put_leaves_the_pairs(rt: HostRuntime) {
         cache.put(2, 20).is_ok(),
         cache.put(3, 30).is_ok(),
     ];
-    assert_eq!(rt; cache.contains(&3), put[2]);
-    assert_eq!(rt; cache.contains(&2), put[1]);
-    assert_eq!(rt; cache.contains(&1), put[0] && !(put[1] && put[2]));
+    assert!(rt; cache.contains(&3) == put[2]);
+    assert!(rt; cache.contains(&2) == put[1]);
+    assert!(rt; cache.contains(&1) == (put[0] && !(put[1] && put[2])));
     // A key that is there wants no memory.
     if put[2] {
         assert!(rt; cache.put(3, 31).is_ok());
-        assert_eq!(rt; cache.take(3), Some(31));
+        assert!(rt; cache.take(3) == Some(31));
     }
     if let Ok(keys) = cache.keys(rt.alloc()) {
-        assert_eq!(rt; keys.len(), cache.len());
+        assert!(rt; keys.len() == cache.len());
     }
 }

@@ -1,6 +1,6 @@
 use Rattle.std.proofs.Common.{arith}
 use Rattle.checkpoints.proofs.Members.{le_last}
-use Rattle.checkpoints.proofs.tests.lengthen.Goals as goal
+use Rattle.refold_tests.proofs.tests.stored_states.lengthen.Goals as goal
 
 pub shift-requires-clause-apart : goal.shift-requires-clause-apart
 shift-requires-clause-apart c = λ place there high.

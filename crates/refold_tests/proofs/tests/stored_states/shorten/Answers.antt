@@ -1,6 +1,6 @@
 use Rattle.std.proofs.Common.{arith, inl, inr}
 use Rattle.checkpoints.proofs.Members.{kept_from_cut}
-use Rattle.checkpoints.proofs.tests.shorten.Goals as goal
+use Rattle.refold_tests.proofs.tests.stored_states.shorten.Goals as goal
 
 pub shift-requires-clause-apart : goal.shift-requires-clause-apart
 shift-requires-clause-apart c =

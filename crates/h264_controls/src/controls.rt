@@ -10,7 +10,7 @@ use set_controls::SetControls;
 use std::alloc::AllocError;
 
 /// The six controls of a slice. All but slice_params is shared.
-#[derive(Debug, Drop)]
+#[derive(Debug)]
 pub struct Controls {
     /// The three that the parameter sets decide.
     pub sets: Shared<SetControls>,
@@ -18,6 +18,18 @@ pub struct Controls {
     pub pred_weights: Option<Shared<V4l2CtrlH264PredWeights>>,
     pub slice_params: V4l2CtrlH264SliceParams,
     pub decode_params: Shared<V4l2CtrlH264DecodeParams>,
+}
+
+// By hand, so that whoever drops one is proved over one call.
+impl Drop for Controls {
+    fn drop(self) {
+        let Controls {
+            sets: _,
+            pred_weights: _,
+            slice_params: _,
+            decode_params: _,
+        } = self;
+    }
 }
 
 impl Controls {

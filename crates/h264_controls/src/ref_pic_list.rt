@@ -14,9 +14,16 @@ const FEW: usize = 7;
 
 /// The active entries of a reference list, at most 32: each the index of an entry of the decoded picture buffer, or
 /// missing. A short list takes no memory of its own.
-#[derive(Debug, Drop)]
+#[derive(Debug)]
 pub struct RefPicList {
     entries: Entries,
+}
+
+// By hand, so that whoever drops one is proved over one call.
+impl Drop for RefPicList {
+    fn drop(self) {
+        let RefPicList { entries: _ } = self;
+    }
 }
 
 /// Where the entries of a list stand.

@@ -15,9 +15,16 @@ const FEW: usize = 6;
 
 /// The units of the frames of the decoded picture buffer, in the order of its entries. Few of them take no memory of
 /// their own.
-#[derive(Debug, Drop)]
+#[derive(Debug)]
 pub struct References {
     ids: Ids,
+}
+
+// By hand, so that whoever drops one is proved over one call.
+impl Drop for References {
+    fn drop(self) {
+        let References { ids: _ } = self;
+    }
 }
 
 /// Where the ids stand.

@@ -12,7 +12,7 @@ use pictures::AuId;
 use std::alloc::AllocError;
 
 /// The request of one slice, by the Request API of the Linux kernel.
-#[derive(Debug, Drop)]
+#[derive(Debug)]
 pub struct Request {
     pub work: Shared<Work>,
     /// The timestamp of the unit, in nanoseconds.
@@ -21,6 +21,18 @@ pub struct Request {
     pub references: Shared<References>,
     /// V4L2_BUF_FLAG_M2M_HOLD_CAPTURE_BUF: more slices of the picture follow.
     pub hold: bool,
+}
+
+// By hand, so that whoever drops one is proved over one call.
+impl Drop for Request {
+    fn drop(self) {
+        let Request {
+            work: _,
+            timestamp: _,
+            references: _,
+            hold: _,
+        } = self;
+    }
 }
 
 impl Request {

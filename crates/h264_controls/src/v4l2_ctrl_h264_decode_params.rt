@@ -9,7 +9,7 @@ use crate::dpb::Dpb;
 use set_controls::words::{flag, put, put_s32, put_u16, put_u32, put_zeros};
 
 /// struct v4l2_ctrl_h264_decode_params: what the header says of the picture, and the decoded picture buffer.
-#[derive(Debug, Drop)]
+#[derive(Debug)]
 pub struct V4l2CtrlH264DecodeParams {
     /// The frames that were marked before the picture's own marking, in decode order; none at an IDR picture.
     pub dpb: Dpb,
@@ -32,6 +32,28 @@ pub struct V4l2CtrlH264DecodeParams {
     /// 0 here, and so one byte in place of Linux's four: a set with several slice groups is refused.
     pub slice_group_change_cycle: u8,
     pub flags: DecodeFlags,
+}
+
+// By hand, so that whoever drops one is proved over one call.
+impl Drop for V4l2CtrlH264DecodeParams {
+    fn drop(self) {
+        let V4l2CtrlH264DecodeParams {
+            dpb: _,
+            nal_ref_idc: _,
+            frame_num: _,
+            top_field_order_cnt: _,
+            bottom_field_order_cnt: _,
+            idr_pic_id: _,
+            pic_order_cnt_lsb: _,
+            delta_pic_order_cnt_bottom: _,
+            delta_pic_order_cnt0: _,
+            delta_pic_order_cnt1: _,
+            dec_ref_pic_marking_bit_size: _,
+            pic_order_cnt_bit_size: _,
+            slice_group_change_cycle: _,
+            flags: _,
+        } = self;
+    }
 }
 
 /// struct v4l2_h264_dpb_entry: a frame of the decoded picture buffer, without reference_ts, which depends on the

@@ -11,7 +11,7 @@ use set_controls::words::{flag, put, put_u32, put_zeros};
 use std::alloc::AllocError;
 
 /// struct v4l2_ctrl_h264_slice_params: what the slice header says of the slice, and its lists.
-#[derive(Debug, Drop)]
+#[derive(Debug)]
 pub struct V4l2CtrlH264SliceParams {
     /// The size of the slice header in bits, with the first byte of the NAL unit.
     pub header_bit_size: u32,
@@ -36,6 +36,30 @@ pub struct V4l2CtrlH264SliceParams {
     pub ref_pic_list0: RefPicList,
     /// The active entries of list 1.
     pub ref_pic_list1: RefPicList,
+}
+
+// By hand, so that whoever drops one is proved over one call.
+impl Drop for V4l2CtrlH264SliceParams {
+    fn drop(self) {
+        let V4l2CtrlH264SliceParams {
+            header_bit_size: _,
+            first_mb_in_slice: _,
+            slice_type: _,
+            colour_plane_id: _,
+            redundant_pic_cnt: _,
+            cabac_init_idc: _,
+            slice_qp_delta: _,
+            slice_qs_delta: _,
+            disable_deblocking_filter_idc: _,
+            slice_alpha_c0_offset_div2: _,
+            slice_beta_offset_div2: _,
+            num_ref_idx_l0_active_minus1: _,
+            num_ref_idx_l1_active_minus1: _,
+            flags: _,
+            ref_pic_list0: _,
+            ref_pic_list1: _,
+        } = self;
+    }
 }
 
 /// V4L2_H264_SLICE_FLAG_*.

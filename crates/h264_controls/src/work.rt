@@ -6,11 +6,21 @@ use crate::controls::Controls;
 use bytes::Bytes;
 
 /// The work of a slice: all of its request that doesn't depend on the place of its unit in the stream.
-#[derive(Debug, Drop)]
+#[derive(Debug)]
 pub struct Work {
     pub controls: Controls,
     /// The slice's NAL unit after a start code of three bytes.
     pub bytes: Bytes,
+}
+
+// By hand, so that whoever drops one is proved over one call.
+impl Drop for Work {
+    fn drop(self) {
+        let Work {
+            controls: _,
+            bytes: _,
+        } = self;
+    }
 }
 
 impl Work {

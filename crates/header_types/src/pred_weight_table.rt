@@ -59,11 +59,23 @@ impl PredWeights {
 }
 
 /// The table of weights: the denominators as powers of 2, and the weights of both lists.
-#[derive(Debug, Drop)]
+#[derive(Debug)]
 pub struct PredWeightTable {
     pub luma_log2_weight_denom: u8,
     /// 0 where there is no chroma.
     pub chroma_log2_weight_denom: u8,
     pub weights_l0: PredWeights,
     pub weights_l1: PredWeights,
+}
+
+// By hand, so that whoever drops one is proved over one call.
+impl Drop for PredWeightTable {
+    fn drop(self) {
+        let PredWeightTable {
+            luma_log2_weight_denom: _,
+            chroma_log2_weight_denom: _,
+            weights_l0: _,
+            weights_l1: _,
+        } = self;
+    }
 }

@@ -12,7 +12,7 @@ use base_types::AtMost;
 ///
 /// What the header doesn't send has its inferred value: 0, no commands, no table; an absent active count is the
 /// picture parameter set's where the list exists.
-#[derive(Debug, Drop)]
+#[derive(Debug)]
 pub struct SliceHeader {
     pub nal_ref_idc: u8,
     /// 5 for a slice of an IDR picture, else 1.
@@ -45,6 +45,41 @@ pub struct SliceHeader {
     pub dec_ref_pic_marking_bit_size: u32,
     /// The size in bits of pic_order_cnt_lsb and of the deltas of the picture order count.
     pub pic_order_cnt_bit_size: u32,
+}
+
+// By hand, so that whoever drops one is proved over one call.
+impl Drop for SliceHeader {
+    fn drop(self) {
+        let SliceHeader {
+            nal_ref_idc: _,
+            nal_unit_type: _,
+            first_mb_in_slice: _,
+            slice_type: _,
+            pic_parameter_set_id: _,
+            frame_num: _,
+            idr_pic_id: _,
+            pic_order_cnt_lsb: _,
+            delta_pic_order_cnt_bottom: _,
+            delta_pic_order_cnt0: _,
+            delta_pic_order_cnt1: _,
+            redundant_pic_cnt: _,
+            direct_spatial_mv_pred_flag: _,
+            num_ref_idx_l0_active_minus1: _,
+            num_ref_idx_l1_active_minus1: _,
+            ref_pic_list_modification_l0: _,
+            ref_pic_list_modification_l1: _,
+            pred_weight_table: _,
+            dec_ref_pic_marking: _,
+            cabac_init_idc: _,
+            slice_qp_delta: _,
+            disable_deblocking_filter_idc: _,
+            slice_alpha_c0_offset_div2: _,
+            slice_beta_offset_div2: _,
+            header_bit_size: _,
+            dec_ref_pic_marking_bit_size: _,
+            pic_order_cnt_bit_size: _,
+        } = self;
+    }
 }
 
 impl SliceHeader {

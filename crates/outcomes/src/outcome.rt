@@ -8,7 +8,7 @@ use std::alloc::{AllocError, Global};
 use validity_faults::ValidityFault;
 
 /// The plan of a valid unit.
-#[derive(Debug, Drop)]
+#[derive(Debug)]
 pub struct Plan {
     pub requests: Requests,
     /// The picture order counts before operation 5 resets them.
@@ -17,6 +17,18 @@ pub struct Plan {
     pub order: i32,
     /// Whether output order begins anew: an IDR picture, or one with operation 5.
     pub begins_period: bool,
+}
+
+// By hand, so that whoever drops one is proved over one call.
+impl Drop for Plan {
+    fn drop(self) {
+        let Plan {
+            requests: _,
+            counts: _,
+            order: _,
+            begins_period: _,
+        } = self;
+    }
 }
 
 /// What a unit leads to: requests, or a fault.

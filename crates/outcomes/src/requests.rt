@@ -7,9 +7,16 @@ use std::alloc::{AllocError, Global};
 use std::marker::Model;
 
 /// The requests of a unit, one for each slice, in order. One alone takes no memory of its own beside its work.
-#[derive(Debug, Drop)]
+#[derive(Debug)]
 pub struct Requests {
     items: Items,
+}
+
+// By hand, so that whoever drops one is proved over one call.
+impl Drop for Requests {
+    fn drop(self) {
+        let Requests { items: _ } = self;
+    }
 }
 
 /// Where the requests stand.

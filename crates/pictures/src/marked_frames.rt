@@ -7,12 +7,22 @@ use arrayvec::ArrayVec;
 use std::marker::Model;
 
 /// The frames that are marked as references, in decode order, and the greatest long-term index that they may have.
-#[derive(Debug, Drop)]
+#[derive(Debug)]
 pub struct Marks {
     /// In decode order.
     pub frames: ArrayVec<Frame, 16>,
     /// MaxLongTermFrameIdx, or none for "no long-term frame indices".
     pub max_long_term_frame_idx: Option<u8>,
+}
+
+// By hand, so that whoever drops one is proved over one call.
+impl Drop for Marks {
+    fn drop(self) {
+        let Marks {
+            frames: _,
+            max_long_term_frame_idx: _,
+        } = self;
+    }
 }
 
 impl Model for Marks {

@@ -1,5 +1,5 @@
 -- What the fold over a stream keeps of the units before (ITU-T H.264, 7.4.1.2.1, 7.4.3, 8.2.1 and 8.2.5).
-use Rattle.std.specs.Prelude.{ℕ, Option, None}
+use Rattle.std.specs.Prelude.{ℕ, List, map, Option, None}
 use Rattle.set_types.specs.declared.sps.Sps.{Sps}
 use Rattle.order_count.specs.declared.anchors.Anchor.{Anchor}
 use Rattle.order_count.specs.Anchors.{no_pictures}
@@ -17,3 +17,7 @@ pub record FoldState : Type 0 where
 -- before the first unit
 abbrev pub no_units : FoldState
 no_units = record { tables = no_sets; active = None; anchor = no_pictures; prev_ref_frame_num = 0; marks = no_frames }
+
+-- the ids of the marked frames, in decode order
+abbrev pub marked_ids : FoldState → List ℕ
+marked_ids state = map (λ frame. frame.id) state.marks.frames

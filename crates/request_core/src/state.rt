@@ -5,14 +5,14 @@ ghost use Rattle.request_core.specs.States.{no_units};
 
 use base_types::Shared;
 use order_count::Anchor;
-use pictures::Marks;
+use pictures::{Frame, Marks};
 use set_types::Sps;
 use std::alloc::{AllocError, Global};
 use std::marker::Model;
 use unit_slices::Tables;
 
 /// What the fold keeps of the units before: the parameter sets, shared, and little else.
-#[derive(Debug, Drop)]
+#[derive(Debug)]
 pub struct State {
     pub(crate) tables: Shared<Tables>,
     /// The set of the last IDR picture.
@@ -21,6 +21,19 @@ pub struct State {
     /// PrevRefFrameNum (7.4.3).
     pub(crate) prev_ref_frame_num: u16,
     pub(crate) marks: Marks,
+}
+
+// By hand, so that whoever drops one is proved over one call.
+impl Drop for State {
+    fn drop(self) {
+        let State {
+            tables: _,
+            active: _,
+            anchor: _,
+            prev_ref_frame_num: _,
+            marks: _,
+        } = self;
+    }
 }
 
 impl Model for State {
@@ -68,6 +81,13 @@ impl State {
             && same_anchor(self.anchor, other.anchor)
             && same_active(&self.active, &other.active)
             && self.tables.is_same(&other.tables)
+    }
+
+    /// The frames that are marked as references, in decode order.
+    pub fn frames(&self) -> &[Frame]
+        ensures { result.now ≡ self.now.marks.frames }
+    {
+        self.marks.frames()
     }
 
     /// The set of the last IDR picture, shared.

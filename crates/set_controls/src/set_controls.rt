@@ -12,12 +12,23 @@ use set_types::{Pps, Sps};
 use std::alloc::AllocError;
 
 /// The controls of a picture parameter set, of the sequence parameter set that it stands on, and of their scaling lists.
-#[derive(Debug, Drop)]
+#[derive(Debug)]
 pub struct SetControls {
     /// Shared by all picture parameter sets that stand on the set.
     pub sps: Shared<V4l2CtrlH264Sps>,
     pub pps: V4l2CtrlH264Pps,
     pub scaling_matrix: V4l2CtrlH264ScalingMatrix,
+}
+
+// By hand, so that whoever drops one is proved over one call.
+impl Drop for SetControls {
+    fn drop(self) {
+        let SetControls {
+            sps: _,
+            pps: _,
+            scaling_matrix: _,
+        } = self;
+    }
 }
 
 impl SetControls {

@@ -25,7 +25,7 @@ pub enum PicOrderCntType {
 }
 
 /// A sequence parameter set.
-#[derive(Debug, Drop)]
+#[derive(Debug)]
 pub struct Sps {
     pub profile_idc: u8,
     pub constraint_set_flags: [bool; 6],
@@ -50,6 +50,37 @@ pub struct Sps {
     pub pic_width_in_mbs_minus1: u16,
     pub pic_height_in_map_units_minus1: u16,
     pub direct_8x8_inference_flag: bool,
+}
+
+// By hand, so that whoever drops one is proved over one call.
+impl Drop for Sps {
+    fn drop(self) {
+        let Sps {
+            profile_idc: _,
+            constraint_set_flags: _,
+            level_idc: _,
+            seq_parameter_set_id: _,
+            chroma_format_idc: _,
+            bit_depth_luma_minus8: _,
+            bit_depth_chroma_minus8: _,
+            qpprime_y_zero_transform_bypass_flag: _,
+            seq_scaling_matrix_present_flag: _,
+            scaling_lists: _,
+            log2_max_frame_num_minus4: _,
+            pic_order_cnt_type: _,
+            log2_max_pic_order_cnt_lsb_minus4: _,
+            delta_pic_order_always_zero_flag: _,
+            offset_for_non_ref_pic: _,
+            offset_for_top_to_bottom_field: _,
+            num_ref_frames_in_pic_order_cnt_cycle: _,
+            offset_for_ref_frame: _,
+            max_num_ref_frames: _,
+            gaps_in_frame_num_value_allowed_flag: _,
+            pic_width_in_mbs_minus1: _,
+            pic_height_in_map_units_minus1: _,
+            direct_8x8_inference_flag: _,
+        } = self;
+    }
 }
 
 impl Sps {

@@ -19,10 +19,20 @@ pub struct Reference {
 }
 
 /// The requests of a picture, one for each slice, and the pictures of the frames that their lists name.
-#[derive(Debug, Drop)]
+#[derive(Debug)]
 pub struct Input {
     requests: Vec<Request>,
     references: Vec<Reference>,
+}
+
+// By hand, so that whoever drops one is proved over one call.
+impl Drop for Input {
+    fn drop(self) {
+        let Input {
+            requests: _,
+            references: _,
+        } = self;
+    }
 }
 
 impl Model for Input {

@@ -4,6 +4,7 @@ ghost use Rattle.std.specs.Prelude.{◌≡◌, ◌↔◌, ◌+◌, ◌-◌, ◌^
 ghost use Rattle.request_core.specs.Fold.{outcomes_of};
 ghost use Rattle.checkpoints.specs.Stored.{IsStoredAt};
 ghost use Rattle.stream_edits.specs.Changes.{IsInside, at_of, rest_from, stream_after, units_of};
+ghost use Rattle.stream_fold.specs.Kept.{ArePast};
 ghost use Rattle.stream_fold.specs.Meeting.{IsMeeting};
 
 use crate::changes::length_change;
@@ -21,12 +22,24 @@ use std::marker::Model;
 use stream_edits::Change;
 
 /// A stream of access units under their ids, with what becomes of each, and the states of the fold past some of its places.
-#[derive(Debug, Drop)]
+#[derive(Debug)]
 pub struct Folded {
     units: Vec<(AuId, Shared<Unit>)>,
     outcomes: Vec<Shared<Outcome>>,
     stored: Checkpoints<State>,
     end: State,
+}
+
+// By hand, so that whoever drops one is proved over one call.
+impl Drop for Folded {
+    fn drop(self) {
+        let Folded {
+            units: _,
+            outcomes: _,
+            stored: _,
+            end: _,
+        } = self;
+    }
 }
 
 impl Model for Folded {
@@ -118,6 +131,14 @@ impl Folded {
         ensures { result.now ≡ outcomes_of self.now.stream }
     {
         self.outcomes.as_slice()
+    }
+
+    /// The states of the fold that are stored, each past its place.
+    pub fn states(&self) -> &Checkpoints<State>
+        ensures value { result.now ≡ self.now.stored }
+        ensures past { ArePast self.now.stream result.now.states }
+    {
+        &self.stored
     }
 
     /// Prepares a change: folds anew what it changes, and makes room. All answers stay as they were.

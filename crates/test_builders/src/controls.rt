@@ -92,15 +92,14 @@ pub fn p_picture(alloc: Global) -> Result<V4l2CtrlH264DecodeParams, AllocError>
             long_term: false,
         },
     })?;
-    Ok(V4l2CtrlH264DecodeParams {
-        nal_ref_idc: 2,
-        frame_num: 1,
-        top_field_order_cnt: 2,
-        bottom_field_order_cnt: 2,
-        dec_ref_pic_marking_bit_size: 1,
-        flags: DecodeFlags { idr_pic: false },
-        ..idr_picture(dpb)
-    })
+    let mut picture = idr_picture(dpb);
+    picture.nal_ref_idc = 2;
+    picture.frame_num = 1;
+    picture.top_field_order_cnt = 2;
+    picture.bottom_field_order_cnt = 2;
+    picture.dec_ref_pic_marking_bit_size = 1;
+    picture.flags = DecodeFlags { idr_pic: false };
+    Ok(picture)
 }
 
 /// The controls of a slice.

@@ -18,10 +18,17 @@ pub(crate) trait Place {
 }
 
 /// A sequence parameter set with its control.
-#[derive(Debug, Drop)]
+#[derive(Debug)]
 pub(crate) struct SpsPlace {
     set: Shared<Sps>,
     control: Shared<V4l2CtrlH264Sps>,
+}
+
+// By hand, so that whoever drops one is proved over one call.
+impl Drop for SpsPlace {
+    fn drop(self) {
+        let SpsPlace { set: _, control: _ } = self;
+    }
 }
 
 impl Model for SpsPlace {
@@ -69,10 +76,17 @@ impl Place for SpsPlace {
 }
 
 /// A picture parameter set, with the sets and controls that it was paired to when it came. No outcome depends on those.
-#[derive(Debug, Drop)]
+#[derive(Debug)]
 pub(crate) struct PpsPlace {
     set: Shared<Pps>,
     sets: Option<Sets>,
+}
+
+// By hand, so that whoever drops one is proved over one call.
+impl Drop for PpsPlace {
+    fn drop(self) {
+        let PpsPlace { set: _, sets: _ } = self;
+    }
 }
 
 impl Model for PpsPlace {

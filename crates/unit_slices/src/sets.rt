@@ -11,11 +11,22 @@ use std::alloc::{AllocError, Global};
 use std::marker::Model;
 
 /// The parameter sets that a slice names, with the controls that they decide.
-#[derive(Debug, Drop)]
+#[derive(Debug)]
 pub(crate) struct Sets {
     pub(crate) sps: Shared<Sps>,
     pps: Shared<Pps>,
     controls: Shared<SetControls>,
+}
+
+// By hand, so that whoever drops one is proved over one call.
+impl Drop for Sets {
+    fn drop(self) {
+        let Sets {
+            sps: _,
+            pps: _,
+            controls: _,
+        } = self;
+    }
 }
 
 impl Model for Sets {

@@ -24,11 +24,22 @@ use std::marker::Model;
 use validity_faults::ValidityFault;
 
 /// A slice: its NAL unit, the parameter sets that it names, with the controls that these decide, and its header.
-#[derive(Debug, Drop)]
+#[derive(Debug)]
 pub struct Slice {
     nal: SharedNal,
     sets: Sets,
     pub(crate) header: SliceHeader,
+}
+
+// By hand, so that whoever drops one is proved over one call.
+impl Drop for Slice {
+    fn drop(self) {
+        let Slice {
+            nal: _,
+            sets: _,
+            header: _,
+        } = self;
+    }
 }
 
 impl Model for Slice {

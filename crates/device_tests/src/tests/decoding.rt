@@ -2,7 +2,7 @@
 
 use super::queues::Recorder;
 use super::row_holds;
-use h264_controls::{Dpb, Request, V4l2CtrlH264SliceParams};
+use h264_controls::{Dpb, Request};
 use header_types::SliceType;
 use m2m_queues::{BufferState, QueueFault, Queues, RequestId, RequestState};
 use pictures::{AuId, List};
@@ -89,10 +89,8 @@ fn slice_of_two(
     bytes: &[u8],
     hold: bool,
 ) -> Result<Request, AllocError> {
-    let slice_params = V4l2CtrlH264SliceParams {
-        first_mb_in_slice,
-        ..slice_params(alloc, bits, SliceType::I, &List::new())?
-    };
+    let mut slice_params = slice_params(alloc, bits, SliceType::I, &List::new())?;
+    slice_params.first_mb_in_slice = first_mb_in_slice;
     let picture = idr_picture(Dpb::with_capacity(alloc, 0)?);
     let controls = controls_of(
         alloc,

@@ -1,8 +1,13 @@
 -- What is stored after an accepted edit.
-use Rattle.std.proofs.Common.{◌≡◌, ℕ, List, [], ◌∷◌, ◌++◌, length, refl, ap, sym, ◌∙◌, subst}
+use Rattle.std.proofs.Common.{◌≡◌, ℕ, List, [], ◌∷◌, ◌++◌, length, drop, refl, ap, sym, ◌∙◌, subst}
 use Rattle.std.specs.List.{zip}
+use Rattle.request_core.specs.States.{FoldState, marked_ids}
 use Rattle.request_core.specs.Fold.{outcomes_of}
 use Rattle.picture_keys.specs.Decodable.{AllCanDecode}
+use Rattle.picture_keys.specs.Depending.{DependOn}
+use Rattle.stream_laws.specs.Agreement.{becoming}
+use Rattle.stream_laws.proofs.LaterUnits.{depend_on_marked}
+use Rattle.picture_store.specs.Needs.{TellNeeds}
 use Rattle.picture_store.specs.Stores.{StoreValue}
 use Rattle.picture_store.specs.Changes.{Refits}
 use Rattle.picture_store.specs.Stretches.{IsStretch, ids_with, outcomes_with}
@@ -12,6 +17,7 @@ use Rattle.stream_edits.specs.Edits.{Register, no_units}
 use Rattle.stream_edits.specs.Changes.{id_of, after, stream_after}
 use Rattle.stream_edits.specs.Streams.{ids_of}
 use Rattle.stream_edits.proofs.Edited.{Replays-push, length-made}
+use Rattle.stream_fold.specs.Kept.{ArePast}
 use Rattle.stream_fold.specs.Prepared.{change_in, steps_in}
 use Rattle.ordered_fold.specs.Kept.{OrderedValue}
 use Rattle.edit_engine.specs.declared.preparing.Prepared.{Prepared}
@@ -19,6 +25,16 @@ use Rattle.edit_engine.specs.Kept.{IsKept, IsPrepared, machine_of}
 use Rattle.edit_engine.specs.Machines.{Edits}
 use Rattle.edit_engine.proofs.Accepted.{decodable-after}
 use Rattle.edit_engine.proofs.Pictured.{IsOf-kept, RefitsTo-stored}
+
+-- the states that are stored along the stream tell which keys later units need
+pub needs-told : (journal : List Edit) (old : Register) (store : StoreValue) (states : List (ℕ × FoldState))
+    → IsKept journal old store → ArePast old.stream states → TellNeeds states store.ids store.outcomes
+needs-told journal old store states kept past =
+    subst (λ ids. TellNeeds states ids store.outcomes) (sym kept.identified)
+    (subst (λ outcomes. TellNeeds states (ids_of old.stream) outcomes) (sym kept.folded)
+    (λ place state stored.
+    subst (λ state. DependOn (marked_ids state) (drop place (becoming old.stream))) (sym (past place state stored).is)
+    (depend_on_marked old.stream place)))
 
 module _ (journal : List Edit) (old : Register) (store : StoreValue) (edit : Edit) (ordered : OrderedValue) (prepared : Prepared)
     (kept : IsKept journal old store) (is : IsPrepared old edit ordered prepared) where

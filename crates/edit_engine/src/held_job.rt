@@ -7,10 +7,20 @@ use std::alloc::{AllocError, Global};
 use std::marker::Model;
 
 /// A job that was taken, to be made into one again. Unlike a job it may be dropped.
-#[derive(Debug, Drop)]
+#[derive(Debug)]
 pub(crate) struct HeldJob {
     number: u64,
     input: Input,
+}
+
+// By hand, so that whoever drops one is proved over one call.
+impl Drop for HeldJob {
+    fn drop(self) {
+        let HeldJob {
+            number: _,
+            input: _,
+        } = self;
+    }
 }
 
 impl Model for HeldJob {

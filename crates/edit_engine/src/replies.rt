@@ -32,8 +32,18 @@ pub struct TakenJob {
 }
 
 /// What becomes of a unit, and its position in output order where it is valid.
-#[derive(Debug, Drop)]
+#[derive(Debug)]
 pub struct UnitReport {
     pub outcome: Outcome,
     pub position: Option<usize>,
+}
+
+// By hand, so that whoever drops one is proved over one call.
+impl Drop for UnitReport {
+    fn drop(self) {
+        let UnitReport {
+            outcome: _,
+            position: _,
+        } = self;
+    }
 }

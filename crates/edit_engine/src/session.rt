@@ -102,7 +102,7 @@ impl Session {
         let prepared = prepare(self.alloc, &mut self.ordered, self.given, &edit)?;
         let steps = prepared.change.refolded().steps();
         self.journal.reserve(1)?;
-        self.store.refit(prepared.stretch)?;
+        self.store.refit(prepared.stretch, self.ordered.states())?;
         self.ordered.commit(prepared.change);
         self.journal.push_reserved(edit);
         self.given = prepared.given;

@@ -5,6 +5,7 @@ ghost use Rattle.request_core.specs.Fold.{outcomes_of};
 ghost use Rattle.output_order.specs.OutputOrder.{positions_of};
 ghost use Rattle.period_counts.specs.Bounds.{period_size};
 ghost use Rattle.stream_edits.specs.Changes.{IsInside, stream_after};
+ghost use Rattle.stream_fold.specs.Kept.{ArePast};
 ghost use Rattle.stream_fold.specs.Meeting.{IsMeeting};
 ghost use Rattle.stream_fold.specs.Prepared.{IsAnew, change_in, end_in, steps_in};
 ghost use Rattle.ordered_fold.specs.Prepared.{IsPrepared};
@@ -13,18 +14,30 @@ use crate::prepared_change::PreparedChange;
 use crate::showing::shown_of_each;
 use access_unit::Unit;
 use base_types::Shared;
+use checkpoints::Checkpoints;
 use outcomes::Outcome;
 use period_counts::{Comparisons, Periods};
 use pictures::AuId;
+use request_core::State;
 use std::alloc::{AllocError, Global};
 use std::marker::Model;
 use stream_fold::{Change, Folded};
 
 /// A stream of access units under their ids, with what becomes of each and its position in output order.
-#[derive(Debug, Drop)]
+#[derive(Debug)]
 pub struct OrderedFold {
     folded: Folded,
     periods: Periods,
+}
+
+// By hand, so that whoever drops one is proved over one call.
+impl Drop for OrderedFold {
+    fn drop(self) {
+        let OrderedFold {
+            folded: _,
+            periods: _,
+        } = self;
+    }
 }
 
 impl Model for OrderedFold {
@@ -60,6 +73,14 @@ impl OrderedFold {
         ensures { result.now ≡ outcomes_of self.now.folded.stream }
     {
         self.folded.outcomes()
+    }
+
+    /// The states of the fold that are stored, each past its place.
+    pub fn states(&self) -> &Checkpoints<State>
+        ensures value { result.now ≡ self.now.folded.stored }
+        ensures past { ArePast self.now.folded.stream result.now.states }
+    {
+        self.folded.states()
     }
 
     /// The position in output order of the unit at a place: how many valid units are shown before it. `None` where it isn't

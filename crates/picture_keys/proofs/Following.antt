@@ -26,7 +26,7 @@ keys_more known (first ∷ units) unit =
     ap (λ keys. key_of_outcome known first.1 ∷ keys)
     (keys_more (known_with known first.0 (key_of_outcome known first.1)) units unit)
 
-all_extended : (keys more : KeyMap (List Work)) → Extends keys more
+pub all_extended : (keys more : KeyMap (List Work)) → Extends keys more
     → (numbers : List (Option ℕ)) (trees : List (Option Key)) → AllStandFor keys numbers trees
     → AllStandFor more numbers trees
 all_extended keys more extends [] [] all = tt

@@ -2,3 +2,4 @@ pub mod Pictured
 pub mod Numbering
 pub mod Following
 pub mod Naming
+pub mod Columns

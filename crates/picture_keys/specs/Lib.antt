@@ -1,5 +1,6 @@
 pub mod Keys
 pub mod Known
+pub mod Depending
 pub mod Decodable
 pub mod Numbered
 pub mod Following

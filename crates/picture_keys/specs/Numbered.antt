@@ -18,6 +18,13 @@ Numbers = List (ℕ × ℕ)
 abbrev pub number_at : Numbers → ℕ → Option ℕ
 number_at numbers id = lookup (is_at (nat_cmp id)) numbers
 
+-- the numbers of units whose ids and numbers stand in columns, nothing for a unit without a key, after others
+abbrev pub numbers_over : Numbers → List ℕ → List (Option ℕ) → Numbers
+numbers_over numbers [] found = numbers
+numbers_over numbers (id ∷ ids) [] = numbers
+numbers_over numbers (id ∷ ids) (None ∷ found) = numbers_over numbers ids found
+numbers_over numbers (id ∷ ids) (Some number ∷ found) = numbers_over ((id, number) ∷ numbers) ids found
+
 -- the number of the key of a unit that is named, if one is
 abbrev pub number_named : Numbers → Option ℕ → Option ℕ
 number_named numbers unit = option_and_then (number_at numbers) unit

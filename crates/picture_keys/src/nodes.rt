@@ -16,7 +16,7 @@ use std::alloc::{AllocError, Global};
 /// The node of the key of these requests, with the numbers of the keys of earlier units.
 pub fn node_of(
     alloc: Global,
-    numbers: &KeyNumbers,
+    numbers: &KeyNumbers<'_>,
     requests: &Requests,
 ) -> Result<Node<Works>, AllocError>
     ensures { IfOk result (λ node. node
@@ -30,7 +30,7 @@ pub fn node_of(
 /// The numbers at the entries of the requests' lists.
 fn entries_of(
     alloc: Global,
-    numbers: &KeyNumbers,
+    numbers: &KeyNumbers<'_>,
     requests: &[Request],
 ) -> Result<Vec<Option<KeyId>>, AllocError>
     ensures { IfOk result (λ entries. entries.items ≡ numbers_named numbers.now requests.now) }
@@ -44,7 +44,7 @@ fn entries_of(
 }
 
 /// The number of the key of a unit that is named, if one is.
-fn number_of(numbers: &KeyNumbers, unit: Option<AuId>) -> Option<KeyId>
+fn number_of(numbers: &KeyNumbers<'_>, unit: Option<AuId>) -> Option<KeyId>
     ensures { result ≡ number_named numbers.now unit }
 {
     numbers.get(unit?)

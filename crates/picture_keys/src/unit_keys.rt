@@ -19,13 +19,23 @@ use std::alloc::{AllocError, Global};
 use std::marker::Model;
 
 /// The numbers of the keys of a stream's units, so far as these were gone over.
-#[derive(Debug, Drop)]
-pub struct UnitKeys {
-    numbers: KeyNumbers,
+#[derive(Debug)]
+pub struct UnitKeys<'a> {
+    numbers: KeyNumbers<'a>,
     found: Vec<Option<KeyId>>,
 }
 
-impl Model for UnitKeys {
+// By hand, so that whoever drops one is proved over one call.
+impl<'a> Drop for UnitKeys<'a> {
+    fn drop(self) {
+        let UnitKeys {
+            numbers: _,
+            found: _,
+        } = self;
+    }
+}
+
+impl<'a> Model for UnitKeys<'a> {
     ghost use Rattle.picture_keys.specs.Following.{UnitNumbers};
 
     ghost Value = { UnitNumbers };
@@ -33,10 +43,10 @@ impl Model for UnitKeys {
     ghost view = { λ keys. record { numbers = keys.numbers; found = keys.found.items } };
 }
 
-impl UnitKeys {
+impl<'a> UnitKeys<'a> {
     /// After units whose keys have these numbers.
-    pub fn after(alloc: Global, numbers: KeyNumbers) -> UnitKeys
-        ensures { result ≡ record { numbers = numbers; found = [] } }
+    pub fn after(alloc: Global, numbers: KeyNumbers<'a>) -> UnitKeys<'a>
+        ensures { result ≡ record { numbers = numbers.entry; found = [] } }
     {
         UnitKeys {
             numbers,
@@ -69,13 +79,19 @@ impl UnitKeys {
         Ok(())
     }
 
-    /// The numbers by the units' ids, those before the first unit among them; and the number of each unit's key, in the
-    /// order of the units, nothing for a unit with a fault.
-    pub fn into_parts(self) -> (KeyNumbers, Vec<Option<KeyId>>)
-        ensures numbers { result.0 ≡ self.numbers }
-        ensures found { result.1.items ≡ self.found }
+    /// The numbers by the units' ids, those before the first unit among them.
+    pub fn numbers(&self) -> &KeyNumbers<'a>
+        ensures { result.now ≡ self.now.numbers }
     {
-        (self.numbers, self.found)
+        &self.numbers
+    }
+
+    /// The number of each unit's key, in the order of the units, nothing for a unit with a fault.
+    pub fn into_found(self) -> Vec<Option<KeyId>>
+        ensures { result.items ≡ self.entry.found }
+    {
+        let UnitKeys { numbers: _, found } = self;
+        found
     }
 }
 
@@ -83,7 +99,7 @@ impl UnitKeys {
 /// unit is given one.
 fn number_of<F: Fingerprint<Works>>(
     alloc: Global,
-    numbers: &mut KeyNumbers,
+    numbers: &mut KeyNumbers<'_>,
     keys: &mut Keys<Works, F>,
     id: AuId,
     outcome: &Outcome,
@@ -105,7 +121,7 @@ fn number_of<F: Fingerprint<Works>>(
 /// Interns the key of a unit's requests, and gives the unit its number. Where memory is wanted, no unit is given one.
 fn intern<F: Fingerprint<Works>>(
     alloc: Global,
-    numbers: &mut KeyNumbers,
+    numbers: &mut KeyNumbers<'_>,
     keys: &mut Keys<Works, F>,
     id: AuId,
     requests: &Requests,

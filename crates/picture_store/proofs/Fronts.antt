@@ -1,12 +1,12 @@
 -- The keys of a stream's units, of the first ones and of those behind them.
-use Rattle.std.proofs.Common.{◌≡◌, refl, ap, sym, subst, ℕ, zero, suc, ◌+◌, ◌<◌, List, [], ◌∷◌, ◌++◌, length, take, get_or, Option, arith}
+use Rattle.std.proofs.Common.{◌≡◌, refl, ap, sym, ◌∙◌, add-one, ℕ, zero, suc, ◌+◌, ◌<◌, ◌≤◌, List, [], ◌∷◌, ◌++◌, length, take, drop, get_or, Option, arith}
 use Rattle.std.specs.List.{zip}
 use Rattle.outcomes.specs.declared.outcome.Outcome.{Outcome}
 use Rattle.picture_keys.specs.Keys.{Key}
-use Rattle.picture_keys.specs.Known.{Known, key_of_outcome, known_with, known_after, keys_after, keys_of}
-use Rattle.picture_keys.specs.Numbered.{Numbers, StandsFor, AllStandFor, AreNumbered}
-use Rattle.picture_keys.proofs.Following.{known_more}
+use Rattle.picture_keys.specs.Known.{Known, key_of_outcome, known_with, known_after, keys_after}
+use Rattle.picture_keys.specs.Numbered.{AllStandFor}
 use Rattle.picture_store.specs.Kept.{Trees}
+use Rattle.picture_store.specs.Needs.{between}
 use Rattle.picture_store.proofs.Loops.{zip_read}
 
 -- two lists end to end, pair by pair
@@ -55,47 +55,85 @@ stand_front keys known (suc n) (number ∷ found) (id ∷ ids) [] all = absurd a
 stand_front keys known (suc n) (number ∷ found) (id ∷ ids) (outcome ∷ outcomes) all =
     (all.0, stand_front keys (known_with known id (key_of_outcome known outcome)) n found ids outcomes all.1)
 
--- the number of the unit at a place stands for its key, after those before it
-stands_there : (keys : Trees) (known : Known) (at : ℕ) (found : List (Option ℕ)) (ids : List ℕ) (outcomes : List Outcome)
-    → at < length ids → at < length outcomes → (number : Option ℕ) → number ≡ get_or found at number
-    → (outcome : Outcome) → outcome ≡ get_or outcomes at outcome
-    → AllStandFor keys found (keys_after known (zip ids outcomes))
-    → StandsFor keys number (key_of_outcome (known_after known (zip (take at ids) (take at outcomes))) outcome)
-stands_there keys known at found [] outcomes in_ids in_outcomes number number_is outcome outcome_is all =
-    absurd (omega (arith, in_ids))
-stands_there keys known at found (id ∷ ids) [] in_ids in_outcomes number number_is outcome outcome_is all =
-    absurd (omega (arith, in_outcomes))
-stands_there keys known at [] (id ∷ ids) (first ∷ outcomes) in_ids in_outcomes number number_is outcome outcome_is all =
-    absurd all
-stands_there keys known zero (one ∷ found) (id ∷ ids) (first ∷ outcomes) in_ids in_outcomes number number_is outcome outcome_is all =
-    subst (λ n. StandsFor keys n (key_of_outcome known outcome)) (sym number_is)
-    (subst (λ o. StandsFor keys one (key_of_outcome known o)) (sym outcome_is) all.0)
-stands_there keys known (suc at) (one ∷ found) (id ∷ ids) (first ∷ outcomes) in_ids in_outcomes number number_is outcome outcome_is all =
-    stands_there keys (known_with known id (key_of_outcome known first)) at found ids outcomes
-    (omega (arith, in_ids)) (omega (arith, in_outcomes)) number number_is outcome outcome_is all.1
+-- and those of the others, after the first ones
+pub stand_behind : (keys : Trees) (known : Known) (n : ℕ) (found : List (Option ℕ)) (ids : List ℕ) (outcomes : List Outcome)
+    → AllStandFor keys found (keys_after known (zip ids outcomes)) → length ids ≡ length outcomes
+    → AllStandFor keys (drop n found)
+    (keys_after (known_after known (zip (take n ids) (take n outcomes))) (zip (drop n ids) (drop n outcomes)))
+stand_behind keys known zero found ids outcomes all same = all
+stand_behind keys known (suc n) [] [] outcomes all same = tt
+stand_behind keys known (suc n) [] (id ∷ ids) [] all same = absurd (omega (arith, same))
+stand_behind keys known (suc n) [] (id ∷ ids) (outcome ∷ outcomes) all same = absurd all
+stand_behind keys known (suc n) (number ∷ found) [] outcomes all same = absurd all
+stand_behind keys known (suc n) (number ∷ found) (id ∷ ids) [] all same = absurd all
+stand_behind keys known (suc n) (number ∷ found) (id ∷ ids) (outcome ∷ outcomes) all same =
+    stand_behind keys (known_with known id (key_of_outcome known outcome)) n found ids outcomes all.1 (omega (arith, same))
 
--- one unit more of those that are known by number
-pub noted : (keys : Trees) (numbers more : Numbers) (at : ℕ) (found : List (Option ℕ)) (ids : List ℕ)
-    (outcomes : List Outcome) (id : ℕ) (number : Option ℕ) → at < length ids → length ids ≡ length outcomes
-    → id ≡ get_or ids at id → number ≡ get_or found at number
-    → ((known : Known) (tree : Option Key) → AreNumbered keys numbers known → StandsFor keys number tree
-    → AreNumbered keys more (known_with known id tree))
-    → AllStandFor keys found (keys_of (zip ids outcomes))
-    → AreNumbered keys numbers (known_after [] (zip (take at ids) (take at outcomes)))
-    → AreNumbered keys more (known_after [] (zip (take (at + 1) ids) (take (at + 1) outcomes)))
-noted keys numbers more at found ids [] id number in_ids same id_is number_is note all are = absurd (omega (arith, in_ids, same))
-noted keys numbers more at found ids (first ∷ outcomes) id number in_ids same id_is number_is note all are =
-    let in_outcomes : at < length (first ∷ outcomes) = omega (arith, in_ids, same) in
-    let outcome : Outcome = get_or (first ∷ outcomes) at first in
-    let outcome_is : outcome ≡ get_or (first ∷ outcomes) at outcome = get_or_any (first ∷ outcomes) at first outcome in_outcomes in
-    let units : List (ℕ × Outcome) = zip (take at ids) (take at (first ∷ outcomes)) in
-    let step : zip (take (at + 1) ids) (take (at + 1) (first ∷ outcomes)) ≡ units ++ (id, outcome) ∷ [] =
-    zip_read ids (first ∷ outcomes) at id outcome in_ids in_outcomes id_is outcome_is in
-    rw (step, known_more [] units (id, outcome))
-    (note (known_after [] units) (key_of_outcome (known_after [] units) outcome) are
-    (stands_there keys [] at found ids (first ∷ outcomes) in_ids in_outcomes number number_is outcome outcome_is all))
-  where
-    get_or_any : {A : Type 0} (xs : List A) (i : ℕ) (d e : A) → i < length xs → get_or xs i d ≡ get_or xs i e
-    get_or_any [] i d e within = absurd (omega (arith, within))
-    get_or_any (x ∷ xs) zero d e within = refl
-    get_or_any (x ∷ xs) (suc i) d e within = get_or_any xs i d e (omega (arith, within))
+-- the units from a place on, pair by pair
+pub zip_behind : {A B : Type 0} (n : ℕ) (xs : List A) (ys : List B) → length xs ≡ length ys
+    → drop n (zip xs ys) ≡ zip (drop n xs) (drop n ys)
+zip_behind zero xs ys same = refl
+zip_behind (suc n) [] [] same = refl
+zip_behind (suc n) [] (y ∷ ys) same = absurd (omega (arith, same))
+zip_behind (suc n) (x ∷ xs) [] same = absurd (omega (arith, same))
+zip_behind (suc n) (x ∷ xs) (y ∷ ys) same = zip_behind n xs ys (omega (arith, same))
+
+-- as many numbers as units
+pub stand_length : (keys : Trees) (known : Known) (found : List (Option ℕ)) (ids : List ℕ) (outcomes : List Outcome)
+    → AllStandFor keys found (keys_after known (zip ids outcomes)) → length ids ≡ length outcomes → length found ≡ length ids
+stand_length keys known [] [] outcomes all same = refl
+stand_length keys known [] (id ∷ ids) [] all same = absurd (omega (arith, same))
+stand_length keys known [] (id ∷ ids) (outcome ∷ outcomes) all same = absurd all
+stand_length keys known (number ∷ found) [] outcomes all same = absurd all
+stand_length keys known (number ∷ found) (id ∷ ids) [] all same = absurd all
+stand_length keys known (number ∷ found) (id ∷ ids) (outcome ∷ outcomes) all same =
+    ap suc (stand_length keys (known_with known id (key_of_outcome known outcome)) found ids outcomes all.1 (omega (arith, same)))
+
+zip_none : (ids : List ℕ) → ◌≡◌ {A = List (ℕ × Outcome)} (zip ids []) []
+zip_none [] = refl
+zip_none (id ∷ ids) = refl
+
+-- between a place and itself is no unit
+pub between_none : (to : ℕ) (ids : List ℕ) (outcomes : List Outcome) → between to to ids outcomes ≡ []
+between_none zero ids outcomes = refl
+between_none (suc to) [] outcomes = refl
+between_none (suc to) (id ∷ ids) [] = zip_none (drop (suc to) (take (suc to) (id ∷ ids)))
+between_none (suc to) (id ∷ ids) (outcome ∷ outcomes) = between_none to ids outcomes
+
+between_next : (to at : ℕ) (ids : List ℕ) (outcomes : List Outcome) (id : ℕ) (outcome : Outcome) → to ≤ at → at < length ids
+    → at < length outcomes → id ≡ get_or ids at id → outcome ≡ get_or outcomes at outcome
+    → between to (suc at) ids outcomes ≡ between to at ids outcomes ++ (id, outcome) ∷ []
+between_next zero at ids outcomes id outcome below in_ids in_outcomes id_is outcome_is =
+    ap (λ n. zip (take n ids) (take n outcomes)) (sym (add-one at))
+    ∙ zip_read ids outcomes at id outcome in_ids in_outcomes id_is outcome_is
+between_next (suc to) zero ids outcomes id outcome below in_ids in_outcomes id_is outcome_is = absurd (omega (arith, below))
+between_next (suc to) (suc at) [] outcomes id outcome below in_ids in_outcomes id_is outcome_is = absurd (omega (arith, in_ids))
+between_next (suc to) (suc at) (first ∷ ids) [] id outcome below in_ids in_outcomes id_is outcome_is =
+    absurd (omega (arith, in_outcomes))
+between_next (suc to) (suc at) (first ∷ ids) (one ∷ outcomes) id outcome below in_ids in_outcomes id_is outcome_is =
+    between_next to at ids outcomes id outcome (omega (arith, below)) (omega (arith, in_ids)) (omega (arith, in_outcomes)) id_is
+    outcome_is
+
+-- one unit more
+pub between_more : (to at : ℕ) (ids : List ℕ) (outcomes : List Outcome) (id : ℕ) (outcome : Outcome) → to ≤ at → at < length ids
+    → at < length outcomes → id ≡ get_or ids at id → outcome ≡ get_or outcomes at outcome
+    → between to (at + 1) ids outcomes ≡ between to at ids outcomes ++ (id, outcome) ∷ []
+between_more to at ids outcomes id outcome below in_ids in_outcomes id_is outcome_is =
+    ap (λ n. between to n ids outcomes) (add-one at)
+    ∙ between_next to at ids outcomes id outcome below in_ids in_outcomes id_is outcome_is
+
+-- and those behind
+pub between_rest : (to past : ℕ) (ids : List ℕ) (outcomes : List Outcome) → to ≤ past → length ids ≡ length outcomes
+    → zip (drop to ids) (drop to outcomes) ≡ between to past ids outcomes ++ zip (drop past ids) (drop past outcomes)
+between_rest zero zero ids outcomes below same = refl
+between_rest zero (suc past) [] [] below same = refl
+between_rest zero (suc past) [] (outcome ∷ outcomes) below same = absurd (omega (arith, same))
+between_rest zero (suc past) (id ∷ ids) [] below same = absurd (omega (arith, same))
+between_rest zero (suc past) (id ∷ ids) (outcome ∷ outcomes) below same =
+    ap (λ rest. (id, outcome) ∷ rest) (between_rest zero past ids outcomes (omega arith) (omega (arith, same)))
+between_rest (suc to) zero ids outcomes below same = absurd (omega (arith, below))
+between_rest (suc to) (suc past) [] [] below same = refl
+between_rest (suc to) (suc past) [] (outcome ∷ outcomes) below same = absurd (omega (arith, same))
+between_rest (suc to) (suc past) (id ∷ ids) [] below same = absurd (omega (arith, same))
+between_rest (suc to) (suc past) (id ∷ ids) (outcome ∷ outcomes) below same =
+    between_rest to past ids outcomes (omega (arith, below)) (omega (arith, same))

@@ -2,6 +2,7 @@ pub mod Tables
 pub mod Lifting
 pub mod Loops
 pub mod Fronts
+pub mod Needed
 pub mod Stretched
 pub mod Swept
 pub mod Ready

@@ -4,14 +4,12 @@ use Rattle.outcomes.specs.declared.outcome.Outcome.{Outcome}
 use Rattle.dep_keys.specs.KeyMaps.{IsKeyMap}
 use Rattle.stand_in_device.specs.declared.picture.Picture.{Picture}
 use Rattle.key_places.specs.Places.{AreSame, place_of, place_at}
-use Rattle.picture_store.specs.declared.front.Front.{Front}
 use Rattle.picture_store.specs.declared.job_out.JobOut.{JobOut}
 use Rattle.picture_store.specs.Places.{PlacesValue}
 use Rattle.picture_store.specs.Kept.{Trees, IsKept, KeepsStored, keys_for}
 use Rattle.picture_store.specs.Settled.{NeedsNone, AreSettled, IsStored}
 use Rattle.picture_store.proofs.Viewed.{viewed}
 use Rattle.picture_store.proofs.Stays.{kept_stays, viewed_stays}
-use Rattle.picture_store.proofs.Stretched.{none_front}
 use Rattle.picture_store.proofs.Settled.{settled_stay}
 
 module _ (places grown : PlacesValue) (same : AreSame places grown) where
@@ -47,22 +45,19 @@ module _ (places grown : PlacesValue) (same : AreSame places grown) where
       settled_stay places grown out out found count (λ number among needs. needs_same out number needs) are
 
 module _ (keys more : Trees) (ids : List ℕ) (outcomes : List Outcome) (found : List (Option ℕ)) (places grown : PlacesValue)
-    (cached : List (ℕ × Picture)) (out : List JobOut) (front : Front) (count : ℕ)
-    (stored : IsStored keys ids outcomes found places cached out front count) (stay : KeepsStored found cached out keys more)
+    (cached : List (ℕ × Picture)) (out : List JobOut) (count : ℕ)
+    (stored : IsStored keys ids outcomes found places cached out count) (stay : KeepsStored found cached out keys more)
     (one : IsKeyMap more) (same : AreSame places grown) where
   pub kept_still : IsKept more ids outcomes found grown cached out
   kept_still =
       kept_same places grown same more ids outcomes found cached out
       (kept_stays keys more ids outcomes found places cached out stored.kept stay one)
 
-  -- with the numbers of no units
-  pub stored_still : (none : Front) → none.numbers ≡ [] → none.count ≡ 0
-      → IsStored more ids outcomes found grown cached out none count
-  stored_still none numbers first = record {
+  pub stored_still : IsStored more ids outcomes found grown cached out count
+  stored_still = record {
     kept = kept_still;
     counted = λ number. ap (λ slot. slot.uses) (same.slots number) ∙ stored.counted number;
     apart = λ number used. stored.apart number (subst (λ n. 0 < n) (ap (λ slot. slot.uses) (same.slots number)) used);
-    front = none_front more ids outcomes none numbers first;
     settled = settled_same places grown same out found count stored.settled;
   }
 

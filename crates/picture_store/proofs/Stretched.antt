@@ -4,19 +4,11 @@ use Rattle.std.specs.List.{zip}
 use Rattle.std.proofs.lemmas.List.{take_all, length-append, length-take-le, length-drop}
 use Rattle.outcomes.specs.declared.outcome.Outcome.{Outcome}
 use Rattle.picture_keys.specs.Known.{known_after, keys_after, keys_of}
-use Rattle.picture_keys.specs.Numbered.{AllStandFor, AreNumbered}
-use Rattle.picture_keys.specs.Following.{UnitNumbers, Follow}
+use Rattle.picture_keys.specs.Numbered.{AllStandFor}
 use Rattle.picture_store.specs.declared.stretch.Stretch.{Stretch}
-use Rattle.picture_store.specs.declared.front.Front.{Front}
 use Rattle.picture_store.specs.Stretches.{IsStretch, ids_with, outcomes_with}
-use Rattle.picture_store.specs.Fronts.{IsFront}
 use Rattle.picture_store.specs.Kept.{Trees}
-use Rattle.picture_store.proofs.Fronts.{zip_append, known_append, keys_append, stand_append, stand_front}
-
--- those before none stand for none
-pub none_front : (keys : Trees) (ids : List ℕ) (outcomes : List Outcome) (front : Front) → front.numbers ≡ []
-    → front.count ≡ 0 → IsFront keys ids outcomes front
-none_front keys ids outcomes front none first = rw (none, first) (λ id. refl)
+use Rattle.picture_store.proofs.Fronts.{zip_append, keys_append, stand_append, stand_front}
 
 module _ (ids : List ℕ) (outcomes : List Outcome) (same : length ids ≡ length outcomes) (stretch : Stretch)
     (is : IsStretch stretch ids) where
@@ -56,45 +48,20 @@ module _ (ids : List ℕ) (outcomes : List Outcome) (same : length ids ≡ lengt
       ∙ ap (λ later. zip (take stretch.from ids) (take stretch.from outcomes) ++ later)
       (zip_append stretch.ids.items (drop stretch.to ids) stretch.outcomes.items (drop stretch.to outcomes) is.same)))
 
-  module _ (keys : Trees) (found : List (Option ℕ)) (stand : AllStandFor keys found (keys_of (zip ids outcomes)))
-      (units : UnitNumbers)
-      (follow : Follow keys (known_after [] (zip (take stretch.from ids) (take stretch.from outcomes)))
-      (zip stretch.ids.items stretch.outcomes.items ++ zip (drop stretch.to ids) (drop stretch.to outcomes)) units) where
-    -- the numbers stand for the keys of its units
-    pub stand_with : (all : List (Option ℕ)) → all ≡ take stretch.from found ++ units.found
-        → AllStandFor keys all (keys_of (zip (ids_with stretch ids) (outcomes_with stretch outcomes)))
-    stand_with all all_is =
-        rw (
-          all_is,
-          units_with,
-          keys_append [] (zip (take stretch.from ids) (take stretch.from outcomes))
-              (zip stretch.ids.items stretch.outcomes.items ++ zip (drop stretch.to ids) (drop stretch.to outcomes)),
-        )
-        (stand_append keys (take stretch.from found) units.found
-        (keys_of (zip (take stretch.from ids) (take stretch.from outcomes)))
-        (keys_after (known_after [] (zip (take stretch.from ids) (take stretch.from outcomes)))
-        (zip stretch.ids.items stretch.outcomes.items ++ zip (drop stretch.to ids) (drop stretch.to outcomes)))
-        (stand_front keys [] stretch.from found ids outcomes stand) follow.stand)
-
-    -- and by the units' ids
-    pub numbered_with : AreNumbered keys units.numbers
-        (known_after [] (zip (ids_with stretch ids) (outcomes_with stretch outcomes)))
-    numbered_with =
-        rw (
-          units_with,
-          known_append [] (zip (take stretch.from ids) (take stretch.from outcomes))
-              (zip stretch.ids.items stretch.outcomes.items ++ zip (drop stretch.to ids) (drop stretch.to outcomes)),
-        ) follow.numbered
-
-    -- so they are those of all of them
-    pub front_with : (new_ids : List ℕ) (new_outcomes : List Outcome) (front : Front)
-        → new_ids ≡ ids_with stretch ids → new_outcomes ≡ outcomes_with stretch outcomes
-        → front.numbers ≡ units.numbers → front.count ≡ length new_ids → IsFront keys new_ids new_outcomes front
-    front_with new_ids new_outcomes front ids_are outcomes_are numbers count =
-        rw (
-          numbers,
-          take_all front.count new_ids (omega (arith, count)),
-          take_all front.count new_outcomes (omega (arith, count, ap length ids_are, same_with, ap length outcomes_are)),
-          ids_are,
-          outcomes_are,
-        ) numbered_with
+  -- the numbers stand for the keys of its units
+  pub stand_with : (keys : Trees) (found later : List (Option ℕ)) → AllStandFor keys found (keys_of (zip ids outcomes))
+      → AllStandFor keys later
+      (keys_after (known_after [] (zip (take stretch.from ids) (take stretch.from outcomes)))
+      (zip stretch.ids.items stretch.outcomes.items ++ zip (drop stretch.to ids) (drop stretch.to outcomes)))
+      → AllStandFor keys (take stretch.from found ++ later) (keys_of (zip (ids_with stretch ids) (outcomes_with stretch outcomes)))
+  stand_with keys found later stand anew =
+      rw (
+        units_with,
+        keys_append [] (zip (take stretch.from ids) (take stretch.from outcomes))
+            (zip stretch.ids.items stretch.outcomes.items ++ zip (drop stretch.to ids) (drop stretch.to outcomes)),
+      )
+      (stand_append keys (take stretch.from found) later
+      (keys_of (zip (take stretch.from ids) (take stretch.from outcomes)))
+      (keys_after (known_after [] (zip (take stretch.from ids) (take stretch.from outcomes)))
+      (zip stretch.ids.items stretch.outcomes.items ++ zip (drop stretch.to ids) (drop stretch.to outcomes)))
+      (stand_front keys [] stretch.from found ids outcomes stand) anew)

@@ -10,6 +10,6 @@ pub mod Filling
 pub mod Due
 pub mod Settled
 pub mod Stretches
-pub mod Fronts
+pub mod Needs
 pub mod Inputs
 pub mod Showing

@@ -9,8 +9,6 @@ use Rattle.picture_store.specs.declared.job_out.JobOut.{JobOut}
 use Rattle.picture_store.specs.Places.{PlacesValue}
 use Rattle.picture_store.specs.Kept.{Trees, numbers_out, IsKept}
 use Rattle.picture_store.specs.Due.{IsHeld}
-use Rattle.picture_store.specs.declared.front.Front.{Front}
-use Rattle.picture_store.specs.Fronts.{IsFront}
 
 -- the unit of this number needs no job: it has no key, or the picture of its key is held or that of a job that is out
 abbrev pub NeedsNone : PlacesValue → List JobOut → Option ℕ → Type 0
@@ -21,11 +19,10 @@ abbrev pub AreSettled : PlacesValue → List JobOut → List (Option ℕ) → �
 AreSettled places out found count = (count ≤ length found) × All (NeedsNone places out) (take count found)
 
 -- what is stored: what is kept of the stream, where each place counts the units that use its key and no key in use is cached;
--- the numbers of the keys of its first units by their ids; and how many units are known to need no job
+-- and how many units are known to need no job
 pub record IsStored (keys : Trees) (ids : List ℕ) (outcomes : List Outcome) (found : List (Option ℕ))
-    (places : PlacesValue) (cached : List (ℕ × Picture)) (out : List JobOut) (first : Front) (count : ℕ) : Type 0 where
+    (places : PlacesValue) (cached : List (ℕ × Picture)) (out : List JobOut) (count : ℕ) : Type 0 where
   pub kept : IsKept keys ids outcomes found places cached out
   pub counted : (number : ℕ) → uses_at places number ≡ times number found
   pub apart : (number : ℕ) → 0 < uses_at places number → Contains (numbers_of cached) number → ⊥
-  pub front : IsFront keys ids outcomes first
   pub settled : AreSettled places out found count

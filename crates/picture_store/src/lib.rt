@@ -2,14 +2,14 @@
 //! the jobs that are out.
 //!
 //! `PictureStore` knows a stream by its units' ids and what becomes of each. `refit` takes a stretch of it that changed,
-//! and finds the keys of its units and of those behind it: a picture whose key stays in use stays held. `take` gives the job of the earliest picture that can be decoded, `land` takes its
-//! result, late or twice, `give_back` the job undone, and `picture` shows what is held. Below are picture_keys, which
-//! gives keys their numbers, and picture_cache; above is the session.
+//! and finds the keys of its units and of those behind it whose keys may have changed with it: a picture whose key stays in
+//! use stays held. `take` gives the job of the earliest picture that can be decoded, `land` takes its result, late or twice,
+//! `give_back` the job undone, and `picture` shows what is held. Below are picture_keys, which gives keys their numbers, and
+//! picture_cache; above is the session.
 #![tactic(auto)]
 
 mod answers;
 mod due;
-mod front;
 mod inputs;
 mod job_out;
 mod naming;

@@ -1,25 +1,28 @@
 //! The keys of a changed stream.
 
-ghost use Rattle.std.specs.Prelude.{◌≡◌, ℕ, ◌+◌, ◌≤◌, List, [], ◌++◌, drop, length, take, vec_len, IfOk, OnOk, Contains, Some};
+ghost use Rattle.std.specs.Prelude.{◌≡◌, ℕ, ◌+◌, ◌≤◌, List, [], ◌++◌, ◌⊎◌, All, drop, length, take, vec_len, IfOk, OnOk, IsTrue, Contains, Some};
 ghost use Rattle.std.specs.Vec.{vec_capacity};
 ghost use Rattle.std.specs.List.{zip};
 ghost use Rattle.dep_keys.specs.KeyMaps.{Extends, IsKeyMap};
 ghost use Rattle.outcomes.specs.declared.outcome.Outcome.{Outcome as Becomes};
-ghost use Rattle.picture_keys.specs.Known.{Known, keys_of, known_after};
-ghost use Rattle.picture_keys.specs.Numbered.{AllStandFor, AreNumbered};
+ghost use Rattle.picture_keys.specs.Known.{Known, keys_after, keys_of, known_after};
+ghost use Rattle.picture_keys.specs.Numbered.{AllStandFor, number_at, numbers_over};
 ghost use Rattle.picture_keys.specs.Following.{AreNumberedSome, Follow};
 ghost use Rattle.key_places.specs.Counting.{times, times_in};
 ghost use Rattle.picture_store.specs.Kept.{numbers_out, IsStored, KeepsStored};
+ghost use Rattle.picture_store.specs.Needs.{AgreeAt, TellNeeds, between};
 ghost use Rattle.picture_store.specs.Stretches.{IsStretch};
 
 use crate::job_out::JobOut;
 use crate::stretch::Stretch;
 use base_types::Shared;
+use checkpoints::Checkpoints;
 use dep_keys::{Fingerprint, KeyId, Keys};
 use outcomes::Outcome;
 use picture_cache::PictureCache;
 use picture_keys::{KeyNumbers, UnitKeys, Works};
-use pictures::AuId;
+use pictures::{AuId, Frame};
+use request_core::State;
 use stand_in_device::Picture;
 use std::alloc::{AllocError, Global};
 
@@ -38,14 +41,14 @@ pub fn numbers_of<F: Fingerprint<Works>>(
 {
     let mut units = UnitKeys::after(alloc, KeyNumbers::new(alloc));
     go_over(alloc, keys, &mut units, ids, outcomes)?;
-    Ok(units.into_parts().1)
+    Ok(units.into_found())
 }
 
 /// Goes over units more.
 fn go_over<F: Fingerprint<Works>>(
     alloc: Global,
     keys: &mut Keys<Works, F>,
-    units: &mut UnitKeys,
+    units: &mut UnitKeys<'_>,
     ids: &[AuId],
     outcomes: &[Shared<Outcome>],
 ) -> Result<(), AllocError>
@@ -64,38 +67,126 @@ fn go_over<F: Fingerprint<Works>>(
     Ok(())
 }
 
-/// The numbers of the keys of a stretch's units and of those behind it, and by their ids of all units of the stream with
-/// the stretch. Those of the units in front of it are as before.
+/// What is kept of the units of a stream, column by column: their ids, what becomes of them, and the numbers of their keys.
+#[derive(Clone, Copy, Debug)]
+struct Columns<'a> {
+    ids: &'a [AuId],
+    outcomes: &'a [Shared<Outcome>],
+    found: &'a [Option<KeyId>],
+}
+
+impl<'a> Columns<'a> {
+    /// The numbers of the keys of so many units, from the first on.
+    fn numbers_up_to(&self, alloc: Global, count: usize) -> KeyNumbers<'a>
+        requires ids { count ≤ length self.now.ids.now }
+        requires found { count ≤ length self.now.found.now }
+        ensures { result
+            ≡ numbers_over [] (take count self.now.ids.now) (take count self.now.found.now) }
+    {
+        KeyNumbers::over(alloc, &self.ids[..count], &self.found[..count])
+    }
+}
+
+/// The numbers of the keys of a stretch's units and of as many behind it as may have others than before, and the place
+/// behind these, from which on all keys stay.
 pub(crate) fn keys_from<F: Fingerprint<Works>>(
     alloc: Global,
     keys: &mut Keys<Works, F>,
-    numbers: KeyNumbers,
     ids: &[AuId],
     outcomes: &[Shared<Outcome>],
+    found: &[Option<KeyId>],
+    states: &Checkpoints<State>,
     stretch: &Stretch,
-) -> Result<(KeyNumbers, Vec<Option<KeyId>>), AllocError>
+) -> Result<(usize, Vec<Option<KeyId>>), AllocError>
     requires stretch { IsStretch stretch.now ids.now }
     requires same { length ids.now ≡ length outcomes.now }
-    requires numbered { AreNumbered keys.old numbers
-        (known_after [] (zip (take stretch.now.from ids.now) (take stretch.now.from outcomes.now))) }
+    requires stand { AllStandFor keys.old found.now (keys_of (zip ids.now outcomes.now)) }
+    requires told { TellNeeds states.now.states ids.now outcomes.now }
     ensures stay { Extends keys.old keys.new }
     ensures one { IsKeyMap keys.old → IsKeyMap keys.new }
-    ensures ok { IfOk result (λ made. Follow keys.new
-        (known_after [] (zip (take stretch.now.from ids.now) (take stretch.now.from outcomes.now)))
+    ensures behind { IfOk result (λ made. (stretch.now.to ≤ made.0) × (made.0 ≤ length ids.now)) }
+    ensures stand { IfOk result (λ made. AllStandFor keys.new
+        (made.1.items ++ drop made.0 found.now)
+        (keys_after (known_after []
+        (zip (take stretch.now.from ids.now) (take stretch.now.from outcomes.now)))
         (zip stretch.now.ids.items stretch.now.outcomes.items
-        ++ zip (drop stretch.now.to ids.now) (drop stretch.now.to outcomes.now))
-        (record { numbers = made.0; found = made.1.items })) }
+        ++ zip (drop stretch.now.to ids.now) (drop stretch.now.to outcomes.now)))) }
 {
-    let mut units = UnitKeys::after(alloc, numbers);
-    go_over(alloc, keys, &mut units, &stretch.ids, &stretch.outcomes)?;
-    go_over(
-        alloc,
-        keys,
-        &mut units,
-        &ids[stretch.to..],
-        &outcomes[stretch.to..],
-    )?;
-    Ok(units.into_parts())
+    let units = Columns {
+        ids,
+        outcomes,
+        found,
+    };
+    let mut after = UnitKeys::after(alloc, units.numbers_up_to(alloc, stretch.from));
+    go_over(alloc, keys, &mut after, &stretch.ids, &stretch.outcomes)?;
+    let past = go_on(alloc, keys, &mut after, &units, states, stretch.to)?;
+    Ok((past, after.into_found()))
+}
+
+/// Goes over the units from a place on up to where the keys of those behind stay, and gives that place.
+fn go_on<F: Fingerprint<Works>>(
+    alloc: Global,
+    keys: &mut Keys<Works, F>,
+    after: &mut UnitKeys<'_>,
+    units: &Columns<'_>,
+    states: &Checkpoints<State>,
+    to: usize,
+) -> Result<usize, AllocError>
+    requires within { to ≤ length units.now.ids.now }
+    requires outcomes { length units.now.ids.now ≡ length units.now.outcomes.now }
+    requires found { length units.now.ids.now ≡ length units.now.found.now }
+    requires some { AreNumberedSome keys.old after.old.numbers }
+    ensures stay { Extends keys.old keys.new }
+    ensures one { IsKeyMap keys.old → IsKeyMap keys.new }
+    ensures behind { IfOk result (λ past. (to ≤ past) × (past ≤ length units.now.ids.now)) }
+    ensures ok { IfOk result (λ past. (known : Known) (before : List (ℕ × Becomes))
+        → Follow keys.old known before after.old
+        → Follow keys.new known
+        (before ++ between to past units.now.ids.now units.now.outcomes.now) after.new) }
+    ensures agree { IfOk result (λ past. (past ≡ length units.now.ids.now)
+        ⊎ AgreeAt states.now.states past
+        (numbers_over [] (take past units.now.ids.now) (take past units.now.found.now))
+        after.new.numbers) }
+{
+    for at in to..units.ids.len() {
+        if agree_at(alloc, states, at, units, after.numbers()) {
+            return Ok(at);
+        }
+        after.add(alloc, keys, units.ids[at], &units.outcomes[at])?;
+    }
+    Ok(units.ids.len())
+}
+
+/// Whether a state is stored at a place, and the keys of all frames that are marked there have the numbers that they had.
+fn agree_at(
+    alloc: Global,
+    states: &Checkpoints<State>,
+    at: usize,
+    units: &Columns<'_>,
+    after: &KeyNumbers<'_>,
+) -> bool
+    requires ids { at ≤ length units.now.ids.now }
+    requires found { at ≤ length units.now.found.now }
+    ensures { IsTrue result → AgreeAt states.now.states at
+        (numbers_over [] (take at units.now.ids.now) (take at units.now.found.now)) after.now }
+{
+    match states.get(at) {
+        Some(state) => agree_on(state.frames(), &units.numbers_up_to(alloc, at), after),
+        None => false,
+    }
+}
+
+/// Whether the keys of frames have the same numbers in both.
+fn agree_on(frames: &[Frame], before: &KeyNumbers<'_>, after: &KeyNumbers<'_>) -> bool
+    ensures { IsTrue result → All (λ frame. number_at before.now frame.id
+        ≡ number_at after.now frame.id) frames.now }
+{
+    for frame in frames {
+        if before.get(frame.id) != after.get(frame.id) {
+            return false;
+        }
+    }
+    true
 }
 
 /// Makes room for so many units more.

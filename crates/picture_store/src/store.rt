@@ -11,11 +11,11 @@ ghost use Rattle.picture_store.specs.Jobs.{AnswersGiveBack, AnswersLand, TellsTa
 ghost use Rattle.key_places.specs.Places.{uses_at};
 ghost use Rattle.picture_store.specs.Filling.{IsFilled};
 ghost use Rattle.picture_store.specs.Showing.{IsNumberAt, IsPictureAt};
+ghost use Rattle.picture_store.specs.Needs.{TellNeeds};
 ghost use Rattle.picture_store.specs.Stretches.{IsStretch, ids_with, outcomes_with};
 
 use crate::answers::{JobAt, Landing, Returning};
 use crate::due::{first_due, first_to_do, is_awaited};
-use crate::front::Front;
 use crate::inputs::input_of;
 use crate::job_out::{JobOut, place_of};
 use crate::naming::references_of;
@@ -24,29 +24,28 @@ use crate::refitting::{keys_from, make_room, sweep};
 use crate::refusals::TakeRefused;
 use crate::stretch::Stretch;
 use base_types::Shared;
+use checkpoints::Checkpoints;
 use dep_keys::{KeyId, Keys, Sha256Fingerprint};
 use key_places::Places;
 use outcomes::Outcome;
 use picture_cache::PictureCache;
 use picture_keys::Works;
 use pictures::AuId;
+use request_core::State;
 use stand_in_device::{Finished, Input, Job, Picture};
 use std::alloc::{AllocError, Global};
 use std::marker::Model;
-use std::mem::replace;
 use vec_ranges::replace_range;
 
 /// The pictures of a stream's units. Clauses see the units, each with its id and what becomes of it; the keys whose
 /// pictures are held, and those whose pictures are cached after they went out of use; and the jobs that are out.
-#[derive(Debug, Drop)]
+#[derive(Debug)]
 pub struct PictureStore {
     alloc: Global,
     keys: Keys<Works, Sha256Fingerprint>,
     ids: Vec<AuId>,
     outcomes: Vec<Shared<Outcome>>,
     found: Vec<Option<KeyId>>,
-    // The numbers of the keys of the first units, of all where the last change wanted no memory.
-    front: Front,
     // How many keys there are where it is time to forget those that aren't needed.
     enough: usize,
     places: Places<Picture>,
@@ -55,6 +54,25 @@ pub struct PictureStore {
     given: u64,
     // How many units, from the first on, are known to need no job.
     settled: usize,
+}
+
+// By hand, so that whoever drops one is proved over one call.
+impl Drop for PictureStore {
+    fn drop(self) {
+        let PictureStore {
+            alloc: _,
+            keys: _,
+            ids: _,
+            outcomes: _,
+            found: _,
+            enough: _,
+            places: _,
+            cache: _,
+            out: _,
+            given: _,
+            settled: _,
+        } = self;
+    }
 }
 
 impl Model for PictureStore {
@@ -84,7 +102,7 @@ impl Model for PictureStore {
     } };
 
     ghost invariant = { λ s. IsStored s.keys s.ids.items s.outcomes.items s.found.items s.places s.cache.pairs s.out.items
-        s.front s.settled };
+        s.settled };
 }
 
 impl PictureStore {
@@ -100,7 +118,6 @@ impl PictureStore {
             ids: Vec::new(alloc),
             outcomes: Vec::new(alloc),
             found: Vec::new(alloc),
-            front: Front::none(alloc),
             enough: 0,
             places: Places::new(alloc),
             cache: PictureCache::new(alloc, room)?,
@@ -129,34 +146,34 @@ impl PictureStore {
     /// goes out of use is cached only where memory is found for it.
     ///
     /// The keys of the units in front of the stretch stay as they are; those of its units and of the units behind it are
-    /// found anew, as pictures refer to earlier ones.
-    pub fn refit(&mut self, stretch: Stretch) -> Result<(), AllocError>
+    /// found anew, as pictures refer to earlier ones, up to the first place at which a state of the stream as it was is
+    /// stored and the keys of all frames that it marks are what they were: from there on they stay too.
+    pub fn refit(&mut self, stretch: Stretch, states: &Checkpoints<State>) -> Result<(), AllocError>
         requires stretch { IsStretch stretch self.old.ids }
         requires decodable { AllCanDecode []
             (zip (ids_with stretch self.old.ids) (outcomes_with stretch self.old.outcomes)) }
+        requires told { TellNeeds states.now.states self.old.ids self.old.outcomes }
         ensures ok { OnOk result (Refits self.old (ids_with stretch self.old.ids)
             (outcomes_with stretch self.old.outcomes) self.new) }
         ensures err { OnErr result (self.new ≡ self.old) }
     {
         self.sweep()?;
         make_room(&mut self.ids, &mut self.outcomes, stretch.ids.len())?;
-        let front = replace(&mut self.front, Front::none(self.alloc));
-        let numbers = front.up_to(self.alloc, stretch.from, &self.ids, &self.found)?;
-        let (numbers, later) = keys_from(
+        let (past, later) = keys_from(
             self.alloc,
             &mut self.keys,
-            numbers,
             &self.ids,
             &self.outcomes,
+            &self.found,
+            states,
             &stretch,
         )?;
-        let end = self.found.len();
         let leaving = make_ready(
             self.alloc,
             &mut self.found,
             &mut self.places,
             stretch.from,
-            end,
+            past,
             &later,
         )?;
         recount(&mut self.places, &mut self.cache, &later, &leaving);
@@ -168,11 +185,7 @@ impl PictureStore {
         } = stretch;
         replace_range(&mut self.ids, from, to, ids);
         replace_range(&mut self.outcomes, from, to, outcomes);
-        replace_range(&mut self.found, from, end, later);
-        self.front = Front {
-            numbers,
-            count: self.ids.len(),
-        };
+        replace_range(&mut self.found, from, past, later);
         self.settled = 0;
         Ok(())
     }
@@ -184,7 +197,6 @@ impl PictureStore {
         if self.keys.len() < self.enough {
             return Ok(());
         }
-        self.front = Front::none(self.alloc);
         sweep(
             self.alloc,
             &mut self.keys,

@@ -36,11 +36,11 @@ keys_after-append known (unit ∷ units) others =
     (keys_after-append (known_with known unit.0 (key_of_outcome known unit.1)) units others)
 
 -- after units from one state: the keys, and those of the frames that are marked then
-record IsAlikeOver (known other : Known) (state : FoldState) (units : Stream) : Type 0 where
-  keys : keys_after known (becoming_from state units) ≡ keys_after other (becoming_from state units)
-  frames : AreAlike (known_after known (becoming_from state units)) (known_after other (becoming_from state units)) (state_from state units).marks.frames
+pub record IsAlikeOver (known other : Known) (state : FoldState) (units : Stream) : Type 0 where
+  pub keys : keys_after known (becoming_from state units) ≡ keys_after other (becoming_from state units)
+  pub frames : AreAlike (known_after known (becoming_from state units)) (known_after other (becoming_from state units)) (state_from state units).marks.frames
 
-alike_over : (known other : Known) (state : FoldState) (units : Stream) → AreAlike known other state.marks.frames → IsAlikeOver known other state units
+pub alike_over : (known other : Known) (state : FoldState) (units : Stream) → AreAlike known other state.marks.frames → IsAlikeOver known other state units
 alike_over known other state [] all = record { keys = refl; frames = all }
 alike_over known other state (unit ∷ units) all =
     let step = fold_step state unit.0 unit.1 in

@@ -12,3 +12,4 @@ pub mod Decodable
 pub mod AlikeKeys
 pub mod AlikeSteps
 pub mod Agreement
+pub mod LaterUnits

@@ -15,11 +15,6 @@ returns-in-Err g c =
     (subst (λ (parts : List (List (List ℕ))). InsertsAll (length c.args.units.items) c.loop-unit.seat parts (string_bytes lines) after)
     (sym c.in-Some.ensures.steps.0) (inr (c.in-Err.refused, c.in-Err.ensures, same)))) c.to_string.ensures.ok
 
-pub loop-unit-preserved-in_default : goal.loop-unit-preserved-in_default
-loop-unit-preserved-in_default g c = λ lines new rest. c.loop-unit.invariant lines new
-    (subst (λ (parts : List (List (List ℕ))). InsertsAll (length c.args.units.items) c.loop-unit.seat parts lines new)
-    (sym c.in-Some.ensures.steps.0) (inl (c.in_default.field-0, c.insert_last.new.seat, c.in_default.ensures, rest)))
-
 pub loop-unit-preserved : goal.loop-unit-preserved
 loop-unit-preserved g c = λ lines new rest. c.loop-unit.invariant lines new
     (subst (λ (parts : List (List (List ℕ))). InsertsAll (length c.args.units.items) c.loop-unit.seat parts lines new)

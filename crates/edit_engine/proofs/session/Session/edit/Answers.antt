@@ -3,7 +3,7 @@ use Rattle.std.proofs.lemmas.Result.{err_from_is_err_and}
 use Rattle.stream_edits.specs.declared.edits.Edit.{Edit}
 use Rattle.stream_edits.proofs.Edited.{TakesMemory-for}
 use Rattle.stream_fold.specs.Prepared.{change_in}
-use Rattle.edit_engine.proofs.Stored.{stretch-prepared, decodable-prepared, IsKept-after, Edits-after}
+use Rattle.edit_engine.proofs.Stored.{needs-told, stretch-prepared, decodable-prepared, IsKept-after, Edits-after}
 use Rattle.edit_engine.proofs.session.Session.edit.Goals as goal
 
 pub returns-in_err-reserve : goal.returns-in_err-reserve
@@ -27,6 +27,13 @@ refit-requires-clause-decodable c =
     let s = c.self.inside in
     decodable-prepared s.journal.items (record { given = s.given; stream = s.ordered.folded.stream }) s.store c.args.edit
     c.prepare.new.ordered c.in_ok-prepared.prepared c.self.invariant c.in_ok-prepared.ensures.ok
+
+pub refit-requires-clause-told : goal.refit-requires-clause-told
+refit-requires-clause-told c =
+    let s = c.self.inside in
+    let past = rw (c.prepare.ensures.kept) at c.states.ensures.past in
+    needs-told s.journal.items (record { given = s.given; stream = s.ordered.folded.stream }) s.store
+    c.states.result.now.states c.self.invariant past
 
 pub returns-in_err-refit : goal.returns-in_err-refit
 returns-in_err-refit c =

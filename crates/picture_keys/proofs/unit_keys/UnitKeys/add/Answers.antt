@@ -1,4 +1,3 @@
-use Rattle.std.proofs.Common.{[], ◌∷◌, ◌++◌}
 use Rattle.picture_keys.specs.Known.{key_of_outcome, known_after, known_with}
 use Rattle.picture_keys.proofs.Following.{follow_with}
 use Rattle.picture_keys.proofs.unit_keys.UnitKeys.add.Goals as goal

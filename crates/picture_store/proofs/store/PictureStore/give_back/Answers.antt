@@ -13,7 +13,6 @@ invariant_of-self c =
           c.self.inside.places c.self.inside.cache.pairs c.self.inside.out.items c.self.invariant.kept c.in-Some.at;
       counted = c.self.invariant.counted;
       apart = c.self.invariant.apart;
-      front = c.self.invariant.front;
       settled = none_settled c.self.inside.places _ c.self.inside.found.items;
     })
 

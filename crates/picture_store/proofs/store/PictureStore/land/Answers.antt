@@ -21,7 +21,6 @@ invariant_of-self c =
           c.fill.result c.fill.new.places c.remove-job.new.self.items c.remove-job.ensures.items filled;
       counted = λ number. c.fill.ensures.uses number ∙ c.self.invariant.counted number;
       apart = λ number used. c.self.invariant.apart number (subst (λ n. 0 < n) (c.fill.ensures.uses number) used);
-      front = c.self.invariant.front;
       settled =
           settled_landed s.keys s.ids.items s.outcomes.items s.found.items s.places s.cache.pairs s.out.items
           c.self.invariant.kept c.in-Some.at c.remove-job.result c.remove-job.ensures.value _ c.fill.result c.fill.new.places

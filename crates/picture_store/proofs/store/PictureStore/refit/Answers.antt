@@ -1,10 +1,11 @@
-use Rattle.std.proofs.Common.{◌≡◌, ◌∙◌, ◌≤◌, ◌-◌, ap, ℕ, List, [], Option, ◌++◌, take, drop, subst, refl, arith}
-use Rattle.std.proofs.lemmas.List.{drop_all, append-nil}
+use Rattle.std.proofs.Common.{◌≡◌, ◌≤◌, ◌-◌, ap, ℕ, List, Option, ◌++◌, take, drop, length, refl, sym, subst, append_assoc, arith}
+use Rattle.std.specs.List.{zip}
 use Rattle.std.proofs.lemmas.List.Sums.{sum_by-take-le, sum_by-take-drop}
 use Rattle.key_places.specs.Counting.{once_at, times, times_in}
 use Rattle.key_places.specs.Places.{AreSame}
 use Rattle.key_places.proofs.Taking.{times_at_most}
-use Rattle.picture_keys.specs.Following.{UnitNumbers}
+use Rattle.picture_keys.specs.Known.{keys_of}
+use Rattle.picture_keys.specs.Numbered.{AllStandFor}
 use Rattle.picture_store.specs.Places.{PlacesValue}
 use Rattle.picture_store.specs.Recounts.{IsRecounted}
 use Rattle.picture_store.specs.Stores.{StoreValue}
@@ -13,7 +14,7 @@ use Rattle.picture_store.specs.Stretches.{IsStretch, ids_with, outcomes_with}
 use Rattle.picture_store.proofs.Viewed.{viewed, on_any_err}
 use Rattle.picture_store.proofs.Landed.{found_length}
 use Rattle.picture_store.proofs.Stays.{kept_stays, viewed_stays}
-use Rattle.picture_store.proofs.Stretched.{same_with, stand_with, front_with}
+use Rattle.picture_store.proofs.Stretched.{same_with, stand_with}
 use Rattle.picture_store.proofs.Refitted.{kept_after, refitted}
 use Rattle.picture_store.proofs.Settled.{none_settled}
 use Rattle.picture_store.proofs.Same.{stored_still, viewed_still}
@@ -23,48 +24,49 @@ use Rattle.picture_store.proofs.store.PictureStore.refit.Goals as goal
 same_self : (places : PlacesValue) → AreSame places places
 same_self places = record { slots = λ number. refl; held = refl }
 
-pub up_to-requires-clause-same : goal.up_to-requires-clause-same
-up_to-requires-clause-same c =
-    let s = c.self.inside in
-    rw (c.deref.ensures.value, c.deref-2.ensures.value, c.make_room.ensures.ids)
-    (found_length s.keys s.ids.items s.outcomes.items s.found.items s.places s.cache.pairs s.cache.capacity s.out.items s.given
-    c.self.invariant.kept)
+pub keys_from-requires-clause-stretch : goal.keys_from-requires-clause-stretch
+keys_from-requires-clause-stretch c =
+    let stretch = rw (← c.sweep.ensures, ← c.self.view_is) at c.requires.stretch in
+    rw (c.deref.ensures.value, c.make_room.ensures.ids) stretch
 
-pub keys_from-requires-clause-numbered : goal.keys_from-requires-clause-numbered
-keys_from-requires-clause-numbered c =
-    let s = c.self.inside in
-    let numbered = rw (c.deref.ensures.value, c.deref-2.ensures.value, c.make_room.ensures.ids) at c.in_ok-numbers.ensures in
-    rw (c.deref-3.ensures.value, c.deref-4.ensures.value, c.make_room.ensures.ids, c.make_room.ensures.outcomes)
-    (numbered s.keys s.outcomes.items c.self.invariant.kept.same c.self.invariant.kept.stand
-    (rw (c.replace-front.ensures.value) c.self.invariant.front))
+pub keys_from-requires-clause-stand : goal.keys_from-requires-clause-stand
+keys_from-requires-clause-stand c =
+    rw (c.deref.ensures.value, c.deref-2.ensures.value, c.deref-3.ensures.value, c.make_room.ensures.ids, c.make_room.ensures.outcomes)
+    c.self.invariant.kept.stand
 
-pub invariant_of-self-in_err-numbers-2 : goal.invariant_of-self-in_err-numbers-2
-invariant_of-self-in_err-numbers-2 c =
+pub keys_from-requires-clause-told : goal.keys_from-requires-clause-told
+keys_from-requires-clause-told c =
+    let told = rw (← c.sweep.ensures, ← c.self.view_is) at c.requires.told in
+    rw (c.deref.ensures.value, c.deref-2.ensures.value, c.make_room.ensures.ids, c.make_room.ensures.outcomes) told
+
+pub invariant_of-self-in_err-past : goal.invariant_of-self-in_err-past
+invariant_of-self-in_err-past c =
     let s = c.self.inside in
-    rw (c.make_room.ensures.ids, c.make_room.ensures.outcomes, c.replace-front.ensures.after)
+    rw (c.make_room.ensures.ids, c.make_room.ensures.outcomes)
     (stored_still s.keys c.keys_from.new.keys s.ids.items s.outcomes.items s.found.items s.places s.places s.cache.pairs s.out.items
-    s.front s.settled c.self.invariant (λ n k stored is. c.keys_from.ensures.stay n k is)
-    (c.keys_from.ensures.one c.self.invariant.kept.right.one) (same_self s.places) c.none.result c.none.ensures.numbers
-    c.none.ensures.count)
+    s.settled c.self.invariant (λ n k stored is. c.keys_from.ensures.stay n k is)
+    (c.keys_from.ensures.one c.self.invariant.kept.right.one) (same_self s.places))
 
-pub returns-in_err-numbers-2-clause-err : goal.returns-in_err-numbers-2-clause-err
-returns-in_err-numbers-2-clause-err c =
+pub returns-in_err-past-clause-err : goal.returns-in_err-past-clause-err
+returns-in_err-past-clause-err c =
     let s = c.self.inside in
-    on_any_err c.from_residual-in_err-numbers-2.result
+    on_any_err c.from_residual-in_err-past.result
     (rw (← c.sweep.ensures, ← c.self.view_is, c.make_room.ensures.ids, c.make_room.ensures.outcomes)
     (viewed_stays s.keys c.keys_from.new.keys s.ids.items s.outcomes.items s.found.items s.places s.cache.pairs s.out.items
     c.self.invariant.kept (λ n k stored is. c.keys_from.ensures.stay n k is) s.cache.capacity s.given))
 
 pub make_ready-requires-clause-ordered : goal.make_ready-requires-clause-ordered
 make_ready-requires-clause-ordered c =
+    let stretch : IsStretch c.args.stretch c.self.inside.ids.items = rw (← c.sweep.ensures, ← c.self.view_is) at c.requires.stretch in
+    omega (arith, stretch.ordered, c.in_ok-past.ensures.behind.0)
+
+pub make_ready-requires-clause-inside : goal.make_ready-requires-clause-inside
+make_ready-requires-clause-inside c =
     let s = c.self.inside in
-    let stretch : IsStretch c.args.stretch s.ids.items = rw (← c.sweep.ensures, ← c.self.view_is) at c.requires.stretch in
+    let behind = rw (c.deref.ensures.value, c.make_room.ensures.ids) at c.in_ok-past.ensures.behind in
     omega (
       arith,
-      stretch.ordered,
-      stretch.within,
-      c.len-end.ensures,
-      s.found.ok.0,
+      behind.1,
       found_length s.keys s.ids.items s.outcomes.items s.found.items s.places s.cache.pairs s.cache.capacity s.out.items s.given
           c.self.invariant.kept,
     )
@@ -72,11 +74,10 @@ make_ready-requires-clause-ordered c =
 pub invariant_of-self-in_err-leaving : goal.invariant_of-self-in_err-leaving
 invariant_of-self-in_err-leaving c =
     let s = c.self.inside in
-    rw (c.make_room.ensures.ids, c.make_room.ensures.outcomes, c.replace-front.ensures.after, c.make_ready.ensures.found)
+    rw (c.make_room.ensures.ids, c.make_room.ensures.outcomes, c.make_ready.ensures.found)
     (stored_still s.keys c.keys_from.new.keys s.ids.items s.outcomes.items s.found.items s.places c.make_ready.new.places
-    s.cache.pairs s.out.items s.front s.settled c.self.invariant (λ n k stored is. c.keys_from.ensures.stay n k is)
-    (c.keys_from.ensures.one c.self.invariant.kept.right.one) c.make_ready.ensures.same c.none.result c.none.ensures.numbers
-    c.none.ensures.count)
+    s.cache.pairs s.out.items s.settled c.self.invariant (λ n k stored is. c.keys_from.ensures.stay n k is)
+    (c.keys_from.ensures.one c.self.invariant.kept.right.one) c.make_ready.ensures.same)
 
 pub returns-in_err-leaving-clause-err : goal.returns-in_err-leaving-clause-err
 returns-in_err-leaving-clause-err c =
@@ -84,18 +85,18 @@ returns-in_err-leaving-clause-err c =
     on_any_err c.from_residual-in_err-leaving.result
     (rw (← c.sweep.ensures, ← c.self.view_is, c.make_room.ensures.ids, c.make_room.ensures.outcomes, c.make_ready.ensures.found)
     (viewed_still s.keys c.keys_from.new.keys s.ids.items s.outcomes.items s.found.items s.places c.make_ready.new.places
-    s.cache.pairs s.out.items s.front s.settled c.self.invariant (λ n k stored is. c.keys_from.ensures.stay n k is)
+    s.cache.pairs s.out.items s.settled c.self.invariant (λ n k stored is. c.keys_from.ensures.stay n k is)
     (c.keys_from.ensures.one c.self.invariant.kept.right.one) c.make_ready.ensures.same s.cache.capacity s.given))
 
 pub recount-requires-clause-room : goal.recount-requires-clause-room
 recount-requires-clause-room c =
-    rw (c.deref-6.ensures.value) (rw (c.deref-5.ensures.value) at c.in_ok-leaving.ensures.room)
+    rw (c.deref-5.ensures.value) (rw (c.deref-4.ensures.value) at c.in_ok-leaving.ensures.room)
 
 pub recount-requires-clause-fits : goal.recount-requires-clause-fits
 recount-requires-clause-fits c =
     let s = c.self.inside in
-    let later = c.in_ok-numbers-2.later in
-    rw (c.deref-6.ensures.value)
+    let later = c.in_ok-past.later in
+    rw (c.deref-5.ensures.value)
     (λ number.
     omega (
       arith,
@@ -112,12 +113,12 @@ pub recount-requires-clause-enough : goal.recount-requires-clause-enough
 recount-requires-clause-enough c =
     let s = c.self.inside in
     let from = c.args.stretch.from in
-    rw (c.deref-7.ensures.value)
+    rw (c.deref-6.ensures.value)
     (λ number.
     omega (
       arith,
       c.in_ok-leaving.ensures.counted number,
-      sum_by-take-le (once_at number) (drop from s.found.items) (c.len-end.result - from),
+      sum_by-take-le (once_at number) (drop from s.found.items) (c.in_ok-past.past - from),
       sum_by-take-drop (once_at number) s.found.items from,
       ap (λ slot. slot.uses) (c.make_ready.ensures.same.slots number),
       c.self.invariant.counted number,
@@ -125,14 +126,18 @@ recount-requires-clause-enough c =
 
 pub replace_range-requires-3-clause-ordered : goal.replace_range-requires-3-clause-ordered
 replace_range-requires-3-clause-ordered c =
+    let stretch : IsStretch c.args.stretch c.self.inside.ids.items = rw (← c.sweep.ensures, ← c.self.view_is) at c.requires.stretch in
+    omega (arith, stretch.ordered, c.in_ok-past.ensures.behind.0)
+
+pub replace_range-requires-3-clause-inside : goal.replace_range-requires-3-clause-inside
+replace_range-requires-3-clause-inside c =
     let s = c.self.inside in
-    let stretch : IsStretch c.args.stretch s.ids.items = rw (← c.sweep.ensures, ← c.self.view_is) at c.requires.stretch in
+    let behind = rw (c.deref.ensures.value, c.make_room.ensures.ids) at c.in_ok-past.ensures.behind in
     omega (
       arith,
-      stretch.ordered,
-      stretch.within,
-      c.len-end.ensures,
-      s.found.ok.0,
+      behind.1,
+      ap length c.make_ready.ensures.found,
+      c.make_ready.new.found.ok.0,
       found_length s.keys s.ids.items s.outcomes.items s.found.items s.places s.cache.pairs s.cache.capacity s.out.items s.given
           c.self.invariant.kept,
     )
@@ -148,36 +153,30 @@ invariant_of-self-2 c =
     kept_stays s.keys c.keys_from.new.keys s.ids.items s.outcomes.items s.found.items s.places s.cache.pairs s.out.items
     c.self.invariant.kept (λ n k stored is. c.keys_from.ensures.stay n k is)
     (c.keys_from.ensures.one c.self.invariant.kept.right.one) in
-    let units : UnitNumbers = record { numbers = c.in_ok-numbers-2.numbers; found = c.in_ok-numbers-2.later.items } in
-    let follow =
-    rw (c.deref-3.ensures.value, c.deref-4.ensures.value, c.make_room.ensures.ids, c.make_room.ensures.outcomes) at
-    c.in_ok-numbers-2.ensures.ok in
-    let later = c.in_ok-numbers-2.later in
-    let end = c.len-end.result in
-    let ordered : c.args.stretch.from ≤ end =
-    omega (
-      arith,
-      stretch.ordered,
-      stretch.within,
-      c.len-end.ensures,
-      s.found.ok.0,
-      found_length c.keys_from.new.keys ids outcomes s.found.items s.places s.cache.pairs s.cache.capacity s.out.items s.given kept,
-    ) in
-    let found : List (Option ℕ) = take c.args.stretch.from s.found.items ++ later.items ++ drop end s.found.items in
-    let none : drop end s.found.items ≡ [] = drop_all end s.found.items (omega (arith, c.len-end.ensures, s.found.ok.0)) in
-    let found_is : found ≡ take c.args.stretch.from s.found.items ++ later.items =
-    ap (λ rest. take c.args.stretch.from s.found.items ++ later.items ++ rest) none
-    ∙ append-nil (take c.args.stretch.from s.found.items ++ later.items) in
-    let stand =
-    stand_with ids outcomes kept.same c.args.stretch stretch c.keys_from.new.keys s.found.items kept.stand units follow
-    found found_is in
-    let leave : (number : ℕ) → times_in number c.deref-7.result.now
-    ≡ times number (take (end - c.args.stretch.from) (drop c.args.stretch.from s.found.items)) =
-    rw (c.deref-7.ensures.value) c.in_ok-leaving.ensures.counted in
-    let counted = rw (c.deref-6.ensures.value) at
+    let later = c.in_ok-past.later in
+    let past = c.in_ok-past.past in
+    let anew =
+    rw (
+      c.deref.ensures.value,
+      c.deref-2.ensures.value,
+      c.deref-3.ensures.value,
+      c.make_room.ensures.ids,
+      c.make_room.ensures.outcomes,
+    ) at c.in_ok-past.ensures.stand in
+    let ordered : c.args.stretch.from ≤ past = omega (arith, stretch.ordered, c.in_ok-past.ensures.behind.0) in
+    let found : List (Option ℕ) = take c.args.stretch.from s.found.items ++ later.items ++ drop past s.found.items in
+    let stand : AllStandFor c.keys_from.new.keys found (keys_of (zip (ids_with c.args.stretch ids) (outcomes_with c.args.stretch outcomes))) =
+    subst (λ all. AllStandFor c.keys_from.new.keys all (keys_of (zip (ids_with c.args.stretch ids) (outcomes_with c.args.stretch outcomes))))
+    (sym (append_assoc (take c.args.stretch.from s.found.items) later.items (drop past s.found.items)))
+    (stand_with ids outcomes kept.same c.args.stretch stretch c.keys_from.new.keys s.found.items
+    (later.items ++ drop past s.found.items) kept.stand anew) in
+    let leave : (number : ℕ) → times_in number c.deref-6.result.now
+    ≡ times number (take (past - c.args.stretch.from) (drop c.args.stretch.from s.found.items)) =
+    rw (c.deref-6.ensures.value) c.in_ok-leaving.ensures.counted in
+    let counted = rw (c.deref-5.ensures.value) at
     c.recount.ensures.recounted (take c.args.stretch.from s.found.items)
-    (take (end - c.args.stretch.from) (drop c.args.stretch.from s.found.items)) (drop end s.found.items)
-    (countable s.places c.make_ready.new.places s.cache.pairs s.found.items c.args.stretch.from end c.deref-7.result.now ordered
+    (take (past - c.args.stretch.from) (drop c.args.stretch.from s.found.items)) (drop past s.found.items)
+    (countable s.places c.make_ready.new.places s.cache.pairs s.found.items c.args.stretch.from past c.deref-6.result.now ordered
     c.make_ready.ensures.same c.self.invariant.counted c.self.invariant.apart leave) in
     let recounted : IsRecounted s.places s.cache.pairs s.cache.capacity found c.recount.new.places c.recount.new.cache.pairs =
     recounted_same s.places c.make_ready.new.places s.cache.pairs s.cache.capacity found c.recount.new.places
@@ -197,10 +196,6 @@ invariant_of-self-2 c =
           (same_with ids outcomes kept.same c.args.stretch stretch) decodable);
       counted = rw (found_are) recounted.counted;
       apart = recounted.apart;
-      front =
-          front_with ids outcomes kept.same c.args.stretch stretch c.keys_from.new.keys s.found.items kept.stand units
-          follow c.replace_range.new.items.items c.replace_range-2.new.items.items _ ids_are outcomes_are refl
-          (omega (arith, c.len-2.ensures, c.replace_range.new.items.ok.0));
       settled = none_settled c.recount.new.places s.out.items c.replace_range-3.new.items.items;
     }
 
@@ -215,36 +210,30 @@ returns-clause-ok c =
     kept_stays s.keys c.keys_from.new.keys s.ids.items s.outcomes.items s.found.items s.places s.cache.pairs s.out.items
     c.self.invariant.kept (λ n k stored is. c.keys_from.ensures.stay n k is)
     (c.keys_from.ensures.one c.self.invariant.kept.right.one) in
-    let units : UnitNumbers = record { numbers = c.in_ok-numbers-2.numbers; found = c.in_ok-numbers-2.later.items } in
-    let follow =
-    rw (c.deref-3.ensures.value, c.deref-4.ensures.value, c.make_room.ensures.ids, c.make_room.ensures.outcomes) at
-    c.in_ok-numbers-2.ensures.ok in
-    let later = c.in_ok-numbers-2.later in
-    let end = c.len-end.result in
-    let ordered : c.args.stretch.from ≤ end =
-    omega (
-      arith,
-      stretch.ordered,
-      stretch.within,
-      c.len-end.ensures,
-      s.found.ok.0,
-      found_length c.keys_from.new.keys ids outcomes s.found.items s.places s.cache.pairs s.cache.capacity s.out.items s.given kept,
-    ) in
-    let found : List (Option ℕ) = take c.args.stretch.from s.found.items ++ later.items ++ drop end s.found.items in
-    let none : drop end s.found.items ≡ [] = drop_all end s.found.items (omega (arith, c.len-end.ensures, s.found.ok.0)) in
-    let found_is : found ≡ take c.args.stretch.from s.found.items ++ later.items =
-    ap (λ rest. take c.args.stretch.from s.found.items ++ later.items ++ rest) none
-    ∙ append-nil (take c.args.stretch.from s.found.items ++ later.items) in
-    let stand =
-    stand_with ids outcomes kept.same c.args.stretch stretch c.keys_from.new.keys s.found.items kept.stand units follow
-    found found_is in
-    let leave : (number : ℕ) → times_in number c.deref-7.result.now
-    ≡ times number (take (end - c.args.stretch.from) (drop c.args.stretch.from s.found.items)) =
-    rw (c.deref-7.ensures.value) c.in_ok-leaving.ensures.counted in
-    let counted = rw (c.deref-6.ensures.value) at
+    let later = c.in_ok-past.later in
+    let past = c.in_ok-past.past in
+    let anew =
+    rw (
+      c.deref.ensures.value,
+      c.deref-2.ensures.value,
+      c.deref-3.ensures.value,
+      c.make_room.ensures.ids,
+      c.make_room.ensures.outcomes,
+    ) at c.in_ok-past.ensures.stand in
+    let ordered : c.args.stretch.from ≤ past = omega (arith, stretch.ordered, c.in_ok-past.ensures.behind.0) in
+    let found : List (Option ℕ) = take c.args.stretch.from s.found.items ++ later.items ++ drop past s.found.items in
+    let stand : AllStandFor c.keys_from.new.keys found (keys_of (zip (ids_with c.args.stretch ids) (outcomes_with c.args.stretch outcomes))) =
+    subst (λ all. AllStandFor c.keys_from.new.keys all (keys_of (zip (ids_with c.args.stretch ids) (outcomes_with c.args.stretch outcomes))))
+    (sym (append_assoc (take c.args.stretch.from s.found.items) later.items (drop past s.found.items)))
+    (stand_with ids outcomes kept.same c.args.stretch stretch c.keys_from.new.keys s.found.items
+    (later.items ++ drop past s.found.items) kept.stand anew) in
+    let leave : (number : ℕ) → times_in number c.deref-6.result.now
+    ≡ times number (take (past - c.args.stretch.from) (drop c.args.stretch.from s.found.items)) =
+    rw (c.deref-6.ensures.value) c.in_ok-leaving.ensures.counted in
+    let counted = rw (c.deref-5.ensures.value) at
     c.recount.ensures.recounted (take c.args.stretch.from s.found.items)
-    (take (end - c.args.stretch.from) (drop c.args.stretch.from s.found.items)) (drop end s.found.items)
-    (countable s.places c.make_ready.new.places s.cache.pairs s.found.items c.args.stretch.from end c.deref-7.result.now ordered
+    (take (past - c.args.stretch.from) (drop c.args.stretch.from s.found.items)) (drop past s.found.items)
+    (countable s.places c.make_ready.new.places s.cache.pairs s.found.items c.args.stretch.from past c.deref-6.result.now ordered
     c.make_ready.ensures.same c.self.invariant.counted c.self.invariant.apart leave) in
     let recounted : IsRecounted s.places s.cache.pairs s.cache.capacity found c.recount.new.places c.recount.new.cache.pairs =
     recounted_same s.places c.make_ready.new.places s.cache.pairs s.cache.capacity found c.recount.new.places

@@ -1,5 +1,4 @@
 use Rattle.picture_store.proofs.Stays.{kept_stays, viewed_stays}
-use Rattle.picture_store.proofs.Stretched.{none_front}
 use Rattle.picture_store.proofs.store.PictureStore.sweep.Goals as goal
 
 pub invariant_of-self : goal.invariant_of-self
@@ -12,7 +11,6 @@ invariant_of-self c =
           c.self.invariant.kept stay (c.sweep.ensures.one c.self.invariant.kept.right.one);
       counted = c.self.invariant.counted;
       apart = c.self.invariant.apart;
-      front = none_front c.sweep.new.keys s.ids.items s.outcomes.items c.none.result c.none.ensures.numbers c.none.ensures.count;
       settled = c.self.invariant.settled;
     }
 
@@ -34,7 +32,6 @@ invariant_of-self-2 c =
           c.self.invariant.kept stay (c.sweep.ensures.one c.self.invariant.kept.right.one);
       counted = c.self.invariant.counted;
       apart = c.self.invariant.apart;
-      front = none_front c.sweep.new.keys s.ids.items s.outcomes.items c.none.result c.none.ensures.numbers c.none.ensures.count;
       settled = c.self.invariant.settled;
     }
 

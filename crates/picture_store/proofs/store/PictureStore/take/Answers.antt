@@ -153,7 +153,6 @@ invariant_of-self-2 c =
           c.push_reserved.new.self.items more;
       counted = c.self.invariant.counted;
       apart = c.self.invariant.apart;
-      front = c.self.invariant.front;
       settled =
           settled_more s.places s.out.items (record { number = c.in-Some-checked_add.number; key = key; input = c.in_ok-input.input })
           c.push_reserved.new.self.items s.found.items c.first_to_do-settled.result more settled;

@@ -1,2 +1,4 @@
+pub mod Judged
+pub mod Numbered
 pub mod Ran
 pub mod Told

@@ -1,2 +1,4 @@
 pub mod Running
 pub mod Stops
+pub mod Verdicts
+pub mod Audits

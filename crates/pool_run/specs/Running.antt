@@ -97,3 +97,7 @@ pub record WritesScript (files : Files) (text : List ℕ) (hex : Bool) (old new 
   pub read : IsSeatScript text commands
   pub begins : IsNew first
   pub answered : WritesRun files hex first commands last old new
+
+-- the same, and the seat is left so
+abbrev pub WritesScriptTo : Files → List ℕ → Bool → Seat → Option (List ℕ) → Option (List ℕ) → Type 0
+WritesScriptTo files text hex last old new = (run : WritesScript files text hex old new) × (run.last ≡ last)

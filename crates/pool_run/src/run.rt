@@ -1,17 +1,17 @@
 //! `preview run --workers`: a script read, run by a seat while workers decode, and answered line by line.
 
-ghost use Rattle.std.specs.Prelude.{◌≡◌, ◌≢◌, ◌≤◌, ℕ, List, length, IfErr, IfSome, OnOk};
+ghost use Rattle.std.specs.Prelude.{◌≡◌, ◌≢◌, ◌≤◌, ℕ, List, length, IfErr, IfOk, IfSome};
 ghost use Rattle.std.specs.Io.KnownBytes.{Keeps};
 ghost use Rattle.console_io.specs.Messages.{Tells};
 ghost use Rattle.script_run.specs.Messages.{run_fault_text};
 ghost use Rattle.script_run.specs.declared.run_fault.RunFault.{RunFault};
-ghost use Rattle.pool_run.specs.Running.{WritesScript};
+ghost use Rattle.pool_run.specs.Running.{WritesScript, WritesScriptTo};
 ghost use Rattle.pool_run.specs.Stops.{StopsBy, StopsText};
 
 use crate::opening::{devices, open};
 use crate::threads::run_beside;
 use console_io::{Ended, Sink, Source, Status, say_out_of_memory, whole_input};
-use decode_pool::Gate;
+use decode_pool::{Desk, Gate, Seat};
 use edit_script::read_seat_script;
 use script_run::{Options, RunFault, say_run_fault};
 use std::alloc::Global;
@@ -95,13 +95,14 @@ where
         }
     };
     match run_text(rt, alloc, options, gates, text.as_slice(), source, writer) {
-        Ok(()) => Ended::done(),
+        Ok(_) => Ended::done(),
         Err(fault) => Ended::failed(say_run_fault(fault, errors)),
     }
 }
 
-/// Runs the script of this text. Where a line is no command of a seat, nothing is run.
-fn run_text<'a, R, D, S, W>(
+/// Runs the script of this text, and hands out the desk and its seat. Where a line is no command of a seat, nothing is
+/// run.
+pub(crate) fn run_text<'a, R, D, S, W>(
     rt: &'a R,
     alloc: Global,
     options: Options<'_>,
@@ -109,16 +110,16 @@ fn run_text<'a, R, D, S, W>(
     text: &'a [u8],
     source: S,
     writer: &mut W,
-) -> Result<(), RunFault<'a>>
+) -> Result<(Desk, Seat), RunFault<'a>>
 where
     R: Threads + Wait + Sync,
     D: Gate + Send + Drop,
     S: Source + Drop,
     W: Sink,
     requires { (1 ≤ length gates.items) × (length gates.items ≤ 64) }
-    ensures ok { OnOk result
-        (WritesScript (S.file source) text.now options.entry.hex
-        (W.contents writer.old) (W.contents writer.new)) }
+    ensures ok { IfOk result (λ ended. WritesScriptTo (S.file source) text.now options.entry.hex
+        ended.1 (W.contents writer.old) (W.contents writer.new)) }
+    ensures seats { IfOk result (λ ended. (ended.0.seats ≡ 1) × (ended.1.number ≡ 1)) }
     ensures stops { IfErr result (λ fault. StopsText
         (S.file source) text.now options.entry.hex fault
         (W.refuses writer.new) (W.contents writer.old) (W.contents writer.new)) }
@@ -126,5 +127,9 @@ where
     let commands = read_seat_script(alloc, text)?;
     let (desk, seat) = open(alloc, options.cache, gates.len())?;
     let hex = options.hex;
-    run_beside(rt, alloc, desk, gates, seat, commands, hex, source, writer).result
+    let ran = run_beside(rt, alloc, desk, gates, seat, commands, hex, source, writer);
+    match ran.result {
+        Ok(()) => Ok((ran.desk, ran.seat)),
+        Err(fault) => Err(fault),
+    }
 }

@@ -40,6 +40,7 @@ where
     D: Gate + Send + Drop,
     S: Source + Drop,
     W: Sink,
+    ensures desk { result.desk.seats ≡ desk.seats }
     ensures ok { OnOk result.result
         (WritesRun (S.file source) hex seat commands.entry.items result.seat
         (W.contents writer.old) (W.contents writer.new)) }

@@ -1,13 +1,18 @@
 //! The command line.
 
-ghost use Rattle.std.specs.Prelude.{◌≡◌, IfOk, Some, false, map, option_map};
+ghost use Rattle.std.specs.Prelude.{◌≡◌, ◌≤◌, IfOk, IfSome, Some, codes, false, map, option_map};
 ghost use Rattle.clap.specs.Words.{FailsBy, app_of, found_of, rows_of, rule_of, subcommand_rows_of};
-ghost use Rattle.preview.specs.CommandLine.{faults_of, flag_rule, has_flag, needed_rule, option_rule, plan_app, plan_in, preview_app};
-ghost use Rattle.preview.specs.CommandLine.{run_app, run_in, wanted_from, wanted_in, wanted_of};
+ghost use Rattle.picture_cache.specs.Bounded.{most_room};
+ghost use Rattle.preview.specs.Bounds.{most_workers};
+ghost use Rattle.preview.specs.CommandLine.{audit_app, audit_in, cache_in, cache_rule, faults_of, flag_rule, has_flag, needed_rule};
+ghost use Rattle.preview.specs.CommandLine.{number_of, option_rule, plan_app, plan_in, preview_app, run_app, run_in, several};
+ghost use Rattle.preview.specs.CommandLine.{wanted_from, wanted_in, wanted_of, workers_in};
 
+use crate::asked::{Asked, Workers};
 use clap::builder::ValueParser;
 use clap::error::ErrorKind;
 use clap::{Arg, ArgAction, ArgMatches, Command, Error, value_parser};
+use pool_run::MOST_WORKERS;
 use script_run::{MOST_ROOM, Options};
 use std::alloc::{AllocError, Global};
 use std::convert::AsStr;
@@ -15,15 +20,6 @@ use std::{env, io};
 
 /// What `--version` prints after the program's name.
 const VERSION: &str = "0.1.0";
-
-/// What the command line asks for.
-#[derive(Clone, Copy, Debug)]
-pub enum Asked<'a> {
-    /// The plan of the stream in this file, `-` being the standard input.
-    Plan { file: &'a str },
-    /// A run of the script that the options name, `-` being the standard input.
-    Run(Options<'a>),
-}
 
 /// The process's words, the program's name first. Words that aren't UTF-8 are InvalidData.
 pub fn words(rt: &HostRuntime) -> io::Result<Vec<String>> {
@@ -52,6 +48,7 @@ fn read_matches<'a>(matches: &ArgMatches<'a>) -> Option<Asked<'a>>
     match matches.subcommand() {
         Some(("plan", plan)) => read_plan(plan),
         Some(("run", run)) => read_run(run),
+        Some(("audit", audit)) => read_audit(audit),
         _ => None,
     }
 }
@@ -69,12 +66,64 @@ fn read_run<'a>(run: &ArgMatches<'a>) -> Option<Asked<'a>>
     ensures { option_map wanted_of result ≡ run_in (rows_of (found_of run.now)) }
 {
     let name = run.get_str("SCRIPT")?;
-    let cache = run.get_one::<u16>("cache")?;
+    let count = read_workers(run, 0)?;
+    let cache = read_cache(run)?;
     let hex = has_flag(run, "hex");
+    let options = Options { name, cache, hex };
+    Some(Asked::Run {
+        options,
+        workers: several(count),
+    })
+}
+
+/// What the matches of `audit` ask for.
+fn read_audit<'a>(audit: &ArgMatches<'a>) -> Option<Asked<'a>>
+    ensures { option_map wanted_of result ≡ audit_in (rows_of (found_of audit.now)) }
+{
+    let name = audit.get_str("SCRIPT")?;
+    let count = read_workers(audit, 1)?;
+    let cache = read_cache(audit)?;
+    let hex = false;
+    let options = Options { name, cache, hex };
+    Some(Asked::Audit {
+        options,
+        workers: Workers { count },
+    })
+}
+
+/// How many workers are asked for, of which there are so many at least.
+fn read_workers(matches: &ArgMatches<'_>, least: usize) -> Option<usize>
+    ensures number { result ≡ workers_in least (rows_of (found_of matches.now)) }
+    ensures range { IfSome result (λ count. (least ≤ count) × (count ≤ most_workers)) }
+{
+    let count = usize::from(matches.get_one::<u16>("workers")?);
+    if count < least || count > MOST_WORKERS {
+        return None;
+    }
+    Some(count)
+}
+
+/// For how many pictures room is asked for.
+fn read_cache(matches: &ArgMatches<'_>) -> Option<u16>
+    ensures number { result ≡ cache_in (rows_of (found_of matches.now)) }
+    ensures range { IfSome result (λ room. (1 ≤ room) × (room ≤ most_room)) }
+{
+    let cache = matches.get_one::<u16>("cache")?;
     if cache == 0 || cache > MOST_ROOM {
         return None;
     }
-    Some(Asked::Run(Options { name, cache, hex }))
+    Some(cache)
+}
+
+/// So many workers, which are none for 0.
+fn several(count: usize) -> Option<Workers>
+    requires { count ≤ most_workers }
+    ensures { option_map (λ workers. workers.count) result ≡ several count }
+{
+    if count == 0 {
+        return None;
+    }
+    Some(Workers { count })
 }
 
 /// Whether the flag of this name was given.
@@ -97,7 +146,8 @@ fn preview_command<'a>(alloc: Global) -> Result<Command<'a>, AllocError>
         .bin_name("preview")?
         .subcommand_required(true)
         .subcommand(plan_command(alloc)?)?
-        .subcommand(run_command(alloc)?)
+        .subcommand(run_command(alloc)?)?
+        .subcommand(audit_command(alloc)?)
 }
 
 /// The subcommand `plan`.
@@ -119,12 +169,11 @@ fn run_command<'a>(alloc: Global) -> Result<Command<'a>, AllocError>
     ensures { IfOk result (λ command. app_of command ≡ run_app) }
 {
     let script = needed(alloc, "SCRIPT", "A command a line; - is the standard input");
-    let none = value_parser!(u8).range(0..=0);
-    let help = "How many threads decode; there are none yet";
-    let workers = number_option(alloc, "workers", none, "0", help);
-    let room = value_parser!(u16).range(1..=MOST_ROOM as i64);
-    let help = "For how many pictures that no unit has there is room, 1 to 4096";
-    let cache = number_option(alloc, "cache", room, "64", help);
+    let few = value_parser!(u16).range(0..=MOST_WORKERS as i64);
+    let help =
+        "How many threads decode while the script runs, 0 to 64; with 0 it is all one thread";
+    let workers = number_option(alloc, "workers", few, "0", help);
+    let cache = cache_option(alloc);
     let hex = flag(alloc, "hex", "Shows the hash of each picture that is ready");
     Command::new(alloc, "run")
         .about("Runs a script that edits a stream, and prints what it answers")
@@ -132,6 +181,32 @@ fn run_command<'a>(alloc: Global) -> Result<Command<'a>, AllocError>
         .arg(workers)?
         .arg(cache)?
         .arg(hex)
+}
+
+/// The subcommand `audit`.
+fn audit_command<'a>(alloc: Global) -> Result<Command<'a>, AllocError>
+    ensures { IfOk result (λ command. app_of command ≡ audit_app) }
+{
+    let script = needed(alloc, "SCRIPT", "A command a line; - is the standard input");
+    let few = value_parser!(u16).range(1..=MOST_WORKERS as i64);
+    let help = "How many threads decode while the script runs, 1 to 64";
+    let workers = number_option(alloc, "workers", few, "2", help);
+    let cache = cache_option(alloc);
+    Command::new(alloc, "audit")
+        .about("Runs a script beside workers, and says whether its book agrees with the journal")
+        .arg(script)?
+        .arg(workers)?
+        .arg(cache)
+}
+
+/// `--cache`.
+fn cache_option<'a>(alloc: Global) -> Arg<'a>
+    ensures rule { rule_of result ≡ cache_rule }
+    ensures local { result.global ≡ false }
+{
+    let room = value_parser!(u16).range(1..=MOST_ROOM as i64);
+    let help = "For how many pictures that no unit has there is room, 1 to 4096";
+    number_option(alloc, "cache", room, "64", help)
 }
 
 /// An argument that has to be there.

@@ -1,15 +1,16 @@
 //! What the program does with a command line, on files, a standard input and two outputs.
 
-ghost use Rattle.std.specs.Prelude.{◌≡◌, ◌≢◌, ◌⊎◌, ℕ, List, IfErr, IsOkAnd, MatchResult, map, string_bytes};
+ghost use Rattle.std.specs.Prelude.{◌≡◌, ◌≢◌, ◌⊎◌, ℕ, List, IfErr, IsOkAnd, MatchResult, map, option_map, string_bytes};
 ghost use Rattle.std.specs.IoError.{error_kind};
 ghost use Rattle.std.specs.declared.io.ErrorKind.TheVariants.{OutOfMemory};
 ghost use Rattle.std.specs.Io.KnownBytes.{Appends, Keeps};
 ghost use Rattle.clap.specs.Words.{kind_of};
 ghost use Rattle.console_io.specs.Messages.{Tells, not_text};
-ghost use Rattle.preview.specs.CommandLine.{AreMistaken, IsMistake, IsRequest, plan, run as run_of};
+ghost use Rattle.preview.specs.CommandLine.{AreMistaken, IsMistake, IsRequest, audit, plan, run as run_of};
 ghost use Rattle.preview.specs.Programs.{FailsAt, Fails, IsDone, Succeeds, WantsMemory, WritesPart};
 
-use crate::command_line::{Asked, parse};
+use crate::asked::{Asked, Workers};
+use crate::command_line::parse;
 use clap::Error;
 use clap::error::ErrorKind;
 use console_io::{
@@ -17,16 +18,18 @@ use console_io::{
     say_out_of_memory, write_bytes,
 };
 use plan_stream::plan_on;
+use pool_run::{audit_with_workers, script_with_workers};
 use script_run::{Options, script_on};
 use std::alloc::Global;
 use std::convert::AsStr;
 use std::io;
 use std::io::Read;
+use std::sync::Wait;
 use std::thread::Threads;
 
 /// Does what the process's words ask for, with these threads. Words that can't be read are a wrong command line.
 pub fn run<D: Directory, I: Read + Drop, W: Sink, E: Sink>(
-    threads: &(impl Threads + Sync),
+    threads: &(impl Threads + Wait + Sync),
     alloc: Global,
     words: io::Result<Vec<String>>,
     directory: &D,
@@ -76,7 +79,7 @@ pub fn run<D: Directory, I: Read + Drop, W: Sink, E: Sink>(
 
 /// Does what the words ask for, of which the first is the program's name.
 pub fn run_on<T: AsStr, D: Directory, I: Read + Drop, W: Sink, E: Sink>(
-    threads: &(impl Threads + Sync),
+    threads: &(impl Threads + Wait + Sync),
     alloc: Global,
     words: &[T],
     directory: &D,
@@ -102,9 +105,12 @@ pub fn run_on<T: AsStr, D: Directory, I: Read + Drop, W: Sink, E: Sink>(
 {
     match parse(alloc, words) {
         Ok(Asked::Plan { file }) => plan_named(alloc, file, directory, standard, output, errors),
-        Ok(Asked::Run(options)) => {
-            run_named(threads, alloc, options, directory, standard, output, errors)
-        }
+        Ok(Asked::Run { options, workers }) => run_named(
+            threads, alloc, options, workers, directory, standard, output, errors,
+        ),
+        Ok(Asked::Audit { options, workers }) => audit_named(
+            threads, alloc, options, workers, directory, standard, output, errors,
+        ),
         Err(error) => answer(alloc, &error, output, errors),
     }
 }
@@ -136,11 +142,12 @@ fn plan_named<D: Directory, I: Read + Drop, W: Sink, E: Sink>(
     }
 }
 
-/// Runs the script that the options name, whose files the directory has.
+/// Runs the script that the options name, whose files the directory has: in one thread, or beside so many workers.
 fn run_named<D: Directory, I: Read + Drop, W: Sink, E: Sink>(
-    threads: &(impl Threads + Sync),
+    threads: &(impl Threads + Wait + Sync),
     alloc: Global,
     options: Options<'_>,
+    workers: Option<Workers>,
     directory: &D,
     standard: I,
     output: &mut W,
@@ -150,23 +157,77 @@ fn run_named<D: Directory, I: Read + Drop, W: Sink, E: Sink>(
         → Keeps (E.contents errors.old) (E.contents errors.new) }
     ensures right { result.status ≡ Status.Success
         → IsDone (D.bytes directory.now) (I.remaining standard)
-        (run_of options.entry.name.now options.entry.cache options.entry.hex)
+        (run_of options.entry.name.now (option_map (λ workers. workers.count) workers)
+        options.entry.cache options.entry.hex)
         (W.contents output.old) (W.contents output.new) }
     ensures fails { result.status ≡ Status.Failure
         → FailsAt (D.bytes directory.now) (I.remaining standard)
-        (run_of options.entry.name.now options.entry.cache options.entry.hex) result.told
+        (run_of options.entry.name.now (option_map (λ workers. workers.count) workers)
+        options.entry.cache options.entry.hex) result.told
         (W.refuses output.new) (W.contents output.old) (W.contents output.new)
         (E.refuses errors.new) (E.contents errors.old) (E.contents errors.new) }
     ensures usage { result.status ≢ Status.Usage }
 {
     let mut files = Files { directory };
-    match open_input(directory, standard, options.name) {
-        Ok(mut script) => script_on(
+    let mut script = match open_input(directory, standard, options.name) {
+        Ok(script) => script,
+        Err(fault) => return Ended::failed(say_input_fault(fault, options.name, errors)),
+    };
+    match workers {
+        None => script_on(
             threads,
             alloc,
             options,
             &mut script,
             &mut files,
+            output,
+            errors,
+        ),
+        Some(Workers { count }) => script_with_workers(
+            threads,
+            alloc,
+            options,
+            count,
+            &mut script,
+            files,
+            output,
+            errors,
+        ),
+    }
+}
+
+/// Audits the script that the options name, whose files the directory has, beside so many workers.
+fn audit_named<D: Directory, I: Read + Drop, W: Sink, E: Sink>(
+    threads: &(impl Threads + Wait + Sync),
+    alloc: Global,
+    options: Options<'_>,
+    workers: Workers,
+    directory: &D,
+    standard: I,
+    output: &mut W,
+    errors: &mut E,
+) -> Ended
+    ensures done { result.status ≡ Status.Success
+        → Keeps (E.contents errors.old) (E.contents errors.new) }
+    ensures right { result.status ≡ Status.Success
+        → IsDone (D.bytes directory.now) (I.remaining standard)
+        (audit options.entry.name.now workers.count options.entry.cache)
+        (W.contents output.old) (W.contents output.new) }
+    ensures fails { result.status ≡ Status.Failure
+        → FailsAt (D.bytes directory.now) (I.remaining standard)
+        (audit options.entry.name.now workers.count options.entry.cache) result.told
+        (W.refuses output.new) (W.contents output.old) (W.contents output.new)
+        (E.refuses errors.new) (E.contents errors.old) (E.contents errors.new) }
+    ensures usage { result.status ≢ Status.Usage }
+{
+    match open_input(directory, standard, options.name) {
+        Ok(mut script) => audit_with_workers(
+            threads,
+            alloc,
+            options,
+            workers.count,
+            &mut script,
+            Files { directory },
             output,
             errors,
         ),

@@ -9,6 +9,7 @@ use std::alloc::{AllocError, Global};
 use std::io;
 use std::io::{ErrorKind, Read};
 use std::process::Abort;
+use std::sync::Wait;
 use std::test::Fail;
 use std::thread::Threads;
 
@@ -38,6 +39,8 @@ impl Directory for Folder {
             "a.script" => b"load a.264\nunit 1\n",
             "b.script" => b"load b.264\n",
             "c.script" => b"\nunit 1 2\n",
+            "repair" => REPAIR,
+            "edited" => EDITED,
             "memory" => return Err(ErrorKind::OutOfMemory),
             "forbidden" => return Err(ErrorKind::PermissionDenied),
             "folder" => return Err(ErrorKind::IsADirectory),
@@ -65,7 +68,7 @@ fn named<'a>(alloc: Global, words: &[&'a str]) -> Result<Vec<&'a str>, AllocErro
 
 /// A run on the words after the program's name.
 fn run_with(
-    rt: &(impl Abort + AllocGlobal + Threads + Sync),
+    rt: &(impl Abort + AllocGlobal + Threads + Wait + Sync),
     words: &[&str],
     standard: &'static [u8],
 ) -> Result<Written, AllocError> {
@@ -96,7 +99,7 @@ type Ran = (
     &'static str,
 );
 
-const RUNS: [Ran; 19] = [
+const RUNS: [Ran; 28] = [
     (&["plan", "a.264"], &P1, Success, LINES_OF_A, ""),
     (
         &["plan", "-"],
@@ -152,7 +155,86 @@ const RUNS: [Ran; 19] = [
     (&["run", "--hex", "-"], SHOW_A, Success, HASHED_A, ""),
     (&["--version"], &A, Success, "preview 0.1.0\n", ""),
     (&["-V"], &A, Success, "preview 0.1.0\n", ""),
+    // Beside workers: the same, but of jobs and of a unit's lines nothing can be asked.
+    (
+        &["run", "repair", "--workers", "2"],
+        &A,
+        Success,
+        REPAIRED,
+        "",
+    ),
+    (&["run", "repair"], &A, Success, REPAIRED, ""),
+    (
+        &["run", "--hex", "--workers", "64", "-"],
+        SHOW_A,
+        Success,
+        HASHED_A,
+        "",
+    ),
+    (
+        &["run", "--workers", "1", "a.script"],
+        &A,
+        Failure,
+        "",
+        "script fault at line 2\n",
+    ),
+    (
+        &["audit", "edited"],
+        &A,
+        Success,
+        "agreed 3 edits 2 shows\n",
+        "",
+    ),
+    (
+        &["audit", "--workers", "1", "--cache", "1", "-"],
+        SHOW_A,
+        Success,
+        "agreed 1 edits 1 shows\n",
+        "",
+    ),
+    (
+        &["audit", "b.script"],
+        &A,
+        Failure,
+        "",
+        "cannot read b.264\n",
+    ),
+    (
+        &["audit", "d.script"],
+        &A,
+        Failure,
+        "",
+        "cannot read d.script\n",
+    ),
+    (
+        &["audit", "c.script"],
+        &A,
+        Failure,
+        "",
+        "script fault at line 2\n",
+    ),
 ];
+
+/// A unit that is deleted and inserted again, and what answers that.
+const REPAIR: &[u8] = b"insert first 000001 6742000ADA79 000001 68CE3880 000001 65888480\n\
+insert after 1 000001 419A23\n\
+insert after 2 000001 419A43\n\
+settle\n\
+delete 2\n\
+insert after 1 000001 419A23\n\
+show 3\n\
+show 4\n";
+
+const REPAIRED: &str = "edit 1 id 1\nedit 2 id 2\nedit 3 id 3\nsettled\nedit 4 id 2\nedit 5 id 4\n\
+show 3 ready\nshow 4 ready\n";
+
+/// Three edits, and two shows: of a picture, and of a unit with a fault.
+const EDITED: &[u8] = b"insert first 000001 6742000ADA79 000001 68CE3880 000001 65888480\n\
+insert after 1 000001 419A23\n\
+settle\n\
+show 2\n\
+delete 1\n\
+show 2\n";
 
 /// A script that shows the picture of A, and its lines without and with the hash, which is one of stand_in_device's tests.
 const SHOW_A: &[u8] = b"load a.264\nsettle\nshow 1\n";
@@ -167,7 +249,7 @@ request 1.0 ts 1000 bits 25 type 2 frame 0 dpb - l0 - l1 - hold 0\n";
 
 /// Whether the row's run ends so and writes just that.
 fn run_holds(
-    rt: &(impl Abort + AllocGlobal + Threads + Sync),
+    rt: &(impl Abort + AllocGlobal + Threads + Wait + Sync),
     row: &Ran,
 ) -> Result<bool, AllocError> {
     let got = run_with(rt, row.0, row.1)?;
@@ -191,7 +273,7 @@ fn does_what_the_words_name(rt: HostRuntime) -> Result<(), Fail> {
 /// standard error, where the other one is empty.
 type Answer = (&'static [&'static str], Status, &'static str);
 
-const ANSWERS: [Answer; 18] = [
+const ANSWERS: [Answer; 26] = [
     (&[], Usage, "Usage: preview <COMMAND>"),
     (&["plan"], Usage, "<FILE>"),
     (&["plan", "a", "b"], Usage, "'b'"),
@@ -202,8 +284,28 @@ const ANSWERS: [Answer; 18] = [
     (&["help", "plan"], Success, "Usage: preview plan <FILE>"),
     (&["run"], Usage, "<SCRIPT>"),
     (&["run", "--hex", "a", "--hex"], Usage, "'--hex'"),
-    (&["run", "--workers", "1", "a"], Usage, "'1'"),
+    (&["run", "--workers", "65", "a"], Usage, "'65'"),
     (&["run", "--workers", "x", "a"], Usage, "'x'"),
+    (&["audit"], Usage, "<SCRIPT>"),
+    (&["audit", "--workers", "0", "a"], Usage, "'0'"),
+    (&["audit", "--workers", "65", "a"], Usage, "'65'"),
+    (&["audit", "--cache", "4097", "a"], Usage, "'4097'"),
+    (&["audit", "--hex", "a"], Usage, "'--hex'"),
+    (
+        &["audit", "--help"],
+        Success,
+        "Usage: preview audit [OPTIONS] <SCRIPT>",
+    ),
+    (
+        &["audit", "--workers", "64", "no"],
+        Failure,
+        "cannot read no\n",
+    ),
+    (
+        &["run", "no", "--workers", "64"],
+        Failure,
+        "cannot read no\n",
+    ),
     (&["run", "--cache", "0", "a"], Usage, "'0'"),
     (&["run", "--cache", "4097", "a"], Usage, "'4097'"),
     (
@@ -226,7 +328,7 @@ const ANSWERS: [Answer; 18] = [
 
 /// Whether the row's words are answered so, on one stream alone.
 fn answer_holds(
-    rt: &(impl Abort + AllocGlobal + Threads + Sync),
+    rt: &(impl Abort + AllocGlobal + Threads + Wait + Sync),
     row: &Answer,
 ) -> Result<bool, Fail> {
     let got = run_with(rt, row.0, &[])?;
@@ -248,7 +350,7 @@ fn answers_command_lines(rt: HostRuntime) -> Result<(), Fail> {
 
 /// Words that can't be read for this: how it ended, and what standard error has got, where the output has nothing.
 fn run_without_words(
-    rt: &(impl Abort + AllocGlobal + Threads + Sync),
+    rt: &(impl Abort + AllocGlobal + Threads + Wait + Sync),
     kind: ErrorKind,
     status: Status,
     message: &[u8],
@@ -277,7 +379,7 @@ fn tells_of_words_that_are_not_read(rt: HostRuntime) {
 
 /// Whether what is told is cut where standard error takes no more, and the status is the same.
 fn cuts_errors(
-    rt: &(impl Abort + AllocGlobal + Threads + Sync),
+    rt: &(impl Abort + AllocGlobal + Threads + Wait + Sync),
     words: &[&str],
     status: Status,
     message: &[u8],
@@ -321,7 +423,7 @@ fn cuts_what_is_told(rt: HostRuntime) {
 
 /// Whether help or the version, which is this text, fails on an output that takes so many bytes, and nothing is told.
 fn fails_cut(
-    rt: &(impl Abort + AllocGlobal + Threads + Sync),
+    rt: &(impl Abort + AllocGlobal + Threads + Wait + Sync),
     words: &[&str],
     text: &[u8],
     room: usize,
@@ -347,7 +449,7 @@ fn fails_cut(
 
 /// Whether the words' answer fails on each output that takes less than all of it.
 fn fails_where_cut(
-    rt: &(impl Abort + AllocGlobal + Threads + Sync),
+    rt: &(impl Abort + AllocGlobal + Threads + Wait + Sync),
     words: &[&str],
 ) -> Result<bool, AllocError> {
     let got = run_with(rt, words, &[])?;

@@ -8,6 +8,7 @@ use console_io::Status;
 use plan_stream::plan_on;
 use script_run::{Options, script_on};
 use std::process::Abort;
+use std::sync::Wait;
 use std::thread::Threads;
 
 /// A stream of A and P1, and its lines.
@@ -66,7 +67,7 @@ fn refused_refusal(rt: HostRuntime) {
 }
 
 /// Whether a command line that names no file ends so, or memory was wanted.
-fn is_unread_or_wants_memory(rt: &(impl Abort + AllocGlobal + Threads + Sync)) -> bool {
+fn is_unread_or_wants_memory(rt: &(impl Abort + AllocGlobal + Threads + Wait + Sync)) -> bool {
     let (mut output, mut errors) = ([0u8; 512], [0u8; 64]);
     let (mut writer, mut teller) = (output.as_mut_slice(), errors.as_mut_slice());
     let standard: &[u8] = &[];

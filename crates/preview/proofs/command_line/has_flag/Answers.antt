@@ -1,6 +1,6 @@
 use Rattle.std.proofs.Common.{◌∙◌}
 use Rattle.clap.specs.Words.{found_of}
-use Rattle.preview.proofs.Asked.{flag-read}
+use Rattle.preview.proofs.Matches.{flag-read}
 use Rattle.preview.proofs.command_line.has_flag.Goals as goal
 
 pub returns-in-Some : goal.returns-in-Some

@@ -1,7 +1,7 @@
 use Rattle.std.proofs.Common.{ap, option_map, ◌∙◌}
 use Rattle.clap.specs.Words.{found_of}
 use Rattle.preview.specs.CommandLine.{wanted_of}
-use Rattle.preview.proofs.Asked.{plan-read}
+use Rattle.preview.proofs.Matches.{plan-read}
 use Rattle.preview.proofs.command_line.read_plan.Goals as goal
 
 pub returns-in_err-file : goal.returns-in_err-file

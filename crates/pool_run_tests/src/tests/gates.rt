@@ -1,0 +1,96 @@
+//! Workers whose gates hand each job back: all of them end, and then a run that waits for pictures ends too.
+
+ghost use Rattle.std.specs.Prelude.{◌≡◌, IfOk, length};
+
+use super::{OPTIONS, OneFile, Row, is_as};
+use console_io::Status;
+use decode_pool::Gate;
+use edit_engine::Job;
+use pool_run::{audit_with, script_with};
+use stand_in_device::{Finished, Undone};
+use std::alloc::{AllocError, Global};
+use std::process::Abort;
+use std::sync::Wait;
+use std::thread::Threads;
+
+/// A gate that hands each job back.
+#[derive(Drop)]
+struct HandsBack;
+
+impl Gate for HandsBack {
+    fn decode(&mut self, _alloc: Global, job: Job) -> Result<Finished, Undone> {
+        Err(Undone {
+            job,
+            cause: AllocError,
+        })
+    }
+}
+
+const RUN: Row = Row {
+    script: "settle\nload one\nshow 1\nsettle\nshow 1\n",
+    status: Status::Failure,
+    lines: "settled\nloaded 1\nshow 1 pending\n",
+    message: "out of memory\n",
+};
+
+const AUDIT: Row = Row {
+    script: "settle\nload one\nshow 1\nsettle\nshow 1\n",
+    status: Status::Failure,
+    lines: "",
+    message: "out of memory\n",
+};
+
+/// What decodes: two gates.
+fn gates(alloc: Global) -> Result<Vec<HandsBack>, AllocError>
+    ensures { IfOk result (λ gates. length gates.items ≡ 2) }
+{
+    let mut gates = Vec::new(alloc);
+    gates.push(HandsBack)?;
+    gates.push(HandsBack)?;
+    Ok(gates)
+}
+
+/// Whether the run ends as the row says.
+fn runs_so<R: Abort + AllocGlobal + Threads + Wait + Sync>(
+    rt: &R,
+    row: &Row,
+) -> Result<bool, AllocError> {
+    let (mut output, mut errors) = (Vec::new(rt.alloc()), Vec::new(rt.alloc()));
+    let ended = script_with(
+        rt,
+        rt.alloc(),
+        OPTIONS,
+        gates(rt.alloc())?,
+        &mut row.script.as_bytes(),
+        OneFile,
+        &mut output,
+        &mut errors,
+    );
+    Ok(is_as(row, ended.status, output.as_slice(), errors.as_slice()))
+}
+
+/// Whether the audit does.
+fn audits_so<R: Abort + AllocGlobal + Threads + Wait + Sync>(
+    rt: &R,
+    row: &Row,
+) -> Result<bool, AllocError> {
+    let (mut output, mut errors) = (Vec::new(rt.alloc()), Vec::new(rt.alloc()));
+    let ended = audit_with(
+        rt,
+        rt.alloc(),
+        OPTIONS,
+        gates(rt.alloc())?,
+        &mut row.script.as_bytes(),
+        OneFile,
+        &mut output,
+        &mut errors,
+    );
+    Ok(is_as(row, ended.status, output.as_slice(), errors.as_slice()))
+}
+
+#[test]
+fn a_run_ends_where_no_worker_is_left(rt: HostRuntime) -> Result<(), AllocError> {
+    assert!(rt; runs_so(&rt, &RUN)?);
+    assert!(rt; audits_so(&rt, &AUDIT)?);
+    Ok(())
+}

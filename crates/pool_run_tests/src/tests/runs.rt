@@ -1,0 +1,65 @@
+//! Scripts that a seat runs.
+
+use super::{OPTIONS, OneFile, REPAIRED, Row, is_as};
+use console_io::Status;
+use pool_run::script_with_workers;
+use std::process::Abort;
+use std::sync::Wait;
+use std::thread::Threads;
+
+const ROWS: [Row; 6] = [
+    REPAIRED,
+    Row {
+        script: "load one\nsettle\nshow 1\nshow 2\nload none\nshow 1\n",
+        status: Status::Failure,
+        lines: "loaded 1\nsettled\nshow 1 ready\nshow 2 none\n",
+        message: "cannot read none\n",
+    },
+    Row {
+        script: "delete 7\ninsert first 00 00 01 67 42 00 0A DA 79\n",
+        status: Status::Success,
+        lines: "refused 16 NoSuchUnit\nrefused 12 NoPicture\n",
+        message: "",
+    },
+    Row {
+        script: "# nothing is run\ndelete 1\n\nunit 1\n",
+        status: Status::Failure,
+        lines: "",
+        message: "script fault at line 4\n",
+    },
+    Row {
+        script: "take\n",
+        status: Status::Failure,
+        lines: "",
+        message: "script fault at line 1\n",
+    },
+    Row {
+        script: "settle\n",
+        status: Status::Success,
+        lines: "settled\n",
+        message: "",
+    },
+];
+
+/// Whether a script ends as its row says, by two workers.
+fn ends_so<R: Abort + AllocGlobal + Threads + Wait + Sync>(rt: &R, row: &Row) -> bool {
+    let (mut output, mut errors) = (Vec::new(rt.alloc()), Vec::new(rt.alloc()));
+    let ended = script_with_workers(
+        rt,
+        rt.alloc(),
+        OPTIONS,
+        2,
+        &mut row.script.as_bytes(),
+        OneFile,
+        &mut output,
+        &mut errors,
+    );
+    is_as(row, ended.status, output.as_slice(), errors.as_slice())
+}
+
+#[test]
+fn scripts_of_a_seat_end_so(rt: HostRuntime) {
+    for (number, row) in ROWS.iter().enumerate() {
+        assert!(rt; ends_so(&rt, row), "row {number}");
+    }
+}

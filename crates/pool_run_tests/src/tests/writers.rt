@@ -1,0 +1,117 @@
+//! Writers that take some bytes and then no more: what is written is the front that they take, and the run ends.
+
+use super::{OPTIONS, OneFile, REPAIRED, Row};
+use console_io::{Sink, Status};
+use pool_run::{audit_with_workers, script_with_workers};
+use std::alloc::{AllocError, Global};
+use std::io;
+use std::io::{ErrorKind, Write};
+use std::process::Abort;
+use std::sync::Wait;
+use std::thread::Threads;
+
+/// A writer that takes a number of bytes in all.
+#[derive(Drop)]
+struct ShortWriter {
+    got: Vec<u8>,
+    room: usize,
+}
+
+impl ShortWriter {
+    /// A writer with this room, which has got nothing.
+    fn new(alloc: Global, room: usize) -> ShortWriter {
+        ShortWriter {
+            got: Vec::new(alloc),
+            room,
+        }
+    }
+}
+
+impl Write for ShortWriter {
+    fn write(&mut self, buf: &[u8]) -> io::Result<usize> {
+        let count = buf.len().min(self.room);
+        if count == 0 {
+            return Err(io::Error::from(ErrorKind::BrokenPipe));
+        }
+        self.got.extend_from_slice(&buf[..count])?;
+        self.room -= count;
+        Ok(count)
+    }
+
+    fn flush(&mut self) -> io::Result<()> {
+        Ok(())
+    }
+}
+
+impl Sink for ShortWriter {
+    fn write_some(&mut self, bytes: &[u8]) -> io::Result<usize> {
+        self.write(bytes)
+    }
+}
+
+/// Whether a writer of this room gets just that front of the lines of a script, and the run fails by it without a word.
+fn writes_front<R: Abort + AllocGlobal + Threads + Wait + Sync>(
+    rt: &R,
+    row: &Row,
+    room: usize,
+) -> bool {
+    let mut output = ShortWriter::new(rt.alloc(), room);
+    let mut errors = Vec::new(rt.alloc());
+    let ended = script_with_workers(
+        rt,
+        rt.alloc(),
+        OPTIONS,
+        2,
+        &mut row.script.as_bytes(),
+        OneFile,
+        &mut output,
+        &mut errors,
+    );
+    ended.status == Status::Failure
+        && errors.is_empty()
+        && output.got.len() == room
+        && row.lines.as_bytes().starts_with(output.got.as_slice())
+}
+
+/// The same of the line of its audit.
+fn audits_to_front<R: Abort + AllocGlobal + Threads + Wait + Sync>(
+    rt: &R,
+    script: &str,
+    line: &str,
+    room: usize,
+) -> bool {
+    let mut output = ShortWriter::new(rt.alloc(), room);
+    let mut errors = Vec::new(rt.alloc());
+    let ended = audit_with_workers(
+        rt,
+        rt.alloc(),
+        OPTIONS,
+        2,
+        &mut script.as_bytes(),
+        OneFile,
+        &mut output,
+        &mut errors,
+    );
+    ended.status == Status::Failure
+        && errors.is_empty()
+        && output.got.len() == room
+        && line.as_bytes().starts_with(output.got.as_slice())
+}
+
+#[test]
+fn writes_the_front_that_a_writer_takes(rt: HostRuntime) {
+    for room in 0..REPAIRED.lines.len() {
+        assert!(rt; writes_front(&rt, &REPAIRED, room), "{room} bytes");
+    }
+}
+
+#[test]
+fn writes_the_front_of_an_audit_that_a_writer_takes(rt: HostRuntime) {
+    let line = "agreed 5 edits 2 shows\n";
+    for room in 0..line.len() {
+        assert!(rt;
+            audits_to_front(&rt, REPAIRED.script, line, room),
+            "{room} bytes"
+        );
+    }
+}

@@ -9,7 +9,7 @@ use Rattle.outcomes.specs.declared.outcome.Outcome.{Outcome}
 use Rattle.dep_keys.specs.KeyMaps.{KeyMap}
 use Rattle.picture_keys.specs.Keys.{Key}
 use Rattle.picture_keys.specs.Known.{Known, key_of_outcome, known_with, known_after, keys_after}
-use Rattle.picture_keys.specs.Numbered.{Numbers, number_at, numbers_over, StandsFor, AreNumbered, AllStandFor}
+use Rattle.picture_keys.specs.Numbered.{Numbers, number_at, numbers_over, numbers_with, StandsFor, AreNumbered, AllStandFor}
 use Rattle.picture_keys.proofs.Numbering.{numbered_with}
 
 -- the first of two that is there
@@ -39,11 +39,6 @@ put_joined old new others id key put other =
     ∙ (ap (λ number. first_of number (number_at others other)) (put other)
     ∙ (first_if (id == other) key (number_at old other) (number_at others other)
     ∙ ap (λ rest. if id == other then Some key else rest) (sym (number_joined old others other))))
-
--- a unit more, where it has a number
-abbrev pub numbers_with : ℕ → Option ℕ → Numbers → Numbers
-numbers_with id None numbers = numbers
-numbers_with id (Some number) numbers = (id, number) ∷ numbers
 
 -- no unit more where one of the columns ends
 pub over_all : (numbers : Numbers) (ids : List ℕ) (found : List (Option ℕ)) (n : ℕ) → min (length ids) (length found) ≤ n
@@ -166,3 +161,11 @@ pub in_second : (first second : Numbers) (id : ℕ) → number_at first id ≡ N
     → number_at second id ≡ number_at (first ++ second) id
 in_second first second id none =
     sym (number_joined first second id ∙ ap (λ n. first_of n (number_at second id)) none)
+
+-- one unit more where the others have the same numbers
+pub with_alike : (numbers others : Numbers) (id : ℕ) (number : Option ℕ)
+    → ((other : ℕ) → number_at numbers other ≡ number_at others other)
+    → (other : ℕ) → number_at (numbers_with id number numbers) other ≡ number_at (numbers_with id number others) other
+with_alike numbers others id None same other = same other
+with_alike numbers others id (Some number) same other =
+    ap (λ rest. if is_at (nat_cmp other) id then Some number else rest) (same other)

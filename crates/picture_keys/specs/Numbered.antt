@@ -25,6 +25,16 @@ numbers_over numbers (id ∷ ids) [] = numbers
 numbers_over numbers (id ∷ ids) (None ∷ found) = numbers_over numbers ids found
 numbers_over numbers (id ∷ ids) (Some number ∷ found) = numbers_over ((id, number) ∷ numbers) ids found
 
+-- with a unit more, where it has a number
+abbrev pub numbers_with : ℕ → Option ℕ → Numbers → Numbers
+numbers_with id None numbers = numbers
+numbers_with id (Some number) numbers = (id, number) ∷ numbers
+
+-- what is seen of ids, nothing for one of a unit without a key, is what they have there
+abbrev pub AreSeen : List (ℕ × Option ℕ) → Numbers → Type 0
+AreSeen seen numbers =
+    (id : ℕ) (number : Option ℕ) → lookup (is_at (nat_cmp id)) seen ≡ Some number → number ≡ number_at numbers id
+
 -- the number of the key of a unit that is named, if one is
 abbrev pub number_named : Numbers → Option ℕ → Option ℕ
 number_named numbers unit = option_and_then (number_at numbers) unit

@@ -16,11 +16,12 @@ use std::alloc::{AllocError, Global};
 /// The node of the key of these requests, with the numbers of the keys of earlier units.
 pub fn node_of(
     alloc: Global,
-    numbers: &KeyNumbers<'_>,
+    numbers: &mut KeyNumbers<'_>,
     requests: &Requests,
 ) -> Result<Node<Works>, AllocError>
-    ensures { IfOk result (λ node. node
-        ≡ record { work = works_of requests.now; entries = numbers_named numbers.now requests.now }) }
+    ensures ok { IfOk result (λ node. node
+        ≡ record { work = works_of requests.now; entries = numbers_named numbers.old requests.now }) }
+    ensures same { numbers.new ≡ numbers.old }
 {
     let works = Works::of(alloc, requests)?;
     let entries = entries_of(alloc, numbers, requests.as_slice())?;
@@ -30,22 +31,27 @@ pub fn node_of(
 /// The numbers at the entries of the requests' lists.
 fn entries_of(
     alloc: Global,
-    numbers: &KeyNumbers<'_>,
+    numbers: &mut KeyNumbers<'_>,
     requests: &[Request],
 ) -> Result<Vec<Option<KeyId>>, AllocError>
-    ensures { IfOk result (λ entries. entries.items ≡ numbers_named numbers.now requests.now) }
+    ensures ok { IfOk result (λ entries. entries.items ≡ numbers_named numbers.old requests.now) }
+    ensures same { numbers.new ≡ numbers.old }
 {
     let units = units_named(alloc, requests)?;
     let mut entries = Vec::with_capacity(alloc, units.len())?;
     for unit in &units {
-        entries.push(number_of(numbers, *unit))?;
+        entries.push(number_of(numbers, *unit)?)?;
     }
     Ok(entries)
 }
 
 /// The number of the key of a unit that is named, if one is.
-fn number_of(numbers: &KeyNumbers<'_>, unit: Option<AuId>) -> Option<KeyId>
-    ensures { result ≡ number_named numbers.now unit }
+fn number_of(numbers: &mut KeyNumbers<'_>, unit: Option<AuId>) -> Result<Option<KeyId>, AllocError>
+    ensures ok { IfOk result (λ number. number ≡ number_named numbers.old unit) }
+    ensures same { numbers.new ≡ numbers.old }
 {
-    numbers.get(unit?)
+    match unit {
+        Some(id) => numbers.get(id),
+        None => Ok(None),
+    }
 }

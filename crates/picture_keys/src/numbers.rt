@@ -1,11 +1,10 @@
 //! The numbers of the keys of units.
 
-ghost use Rattle.std.specs.Prelude.{◌≡◌, ℕ, ◌==◌, List, [], Option, Some, None, OnOk, OnErr, if◌then◌else◌};
-ghost use Rattle.h264_controls.specs.declared.work.Work.{Work};
-ghost use Rattle.dep_keys.specs.KeyMaps.{KeyMap};
-ghost use Rattle.picture_keys.specs.Keys.{Key};
-ghost use Rattle.picture_keys.specs.Known.{Known, known_with};
-ghost use Rattle.picture_keys.specs.Numbered.{AreNumbered, StandsFor, number_at, numbers_over};
+ghost use Rattle.std.specs.Prelude.{◌≡◌, ℕ, ◌==◌, [], Some, IfOk, OnOk, OnErr, if◌then◌else◌};
+ghost use Rattle.std.specs.Ordering.{nat_cmp};
+ghost use Rattle.std.specs.BTreeMap.{is_at};
+ghost use Rattle.std.specs.Map.{lookup};
+ghost use Rattle.picture_keys.specs.Numbered.{AreSeen, number_at, numbers_over, numbers_with};
 
 use dep_keys::KeyId;
 use pictures::AuId;
@@ -19,16 +18,20 @@ use std::marker::Model;
 pub struct KeyNumbers<'a> {
     ids: &'a [AuId],
     found: &'a [Option<KeyId>],
+    // What the columns have of the ids that were looked for in them.
+    seen: BTreeMap<u32, Option<KeyId>>,
     later: BTreeMap<u32, KeyId>,
 }
 
 impl<'a> Model for KeyNumbers<'a> {
     ghost use Rattle.std.specs.Prelude.{[], ◌++◌};
-    ghost use Rattle.picture_keys.specs.Numbered.{Numbers, numbers_over};
+    ghost use Rattle.picture_keys.specs.Numbered.{AreSeen, Numbers, numbers_over};
 
     ghost Value = { Numbers };
 
     ghost view = { λ keys. keys.later.entries ++ numbers_over [] keys.ids.now keys.found.now };
+
+    ghost invariant = { λ keys. AreSeen keys.seen.entries (numbers_over [] keys.ids.now keys.found.now) };
 }
 
 impl<'a> KeyNumbers<'a> {
@@ -46,17 +49,20 @@ impl<'a> KeyNumbers<'a> {
         KeyNumbers {
             ids,
             found,
+            seen: BTreeMap::new(alloc),
             later: BTreeMap::new(alloc),
         }
     }
 
-    /// The number of the key of the unit that has the id. One of the first units is looked for from the last of them on.
-    pub fn get(&self, id: AuId) -> Option<KeyId>
-        ensures { result ≡ number_at self.now id }
+    /// The number of the key of the unit that has the id. One of the first units is looked for from the last of them on, and
+    /// that once: from then on it is among those that were seen.
+    pub fn get(&mut self, id: AuId) -> Result<Option<KeyId>, AllocError>
+        ensures ok { IfOk result (λ number. number ≡ number_at self.old id) }
+        ensures same { self.new ≡ self.old }
     {
         match self.later.get(&id.number()) {
-            Some(key) => Some(*key),
-            None => number_among(self.ids, self.found, id),
+            Some(key) => Ok(Some(*key)),
+            None => seen_or_among(&mut self.seen, self.ids, self.found, id),
         }
     }
 
@@ -70,17 +76,74 @@ impl<'a> KeyNumbers<'a> {
         Ok(())
     }
 
-    /// Gives a unit the number of its key again, where it has one: it was found before.
+    /// Gives a unit the number of its key, where it has one.
     pub fn note(&mut self, id: AuId, key: Option<KeyId>) -> Result<(), AllocError>
-        ensures { OnOk result ((keys : KeyMap (List Work)) (known : Known) (tree : Option Key)
-            → AreNumbered keys self.old known → StandsFor keys key tree
-            → AreNumbered keys self.new (known_with known id tree)) }
+        ensures ok { OnOk result ((other : ℕ) → number_at self.new other
+            ≡ number_at (numbers_with id key self.old) other) }
+        ensures err { OnErr result (self.new ≡ self.old) }
     {
         match key {
             Some(key) => self.put(id, key),
             None => Ok(()),
         }
     }
+}
+
+/// The number of the key of a unit of the columns, which is among those seen from then on.
+fn seen_or_among(
+    seen: &mut BTreeMap<u32, Option<KeyId>>,
+    ids: &[AuId],
+    found: &[Option<KeyId>],
+    id: AuId,
+) -> Result<Option<KeyId>, AllocError>
+    requires { AreSeen seen.old.entries (numbers_over [] ids.now found.now) }
+    ensures ok { IfOk result (λ number. number
+        ≡ number_at (numbers_over [] ids.now found.now) id) }
+    ensures seen { AreSeen seen.new.entries (numbers_over [] ids.now found.now) }
+{
+    match seen.get(&id.number()).copied() {
+        Some(number) => Ok(number),
+        None => look(seen, ids, found, id),
+    }
+}
+
+/// Looks for a unit in the columns: the number of its key, which is among those seen from then on.
+fn look(
+    seen: &mut BTreeMap<u32, Option<KeyId>>,
+    ids: &[AuId],
+    found: &[Option<KeyId>],
+    id: AuId,
+) -> Result<Option<KeyId>, AllocError>
+    requires { AreSeen seen.old.entries (numbers_over [] ids.now found.now) }
+    ensures ok { IfOk result (λ number. number
+        ≡ number_at (numbers_over [] ids.now found.now) id) }
+    ensures seen { AreSeen seen.new.entries (numbers_over [] ids.now found.now) }
+{
+    match number_among(ids, found, id) {
+        Some(key) => {
+            see(seen, id, Some(key))?;
+            Ok(Some(key))
+        }
+        None => {
+            see(seen, id, None)?;
+            Ok(None)
+        }
+    }
+}
+
+/// Adds what the columns have of an id.
+fn see(
+    seen: &mut BTreeMap<u32, Option<KeyId>>,
+    id: AuId,
+    number: Option<KeyId>,
+) -> Result<(), AllocError>
+    ensures ok { OnOk result ((other : ℕ) → lookup (is_at (nat_cmp other)) seen.new.entries
+        ≡ (if id == other then Some number
+        else lookup (is_at (nat_cmp other)) seen.old.entries)) }
+    ensures err { OnErr result (seen.new.entries ≡ seen.old.entries) }
+{
+    seen.insert(id.number(), number)?;
+    Ok(())
 }
 
 /// The number of the key of the last unit that has the id, among those that have a key.

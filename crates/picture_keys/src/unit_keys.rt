@@ -79,11 +79,12 @@ impl<'a> UnitKeys<'a> {
         Ok(())
     }
 
-    /// The numbers by the units' ids, those before the first unit among them.
-    pub fn numbers(&self) -> &KeyNumbers<'a>
-        ensures { result.now ≡ self.now.numbers }
+    /// The number of the key of the unit that has the id, of one before the first unit too.
+    pub fn number_at(&mut self, id: AuId) -> Result<Option<KeyId>, AllocError>
+        ensures ok { IfOk result (λ number. number ≡ number_at self.old.numbers id) }
+        ensures same { self.new ≡ self.old }
     {
-        &self.numbers
+        self.numbers.get(id)
     }
 
     /// The number of each unit's key, in the order of the units, nothing for a unit with a fault.

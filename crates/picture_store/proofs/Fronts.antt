@@ -1,4 +1,4 @@
--- The keys of a stream's units, of the first ones and of those behind them.
+-- The keys of a stream's units, of the first ones and of those after them.
 use Rattle.std.proofs.Common.{◌≡◌, refl, ap, sym, ◌∙◌, add-one, ℕ, zero, suc, ◌+◌, ◌<◌, ◌≤◌, List, [], ◌∷◌, ◌++◌, length, take, drop, get_or, Option, arith}
 use Rattle.std.specs.List.{zip}
 use Rattle.outcomes.specs.declared.outcome.Outcome.{Outcome}
@@ -122,7 +122,7 @@ between_more to at ids outcomes id outcome below in_ids in_outcomes id_is outcom
     ap (λ n. between to n ids outcomes) (add-one at)
     ∙ between_next to at ids outcomes id outcome below in_ids in_outcomes id_is outcome_is
 
--- and those behind
+-- and those after it
 pub between_rest : (to past : ℕ) (ids : List ℕ) (outcomes : List Outcome) → to ≤ past → length ids ≡ length outcomes
     → zip (drop to ids) (drop to outcomes) ≡ between to past ids outcomes ++ zip (drop past ids) (drop past outcomes)
 between_rest zero zero ids outcomes below same = refl

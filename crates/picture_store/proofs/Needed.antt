@@ -1,7 +1,7 @@
 -- Where the keys that later units need are what they were, those units keep theirs.
 use Rattle.std.proofs.Common.{◌≡◌, refl, ap, sym, ◌∙◌, subst, ℕ, zero, suc, ◌≤◌, List, [], ◌∷◌, ◌++◌, ◌⊎◌, All, length, map, take, drop, Option, None, Some, inl, inr, arith, append_assoc}
 use Rattle.std.specs.List.{zip}
-use Rattle.std.proofs.lemmas.List.{drop_all, append-nil}
+use Rattle.std.proofs.lemmas.List.{drop_all}
 use Rattle.std.proofs.lemmas.List.Elements.{All-nil, All-cons, All-head, All-tail}
 use Rattle.outcomes.specs.declared.outcome.Outcome.{Outcome}
 use Rattle.pictures.specs.declared.frames.Frame.{Frame}
@@ -23,6 +23,12 @@ one_key keys None first second is are = is ∙ sym are
 one_key keys (Some number) None second is are = absurd is
 one_key keys (Some number) (Some first) None is are = absurd are
 one_key keys (Some number) (Some first) (Some second) is are = sym is ∙ are
+
+-- numbers before a place that are the same one by one
+pub agree_alike : (states : List (ℕ × FoldState)) (place : ℕ) (before was after : Numbers)
+    → ((id : ℕ) → number_at before id ≡ number_at was id) → AgreeAt states place before after → AgreeAt states place was after
+agree_alike states place before was after same agree =
+    (agree.0, agree.1, λ k d within. sym (same _) ∙ agree.2 k d within)
 
 module _ (keys : Trees) (before after : Numbers) (known other : Known) (first : AreNumbered keys before known)
     (second : AreNumbered keys after other) where
@@ -74,7 +80,7 @@ module _ (keys : Trees) (ids : List ℕ) (outcomes : List Outcome) (found : List
         let no_ids : drop past ids ≡ [] = drop_all past ids (omega (arith, end)) in
         rw (no_found, no_ids) tt
 
-    -- the numbers of the units behind stand for their keys
+    -- the numbers of the units from there on stand for their keys
     pub behind_stand : (past ≡ length ids) ⊎ AgreeAt states past (numbers_over [] (take past ids) (take past found)) after
         → AllStandFor keys (drop past found) (keys_after known (zip (drop past ids) (drop past outcomes)))
     behind_stand (inl end) = ended end

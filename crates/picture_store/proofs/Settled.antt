@@ -1,16 +1,17 @@
 -- Units that need no job.
-use Rattle.std.proofs.Common.{◌≡◌, refl, ap, ℕ, zero, suc, List, [], ◌∷◌, ◌++◌, take, drop, Bool, true, false, ◌==◌, Option, None, Some, IsSome, if◌then◌else◌, inl, inr, ◌⊎◌, subst, sym, ◌∙◌, take-append-drop, arith, rules}
+use Rattle.std.proofs.Common.{◌≡◌, refl, ap, ℕ, zero, suc, ◌≤◌, List, [], ◌∷◌, ◌++◌, length, take, drop, Bool, true, false, ◌==◌, Option, None, Some, IsSome, if◌then◌else◌, inl, inr, ◌⊎◌, subst, sym, ◌∙◌, take-append-drop, arith, rules}
 use Rattle.std.specs.Prelude.{All, Contains, remove, slice_index_or}
 use Rattle.std.proofs.lemmas.Bool.{eqb-true, eq-eqb}
-use Rattle.std.proofs.lemmas.List.{map-append}
-use Rattle.std.proofs.lemmas.List.Elements.{Contains-append_left, Contains-get_or}
+use Rattle.std.specs.Map.{lookup}
+use Rattle.std.proofs.lemmas.List.{map-append, append-nil, length-append, length-take-le}
+use Rattle.std.proofs.lemmas.List.Elements.{All-take, Contains-append_left, Contains-get_or}
 use Rattle.outcomes.specs.declared.outcome.Outcome.{Outcome}
 use Rattle.stand_in_device.specs.declared.picture.Picture.{Picture}
 use Rattle.picture_store.specs.declared.answers.Landing.{Landing}
 use Rattle.picture_store.specs.declared.answers.Landing.TheVariants.{Taken, Stale, Foreign}
 use Rattle.picture_store.specs.declared.job_out.JobOut.{JobOut}
 use Rattle.key_places.specs.Places.{place_at}
-use Rattle.picture_store.specs.Places.{PlacesValue}
+use Rattle.picture_store.specs.Places.{PlacesValue, ArePlaced, held_or}
 use Rattle.picture_store.specs.Filling.{IsFilled}
 use Rattle.picture_store.specs.Kept.{Trees, numbers_out, IsKept}
 use Rattle.picture_store.specs.Due.{IsHeld, IsNotDue}
@@ -144,3 +145,48 @@ module _ (keys : Trees) (ids : List ℕ) (outcomes : List Outcome) (found : List
         filled.1 other.key
             ∙ ap (λ b. if b then Some (Some picture) else place_at places other.key) (eq-eqb other.key other.key refl),
       ))) are)
+
+-- the first units of a list, where what comes after some more of them changes
+take_front : {A : Type 0} (m n : ℕ) (xs ys : List A) → m ≤ n → n ≤ length xs → take m (take n xs ++ ys) ≡ take m xs
+take_front zero n xs ys below within = refl
+take_front (suc m) zero xs ys below within = absurd (omega (arith, below))
+take_front (suc m) (suc n) [] ys below within = absurd (omega (arith, within))
+take_front (suc m) (suc n) (x ∷ xs) ys below within =
+    ap (λ rest. x ∷ rest) (take_front m n xs ys (omega (arith, below)) (omega (arith, within)))
+
+-- of the units in front of a place as many need none as before, where pictures that were held stay held
+pub settled_front : (places more : PlacesValue) (cached : List (ℕ × Picture)) (out : List JobOut) (found later : List (Option ℕ))
+    (count from least : ℕ) → least ≤ count → least ≤ from → from ≤ length found → AreSettled places out found count
+    → ArePlaced (take from found ++ later) places cached more → AreSettled more out (take from found ++ later) least
+settled_front places more cached out found later count from least in_count in_front within are placed =
+    settled_stay places more out out (take from found ++ later) least stays
+    (omega (arith, in_front, within, length-append (take from found) later, length-take-le from found within), still)
+  where
+    fewer : All (NeedsNone places out) (take least (take count found ++ []))
+    fewer =
+        All-take (NeedsNone places out) least (take count found ++ [])
+        (subst (All (NeedsNone places out)) (sym (append-nil (take count found))) are.1)
+
+    still : All (NeedsNone places out) (take least (take from found ++ later))
+    still =
+        subst (All (NeedsNone places out))
+        (take_front least count found [] in_count are.0 ∙ sym (take_front least from found later in_front within)) fewer
+
+    carries : (place other : Option (Option Picture)) (cached : Option Picture) (held : Picture) → place ≡ Some (Some held)
+        → other ≡ Some (held_or place cached) → (picture : Picture) × (other ≡ Some (Some picture))
+    carries None other cached held is carried = absurd cc
+    carries (Some None) other cached held is carried = absurd cc
+    carries (Some (Some picture)) other cached held is carried = (picture, carried)
+
+    stays : (number : Option ℕ) → Contains (take from found ++ later) number → NeedsNone places out number
+        → NeedsNone more out number
+    stays None among needs = search rules
+    stays (Some number) among needs = elim needs [
+      | inl held ↦
+          inl (elim (placed number) [
+            | inl used ↦
+                carries (place_at places number) (place_at more number) (lookup (λ other. number == other) cached) held.0 held.1 used.1
+            | inr unused ↦ absurd (unused.0 among)
+          ])
+      | inr one ↦ inr one
+    ]

@@ -2,7 +2,7 @@
 //! the jobs that are out.
 //!
 //! `PictureStore` knows a stream by its units' ids and what becomes of each. `refit` takes a stretch of it that changed,
-//! and finds the keys of its units and of those behind it whose keys may have changed with it: a picture whose key stays in
+//! and finds the keys of its units and of those after it whose keys may have changed with it: a picture whose key stays in
 //! use stays held. `take` gives the job of the earliest picture that can be decoded, `land` takes its result, late or twice,
 //! `give_back` the job undone, and `picture` shows what is held. Below are picture_keys, which gives keys their numbers, and
 //! picture_cache; above is the session.

@@ -87,8 +87,8 @@ impl<'a> Columns<'a> {
     }
 }
 
-/// The numbers of the keys of a stretch's units and of as many behind it as may have others than before, and the place
-/// behind these, from which on all keys stay.
+/// The numbers of the keys of a stretch's units and of as many after it as may have others than before, and the place
+/// past these, from which on all keys stay.
 pub(crate) fn keys_from<F: Fingerprint<Works>>(
     alloc: Global,
     keys: &mut Keys<Works, F>,
@@ -123,7 +123,7 @@ pub(crate) fn keys_from<F: Fingerprint<Works>>(
     Ok((past, after.into_found()))
 }
 
-/// Goes over the units from a place on up to where the keys of those behind stay, and gives that place.
+/// Goes over the units from a place on up to where the keys of those after it stay, and gives that place.
 fn go_on<F: Fingerprint<Works>>(
     alloc: Global,
     keys: &mut Keys<Works, F>,
@@ -148,10 +148,12 @@ fn go_on<F: Fingerprint<Works>>(
         (numbers_over [] (take past units.now.ids.now) (take past units.now.found.now))
         after.new.numbers) }
 {
+    let mut before = units.numbers_up_to(alloc, to);
     for at in to..units.ids.len() {
-        if agree_at(alloc, states, at, units, after.numbers()) {
+        if agree_at(states, at, &mut before, after)? {
             return Ok(at);
         }
+        before.note(units.ids[at], units.found[at])?;
         after.add(alloc, keys, units.ids[at], &units.outcomes[at])?;
     }
     Ok(units.ids.len())
@@ -159,34 +161,40 @@ fn go_on<F: Fingerprint<Works>>(
 
 /// Whether a state is stored at a place, and the keys of all frames that are marked there have the numbers that they had.
 fn agree_at(
-    alloc: Global,
     states: &Checkpoints<State>,
     at: usize,
-    units: &Columns<'_>,
-    after: &KeyNumbers<'_>,
-) -> bool
-    requires ids { at ≤ length units.now.ids.now }
-    requires found { at ≤ length units.now.found.now }
-    ensures { IsTrue result → AgreeAt states.now.states at
-        (numbers_over [] (take at units.now.ids.now) (take at units.now.found.now)) after.now }
+    before: &mut KeyNumbers<'_>,
+    after: &mut UnitKeys<'_>,
+) -> Result<bool, AllocError>
+    ensures ok { IfOk result (λ agree. IsTrue agree
+        → AgreeAt states.now.states at before.old after.old.numbers) }
+    ensures before { before.new ≡ before.old }
+    ensures after { after.new ≡ after.old }
 {
     match states.get(at) {
-        Some(state) => agree_on(state.frames(), &units.numbers_up_to(alloc, at), after),
-        None => false,
+        Some(state) => agree_on(state.frames(), before, after),
+        None => Ok(false),
     }
 }
 
 /// Whether the keys of frames have the same numbers in both.
-fn agree_on(frames: &[Frame], before: &KeyNumbers<'_>, after: &KeyNumbers<'_>) -> bool
-    ensures { IsTrue result → All (λ frame. number_at before.now frame.id
-        ≡ number_at after.now frame.id) frames.now }
+fn agree_on(
+    frames: &[Frame],
+    before: &mut KeyNumbers<'_>,
+    after: &mut UnitKeys<'_>,
+) -> Result<bool, AllocError>
+    ensures ok { IfOk result (λ agree. IsTrue agree
+        → All (λ frame. number_at before.old frame.id ≡ number_at after.old.numbers frame.id)
+        frames.now) }
+    ensures before { before.new ≡ before.old }
+    ensures after { after.new ≡ after.old }
 {
     for frame in frames {
-        if before.get(frame.id) != after.get(frame.id) {
-            return false;
+        if before.get(frame.id)? != after.number_at(frame.id)? {
+            return Ok(false);
         }
     }
-    true
+    Ok(true)
 }
 
 /// Makes room for so many units more.

@@ -145,7 +145,7 @@ impl PictureStore {
     /// cached is held again where its key comes into use. Where memory is wanted, nothing changes; but a picture whose key
     /// goes out of use is cached only where memory is found for it.
     ///
-    /// The keys of the units in front of the stretch stay as they are; those of its units and of the units behind it are
+    /// The keys of the units in front of the stretch stay as they are; those of its units and of the units after it are
     /// found anew, as pictures refer to earlier ones, up to the first place at which a state of the stream as it was is
     /// stored and the keys of all frames that it marks are what they were: from there on they stay too.
     pub fn refit(&mut self, stretch: Stretch, states: &Checkpoints<State>) -> Result<(), AllocError>
@@ -186,7 +186,7 @@ impl PictureStore {
         replace_range(&mut self.ids, from, to, ids);
         replace_range(&mut self.outcomes, from, to, outcomes);
         replace_range(&mut self.found, from, past, later);
-        self.settled = 0;
+        self.settled = self.settled.min(from);
         Ok(())
     }
 

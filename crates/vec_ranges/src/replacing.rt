@@ -3,8 +3,32 @@
 ghost use Rattle.std.specs.Prelude.{◌≡◌, ◌+◌, ◌-◌, ◌≤◌, ◌++◌, take, drop, vec_len};
 ghost use Rattle.std.specs.Vec.{vec_capacity};
 
-/// Puts these items in place of those from `from` on and below `to`. There is room for them beside all that are there.
-pub fn replace_range<T: Drop>(items: &mut Vec<T>, from: usize, to: usize, mut made: Vec<T>)
+/// Puts these items in place of those from `from` on and below `to`. There is room for them beside all that are there. As
+/// many as these are written over them, and no other item moves.
+pub fn replace_range<T: Drop>(items: &mut Vec<T>, from: usize, to: usize, made: Vec<T>)
+    requires ordered { from ≤ to }
+    requires inside { to ≤ vec_len items.old }
+    requires room { vec_len items.old + vec_len made ≤ vec_capacity items.old }
+    ensures { items.new.items ≡ take from items.old.items ++ made.items ++ drop to items.old.items }
+{
+    if made.len() == to - from {
+        write_over(items, from, to, made);
+    } else {
+        put_in_place(items, from, to, made);
+    }
+}
+
+/// Writes these items over as many others.
+fn write_over<T: Drop>(items: &mut Vec<T>, from: usize, to: usize, mut made: Vec<T>)
+    requires inside { to ≤ vec_len items.old }
+    requires equal { from + vec_len made ≡ to }
+    ensures { items.new.items ≡ take from items.old.items ++ made.items ++ drop to items.old.items }
+{
+    items[from..to].swap_with_slice(made.as_mut_slice());
+}
+
+/// Takes the items of a range out and puts these into the gap, so that those after it move.
+fn put_in_place<T: Drop>(items: &mut Vec<T>, from: usize, to: usize, mut made: Vec<T>)
     requires ordered { from ≤ to }
     requires inside { to ≤ vec_len items.old }
     requires room { vec_len items.old + vec_len made ≤ vec_capacity items.old }

@@ -6,7 +6,8 @@ use Rattle.key_places.specs.Places.{AreSame}
 use Rattle.key_places.proofs.Taking.{times_at_most}
 use Rattle.picture_keys.specs.Known.{keys_of}
 use Rattle.picture_keys.specs.Numbered.{AllStandFor}
-use Rattle.picture_store.specs.Places.{PlacesValue}
+use Rattle.picture_store.specs.Places.{PlacesValue, ArePlaced}
+use Rattle.picture_store.specs.Settled.{AreSettled}
 use Rattle.picture_store.specs.Recounts.{IsRecounted}
 use Rattle.picture_store.specs.Stores.{StoreValue}
 use Rattle.picture_store.specs.Changes.{Refits}
@@ -16,7 +17,7 @@ use Rattle.picture_store.proofs.Landed.{found_length}
 use Rattle.picture_store.proofs.Stays.{kept_stays, viewed_stays}
 use Rattle.picture_store.proofs.Stretched.{same_with, stand_with}
 use Rattle.picture_store.proofs.Refitted.{kept_after, refitted}
-use Rattle.picture_store.proofs.Settled.{none_settled}
+use Rattle.picture_store.proofs.Settled.{settled_front}
 use Rattle.picture_store.proofs.Same.{stored_still, viewed_still}
 use Rattle.picture_store.proofs.Using.{countable, recounted_same}
 use Rattle.picture_store.proofs.store.PictureStore.refit.Goals as goal
@@ -186,6 +187,14 @@ invariant_of-self-2 c =
     rw (c.make_room.ensures.ids) at c.replace_range.ensures in
     let outcomes_are : c.replace_range-2.new.items.items ≡ outcomes_with c.args.stretch outcomes =
     rw (c.make_room.ensures.outcomes) at c.replace_range-2.ensures in
+    let in_front : c.args.stretch.from ≤ length s.found.items =
+    omega (
+      arith,
+      stretch.ordered,
+      stretch.within,
+      found_length s.keys s.ids.items s.outcomes.items s.found.items s.places s.cache.pairs s.cache.capacity s.out.items s.given
+          c.self.invariant.kept,
+    ) in
     record {
       kept =
           rw (ids_are, outcomes_are, found_are)
@@ -196,7 +205,15 @@ invariant_of-self-2 c =
           (same_with ids outcomes kept.same c.args.stretch stretch) decodable);
       counted = rw (found_are) recounted.counted;
       apart = recounted.apart;
-      settled = none_settled c.recount.new.places s.out.items c.replace_range-3.new.items.items;
+      settled =
+          rw (found_are)
+          (subst (λ all. AreSettled c.recount.new.places s.out.items all c.min-self-inside.result)
+          (sym (append_assoc (take c.args.stretch.from s.found.items) later.items (drop past s.found.items)))
+          (settled_front s.places c.recount.new.places s.cache.pairs s.out.items s.found.items
+          (later.items ++ drop past s.found.items) s.settled c.args.stretch.from c.min-self-inside.result (omega (arith, c.min-self-inside.ensures))
+          (omega (arith, c.min-self-inside.ensures)) in_front c.self.invariant.settled
+          (subst (λ all. ArePlaced all s.places s.cache.pairs c.recount.new.places)
+          (append_assoc (take c.args.stretch.from s.found.items) later.items (drop past s.found.items)) recounted.placed)));
     }
 
 pub returns-clause-ok : goal.returns-clause-ok

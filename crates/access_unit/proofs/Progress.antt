@@ -15,38 +15,27 @@ use Rattle.access_unit.proofs.Firsts.{first_refusal-more, refusal_of-some}
 use Rattle.access_unit.proofs.Lengths.{length_joined}
 use Rattle.access_unit.proofs.Pieces.{HasRest-all, all_units}
 
-pub record IsReadTo (nals : List (List ℕ)) (at : ℕ) (text : List ℕ) (parts : Parts) : Type 0 where
-  pub left : HasRest text (drop at nals)
+-- the NAL units so far are stored, and none shows a refusal
+pub record IsAddedTo (nals : List (List ℕ)) (at : ℕ) (parts : Parts) : Type 0 where
   pub stored : IsStored (take at nals) parts
   pub sound : first_refusal [] (take at nals) ≡ None
 
-pub IsReadTo-first : (nals : List (List ℕ)) (text : List ℕ) (parts : Parts) → HasUnits text nals → IsStored [] parts → IsReadTo nals 0 text parts
-IsReadTo-first nals text parts has stored = record { left = HasRest-all text nals has; stored = stored; sound = refl }
-
-module _ (nals : List (List ℕ)) (at : ℕ) (text : List ℕ) (parts : Parts) (read : IsReadTo nals at text parts) (here : at < length nals) where
-  abbrev unit : List ℕ
-  unit = get_or nals at []
-
-  -- the text goes on with the next NAL unit
-  pub left_next : HasRest text (get_or nals at [] ∷ drop (at + 1) nals)
-  left_next = rw (← drop_more nals at [] here) read.left
-
-  pub IsReadTo-more : (text' : List ℕ) (parts' : Parts) → HasRest text' (drop (at + 1) nals)
-      → IsStored (parts.nals.items ++ get_or nals at [] ∷ []) parts' → refusal_at parts.nals.items (get_or nals at []) ≡ None
-      → IsReadTo nals (at + 1) text' parts'
-  IsReadTo-more text' parts' left stored none = record {
-    left = left;
-    stored = rw (take_more nals at [] here, ← read.stored.nals_are) stored;
-    sound = first_refusal-more nals at read.sound here (rw (← read.stored.nals_are) none);
-  }
+-- with one more
+pub IsAddedTo-more : (nals : List (List ℕ)) (at : ℕ) (parts : Parts) → IsAddedTo nals at parts → at < length nals → (parts' : Parts)
+    → IsStored (parts.nals.items ++ get_or nals at [] ∷ []) parts' → refusal_at parts.nals.items (get_or nals at []) ≡ None
+    → IsAddedTo nals (at + 1) parts'
+IsAddedTo-more nals at parts added here parts' stored none = record {
+  stored = rw (take_more nals at [] here, ← added.stored.nals_are) stored;
+  sound = first_refusal-more nals at added.sound here (rw (← added.stored.nals_are) none);
+}
 
 -- after the last NAL unit all are stored
-module _ (nals : List (List ℕ)) (at : ℕ) (text : List ℕ) (parts : Parts) (read : IsReadTo nals at text parts) (end : length nals ≤ at) where
+module _ (nals : List (List ℕ)) (at : ℕ) (parts : Parts) (added : IsAddedTo nals at parts) (end : length nals ≤ at) where
   stored_all : IsStored nals parts
-  stored_all = rw (sym (take_all at nals end)) read.stored
+  stored_all = rw (sym (take_all at nals end)) added.stored
 
   sound_all : first_refusal [] nals ≡ None
-  sound_all = ap (first_refusal []) (sym (take_all at nals end)) ∙ read.sound
+  sound_all = ap (first_refusal []) (sym (take_all at nals end)) ∙ added.sound
 
   -- and with a slice they are an access unit
   pub IsOfUnit-end : (whole : List ℕ) → IsShortText whole nals → 0 < length parts.slices.items → IsOfUnit parts
@@ -62,3 +51,27 @@ module _ (nals : List (List ℕ)) (at : ℕ) (text : List ℕ) (parts : Parts) (
       sound = refusal_of-some nals sound_all (rw stored_all.slices_are at some);
     });
   }
+
+-- the text goes on with the next NAL unit
+pub left_next : (nals : List (List ℕ)) (at : ℕ) (text : List ℕ) → HasRest text (drop at nals) → at < length nals
+    → HasRest text (get_or nals at [] ∷ drop (at + 1) nals)
+left_next nals at text left here = rw (← drop_more nals at [] here) left
+
+-- those so far are stored, and the text goes on with the others
+pub record IsReadTo (nals : List (List ℕ)) (at : ℕ) (text : List ℕ) (parts : Parts) : Type 0 where
+  pub left : HasRest text (drop at nals)
+  pub added : IsAddedTo nals at parts
+
+pub IsReadTo-first : (nals : List (List ℕ)) (text : List ℕ) (parts : Parts) → HasUnits text nals → IsStored [] parts → IsReadTo nals 0 text parts
+IsReadTo-first nals text parts has stored =
+    record { left = HasRest-all text nals has; added = record { stored = stored; sound = refl } }
+
+-- those so far are cut off, and the text goes on with the others
+pub record IsCutTo (nals : List (List ℕ)) (at : ℕ) (text : List ℕ) (cut : List (List ℕ)) : Type 0 where
+  pub left : HasRest text (drop at nals)
+  pub cut_are : cut ≡ take at nals
+
+pub IsCutTo-more : (nals : List (List ℕ)) (at : ℕ) (text : List ℕ) (cut : List (List ℕ)) → IsCutTo nals at text cut → at < length nals
+    → (text' : List ℕ) → HasRest text' (drop (at + 1) nals) → IsCutTo nals (at + 1) text' (cut ++ get_or nals at [] ∷ [])
+IsCutTo-more nals at text cut so_far here text' left =
+    record { left = left; cut_are = ap (λ cut. cut ++ get_or nals at [] ∷ []) so_far.cut_are ∙ sym (take_more nals at [] here) }

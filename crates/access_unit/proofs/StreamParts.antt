@@ -1,5 +1,5 @@
 -- The access units of a text, each joined to a text of its own.
-use Rattle.std.proofs.Common.{◌≡◌, ◌≢◌, ⊎_elim, ℕ, ◌-◌, ◌<◌, ◌≤◌, List, [], ◌∷◌, ◌++◌, length, map, take, drop, get_or, slice_range, All, Result, Ok, Err, IfOk, refl, ap, sym, ◌∙◌, arith}
+use Rattle.std.proofs.Common.{◌≡◌, ◌≢◌, ⊎_elim, ℕ, ◌-◌, ◌<◌, ◌≤◌, List, [], ◌∷◌, ◌++◌, length, map, take, drop, get_or, slice_range, All, Option, None, Some, Result, Ok, Err, IfOk, refl, ap, sym, ◌∙◌, arith}
 use Rattle.std.specs.List.{AllZip}
 use Rattle.std.specs.Result.{IsOkUnless}
 use Rattle.std.specs.Global.{Vec}
@@ -15,7 +15,8 @@ use Rattle.access_unit.specs.declared.refused.Refused.{Refused}
 use Rattle.access_unit.specs.declared.refused.Refused.TheVariants as refusals
 use Rattle.access_unit.specs.declared.stream.StreamRefused.{StreamRefused}
 use Rattle.access_unit.specs.declared.stream.StreamRefused.TheVariants as stream
-use Rattle.access_unit.specs.Answers.{IsAccepted, IsRefused, IsReadAs}
+use Rattle.access_unit.specs.Answers.{IsSplit, IsAccepted, IsRefused, IsReadAs}
+use Rattle.access_unit.specs.Stored.{units_in}
 use Rattle.access_unit.specs.Gathered.{HasUnitsAt, IsGathered}
 use Rattle.access_unit.specs.Streams.{HasAccessUnits, AreAccepted, IsFirstRefused, IsStreamReadAs}
 use Rattle.access_unit.proofs.Pieces.{all_units}
@@ -28,6 +29,12 @@ HasUnits-part text units start end has some within =
     HasUnits-joined (slice_range units start end)
     (omega (arith, length-take {A = List ℕ} (end - start) (drop start units), length-drop {A = List ℕ} start units))
     (All-take IsUnit (end - start) (drop start units) (All-drop IsUnit start units (all_units has.rest units has.rest_is)))
+
+-- a text that isn't split has no NAL units
+pub unsplit : (text : List ℕ) (found : Option (Vec (List ℕ))) → ((nals : Vec (List ℕ)) → found ≡ Some nals → ⊥) → IsSplit text (units_in found)
+    → (units : List (List ℕ)) → ¬ HasUnits text units
+unsplit text None none h = h
+unsplit text (Some nals) none h = absurd (none nals refl)
 
 -- two readings of a text have the same access units
 same_parts : (text : List ℕ) (parts others : List (List (List ℕ))) → HasAccessUnits text parts → HasAccessUnits text others → parts ≡ others

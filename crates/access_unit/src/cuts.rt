@@ -1,12 +1,12 @@
 //! NAL units cut off a text that they share (B.1.1).
 ghost use Rattle.std.specs.Prelude.{◌≡◌, ℕ, List, ◌∷◌, ◌++◌, replicate, IfOk, OnOk};
-ghost use Rattle.annexb.specs.ByteStream.{start_code};
+ghost use Rattle.annexb.specs.ByteStream.{HasUnits, start_code};
 ghost use Rattle.access_unit.specs.Coded.{HasRest};
 
 use crate::shared_nal::SharedNal;
 use annexb::Nal;
 use bytes::Bytes;
-use std::alloc::AllocError;
+use std::alloc::{AllocError, Global};
 
 /// How many bytes a start code has.
 pub(crate) const START_CODE_LEN: usize = 3;
@@ -21,6 +21,22 @@ pub(crate) fn cut_next(text: &mut Bytes, nal: &Nal<'_>) -> Result<SharedNal, All
     text.advance(zeros_before_code(text.as_slice()));
     let coded = text.split_to(START_CODE_LEN + nal.bytes().len())?;
     Ok(SharedNal::new(coded))
+}
+
+/// The NAL units of the text, each with a share of it. No byte is copied.
+pub(crate) fn cut_all(
+    alloc: Global,
+    mut text: Bytes,
+    nals: &[Nal<'_>],
+) -> Result<Vec<SharedNal>, AllocError>
+    requires { HasUnits text nals.now }
+    ensures { IfOk result (λ cut. cut.items ≡ nals.now) }
+{
+    let mut cut = Vec::with_capacity(alloc, nals.len())?;
+    for nal in nals {
+        cut.push(cut_next(&mut text, nal)?)?;
+    }
+    Ok(cut)
 }
 
 /// How many zeros stand before the start code of the text.

@@ -22,5 +22,5 @@ pub use parameter_sets::ParameterSet;
 pub use refused::Refused;
 pub use room::{MOST_UNITS, ReadFault, Refusal, read_units};
 pub use shared_nal::SharedNal;
-pub use stream::{StreamRefused, gather, read_stream};
+pub use stream::{StreamRefused, gather, read_shared_stream, read_stream};
 pub use unit::{Unit, read_shared, read_unit};

@@ -4,8 +4,9 @@ ghost use Rattle.std.specs.Prelude.{◌≡◌, ◌≤◌, ℕ, List, length, IfO
 ghost use Rattle.access_unit.specs.Rooms.{IsReadAs, IsStream, fault_of};
 
 use crate::refused::Refused;
-use crate::stream::{StreamRefused, read_stream};
+use crate::stream::{StreamRefused, read_shared_stream};
 use crate::unit::Unit;
+use bytes::Bytes;
 use std::alloc::Global;
 use std::thread::Threads;
 use thiserror::Error;
@@ -53,11 +54,12 @@ impl From<StreamRefused> for ReadFault {
 }
 
 /// The access units of a text, where there is room for so many. Memory is the answer only for a text of NAL units.
-/// The units are read in several threads, and in this one where none can be started.
+/// No byte is copied: the units share the text. They are read in several threads, and in this one where none can be
+/// started.
 pub fn read_units(
     threads: &(impl Threads + Sync),
     alloc: Global,
-    text: &[u8],
+    text: &Bytes,
     room: usize,
 ) -> Result<Vec<Unit>, ReadFault>
     ensures read { IsReadAs text.now room result }
@@ -66,7 +68,7 @@ pub fn read_units(
         → IfOk result (λ units. units.items ≡ parts)
         × (length parts ≤ room → IsOkUnless result ReadFault.Memory) }
 {
-    match read_stream(threads, alloc, text) {
+    match read_shared_stream(threads, alloc, text) {
         Ok(units) if units.len() <= room => Ok(units),
         Ok(_) => Err(ReadFault::Refused(Refusal::StreamFull)),
         Err(refused) => Err(ReadFault::from(refused)),

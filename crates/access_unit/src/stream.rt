@@ -9,10 +9,11 @@ ghost use Rattle.access_unit.specs.Streams.{HasAccessUnits, AreAccepted, IsStrea
 ghost use Rattle.access_unit.specs.Gathered.{HasUnitsAt, IsGathered, wants_memory};
 ghost use Rattle.access_unit.specs.declared.stream.StreamRefused.TheVariants.{Memory};
 
-use crate::cuts::START_CODE_LEN;
+use crate::cuts::{START_CODE_LEN, cut_all};
 use crate::refused::Refused;
-use crate::unit::{MOST_BYTES, Unit, split_units, unit_of};
-use annexb::{Nal, cut_units, join};
+use crate::shared_nal::SharedNal;
+use crate::unit::{MOST_BYTES, Unit, split_units, unit_with};
+use annexb::{Nal, cut_units};
 use bytes::Bytes;
 use rayon::prelude::*;
 use std::alloc::{AllocError, AllocFailed, Global};
@@ -64,7 +65,8 @@ impl<T: Drop> From<AllocFailed<T>> for StreamRefused {
 }
 
 /// The access units of a text, or the text's refusal. Memory is the answer only for a text of NAL
-/// units. The units are read in several threads, and in this one where none can be started.
+/// units. The text is copied once, and the units share the copy. They are read in several threads,
+/// and in this one where none can be started.
 pub fn read_stream(
     rt: &(impl Threads + Sync),
     alloc: Global,
@@ -81,9 +83,43 @@ pub fn read_stream(
     let Some(nals) = split_units(alloc, text)? else {
         return Err(StreamRefused::Split);
     };
-    let nals = nals.as_slice();
+    let shared = Bytes::copy_from_slice(alloc, text)?;
+    read_nals(rt, alloc, shared, nals.as_slice())
+}
+
+/// What `read_stream` answers for the text. No byte is copied: the units share the text.
+pub fn read_shared_stream(
+    rt: &(impl Threads + Sync),
+    alloc: Global,
+    text: &Bytes,
+) -> Result<Vec<Unit>, StreamRefused>
+    ensures read { IsStreamReadAs text.now result }
+    // A stream of access units is refused for want of memory alone.
+    ensures only { (parts : List (List (List ℕ))) → HasAccessUnits text.now parts
+        → AreAccepted parts → IfOk result (λ units. units.items ≡ parts)
+        × IsOkUnless result StreamRefused.Memory }
+    ensures memory { IsErrOf result StreamRefused.Memory
+        → (units : List (List ℕ)) × HasUnits text.now units }
+{
+    let Some(nals) = split_units(alloc, text.as_slice())? else {
+        return Err(StreamRefused::Split);
+    };
+    read_nals(rt, alloc, text.clone()?, nals.as_slice())
+}
+
+/// What a text of these NAL units is read as. The access units share it.
+fn read_nals(
+    rt: &(impl Threads + Sync),
+    alloc: Global,
+    text: Bytes,
+    nals: &[Nal<'_>],
+) -> Result<Vec<Unit>, StreamRefused>
+    requires { HasUnits text nals.now }
+    ensures { IsStreamReadAs text result }
+{
+    let shared = cut_all(alloc, text, nals)?;
     let ranges = cut_units(alloc, nals)?;
-    let answers = read_parts(rt, alloc, nals, ranges.as_slice())?;
+    let answers = read_parts(rt, alloc, shared.as_slice(), ranges.as_slice())?;
     gather(alloc, answers)
 }
 
@@ -91,7 +127,7 @@ pub fn read_stream(
 fn read_parts(
     rt: &(impl Threads + Sync),
     alloc: Global,
-    nals: &[Nal<'_>],
+    nals: &[SharedNal],
     ranges: &[Range<usize>],
 ) -> Result<Vec<Result<Unit, Refused>>, AllocError>
     requires { All (HasUnitsAt nals.now) ranges.now }
@@ -148,24 +184,24 @@ fn wants_memory(answers: &[Result<Unit, Refused>]) -> bool
 }
 
 /// What the text of an access unit's NAL units is read as.
-fn read_part(alloc: Global, nals: &[Nal<'_>]) -> Result<Unit, Refused>
+fn read_part(alloc: Global, nals: &[SharedNal]) -> Result<Unit, Refused>
     requires { HasUnits (joined nals.now) nals.now }
     ensures { IsReadAs (joined nals.now) result }
 {
     if is_too_long(nals) {
         Err(Refused::TooLarge)
     } else {
-        unit_of(alloc, Bytes::from_vec(join(alloc, nals)?)?, nals)
+        unit_with(alloc, nals)
     }
 }
 
 /// Whether the NAL units, joined, are longer than the text of an access unit may be.
-fn is_too_long(nals: &[Nal<'_>]) -> bool
+fn is_too_long(nals: &[SharedNal]) -> bool
     ensures { result ≡ nat_lt most_bytes (length (joined nals.now)) }
 {
     let mut left = MOST_BYTES;
     for nal in nals {
-        match left.checked_sub(START_CODE_LEN + nal.bytes().len()) {
+        match left.checked_sub(START_CODE_LEN + nal.nal().bytes().len()) {
             Some(rest) => left = rest,
             None => return true,
         }

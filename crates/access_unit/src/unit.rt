@@ -58,6 +58,18 @@ impl Unit {
         self.kept.nals()
     }
 
+    /// The text of the NAL units joined, which is read as this access unit. It shares the bytes of a lone one; those of
+    /// several are copied.
+    pub fn text(&self, alloc: Global) -> Result<Bytes, AllocError>
+        ensures value { IfOk result (λ text. text ≡ joined self.now) }
+        ensures accepted { IsAccepted (joined self.now) self.now }
+    {
+        match self.nals() {
+            [nal] => nal.coded(),
+            nals => join_shared(alloc, nals),
+        }
+    }
+
     /// The slices among the NAL units, in order: one or more.
     pub fn slices(&self) -> &[SharedNal]
         ensures { result.now ≡ filter is_slice self.now }
@@ -147,4 +159,33 @@ pub(crate) fn unit_of(alloc: Global, mut text: Bytes, nals: &[Nal<'_>]) -> Resul
     Ok(Unit {
         kept: keep(alloc, parts)?,
     })
+}
+
+/// The access unit of these NAL units, which it shares, or their refusal.
+pub(crate) fn unit_with(alloc: Global, nals: &[SharedNal]) -> Result<Unit, Refused>
+    requires { IsShortText (joined nals.now) nals.now }
+    ensures ok { IfOk result (λ unit. (unit ≡ nals.now) × (refusal_of nals.now ≡ None)) }
+    ensures err { IfErr result (IsShown (refusal_of nals.now)) }
+{
+    let mut parts = Parts::with_capacity(alloc, nals.len())?;
+    for nal in nals {
+        parts.add(alloc, nal.clone()?)?;
+    }
+    if parts.slices.is_empty() {
+        return Err(Refused::NoPicture);
+    }
+    Ok(Unit {
+        kept: keep(alloc, parts)?,
+    })
+}
+
+/// The text of the NAL units, joined.
+fn join_shared(alloc: Global, nals: &[SharedNal]) -> Result<Bytes, AllocError>
+    ensures { IfOk result (λ text. text ≡ joined nals.now) }
+{
+    let mut text = Vec::new(alloc);
+    for nal in nals {
+        text.extend_from_slice(nal.coded()?.as_slice())?;
+    }
+    Ok(Bytes::from_vec(text)?)
 }

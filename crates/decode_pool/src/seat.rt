@@ -7,7 +7,7 @@ ghost use Rattle.decode_pool.specs.Seats.{AnswersEditIn, EditsOne, IsLastOfOne, 
 
 use crate::desk::Desk;
 use crate::settling::Settled;
-use edit_engine::{Edit, EditRefused, Last, Receipt, Session, Shown};
+use edit_engine::{Edit, EditRefused, Last, ReadEdit, Receipt, Session, Shown};
 use pictures::AuId;
 use seat_books::{SeatBook, SeatReceipt};
 use std::alloc::{AllocError, Global};
@@ -16,6 +16,7 @@ use std::sync::Wait;
 /// One user of a desk, with the book of what it did and was shown.
 #[derive(Debug, Drop)]
 pub struct Seat {
+    alloc: Global,
     pub(crate) number: usize,
     pub(crate) book: SeatBook,
 }
@@ -27,6 +28,7 @@ impl Seat {
         ensures book { result.book.receipts.items ≡ [] }
     {
         Seat {
+            alloc,
             number,
             book: SeatBook::new(alloc),
         }
@@ -45,9 +47,22 @@ impl Seat {
         ensures session { AnswersEditIn session.old edit result session.new }
         ensures book { NotesEdit self.old edit result (length session.new.journal) self.new }
     {
+        let read = edit.read(self.alloc)?;
+        self.edit_read_in(session, read)
+    }
+
+    /// Edits a session that is lent as `edit_in` does, by an edit whose text is read.
+    pub fn edit_read_in(
+        &mut self,
+        session: &mut Session,
+        read: ReadEdit,
+    ) -> Result<Receipt, EditRefused>
+        ensures session { AnswersEditIn session.old read result session.new }
+        ensures book { NotesEdit self.old read result (length session.new.journal) self.new }
+    {
         self.book.receipts.reserve(1)?;
-        let noted = edit.copy()?;
-        let receipt = session.edit(edit)?;
+        let noted = read.edit().copy()?;
+        let receipt = session.edit_read(read)?;
         self.book.receipts.push_reserved(SeatReceipt::Edit {
             edit: noted,
             id: receipt.id,
@@ -71,11 +86,25 @@ impl Seat {
         Ok(shown)
     }
 
-    /// Edits the desk's session as `edit_in` does, while no one else does.
+    /// Edits the desk's session as `edit_in` does, while no one else does. The edit's text is read before that, so that
+    /// others don't wait for it; an edit that is refused for its text asks no session.
     pub fn edit<R: Wait>(&mut self, rt: &R, desk: &Desk, edit: Edit) -> Result<Receipt, EditRefused>
         ensures { EditsOne self.old edit result self.new }
     {
-        let answer = desk.state.lock(rt).edit(self, edit);
+        let read = edit.read(self.alloc)?;
+        self.edit_read(rt, desk, read)
+    }
+
+    /// Edits the desk's session as `edit` does, by an edit whose text is read.
+    pub fn edit_read<R: Wait>(
+        &mut self,
+        rt: &R,
+        desk: &Desk,
+        read: ReadEdit,
+    ) -> Result<Receipt, EditRefused>
+        ensures { EditsOne self.old read result self.new }
+    {
+        let answer = desk.state.lock(rt).edit_read(self, read);
         desk.changed.notify_all();
         answer
     }

@@ -11,7 +11,9 @@ ghost use Rattle.decode_pool.specs.Seats.{AnswersEditIn, IsReached, NotesEdit, N
 
 use crate::seat::Seat;
 use crate::tally::Tally;
-use edit_engine::{Edit, EditRefused, Finished, Job, Last, Receipt, Session, Shown, TakeRefused};
+use edit_engine::{
+    EditRefused, Finished, Job, Last, ReadEdit, Receipt, Session, Shown, TakeRefused,
+};
 use pictures::AuId;
 use std::alloc::AllocError;
 
@@ -37,14 +39,18 @@ impl State {
         }
     }
 
-    /// A seat edits the session.
-    pub(crate) fn edit(&mut self, seat: &mut Seat, edit: Edit) -> Result<Receipt, EditRefused>
+    /// A seat edits the session by an edit whose text is read.
+    pub(crate) fn edit_read(
+        &mut self,
+        seat: &mut Seat,
+        read: ReadEdit,
+    ) -> Result<Receipt, EditRefused>
         ensures reached { IsReached self.old.session }
-        ensures session { AnswersEditIn self.old.session edit result self.new.session }
-        ensures book { NotesEdit seat.old edit result (length self.new.session.journal) seat.new }
+        ensures session { AnswersEditIn self.old.session read result self.new.session }
+        ensures book { NotesEdit seat.old read result (length self.new.session.journal) seat.new }
     {
         let _ = self.session.journal();
-        seat.edit_in(&mut self.session, edit)
+        seat.edit_read_in(&mut self.session, read)
     }
 
     /// A seat is shown a unit.

@@ -1,12 +1,18 @@
 -- What is stored at the place of a unit is what the fold says of the unit.
-use Rattle.std.proofs.Common.{◌≡◌, ℕ, ◌<◌, List, length, get_or, Option, Some, refl, ap, sym, ◌∙◌}
+use Rattle.std.proofs.Common.{◌≡◌, ℕ, ◌<◌, List, length, get_or, Option, Some, refl, ap, sym, ◌∙◌, subst}
 use Rattle.std.specs.Prelude.{slice_get, option_and_then}
 use Rattle.std.proofs.lemmas.Option.{slice_get_read}
 use Rattle.outcomes.specs.declared.outcome.Outcome.{Outcome}
 use Rattle.request_core.specs.States.{no_units}
 use Rattle.request_core.specs.Fold.{outcomes_of}
 use Rattle.output_order.specs.OutputOrder.{positions_of}
+use Rattle.picture_store.specs.Stores.{StoreValue}
+use Rattle.stream_edits.specs.declared.edits.Edit.{Edit}
+use Rattle.stream_edits.specs.Edits.{Register}
+use Rattle.stream_edits.specs.Ids.{AreDifferent}
 use Rattle.stream_edits.specs.Streams.{Stream, place_of}
+use Rattle.stream_edits.proofs.GivenIds.{AreDifferent-ids, HasIds-journal}
+use Rattle.edit_engine.specs.Kept.{IsKept}
 use Rattle.edit_engine.specs.Streams.{outcome_in, position_in}
 use Rattle.stream_fold.proofs.Folds.{length-outcomes_from}
 
@@ -28,3 +34,9 @@ pub position_found : (stream : Stream) (id place : ℕ) (position : Option ℕ) 
     → slice_get (positions_of (outcomes_of stream)) place ≡ Some position → position_in stream id ≡ Some position
 position_found stream id place position stands at =
     ap (option_and_then (slice_get (positions_of (outcomes_of stream)))) stands ∙ at
+
+-- the ids that are stored differ
+pub ids_apart : (journal : List Edit) (register : Register) (store : StoreValue) → IsKept journal register store
+    → AreDifferent store.ids
+ids_apart journal register store kept =
+    subst AreDifferent (sym kept.identified) (AreDifferent-ids register (HasIds-journal journal register kept.replayed))

@@ -30,4 +30,4 @@ pub use runner::{Runner, run};
 pub use session::Session;
 pub use showing::Shown;
 pub use stand_in_device::{Finished, Job, Picture};
-pub use stream_edits::{Edit, EditRefused, Last, Place, Receipt, ids_differ};
+pub use stream_edits::{Edit, EditRefused, Last, Place, ReadEdit, Receipt, ids_differ};

@@ -2,7 +2,7 @@
 
 ghost use Rattle.std.specs.Prelude.{◌≡◌, ◌≤◌, ◌↔◌, IfOk, IsErrOf, OnErr};
 ghost use Rattle.picture_cache.specs.Bounded.{most_room};
-ghost use Rattle.edit_engine.specs.Machines.{empty};
+ghost use Rattle.edit_engine.specs.Machines.{AnswersEdit, empty};
 ghost use Rattle.edit_engine.specs.Runs.{Answers, IsRun, Reports};
 
 use crate::commands::Command;
@@ -16,6 +16,7 @@ use pictures::AuId;
 use stand_in_device::Device;
 use std::alloc::{AllocError, Global};
 use std::marker::Model;
+use stream_edits::{EditRefused, ReadEdit, Receipt};
 
 /// A session that follows commands, one at a time, with the jobs that are out and a device that decodes them. Clauses
 /// see it as the session.
@@ -91,6 +92,13 @@ impl Runner {
             }
             Command::Show(id) => Ok(Reply::Show(self.session.show(id))),
         }
+    }
+
+    /// Edits the stream by an edit whose text is read, as `step` does at `Command::Edit`.
+    pub fn edit_read(&mut self, read: ReadEdit) -> Result<Receipt, EditRefused>
+        ensures { AnswersEdit self.old read result self.new }
+    {
+        self.session.edit_read(read)
     }
 
     /// The session as it is, to be looked at without a copy.

@@ -1,6 +1,6 @@
 //! The session: a stream under edits, and the pictures of its units.
 
-ghost use Rattle.std.specs.Prelude.{◌≡◌, ◌≤◌, ◌↔◌, Contains, Some, None, IsTrue, IfOk, IsErrOf, MatchResult};
+ghost use Rattle.std.specs.Prelude.{◌≡◌, ◌<◌, ◌≤◌, ◌↔◌, length, Contains, Some, None, IsTrue, IfOk, IfSome, IsErrOf, MatchResult};
 ghost use Rattle.request_core.specs.Fold.{outcomes_of};
 ghost use Rattle.picture_cache.specs.Bounded.{most_room};
 ghost use Rattle.picture_store.specs.Stores.{AreOneToOne};
@@ -25,7 +25,7 @@ use pictures::AuId;
 use stand_in_device::{Finished, Job};
 use std::alloc::Global;
 use std::marker::Model;
-use stream_edits::{Edit, EditRefused, Last, Receipt, place_of};
+use stream_edits::{Edit, EditRefused, Last, ReadEdit, Receipt, place_of};
 
 /// A stream of access units under edits, with what becomes of each unit, and with pictures, which jobs bring. Clauses see
 /// the accepted edits and what they leave, the keys whose pictures are held or cached, and the jobs that are out.
@@ -99,12 +99,21 @@ impl Session {
     pub fn edit(&mut self, edit: Edit) -> Result<Receipt, EditRefused>
         ensures { AnswersEdit self.old edit result self.new }
     {
-        let prepared = prepare(self.alloc, &mut self.ordered, self.given, &edit)?;
+        let read = edit.read(self.alloc)?;
+        self.edit_read(read)
+    }
+
+    /// Edits the stream as `edit` does, by an edit whose text is read.
+    pub fn edit_read(&mut self, read: ReadEdit) -> Result<Receipt, EditRefused>
+        ensures { AnswersEdit self.old read result self.new }
+    {
+        let (ids, given) = (self.store.ids(), self.given);
+        let prepared = prepare(self.alloc, &mut self.ordered, ids, given, &read)?;
         let steps = prepared.change.refolded().steps();
         self.journal.reserve(1)?;
         self.store.refit(prepared.stretch, self.ordered.states())?;
         self.ordered.commit(prepared.change);
-        self.journal.push_reserved(edit);
+        self.journal.push_reserved(read.into_edit());
         self.given = prepared.given;
         Ok(Receipt {
             number: self.journal.len() as u64,
@@ -156,7 +165,7 @@ impl Session {
     pub fn show(&self, id: AuId) -> Shown
         ensures { Shows self.now id result }
     {
-        let Some(place) = place_of(self.ordered.units(), id) else {
+        let Some(place) = self.find(id) else {
             return Shown::NoSuchUnit;
         };
         let outcome: &Outcome = &self.store.outcomes()[place];
@@ -175,7 +184,7 @@ impl Session {
             (λ outcome. outcome_in self.now.register.stream id ≡ Some outcome.now)
             (λ _. place_of self.now.register.stream id ≡ None) }
     {
-        match place_of(self.ordered.units(), id) {
+        match self.find(id) {
             Some(place) => {
                 let outcome: &Outcome = &self.store.outcomes()[place];
                 Ok(outcome)
@@ -191,7 +200,7 @@ impl Session {
             (λ position. position_in self.now.register.stream id ≡ Some position)
             (λ _. place_of self.now.register.stream id ≡ None) }
     {
-        match place_of(self.ordered.units(), id) {
+        match self.find(id) {
             Some(place) => {
                 let mut comparisons = Comparisons::new();
                 Ok(self.ordered.position_in(place, &mut comparisons))
@@ -209,7 +218,7 @@ impl Session {
             (λ _. place_of self.now.register.stream id ≡ None) }
         ensures one { IfOk result (λ _. AreOneToOne (store_of self.now) (store_of self.now)) }
     {
-        match place_of(self.ordered.units(), id) {
+        match self.find(id) {
             Some(place) => Ok(self.store.key_at(place)),
             None => Err(NoSuchUnit),
         }
@@ -223,11 +232,19 @@ impl Session {
         self.store.in_use(key)
     }
 
-    /// The place of the unit that has the id, in decoding order.
+    /// The place of the unit that has the id, in decoding order. The last one's is found at once.
     pub fn place(&self, id: AuId) -> Option<usize>
         ensures { result ≡ place_of self.now.register.stream id }
     {
-        place_of(self.ordered.units(), id)
+        self.find(id)
+    }
+
+    /// The place of the unit that has the id, within the stream.
+    fn find(&self, id: AuId) -> Option<usize>
+        ensures value { result ≡ place_of self.now.register.stream id }
+        ensures inside { IfSome result (λ place. place < length self.now.register.stream) }
+    {
+        place_of(self.store.ids(), id)
     }
 
     /// The ids of all units, in decoding order.

@@ -9,8 +9,8 @@ ghost use Rattle.pool_run.specs.Running.{InsertsAll, InsertsLast, Loads};
 use access_unit::{MOST_UNITS, ReadFault, Unit, read_units};
 use console_io::Source;
 use decode_pool::{Desk, Seat};
-use edit_engine::{Edit, EditRefused, Last, Place, Receipt};
-use script_run::{LoadedLine, RefusedLine, RunFault, text_of};
+use edit_engine::{EditRefused, Last, Place, ReadEdit, Receipt};
+use script_run::{LoadedLine, RefusedLine, RunFault, shared_file};
 use std::alloc::{AllocError, Global};
 use std::sync::Wait;
 use std::thread::Threads;
@@ -32,12 +32,9 @@ pub(crate) fn load<'a, R: Threads + Wait + Sync, S: Source>(
     ensures kept { (name : List ℕ) → S.file source.new name ≡ S.file source.old name }
     ensures named { IfErr result (IsLoadFault path.entry) }
 {
-    let text = match source.whole_file(alloc, path) {
-        Ok(text) => text,
-        Err(fault) => return Err(RunFault::of_input(fault, path)),
-    };
+    let text = shared_file(alloc, path, source)?;
     let room = MOST_UNITS.saturating_sub(seat.last(rt, desk).units);
-    match read_units(rt, alloc, text.as_slice(), room) {
+    match read_units(rt, alloc, &text, room) {
         Ok(units) => Ok(insert_all(rt, alloc, desk, seat, units)?),
         Err(ReadFault::Refused(refusal)) => Ok(RefusalLine(refusal).to_string(alloc)?),
         Err(ReadFault::Memory) => Err(RunFault::Memory),
@@ -57,7 +54,7 @@ fn insert_all<R: Wait>(
 {
     let count = units.len();
     for unit in units {
-        if let Err(refused) = insert_last(rt, alloc, desk, seat, &unit) {
+        if let Err(refused) = insert_last(rt, alloc, desk, seat, unit) {
             return RefusedLine(refused).to_string(alloc);
         }
     }
@@ -70,12 +67,12 @@ fn insert_last<R: Wait>(
     alloc: Global,
     desk: &Desk,
     seat: &mut Seat,
-    unit: &Unit,
+    unit: Unit,
 ) -> Result<Receipt, EditRefused>
-    ensures { InsertsLast seat.old unit.now result seat.new }
+    ensures { InsertsLast seat.old unit result seat.new }
 {
-    let edit = Edit::Insert(end_of(seat.last(rt, desk)), text_of(alloc, unit.nals())?);
-    seat.edit(rt, desk, edit)
+    let place = end_of(seat.last(rt, desk));
+    seat.edit_read(rt, desk, ReadEdit::insertion(alloc, place, unit)?)
 }
 
 /// The place after the last unit.

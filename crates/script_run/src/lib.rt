@@ -17,7 +17,7 @@ mod shown_lines;
 
 pub use answers::{AcceptedLine, LoadedLine, RefusedLine};
 pub use edit_engine::MOST_ROOM;
-pub use loading::text_of;
+pub use loading::shared_file;
 pub use messages::say_run_fault;
 pub use options::Options;
 pub use run::script_on;

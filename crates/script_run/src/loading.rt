@@ -3,16 +3,18 @@
 ghost use Rattle.std.specs.Prelude.{◌≡◌, ℕ, List, length, IfErr, IfOk, IfSome, string_bytes};
 ghost use Rattle.annexb.specs.ByteStream.{joined};
 ghost use Rattle.stream_edits.specs.declared.edits.Edit.TheVariants.{Insert};
+ghost use Rattle.edit_engine.specs.declared.commands.Command.TheVariants as told;
+ghost use Rattle.edit_engine.specs.declared.replies.Reply.TheVariants as replies;
 ghost use Rattle.edit_engine.specs.Runs.{Answers as Replies};
 ghost use Rattle.script_run.specs.RunFaults.{IsLoadFault};
 ghost use Rattle.script_run.specs.Running.{end_of, InsertsAll, Loads};
 
 use crate::answers::{LoadedLine, RefusedLine};
 use crate::run_fault::RunFault;
-use access_unit::{MOST_UNITS, ReadFault, SharedNal, Unit, read_units};
+use access_unit::{MOST_UNITS, ReadFault, Unit, read_units};
 use bytes::Bytes;
 use console_io::Source;
-use edit_engine::{Command as Told, Edit, EditRefused, Place, Receipt, Reply, Runner, Session};
+use edit_engine::{EditRefused, Place, ReadEdit, Receipt, Runner, Session};
 use std::alloc::{AllocError, Global};
 use std::thread::Threads;
 use unit_lines::RefusalLine;
@@ -32,15 +34,28 @@ pub fn load<'a, S: Source>(
     ensures kept { (name : List ℕ) → S.file source.new name ≡ S.file source.old name }
     ensures named { IfErr result (IsLoadFault path.entry) }
 {
-    let text = match source.whole_file(alloc, path) {
-        Ok(text) => text,
-        Err(fault) => return Err(RunFault::of_input(fault, path)),
-    };
+    let text = shared_file(alloc, path, source)?;
     let room = MOST_UNITS.saturating_sub(runner.session().last().units);
-    match read_units(threads, alloc, text.as_slice(), room) {
+    match read_units(threads, alloc, &text, room) {
         Ok(units) => Ok(insert_all(alloc, units, runner)?),
         Err(ReadFault::Refused(refusal)) => Ok(RefusalLine(refusal).to_string(alloc)?),
         Err(ReadFault::Memory) => Err(RunFault::Memory),
+    }
+}
+
+/// The text of the file of this name, in one buffer that units can share.
+pub fn shared_file<'a, S: Source>(
+    alloc: Global,
+    path: &'a str,
+    source: &mut S,
+) -> Result<Bytes, RunFault<'a>>
+    ensures ok { IfOk result (λ text. IfSome (S.file source.old path.now) (λ bytes. text ≡ bytes)) }
+    ensures kept { (name : List ℕ) → S.file source.new name ≡ S.file source.old name }
+    ensures named { IfErr result (IsLoadFault path.entry) }
+{
+    match source.whole_file(alloc, path) {
+        Ok(text) => Ok(Bytes::from_vec(text)?),
+        Err(fault) => Err(RunFault::of_input(fault, path)),
     }
 }
 
@@ -51,7 +66,7 @@ fn insert_all(alloc: Global, units: Vec<Unit>, runner: &mut Runner) -> Result<St
 {
     let count = units.len();
     for unit in units {
-        if let Err(refused) = insert_last(alloc, &unit, runner) {
+        if let Err(refused) = insert_last(alloc, unit, runner) {
             return RefusedLine(refused).to_string(alloc);
         }
     }
@@ -59,17 +74,13 @@ fn insert_all(alloc: Global, units: Vec<Unit>, runner: &mut Runner) -> Result<St
 }
 
 /// Inserts a unit after the last one.
-fn insert_last(alloc: Global, unit: &Unit, runner: &mut Runner) -> Result<Receipt, EditRefused>
-    ensures { Replies runner.old (Told.Edit
-        (Insert (end_of runner.old.register.stream) (joined unit.now)))
-        (Reply.Edit result) runner.new }
+fn insert_last(alloc: Global, unit: Unit, runner: &mut Runner) -> Result<Receipt, EditRefused>
+    ensures { Replies runner.old (told.Edit
+        (Insert (end_of runner.old.register.stream) (joined unit)))
+        (replies.Edit result) runner.new }
 {
     let place = end_of(runner.session());
-    let edit = Edit::Insert(place, text_of(alloc, unit.nals())?);
-    match runner.step(Told::Edit(edit))? {
-        Reply::Edit(answer) => answer,
-        _ => unreachable!(),
-    }
+    runner.edit_read(ReadEdit::insertion(alloc, place, unit)?)
 }
 
 /// The place after the last unit.
@@ -80,15 +91,4 @@ fn end_of(session: &Session) -> Place
         Some(id) => Place::After(id),
         None => Place::First,
     }
-}
-
-/// The text of a unit of these NAL units.
-pub fn text_of(alloc: Global, nals: &[SharedNal]) -> Result<Bytes, AllocError>
-    ensures { IfOk result (λ text. text ≡ joined nals.now) }
-{
-    let mut text = Vec::new(alloc);
-    for nal in nals {
-        text.extend_from_slice(nal.coded()?.as_slice())?;
-    }
-    Ok(Bytes::from_vec(text)?)
 }

@@ -6,7 +6,7 @@ ghost use Rattle.script_run.specs.declared.run_fault.RunFault.TheVariants.{Memor
 
 use console_io::{InputFault, PrintFault};
 use edit_script::ScriptFault;
-use std::alloc::AllocError;
+use std::alloc::{AllocError, AllocFailed};
 
 /// Why a script isn't run to its end.
 #[derive(Clone, Copy, Debug)]
@@ -37,6 +37,14 @@ impl<'a> From<AllocError> for RunFault<'a> {
     ghost from_gives = { λ _ fault. fault ≡ Memory };
 
     fn from(_error: AllocError) -> RunFault<'a> {
+        RunFault::Memory
+    }
+}
+
+impl<'a, T: Drop> From<AllocFailed<T>> for RunFault<'a> {
+    ghost from_gives = { λ _ fault. fault ≡ Memory };
+
+    fn from(_error: AllocFailed<T>) -> RunFault<'a> {
         RunFault::Memory
     }
 }

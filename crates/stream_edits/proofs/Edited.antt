@@ -9,10 +9,11 @@ use Rattle.stream_edits.specs.declared.changes.Change.{Change}
 use Rattle.stream_edits.specs.declared.edits.Edit.{Edit}
 use Rattle.stream_edits.specs.declared.edits.Edit.TheVariants.{Insert, Delete, Replace}
 use Rattle.stream_edits.specs.declared.edits.Place.{Place}
+use Rattle.stream_edits.specs.declared.refusals.EditRefused.{EditRefused}
 use Rattle.stream_edits.specs.declared.refusals.EditRefused.TheVariants as refusals
 use Rattle.stream_edits.specs.Numbers.{refusal_of_text}
 use Rattle.stream_edits.specs.Edits.{Register, Makes, Replays}
-use Rattle.stream_edits.specs.Refusals.{IsRefused, IsSplittable, TakesMemory}
+use Rattle.stream_edits.specs.Refusals.{IsRefused, IsRefusedText, IsSplittable, TakesMemory}
 use Rattle.stream_edits.specs.Changes.{IsFor}
 
 -- an accepted edit after others
@@ -50,19 +51,29 @@ TakesMemory-for old (Insert place text) change is = (is.makes.accepted.short, is
 TakesMemory-for old (Delete id) change is = (is.makes.1.at, is.makes.1.stands)
 TakesMemory-for old (Replace id text) change is = (is.makes.1.accepted.short, is.makes.1.unit, is.makes.1.accepted.has)
 
+-- a text is refused as it is read
+pub refused_text : (text : List ℕ) (refused : Refused) → (refused ≡ texts.Memory → IsSplittable text)
+    → (refused ≡ texts.Memory) ⊎ IsTextRefused text refused → IsRefusedText text (refusal_of_text refused)
+refused_text text texts.Memory memory is = memory refl
+refused_text text refused memory is = ⊎_elim (λ (wants : refused ≡ texts.Memory). absurd (cc)) (λ so. so) is
+
 -- an insertion is refused as its text is
-pub Insert-refused : (old : Register) (place : Place) (text : List ℕ) (refused : Refused)
-    → (refused ≡ texts.Memory → IsSplittable text) → (refused ≡ texts.Memory) ⊎ IsTextRefused text refused
-    → IsRefused old (Insert place text) (refusal_of_text refused)
-Insert-refused old place text texts.Memory memory is = memory refl
-Insert-refused old place text refused memory is = ⊎_elim (λ (wants : refused ≡ texts.Memory). absurd (cc)) (λ so. so) is
+pub Insert-refused : (old : Register) (place : Place) (text : List ℕ) (refused : EditRefused) → IsRefusedText text refused
+    → IsRefused old (Insert place text) refused
+Insert-refused old place text (refusals.Unit refused) is = is
+Insert-refused old place text refusals.NoSuchUnit is = absurd is
+Insert-refused old place text refusals.StreamFull is = absurd is
+Insert-refused old place text refusals.IdsSpent is = absurd is
+Insert-refused old place text refusals.Memory is = is
 
 -- and so is a replacement
-pub Replace-refused : (old : Register) (id : ℕ) (text : List ℕ) (refused : Refused)
-    → (refused ≡ texts.Memory → IsSplittable text) → (refused ≡ texts.Memory) ⊎ IsTextRefused text refused
-    → IsRefused old (Replace id text) (refusal_of_text refused)
-Replace-refused old id text texts.Memory memory is = memory refl
-Replace-refused old id text refused memory is = ⊎_elim (λ (wants : refused ≡ texts.Memory). absurd (cc)) (λ so. so) is
+pub Replace-refused : (old : Register) (id : ℕ) (text : List ℕ) (refused : EditRefused) → IsRefusedText text refused
+    → IsRefused old (Replace id text) refused
+Replace-refused old id text (refusals.Unit refused) is = is
+Replace-refused old id text refusals.NoSuchUnit is = absurd is
+Replace-refused old id text refusals.StreamFull is = absurd is
+Replace-refused old id text refusals.IdsSpent is = absurd is
+Replace-refused old id text refusals.Memory is = is
 
 -- a text that is refused for another reason than memory refuses the edit so
 pub refusal_of_text-other : (refused : Refused) → (refused ≡ texts.Memory → ⊥) → refusals.Unit refused ≡ refusal_of_text refused

@@ -4,14 +4,14 @@ use Rattle.std.specs.Prelude.{insert, remove}
 use Rattle.std.specs.List.{sum_by}
 use Rattle.std.proofs.lemmas.Bool.{eqb-true}
 use Rattle.std.proofs.lemmas.Bool.Decides.{eqb_tells}
-use Rattle.std.proofs.lemmas.List.{set_split, drop_more}
+use Rattle.std.proofs.lemmas.List.{set_split, drop_more, length-map, get_or-map}
 use Rattle.std.proofs.lemmas.List.Quantifiers.{position-Some}
 use Rattle.std.proofs.lemmas.List.Sums.{sum_by-append, sum_by-cons, sum_by-take-drop}
 use Rattle.stream_edits.specs.declared.edits.Edit.{Edit}
 use Rattle.stream_edits.specs.declared.edits.Edit.TheVariants.{Insert, Delete, Replace}
-use Rattle.stream_edits.specs.Streams.{Stream, has_id, place_of}
+use Rattle.stream_edits.specs.Streams.{Stream, ids_of, place_among, place_of}
 use Rattle.stream_edits.specs.Edits.{Register, no_units, Makes, Replays, Deletes, Replaces}
-use Rattle.stream_edits.specs.Ids.{units_with, HasIds}
+use Rattle.stream_edits.specs.Ids.{units_with, HasIds, AreDifferent}
 
 -- a sum over a list with an item more, with one fewer, and with another in its place
 module _ {X : Type 0} (f : X → ℕ) (xs : List X) (i : ℕ) where
@@ -46,10 +46,12 @@ module _ {X : Type 0} (f : X → ℕ) (xs : List X) (i : ℕ) where
 -- the unit at the place of an id has the id
 at_place : (stream : Stream) (id at : ℕ) (d : ℕ × List (List ℕ)) → place_of stream id ≡ Some at
     → (at < length stream) × ((get_or stream at d).0 ≡ id)
-unfolding place_of
+unfolding place_among
 at_place stream id at d stands =
-    let found = position-Some (has_id id) stream at d stands in
-    (found.0, eqb-true (get_or stream at d).0 id found.1)
+    let found = position-Some (λ other. eqb other id) (ids_of stream) at d.0 stands in
+    let within : at < length stream = omega (arith, found.0, length-map stream (λ (unit : ℕ × List (List ℕ)). unit.0)) in
+    let here = get_or-map (λ (unit : ℕ × List (List ℕ)). unit.0) stream at d d.0 within in
+    (within, eqb-true (get_or stream at d).0 id (ap (λ other. eqb other id) (sym here) ∙ found.1))
 
 -- none, or one at least
 none_or_some : (n : ℕ) → (n ≤ 0) ⊎ (0 < n)
@@ -144,3 +146,17 @@ HasIds-replayed from (edit ∷ edits) to ids replays =
 pub HasIds-journal : (journal : List Edit) (register : Register) → Replays no_units journal register → HasIds register
 HasIds-journal journal register replays =
     HasIds-replayed no_units journal register (record { once = λ id. omega arith; given = λ id there. absurd (omega arith) }) replays
+
+-- the ids of units that have ids differ
+pub AreDifferent-ids : (register : Register) → HasIds register → AreDifferent (ids_of register.stream)
+AreDifferent-ids register ids id = let once = ids.once id in let same = count_ids register.stream id in omega arith
+  where
+    count_ids : (stream : Stream) (id : ℕ) → sum_by (λ other. cond (eqb other id) 1 0) (ids_of stream) ≡ units_with stream id
+    count_ids [] id = refl
+    count_ids (unit ∷ units) id =
+        omega (
+          arith,
+          count_ids units id,
+          sum_by-cons {X = ℕ} (λ other. cond (eqb other id) 1 0) unit.0 (ids_of units),
+          sum_by-cons {X = ℕ × List (List ℕ)} (λ unit. cond (eqb unit.0 id) 1 0) unit units,
+        )

@@ -1,3 +1,4 @@
 pub mod Edited
 pub mod GivenIds
 pub mod Accepted
+pub mod LastId

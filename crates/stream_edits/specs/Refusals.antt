@@ -54,3 +54,11 @@ IsRefused old edit refusals.StreamFull = IsInsertion old.stream edit × (most_un
 IsRefused old edit refusals.IdsSpent =
     IsInsertion old.stream edit × (length old.stream < most_units) × (most_ids ≤ old.given)
 IsRefused old edit refusals.Memory = TakesMemory old.stream edit
+
+-- an edit of this text is refused so for it, whatever the stream is
+abbrev pub IsRefusedText : List ℕ → EditRefused → Type 0
+IsRefusedText text (refusals.Unit refused) = IsTextRefused text refused
+IsRefusedText text refusals.NoSuchUnit = ⊥
+IsRefusedText text refusals.StreamFull = ⊥
+IsRefusedText text refusals.IdsSpent = ⊥
+IsRefusedText text refusals.Memory = IsSplittable text

@@ -16,14 +16,22 @@ ids_of stream = map (λ unit. unit.0) stream
 abbrev pub has_id : ℕ → ℕ × List (List ℕ) → Bool
 has_id id unit = unit.0 == id
 
+-- the place of the id among ids, if it is one of them
+unfoldable pub place_among : List ℕ → ℕ → Option ℕ
+place_among ids id = position (λ other. other == id) ids
+
 -- the place of the unit that has the id, if one has it
-unfoldable pub place_of : Stream → ℕ → Option ℕ
-place_of stream id = position (has_id id) stream
+abbrev pub place_of : Stream → ℕ → Option ℕ
+place_of stream id = place_among (ids_of stream) id
+
+-- the place at which a unit is inserted among those of these ids, if there is such a place
+abbrev pub start_among : List ℕ → Place → Option ℕ
+start_among ids First = Some 0
+start_among ids (After id) = option_map (λ place. place + 1) (place_among ids id)
 
 -- the place at which a unit is inserted, if there is such a place
 abbrev pub start_of : Stream → Place → Option ℕ
-start_of stream First = Some 0
-start_of stream (After id) = option_map (λ place. place + 1) (place_of stream id)
+start_of stream place = start_among (ids_of stream) place
 
 -- the end of a stream
 abbrev pub last_of : Stream → Last

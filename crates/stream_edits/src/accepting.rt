@@ -1,57 +1,63 @@
 //! What an edit comes to once its text is read and its places are found.
 
-ghost use Rattle.std.specs.Prelude.{◌≡◌, ◌<◌, IfOk, IfErr};
+ghost use Rattle.std.specs.Prelude.{◌≡◌, ℕ, List, IfOk, IfErr};
+ghost use Rattle.access_unit.specs.Answers.{IsAccepted};
 ghost use Rattle.stream_edits.specs.declared.edits.Edit.TheVariants.{Insert, Delete, Replace};
 ghost use Rattle.stream_edits.specs.Changes.{IsFor};
+ghost use Rattle.stream_edits.specs.Ids.{AreDifferent};
 ghost use Rattle.stream_edits.specs.Refusals.{IsRefused};
+ghost use Rattle.stream_edits.specs.Streams.{ids_of};
 
 use crate::changes::Change;
 use crate::edits::{Edit, Place};
 use crate::places::{place_of, start_of};
+use crate::read_edit::ReadEdit;
 use crate::refusals::EditRefused;
-use access_unit::{MOST_UNITS, Unit, read_shared};
+use access_unit::{MOST_UNITS, Unit};
 use base_types::Shared;
-use bytes::Bytes;
 use pictures::AuId;
-use std::alloc::Global;
 
-/// What the edit comes to, with so many ids given, or why it is refused.
+/// What the edit comes to, of units with these ids and with so many ids given, or why it is refused.
 ///
 /// The refusal is the first in the order of `EditRefused`, but for Memory, which may stand in for a later one: a
 /// text that isn't too long and splits into NAL units is read into memory before its units and the edit's place
 /// are looked at, so where that memory is refused, nothing is said of them. A text that is too long or doesn't
 /// split, and a deletion of a unit that isn't there, are never answered Memory.
 pub fn change_of(
-    alloc: Global,
     units: &[(AuId, Shared<Unit>)],
+    ids: &[AuId],
     given: u32,
-    edit: &Edit,
+    read: &ReadEdit,
 ) -> Result<Change, EditRefused>
-    ensures ok { IfOk result (IsFor (record { given = given; stream = units.now }) edit.now) }
-    ensures err { IfErr result (IsRefused (record { given = given; stream = units.now }) edit.now) }
+    requires ids { ids.now ≡ ids_of units.now }
+    requires different { AreDifferent ids.now }
+    ensures ok { IfOk result (IsFor (record { given = given; stream = units.now }) read.now) }
+    ensures err { IfErr result (IsRefused (record { given = given; stream = units.now }) read.now) }
 {
-    match edit {
-        Edit::Insert(place, text) => insertion(alloc, units, given, *place, text),
-        Edit::Delete(id) => deletion(units, given, *id),
-        Edit::Replace(id, text) => replacement(alloc, units, given, *id, text),
+    match (&read.edit, &read.unit) {
+        (Edit::Insert(place, _), Some(unit)) => insertion(units, ids, given, *place, unit),
+        (Edit::Replace(id, _), Some(unit)) => replacement(units, ids, given, *id, unit),
+        (Edit::Delete(id), _) => deletion(units, ids, given, *id),
+        _ => unreachable!(),
     }
 }
 
 /// The insertion of the unit of a text, under the next id.
 fn insertion(
-    alloc: Global,
     units: &[(AuId, Shared<Unit>)],
+    ids: &[AuId],
     given: u32,
     place: Place,
-    text: &Bytes,
+    unit: &Shared<Unit>,
 ) -> Result<Change, EditRefused>
-    ensures ok { IfOk result
-        (IsFor (record { given = given; stream = units.now }) (Insert place text.now)) }
-    ensures err { IfErr result
-        (IsRefused (record { given = given; stream = units.now }) (Insert place text.now)) }
+    requires ids { ids.now ≡ ids_of units.now }
+    requires different { AreDifferent ids.now }
+    ensures ok { (text : List ℕ) → IsAccepted text unit.now → IfOk result
+        (IsFor (record { given = given; stream = units.now }) (Insert place text)) }
+    ensures err { (text : List ℕ) → IsAccepted text unit.now → IfErr result
+        (IsRefused (record { given = given; stream = units.now }) (Insert place text)) }
 {
-    let unit = read_shared(alloc, text)?;
-    let Some(at) = start_of(units, place) else {
+    let Some(at) = start_of(ids, place) else {
         return Err(EditRefused::NoSuchUnit);
     };
     if units.len() >= MOST_UNITS {
@@ -63,18 +69,25 @@ fn insertion(
     Ok(Change::Insertion {
         at,
         id: AuId::new(number),
-        unit: Shared::new(alloc, unit)?,
+        unit: unit.clone()?,
     })
 }
 
 /// The deletion of the unit of an id.
-fn deletion(units: &[(AuId, Shared<Unit>)], given: u32, id: AuId) -> Result<Change, EditRefused>
+fn deletion(
+    units: &[(AuId, Shared<Unit>)],
+    ids: &[AuId],
+    given: u32,
+    id: AuId,
+) -> Result<Change, EditRefused>
+    requires ids { ids.now ≡ ids_of units.now }
+    requires different { AreDifferent ids.now }
     ensures ok { IfOk result
         (IsFor (record { given = given; stream = units.now }) (Delete id)) }
     ensures err { IfErr result
         (IsRefused (record { given = given; stream = units.now }) (Delete id)) }
 {
-    match place_of(units, id) {
+    match place_of(ids, id) {
         Some(at) => Ok(Change::Deletion { at, id }),
         None => Err(EditRefused::NoSuchUnit),
     }
@@ -82,24 +95,25 @@ fn deletion(units: &[(AuId, Shared<Unit>)], given: u32, id: AuId) -> Result<Chan
 
 /// The replacement of the unit of an id by that of a text.
 fn replacement(
-    alloc: Global,
     units: &[(AuId, Shared<Unit>)],
+    ids: &[AuId],
     given: u32,
     id: AuId,
-    text: &Bytes,
+    unit: &Shared<Unit>,
 ) -> Result<Change, EditRefused>
-    ensures ok { IfOk result
-        (IsFor (record { given = given; stream = units.now }) (Replace id text.now)) }
-    ensures err { IfErr result
-        (IsRefused (record { given = given; stream = units.now }) (Replace id text.now)) }
+    requires ids { ids.now ≡ ids_of units.now }
+    requires different { AreDifferent ids.now }
+    ensures ok { (text : List ℕ) → IsAccepted text unit.now → IfOk result
+        (IsFor (record { given = given; stream = units.now }) (Replace id text)) }
+    ensures err { (text : List ℕ) → IsAccepted text unit.now → IfErr result
+        (IsRefused (record { given = given; stream = units.now }) (Replace id text)) }
 {
-    let unit = read_shared(alloc, text)?;
-    let Some(at) = place_of(units, id) else {
+    let Some(at) = place_of(ids, id) else {
         return Err(EditRefused::NoSuchUnit);
     };
     Ok(Change::Replacement {
         at,
         id,
-        unit: Shared::new(alloc, unit)?,
+        unit: unit.clone()?,
     })
 }

@@ -19,13 +19,13 @@ fn equal_units(
     alloc: Global,
     count: u32,
 ) -> Result<Vec<(AuId, Shared<Unit>)>, AllocError> {
-    let text = Bytes::from_static(&I);
+    let Ok(unit) = read_shared(alloc, &Bytes::from_static(&I)) else {
+        panic!(rt; "the text is no unit");
+    };
+    let unit = Shared::new(alloc, unit)?;
     let mut units = Vec::new(alloc);
     for number in 0..count {
-        match read_shared(alloc, &text) {
-            Ok(unit) => units.push((AuId::new(number + 1), Shared::new(alloc, unit)?))?,
-            Err(_) => panic!(rt; "the text is no unit"),
-        }
+        units.push((AuId::new(number + 1), unit.clone()?))?;
     }
     Ok(units)
 }
@@ -37,7 +37,12 @@ fn changed(
     given: u32,
     edit: &Edit,
 ) -> Result<u32, EditRefused> {
-    Ok(change_of(alloc, units, given, edit)?.id().number())
+    let mut ids = Vec::with_capacity(alloc, units.len())?;
+    for unit in units {
+        ids.push(unit.0)?;
+    }
+    let read = edit.copy()?.read(alloc)?;
+    Ok(change_of(units, &ids, given, &read)?.id().number())
 }
 
 /// How many units a stream has, how many ids were given, and the id of a unit that is inserted or why none is.

@@ -4,6 +4,7 @@ use super::plans::is_planned;
 use super::scripts::ends_as;
 use super::{A, P1, repeated, row_holds};
 use access_unit::{ReadFault, Refusal, read_units};
+use bytes::Bytes;
 use console_io::Status;
 use std::alloc::{AllocError, Global};
 use std::process::Abort;
@@ -17,7 +18,7 @@ fn units_read(
     room: usize,
 ) -> Result<Result<usize, ReadFault>, AllocError> {
     let text = repeated(rt.alloc(), &P1, count)?;
-    match read_units(rt, rt.alloc(), &text, room) {
+    match read_units(rt, rt.alloc(), &Bytes::from_vec(text)?, room) {
         Ok(units) => Ok(Ok(units.len())),
         Err(fault) => Ok(Err(fault)),
     }

@@ -10,7 +10,7 @@ use Rattle.access_unit.proofs.stream.is_too_long.Goals as goal
 pub returns-in-None : goal.returns-in-None
 returns-in-None c =
     let item_is = get_or_read c.args.nals.now c.loop-nal.nal-index c.nal-item.result c.loop-nal-test.true c.nal-item.is [] in
-    let next = ap length (c.bytes.ensures.value ∙ item_is) in
+    let next = ap length (c.bytes.ensures.value ∙ (c.nal.ensures ∙ item_is)) in
     let long : most_bytes < length (joined c.args.nals.now) = omega (
       arith,
       next,
@@ -23,5 +23,5 @@ returns-in-None c =
 pub loop-nal-preserved : goal.loop-nal-preserved
 loop-nal-preserved c =
     let item_is = get_or_read c.args.nals.now c.loop-nal.nal-index c.nal-item.result c.loop-nal-test.true c.nal-item.is [] in
-    let next = ap length (c.bytes.ensures.value ∙ item_is) in
+    let next = ap length (c.bytes.ensures.value ∙ (c.nal.ensures ∙ item_is)) in
     omega (arith, next, length-joined-more c.args.nals.now c.loop-nal.nal-index c.loop-nal-test.true, c.in-Some.ensures)

@@ -10,7 +10,7 @@ returns-in_err-prepared-clause-err c =
     let p = err_from_is_err_and c.from_residual-in_err-prepared.result c.from_residual-in_err-prepared.ensures.1 in
     let change = rw (c.units.ensures) at c.in_ok-change.ensures.ok in
     rw (p.1, p.2)
-    (TakesMemory-for (record { given = c.args.given; stream = c.args.ordered.now.folded.stream }) c.args.edit.now
+    (TakesMemory-for (record { given = c.args.given; stream = c.args.ordered.now.folded.stream }) c.args.read.now
     c.in_ok-change.change change)
 
 pub returns-in_err-stretch-clause-err : goal.returns-in_err-stretch-clause-err
@@ -18,5 +18,5 @@ returns-in_err-stretch-clause-err c =
     let p = err_from_is_err_and c.from_residual-in_err-stretch.result c.from_residual-in_err-stretch.ensures.1 in
     let change = rw (c.units.ensures) at c.in_ok-change.ensures.ok in
     rw (p.1, p.2)
-    (TakesMemory-for (record { given = c.args.given; stream = c.args.ordered.now.folded.stream }) c.args.edit.now
+    (TakesMemory-for (record { given = c.args.given; stream = c.args.ordered.now.folded.stream }) c.args.read.now
     c.in_ok-change.change change)

@@ -1,4 +1,4 @@
-use Rattle.std.proofs.Common.{◌≡◌, ◌<◌, length, Some, ap, sym, arith}
+use Rattle.std.proofs.Common.{◌≡◌, Some, sym, arith}
 use Rattle.picture_store.specs.Stores.{StoreValue, AreOneToOne}
 use Rattle.stream_edits.specs.Streams.{place_of}
 use Rattle.edit_engine.proofs.Pictured.{IsOf, IsOf-kept, one_seen}
@@ -12,8 +12,7 @@ key_at-requires c =
     IsOf-kept s.journal.items (record { given = s.given; stream = s.ordered.folded.stream }) s.store c.self.invariant in
     omega (
       arith,
-      c.in-Some.ensures.inside,
-      ap length c.units.ensures,
+      rw (← c.self.view_is) at c.in-Some.ensures.inside,
       length-stored s.ordered.folded.stream s.store is,
     )
 
@@ -23,7 +22,7 @@ returns-in-Some-clause-value c =
     let is : IsOf s.ordered.folded.stream s.store =
     IsOf-kept s.journal.items (record { given = s.given; stream = s.ordered.folded.stream }) s.store c.self.invariant in
     let stands : place_of s.ordered.folded.stream c.args.id ≡ Some c.in-Some.place =
-    sym (rw c.units.ensures at c.in-Some.ensures.value) in
+    sym (rw (← c.self.view_is) at c.in-Some.ensures.value) in
     rw (← c.self.view_is)
     (number_found s.journal.items (record { given = s.given; stream = s.ordered.folded.stream }) s.store c.args.id c.in-Some.place is stands
     c.key_at.result c.key_at.ensures.value)

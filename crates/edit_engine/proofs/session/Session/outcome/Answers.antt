@@ -6,8 +6,7 @@ pub bounds-outcomes-place : goal.bounds-outcomes-place
 bounds-outcomes-place c =
     omega (
       arith,
-      c.in-Some.ensures.inside,
-      ap length c.units.ensures,
+      rw (← c.self.view_is) at c.in-Some.ensures.inside,
       ap length c.outcomes.ensures,
       ap length c.self.invariant.folded,
       length-outcomes_of c.self.inside.ordered.folded.stream,
@@ -15,12 +14,11 @@ bounds-outcomes-place c =
 
 pub returns-in-Some : goal.returns-in-Some
 returns-in-Some c =
-    let stands = sym (rw c.units.ensures at c.in-Some.ensures.value) in
+    let stands = sym (rw (← c.self.view_is) at c.in-Some.ensures.value) in
     let within : c.in-Some.place < length c.outcomes.result.now =
     omega (
       arith,
-      c.in-Some.ensures.inside,
-      ap length c.units.ensures,
+      rw (← c.self.view_is) at c.in-Some.ensures.inside,
       ap length c.outcomes.ensures,
       ap length c.self.invariant.folded,
       length-outcomes_of c.self.inside.ordered.folded.stream,

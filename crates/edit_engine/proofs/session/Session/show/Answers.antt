@@ -12,8 +12,7 @@ pub bounds-outcomes-place : goal.bounds-outcomes-place
 bounds-outcomes-place c =
     omega (
       arith,
-      c.in-Some.ensures.inside,
-      ap length c.units.ensures,
+      rw (← c.self.view_is) at c.in-Some.ensures.inside,
       ap length c.outcomes.ensures,
       length-folded c.self.inside.ordered.folded.stream c.self.inside.store
           (IsOf-kept c.self.inside.journal.items (record { given = c.self.inside.given; stream = c.self.inside.ordered.folded.stream }) c.self.inside.store c.self.invariant),
@@ -24,11 +23,10 @@ returns-in-Fault c =
     let is : IsOf c.self.inside.ordered.folded.stream c.self.inside.store =
     IsOf-kept c.self.inside.journal.items (record { given = c.self.inside.given; stream = c.self.inside.ordered.folded.stream }) c.self.inside.store c.self.invariant in
     let stands : place_of c.self.inside.ordered.folded.stream c.args.id ≡ Some c.in-Some.place =
-    sym (rw c.units.ensures at c.in-Some.ensures.value) in
+    sym (rw (← c.self.view_is) at c.in-Some.ensures.value) in
     let within : c.in-Some.place < length c.outcomes.result.now = omega (
       arith,
-      c.in-Some.ensures.inside,
-      ap length c.units.ensures,
+      rw (← c.self.view_is) at c.in-Some.ensures.inside,
       ap length c.outcomes.ensures,
       length-folded c.self.inside.ordered.folded.stream c.self.inside.store is,
     ) in
@@ -46,11 +44,10 @@ returns-in-None c =
     let is : IsOf c.self.inside.ordered.folded.stream c.self.inside.store =
     IsOf-kept c.self.inside.journal.items (record { given = c.self.inside.given; stream = c.self.inside.ordered.folded.stream }) c.self.inside.store c.self.invariant in
     let stands : place_of c.self.inside.ordered.folded.stream c.args.id ≡ Some c.in-Some.place =
-    sym (rw c.units.ensures at c.in-Some.ensures.value) in
+    sym (rw (← c.self.view_is) at c.in-Some.ensures.value) in
     let within : c.in-Some.place < length c.outcomes.result.now = omega (
       arith,
-      c.in-Some.ensures.inside,
-      ap length c.units.ensures,
+      rw (← c.self.view_is) at c.in-Some.ensures.inside,
       ap length c.outcomes.ensures,
       length-folded c.self.inside.ordered.folded.stream c.self.inside.store is,
     ) in

@@ -1,0 +1,8 @@
+use Rattle.std.proofs.Common.{inl, refl}
+use Rattle.std.proofs.lemmas.Result.{err_from_is_err_and}
+use Rattle.decode_pool.proofs.seat.Seat.edit_in.Goals as goal
+
+pub returns-in_err-read-clause-session : goal.returns-in_err-read-clause-session
+returns-in_err-read-clause-session c =
+    let p = err_from_is_err_and c.from_residual.result c.from_residual.ensures.1 in
+    rw (p.1, p.2) (inl (c.in_err-read.ensures.err c.args.session.now.register, refl))

@@ -7,7 +7,6 @@ mod jobs;
 mod limits;
 mod many;
 mod random;
-mod refused;
 mod running;
 mod stretches;
 mod texts;

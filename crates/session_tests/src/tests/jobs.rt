@@ -50,8 +50,6 @@ pub(super) enum Act {
     GivesNone(u64),
     Ready(u32),
     Pending(u32),
-    /// Ready or pending.
-    Valid(u32),
     Fault(u32, u8),
     Gone(u32),
     /// Jobs are taken and landed until none is due.
@@ -229,19 +227,20 @@ const ROWS: [(u16, &[Act]); 11] = [
 ];
 
 /// The command of an act that is one command.
-pub(super) fn command_of(act: Act) -> Command {
+fn command_of(act: Act) -> Command {
     match act {
         Act::Edit(told) => Command::Edit(edit_of(told)),
         Act::Take(..) | Act::TakesNone | Act::Settle => Command::Take,
         Act::Land(number, _) | Act::LandsNone(number) => Command::Land(number),
         Act::Give(number) | Act::GivesNone(number) => Command::GiveBack(number),
-        Act::Ready(id) | Act::Pending(id) | Act::Valid(id) | Act::Fault(id, _) | Act::Gone(id) =>
-            Command::Show(AuId::new(id)),
+        Act::Ready(id) | Act::Pending(id) | Act::Fault(id, _) | Act::Gone(id) => Command::Show(
+            AuId::new(id),
+        ),
     }
 }
 
 /// The reply is the one that the act has to have.
-pub(super) fn is_reply(reply: &Reply, act: Act) -> bool {
+fn is_reply(reply: &Reply, act: Act) -> bool {
     match (reply, act) {
         (Reply::Edit(answer), Act::Edit(_)) => answer.is_ok(),
         (Reply::Take(Ok(Some(taken))), Act::Take(number, unit)) => {
@@ -260,8 +259,8 @@ pub(super) fn is_reply(reply: &Reply, act: Act) -> bool {
 /// What is shown is what the act has to have.
 fn is_shown(shown: Shown, act: Act) -> bool {
     match (shown, act) {
-        (Shown::Ready(_), Act::Ready(_) | Act::Valid(_)) => true,
-        (Shown::Pending, Act::Pending(_) | Act::Valid(_)) => true,
+        (Shown::Ready(_), Act::Ready(_)) => true,
+        (Shown::Pending, Act::Pending(_)) => true,
         (Shown::Fault(fault), Act::Fault(_, number)) => fault.number() == number,
         (Shown::NoSuchUnit, Act::Gone(_)) => true,
         _ => false,

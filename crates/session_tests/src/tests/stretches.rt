@@ -7,7 +7,7 @@ use Told::{After, First, Replace};
 const UNITS: u32 = 200;
 
 /// An IDR picture after the last one.
-pub(super) fn appended(last: u32) -> Told {
+fn appended(last: u32) -> Told {
     if last == 0 { First(A) } else { After(last, A) }
 }
 

@@ -1,14 +1,15 @@
 //! One bit of three units' texts is another: each text is read or refused, and the session says of each unit that is
-//! there what the plain fold says.
+//! there what the plain fold says, and has the picture of each valid one once its jobs are done.
 
 use super::{empty_session, row_holds};
 use access_unit::{Unit, read_unit};
 use bytes::Bytes;
-use edit_engine::{Edit, EditRefused, Place, Session};
+use edit_engine::{Edit, EditRefused, Job, Landing, Place, Session, Shown};
 use outcomes::Outcome;
 use output_order::positions;
 use pictures::AuId;
 use request_core::scratch;
+use stand_in_device::{Device, Undone};
 use std::alloc::{AllocError, Global};
 use std::process::Abort;
 use std::test::Fail;
@@ -99,6 +100,49 @@ fn tells_each(alloc: Global, session: &Session, units: &[(AuId, Unit)]) -> Resul
     Ok(true)
 }
 
+/// Decodes a job, and takes its result; a job for which there is no memory is given back.
+fn lands(alloc: Global, session: &mut Session, job: Job) -> Result<bool, AllocError> {
+    match Device::new(alloc).decode(alloc, job) {
+        Ok(finished) => Ok(session.land(finished) == Landing::Taken),
+        Err(Undone { job, cause }) => {
+            session.give_back(job);
+            Err(cause)
+        }
+    }
+}
+
+/// Takes the jobs that are due, at most one for each text; each result is taken, and then none is due.
+fn settles(alloc: Global, session: &mut Session) -> Result<bool, Fail> {
+    for _ in 0..=TEXTS.len() {
+        let Some(job) = session.take()? else {
+            return Ok(true);
+        };
+        if !lands(alloc, session, job)? {
+            return Ok(false);
+        }
+    }
+    Ok(false)
+}
+
+/// What becomes of a unit whose jobs are done is shown: its picture, or its fault.
+fn is_shown(outcome: &Outcome, shown: Shown) -> bool {
+    match (outcome, shown) {
+        (Outcome::Plan(_), Shown::Ready(_)) => true,
+        (Outcome::Fault(fault), Shown::Fault(told)) => *fault == told,
+        _ => false,
+    }
+}
+
+/// Each unit is shown so.
+fn shows_each(session: &Session) -> bool {
+    for (id, outcome) in session.ids().iter().zip(session.outcomes()) {
+        if !is_shown(outcome, session.show(*id)) {
+            return false;
+        }
+    }
+    session.ids().len() == session.outcomes().len()
+}
+
 /// An empty session takes the texts, of which one is damaged, as the plain reader and the plain fold say.
 fn survives(alloc: Global, session: &mut Session, flip: Flip) -> Result<bool, Fail> {
     let mut units = Vec::new(alloc);
@@ -108,7 +152,12 @@ fn survives(alloc: Global, session: &mut Session, flip: Flip) -> Result<bool, Fa
             return Ok(false);
         }
     }
-    Ok(session.last().units == units.len() && tells_each(alloc, session, &units)?)
+    Ok(
+        session.last().units == units.len()
+            && tells_each(alloc, session, &units)?
+            && settles(alloc, session)?
+            && shows_each(session),
+    )
 }
 
 /// Empty sessions take the texts, with each bit of this byte damaged in turn.

@@ -59,7 +59,7 @@ none_or_some zero = inl (omega arith)
 none_or_some (suc n) = inr (omega arith)
 
 -- an insertion
-HasIds-insert : (old new : Register) (id at : ℕ) (unit : List (List ℕ)) → HasIds old → id ≡ old.given + 1 → new.given ≡ id
+pub HasIds-insert : (old new : Register) (id at : ℕ) (unit : List (List ℕ)) → HasIds old → id ≡ old.given + 1 → new.given ≡ id
     → new.stream ≡ insert old.stream at (id, unit) → HasIds new
 HasIds-insert old new id at unit ids id_is given_is stream_is = record {
   once = λ other. ⊎_elim

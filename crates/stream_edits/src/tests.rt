@@ -1,6 +1,10 @@
 //! Insertions into streams that no test can make by edits: they would fold some 2,000,000,000 units. So the units and
 //! how many ids were given are given. The tests of edits of a session stand in session_tests.
 
+ghost use Rattle.std.specs.Prelude.{◌≡◌, ◌+◌, ◌<◌, ◌^◌, IfOk, OnOk};
+ghost use Rattle.stream_edits.specs.Ids.{AreDifferent, HasIds};
+ghost use Rattle.stream_edits.specs.Streams.{ids_of};
+
 use crate::{Edit, EditRefused, Place, change_of};
 use access_unit::{Unit, read_shared};
 use base_types::Shared;
@@ -13,36 +17,48 @@ use std::test::Fail;
 /// An IDR picture without its sets.
 static I: [u8; 7] = [0, 0, 1, 0x65, 0x88, 0x84, 0x80];
 
+/// Units, and their ids.
+type Units = (Vec<(AuId, Shared<Unit>)>, Vec<AuId>);
+
+/// Adds a unit under the id after those that were given.
+fn add(units: &mut Units, given: u32, unit: Shared<Unit>) -> Result<(), AllocError>
+    requires below { given + 1 < 2 ^ 32 }
+    requires different { HasIds (record { given = given; stream = units.old.0.items }) }
+    requires same { units.old.1.items ≡ ids_of units.old.0.items }
+    ensures different { OnOk result
+        (HasIds (record { given = given + 1; stream = units.new.0.items })) }
+    ensures same { OnOk result (units.new.1.items ≡ ids_of units.new.0.items) }
+{
+    let id = AuId::new(given + 1);
+    units.0.push((id, unit))?;
+    units.1.push(id)?;
+    Ok(())
+}
+
 /// Equal units under the ids from 1 to the count.
-fn equal_units(
-    rt: &impl Abort,
-    alloc: Global,
-    count: u32,
-) -> Result<Vec<(AuId, Shared<Unit>)>, AllocError> {
+fn equal_units(rt: &impl Abort, alloc: Global, count: u32) -> Result<Units, AllocError>
+    requires { count < 2 ^ 20 }
+    ensures different { IfOk result (λ units. AreDifferent units.1.items) }
+    ensures same { IfOk result (λ units. units.1.items ≡ ids_of units.0.items) }
+{
     let Ok(unit) = read_shared(alloc, &Bytes::from_static(&I)) else {
         panic!(rt; "the text is no unit");
     };
     let unit = Shared::new(alloc, unit)?;
-    let mut units = Vec::new(alloc);
-    for number in 0..count {
-        units.push((AuId::new(number + 1), unit.clone()?))?;
+    let mut units = (Vec::new(alloc), Vec::new(alloc));
+    for given in 0..count {
+        add(&mut units, given, unit.clone()?)?;
     }
     Ok(units)
 }
 
 /// The id of the unit that an edit of these changes, or why it is refused.
-fn changed(
-    alloc: Global,
-    units: &[(AuId, Shared<Unit>)],
-    given: u32,
-    edit: &Edit,
-) -> Result<u32, EditRefused> {
-    let mut ids = Vec::with_capacity(alloc, units.len())?;
-    for unit in units {
-        ids.push(unit.0)?;
-    }
+fn changed(alloc: Global, units: &Units, given: u32, edit: &Edit) -> Result<u32, EditRefused>
+    requires different { AreDifferent units.now.1.items }
+    requires same { units.now.1.items ≡ ids_of units.now.0.items }
+{
     let read = edit.copy()?.read(alloc)?;
-    Ok(change_of(units, &ids, given, &read)?.id().number())
+    Ok(change_of(&units.0, &units.1, given, &read)?.id().number())
 }
 
 /// How many units a stream has, how many ids were given, and the id of a unit that is inserted or why none is.

@@ -29,7 +29,7 @@ fn step_again(
 fn intern(
     alloc: Global,
     keys: &mut Keys<Works, Sha256Fingerprint>,
-    numbers: &KeyNumbers<'_>,
+    numbers: &mut KeyNumbers<'_>,
     requests: &Requests,
 ) -> Result<KeyId, AllocError> {
     let node = node_of(alloc, numbers, requests)?;
@@ -44,7 +44,7 @@ fn intern(
 fn intern_again(
     alloc: Global,
     keys: &mut Keys<Works, Sha256Fingerprint>,
-    numbers: &KeyNumbers<'_>,
+    numbers: &mut KeyNumbers<'_>,
     requests: &Requests,
 ) -> Result<KeyId, AllocError> {
     let before = keys.len();

@@ -4,7 +4,7 @@ use Rattle.access_unit.specs.Answers.{IsAccepted}
 use Rattle.stream_edits.specs.declared.edits.Edit.{Edit}
 use Rattle.stream_edits.specs.declared.edits.Edit.TheVariants.{Insert, Delete, Replace}
 
--- the unit is that of the edit's text; an edit without a text has none
+-- the unit is that of the edit's text; of the unit of an edit without a text nothing is said
 abbrev pub IsUnitOf : Edit → Option (List (List ℕ)) → Type 0
 IsUnitOf (Insert place text) (Some unit) = IsAccepted text unit
 IsUnitOf (Insert place text) None = ⊥

@@ -16,6 +16,7 @@ from workspace import TOP, below_all
 
 NAME = "decode_stream"
 LIBRARIES = ["access_unit", "request_core", "outcomes", "h264_controls", "stand_in_device", "pictures"]
+KIT_LIBRARIES = ["bytes"]
 SOURCE = TOP / "bench" / NAME
 BUILT = SOURCE / "out" / NAME
 LOG = BUILT.with_name("build.log")
@@ -45,7 +46,8 @@ def build():
         main = room / "crates" / NAME / "src" / "main.rt"
         main.with_name("main.rt.txt").rename(main)
         shutil.copy(TOP / "HANDLES", room)
-        (room / "crates.txt").write_text(lines_of(below_all(LIBRARIES)) + f"{NAME}: {' '.join(LIBRARIES)}\n")
+        named = " ".join(LIBRARIES + KIT_LIBRARIES)
+        (room / "crates.txt").write_text(lines_of(below_all(LIBRARIES)) + f"{NAME}: {named}\n")
         BUILT.parent.mkdir(exist_ok=True)
         with open(LOG, "wb") as log:
             ran = subprocess.run(["rt", "run", "--", TOP / "samples" / "clock.264"], cwd=room / "crates" / NAME,

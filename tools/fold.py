@@ -41,6 +41,10 @@ class Plan(NamedTuple):
     requests: list
 
 
+class Empty(NamedTuple):
+    """A unit without a slice has no picture."""
+
+
 class Fold(stand_in.Decoder):
     """The state after some units."""
 
@@ -50,12 +54,14 @@ class Fold(stand_in.Decoder):
         self.prev_ref, self.greatest = 0, None
 
     def step(self, unit_id, unit):
-        """What becomes of a unit: its Plan, or its Fault."""
+        """What becomes of a unit: its Plan, its Fault, or that it is Empty."""
         for kind, read in unit.sets:
             if kind == syntax.SPS:
                 self.sps[read["seq_parameter_set_id"]] = read
             else:
                 self.pps[read["pic_parameter_set_id"]] = read
+        if not unit.slices:
+            return Empty()
         try:
             return self.planned(unit_id, unit)
         except Fault as fault:
@@ -254,7 +260,7 @@ def operated(sps, header, frames, greatest, number, operands):
 
 
 class Row(NamedTuple):
-    """What becomes of a unit of a stream, its position and its key, which a unit with a fault hasn't."""
+    """What becomes of a unit of a stream, its position and its key, which one that isn't valid hasn't."""
     outcome: object
     position: Optional[int]
     key: Optional[bytes]

@@ -5,7 +5,7 @@ from typing import NamedTuple
 
 import fold
 import syntax
-from fold import Plan
+from fold import Empty, Plan
 
 MOST_UNITS, MOST_IDS = 65536, 4294967295
 
@@ -240,6 +240,8 @@ def unit_lines(session, unit_id):
     if at is None:
         return [f"unit {unit_id} none\n"]
     outcome, position, _ = session.rows[at]
+    if isinstance(outcome, Empty):
+        return [f"unit {unit_id} no picture\n"]
     if not isinstance(outcome, Plan):
         return [f"unit {unit_id} fault {outcome.number} {outcome}\n"]
     top, bottom = outcome.counts
@@ -252,6 +254,8 @@ def shown(session, with_hex, unit_id):
     if at is None:
         return f"show {unit_id} none\n"
     outcome, _, key = session.rows[at]
+    if isinstance(outcome, Empty):
+        return f"show {unit_id} empty\n"
     if not isinstance(outcome, Plan):
         return f"show {unit_id} fault {outcome.number} {outcome}\n"
     if key not in session.held:

@@ -15,9 +15,10 @@ REFUSED_TYPES = (2, 3, 4, 13, 14, 15, 19, 20, 21)
 BEFORE_SLICES = (*range(6, 10), *range(14, 19))
 PROFILES, HIGH_PROFILES = (66, 77, 100, 110, 122), (100, 110, 122)
 MOST_BYTES, MOST_SLICES, MOST_OPERATIONS = 4194304, 256, 64
+# No refusal has the number 12.
 REFUSALS = dict(enumerate((
     "Split UnitType ForbiddenBit Sps Pps Switching MixedIdr IdrNotIntra IdrNotReference MixedReference UnitOrder "
-    "NoPicture TwoPictures TooLarge Memory NoSuchUnit StreamFull IdsSpent").split(), 1))
+    "- TwoPictures TooLarge Memory NoSuchUnit StreamFull IdsSpent").split(), 1))
 
 
 class Refused(Exception):
@@ -317,8 +318,6 @@ class Unit:
                 raise Refused(min(shown))
             if type_of(nal) in SLICES:
                 self.slices.append(nal)
-        if not self.slices:
-            raise Refused(12)
 
     def refusals(self, nal):
         """The numbers that a NAL unit shows after those before it; a set that is read is kept."""

@@ -1,12 +1,9 @@
 -- The refusal of NAL units is that of the first which shows one.
-use Rattle.std.proofs.Common.{◌≡◌, ℕ, ◌<◌, ◌+◌, ⊎_elim, List, [], ◌∷◌, ◌++◌, length, take, drop, get_or, Option, None, Some, true, arith, refl, ap, sym, ◌∙◌, inl, inr, append_assoc}
+use Rattle.std.proofs.Common.{◌≡◌, ℕ, ◌<◌, ◌+◌, ⊎_elim, List, [], ◌∷◌, ◌++◌, length, take, drop, get_or, Option, None, Some, refl, ap, sym, ◌∙◌, inl, inr, append_assoc}
 use Rattle.std.proofs.lemmas.List.{append-nil, take-append-drop, drop_more, take_more}
-use Rattle.std.specs.List.{filter}
 use Rattle.std.specs.Option.{option_or}
-use Rattle.annexb.specs.NalUnit.{is_slice}
 use Rattle.access_unit.specs.declared.refused.Refused.{Refused}
-use Rattle.access_unit.specs.declared.refused.Refused.TheVariants.{NoPicture}
-use Rattle.access_unit.specs.Refusals.{refusal_at, first_refusal, refusal_of, has_slice}
+use Rattle.access_unit.specs.Refusals.{refusal_at, first_refusal, refusal_of}
 use Rattle.access_unit.specs.Stored.{IsShown}
 
 option_or_assoc : {A : Type 0} (a b c : Option A) → option_or (option_or a b) c ≡ option_or a (option_or b c)
@@ -32,22 +29,8 @@ module _ (nals : List (List ℕ)) (at : ℕ) (sound : first_refusal [] (take at 
   pub refusal_of-first : (refused : Refused) → refusal_at (take at nals) (get_or nals at []) ≡ Some refused → refusal_of nals ≡ Some refused
   refusal_of-first refused shown =
       let parts : take at nals ++ unit ∷ drop (at + 1) nals ≡ nals = ap (λ l. take at nals ++ l) (sym (drop_more nals at [] here)) ∙ take-append-drop at nals in
-      let first : first_refusal [] nals ≡ Some refused =
       ap (first_refusal []) (sym parts) ∙ first_refusal-append [] (take at nals) (unit ∷ drop (at + 1) nals)
-      ∙ (rw (sound, shown) refl) in
-      rw first refl
+      ∙ (rw (sound, shown) refl)
 
   pub IsShown-first : (refused : Refused) → IsShown (refusal_at (take at nals) (get_or nals at [])) refused → IsShown (refusal_of nals) refused
   IsShown-first refused h = ⊎_elim (λ memory. inl memory) (λ (shown : refusal_at (take at nals) unit ≡ Some refused). inr (refusal_of-first refused shown)) h
-
--- where no NAL unit shows a refusal, a slice decides
-module _ (nals : List (List ℕ)) (sound : first_refusal [] nals ≡ None) where
-  pub refusal_of-none : filter is_slice nals ≡ [] → refusal_of nals ≡ Some NoPicture
-  refusal_of-none none = rw (sound, none) refl
-
-  pub refusal_of-some : 0 < length (filter is_slice nals) → refusal_of nals ≡ None
-  refusal_of-some some = rw (sound, slice_there (filter is_slice nals) some) refl
-    where
-      slice_there : (slices : List (List ℕ)) → 0 < length slices → has_slice slices ≡ true
-      slice_there [] none = absurd (omega arith)
-      slice_there (first ∷ slices) some = refl

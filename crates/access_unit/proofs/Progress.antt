@@ -11,7 +11,7 @@ use Rattle.access_unit.specs.Coded.{HasRest}
 use Rattle.access_unit.specs.Sets.{sets_of}
 use Rattle.access_unit.specs.Refusals.{refusal_at, first_refusal}
 use Rattle.access_unit.specs.Stored.{IsStored, IsOfUnit}
-use Rattle.access_unit.proofs.Firsts.{first_refusal-more, refusal_of-some}
+use Rattle.access_unit.proofs.Firsts.{first_refusal-more}
 use Rattle.access_unit.proofs.Lengths.{length_joined}
 use Rattle.access_unit.proofs.Pieces.{HasRest-all, all_units}
 
@@ -37,9 +37,9 @@ module _ (nals : List (List ℕ)) (at : ℕ) (parts : Parts) (added : IsAddedTo 
   sound_all : first_refusal [] nals ≡ None
   sound_all = ap (first_refusal []) (sym (take_all at nals end)) ∙ added.sound
 
-  -- and with a slice they are an access unit
-  pub IsOfUnit-end : (whole : List ℕ) → IsShortText whole nals → 0 < length parts.slices.items → IsOfUnit parts
-  IsOfUnit-end whole of some = record {
+  -- and they are an access unit
+  pub IsOfUnit-end : (whole : List ℕ) → IsShortText whole nals → IsOfUnit parts
+  IsOfUnit-end whole of = record {
     stored = record {
       nals_are = refl;
       slices_are = stored_all.slices_are ∙ ap (filter is_slice) (sym stored_all.nals_are);
@@ -48,7 +48,7 @@ module _ (nals : List (List ℕ)) (at : ℕ) (parts : Parts) (added : IsAddedTo 
     accepted = rw stored_all.nals_are (record {
       has = HasUnits-joined nals of.has.filled (all_units of.has.rest nals of.has.rest_is);
       short = omega (arith, of.short, length_joined whole nals of.has);
-      sound = refusal_of-some nals sound_all (rw stored_all.slices_are at some);
+      sound = sound_all;
     });
   }
 

@@ -1,7 +1,7 @@
 -- The names of refusals.
 use Rattle.std.specs.Prelude.{ℕ, List, codes}
 use Rattle.access_unit.specs.declared.refused.Refused.{Refused}
-use Rattle.access_unit.specs.declared.refused.Refused.TheVariants.{Split, UnitType, ForbiddenBit, Sps, Pps, Switching, MixedIdr, IdrNotIntra, IdrNotReference, MixedReference, UnitOrder, NoPicture, TwoPictures, TooLarge, Memory}
+use Rattle.access_unit.specs.declared.refused.Refused.TheVariants.{Split, UnitType, ForbiddenBit, Sps, Pps, Switching, MixedIdr, IdrNotIntra, IdrNotReference, MixedReference, UnitOrder, TwoPictures, TooLarge, Memory}
 
 -- the name that is printed
 abbrev pub name_of : Refused → List ℕ
@@ -16,7 +16,6 @@ name_of IdrNotIntra = codes "IdrNotIntra"
 name_of IdrNotReference = codes "IdrNotReference"
 name_of MixedReference = codes "MixedReference"
 name_of UnitOrder = codes "UnitOrder"
-name_of NoPicture = codes "NoPicture"
 name_of TwoPictures = codes "TwoPictures"
 name_of TooLarge = codes "TooLarge"
 name_of Memory = codes "Memory"

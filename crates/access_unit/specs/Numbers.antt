@@ -1,9 +1,9 @@
 -- The numbers of refusals.
 use Rattle.std.specs.Prelude.{ℕ}
 use Rattle.access_unit.specs.declared.refused.Refused.{Refused}
-use Rattle.access_unit.specs.declared.refused.Refused.TheVariants.{Split, UnitType, ForbiddenBit, Sps, Pps, Switching, MixedIdr, IdrNotIntra, IdrNotReference, MixedReference, UnitOrder, NoPicture, TwoPictures, TooLarge, Memory}
+use Rattle.access_unit.specs.declared.refused.Refused.TheVariants.{Split, UnitType, ForbiddenBit, Sps, Pps, Switching, MixedIdr, IdrNotIntra, IdrNotReference, MixedReference, UnitOrder, TwoPictures, TooLarge, Memory}
 
--- the number that stands for a refusal
+-- the number that stands for a refusal; 12 stands for none
 abbrev pub number_of : Refused → ℕ
 number_of Split = 1
 number_of UnitType = 2
@@ -16,7 +16,6 @@ number_of IdrNotIntra = 8
 number_of IdrNotReference = 9
 number_of MixedReference = 10
 number_of UnitOrder = 11
-number_of NoPicture = 12
 number_of TwoPictures = 13
 number_of TooLarge = 14
 number_of Memory = 15

@@ -9,7 +9,7 @@ use Rattle.header_types.specs.declared.slice_types.SliceType.{SliceType}
 use Rattle.header_types.specs.declared.slice_types.SliceType.TheVariants as types
 use Rattle.slice_front.specs.Fronts.{slice_type_at}
 use Rattle.access_unit.specs.declared.refused.Refused.{Refused}
-use Rattle.access_unit.specs.declared.refused.Refused.TheVariants.{UnitType, ForbiddenBit, Sps, Pps, Switching, MixedIdr, IdrNotIntra, IdrNotReference, MixedReference, UnitOrder, NoPicture, TwoPictures, TooLarge}
+use Rattle.access_unit.specs.declared.refused.Refused.TheVariants.{UnitType, ForbiddenBit, Sps, Pps, Switching, MixedIdr, IdrNotIntra, IdrNotReference, MixedReference, UnitOrder, TwoPictures, TooLarge}
 use Rattle.access_unit.specs.Sets.{is_sps, is_pps, sps_of, pps_of, is_unreadable}
 
 -- a refusal, and whether it is shown
@@ -110,10 +110,9 @@ first_refusal before [] = None
 first_refusal before (unit ∷ units) =
     option_or (refusal_at before unit) (first_refusal (before ++ unit ∷ []) units)
 
--- the refusal of NAL units: of the first that shows one, or that there is no slice
+-- the refusal of NAL units: of the first that shows one; they needn't have a slice
 abbrev pub refusal_of : List (List ℕ) → Option Refused
-refusal_of units =
-    option_or (first_refusal [] units) (if has_slice (filter is_slice units) then None else Some NoPicture)
+refusal_of units = first_refusal [] units
 
 -- how many bytes the text of an access unit has at most
 abbrev pub most_bytes : ℕ

@@ -8,7 +8,7 @@ use std::alloc::{AllocError, AllocFailed};
 use thiserror::Error;
 
 /// Why a text is not an access unit. The first NAL unit that shows a refusal decides, and there the
-/// one of least number; TooLarge for the length and Split come before all, and NoPicture after all.
+/// one of least number; TooLarge for the length and Split come before all.
 #[derive(Clone, Copy, Debug, PartialEq, Eq, Hash, Error)]
 pub enum Refused {
     /// The text doesn't split into NAL units.
@@ -44,9 +44,6 @@ pub enum Refused {
     /// A unit of type 6 to 9 or 14 to 18 stands after a slice.
     #[error("a unit stands behind a slice that belongs before it")]
     UnitOrder,
-    /// There is no slice.
-    #[error("there is no slice")]
-    NoPicture,
     /// A slice after the first begins at macroblock 0.
     #[error("a second picture begins")]
     TwoPictures,
@@ -59,7 +56,7 @@ pub enum Refused {
 }
 
 impl Refused {
-    /// The refusal's number, from 1 in the order above.
+    /// The refusal's number, rising in the order above from 1 on; 12 is none's.
     pub fn number(self) -> u8
         ensures { result ≡ number_of self }
     {
@@ -75,7 +72,6 @@ impl Refused {
             Refused::IdrNotReference => 9,
             Refused::MixedReference => 10,
             Refused::UnitOrder => 11,
-            Refused::NoPicture => 12,
             Refused::TwoPictures => 13,
             Refused::TooLarge => 14,
             Refused::Memory => 15,
@@ -98,7 +94,6 @@ impl Refused {
             Refused::IdrNotReference => "IdrNotReference",
             Refused::MixedReference => "MixedReference",
             Refused::UnitOrder => "UnitOrder",
-            Refused::NoPicture => "NoPicture",
             Refused::TwoPictures => "TwoPictures",
             Refused::TooLarge => "TooLarge",
             Refused::Memory => "Memory",

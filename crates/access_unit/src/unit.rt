@@ -70,7 +70,7 @@ impl Unit {
         }
     }
 
-    /// The slices among the NAL units, in order: one or more.
+    /// The slices among the NAL units, in order; where there are none, the unit has no picture.
     pub fn slices(&self) -> &[SharedNal]
         ensures { result.now ≡ filter is_slice self.now }
     {
@@ -153,9 +153,6 @@ pub(crate) fn unit_of(alloc: Global, mut text: Bytes, nals: &[Nal<'_>]) -> Resul
         let coded = cut_next(&mut text, nal)?;
         parts.add(alloc, coded)?;
     }
-    if parts.slices.is_empty() {
-        return Err(Refused::NoPicture);
-    }
     Ok(Unit {
         kept: keep(alloc, parts)?,
     })
@@ -170,9 +167,6 @@ pub(crate) fn unit_with(alloc: Global, nals: &[SharedNal]) -> Result<Unit, Refus
     let mut parts = Parts::with_capacity(alloc, nals.len())?;
     for nal in nals {
         parts.add(alloc, nal.clone()?)?;
-    }
-    if parts.slices.is_empty() {
-        return Err(Refused::NoPicture);
     }
     Ok(Unit {
         kept: keep(alloc, parts)?,

@@ -8,8 +8,8 @@ use std::sync::Wait;
 use test_builders::Draws;
 
 /// Sets and an IDR picture of one macroblock; another IDR picture; P pictures with frame_num 1, the second one with a byte
-/// more, and 2; and what is no unit.
-const TEXTS: [&[u8]; 6] = [
+/// more, and 2; a unit without a slice; and what is no unit.
+const TEXTS: [&[u8]; 7] = [
     &[
         0, 0, 1, 0x67, 0x42, 0x00, 0x0A, 0xDA, 0x79, 0, 0, 1, 0x68, 0xCE, 0x38, 0x80, 0, 0, 1,
         0x65, 0x88, 0x84, 0x80,
@@ -18,6 +18,7 @@ const TEXTS: [&[u8]; 6] = [
     &[0, 0, 1, 0x41, 0x9A, 0x23],
     &[0, 0, 1, 0x41, 0x9A, 0x23, 0x80],
     &[0, 0, 1, 0x41, 0x9A, 0x43],
+    &[0, 0, 1, 0x67, 0x42, 0x00, 0x0A, 0xDA, 0x79],
     &[0, 0, 1],
 ];
 

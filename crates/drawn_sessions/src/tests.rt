@@ -33,6 +33,8 @@ struct Counts {
     stale: u32,
     foreign: u32,
     restored: u32,
+    /// Commands after which a unit has no picture.
+    empty: u32,
 }
 
 impl Counts {
@@ -49,6 +51,13 @@ impl Counts {
         *counted = counted.saturating_add(1);
     }
 
+    /// Counts a stream that has a unit without a picture.
+    fn count_empty(&mut self, has_empty: bool) {
+        if has_empty {
+            self.empty = self.empty.saturating_add(1);
+        }
+    }
+
     /// Whether each was answered often enough for the lists to show something.
     fn are_many(&self) -> bool {
         self.accepted > 1000
@@ -56,7 +65,8 @@ impl Counts {
             && self.taken > 250
             && self.stale > 40
             && self.foreign > 100
-            && self.restored > 50
+            && self.restored > 40
+            && self.empty > 50
     }
 }
 
@@ -99,6 +109,7 @@ impl List {
             .names
             .fit(alloc, &self.hands.session, &self.plain.keys)?;
         counts.count(answer);
+        counts.count_empty(self.plain.has_empty());
         let is_same = answer == wanted && self.is_given(answer) && is_named;
         Ok(is_same && self.plain.cached.is_possible && agree(&self.hands.session, &self.plain))
     }
@@ -151,6 +162,7 @@ fn lists_agree(alloc: Global, seed: u64, room: u16) -> Result<bool, AllocError> 
         stale: 0,
         foreign: 0,
         restored: 0,
+        empty: 0,
     };
     for _ in 0..LISTS {
         if !list_agrees(alloc, &mut draws, &mut counts, room)? {

@@ -17,6 +17,7 @@ use Rattle.stream_edits.specs.declared.edits.Edit.{Edit}
 use Rattle.edit_engine.specs.declared.showing.Shown.TheVariants as shown
 use Rattle.stream_edits.specs.Streams.{Stream, place_of}
 use Rattle.stream_edits.specs.Edits.{Register}
+use Rattle.edit_engine.specs.Streams.{outcome_in}
 use Rattle.edit_engine.specs.Kept.{machine_of}
 use Rattle.edit_engine.specs.Showing.{keys_in, HasKey, HasNumber, Shows}
 use Rattle.edit_engine.proofs.Looked.{length-outcomes_of}
@@ -53,13 +54,24 @@ module _ (journal : List Edit) (register : Register) (store : StoreValue) (id pl
       (length-stored register.stream store is ∙ sym (length-folded register.stream store is)) outcome in
       (found.0, key_found is stands found.0 found.1, awaited found.0 found.1)
 
+  -- what becomes of the unit
+  outcome_found : IsOf register.stream store → place_of register.stream id ≡ Some place → (outcome : Outcome)
+      → slice_get store.outcomes place ≡ Some outcome → outcome_in register.stream id ≡ Some outcome
+  outcome_found is stands outcome found =
+      ap (option_and_then (slice_get (outcomes_of register.stream))) stands
+      ∙ (ap (λ (outcomes : List Outcome). slice_get outcomes place) (sym is.folded) ∙ found)
+
   -- a unit with a fault
   pub shows_fault : IsOf register.stream store → place_of register.stream id ≡ Some place → (fault : ValidityFault)
       → slice_get store.outcomes place ≡ Some (outcomes.Fault fault)
       → Shows (machine_of journal register store) id (shown.Fault fault)
-  shows_fault is stands fault outcome =
-      ap (option_and_then (slice_get (outcomes_of register.stream))) stands
-      ∙ (ap (λ (outcomes : List Outcome). slice_get outcomes place) (sym is.folded) ∙ outcome)
+  shows_fault is stands fault found = outcome_found is stands (outcomes.Fault fault) found
+
+  -- a unit without a picture
+  pub shows_empty : IsOf register.stream store → place_of register.stream id ≡ Some place
+      → slice_get store.outcomes place ≡ Some outcomes.Empty
+      → Shows (machine_of journal register store) id shown.Empty
+  shows_empty is stands found = outcome_found is stands outcomes.Empty found
 
   -- the number at the place of the unit is that of the unit's key
   pub number_found : IsOf register.stream store → place_of register.stream id ≡ Some place → (number : Option ℕ)

@@ -171,6 +171,7 @@ impl Session {
         let outcome: &Outcome = &self.store.outcomes()[place];
         match outcome {
             Outcome::Fault(fault) => Shown::Fault(*fault),
+            Outcome::Empty => Shown::Empty,
             Outcome::Plan(_) => match self.store.picture(place) {
                 Some(picture) => Shown::Ready(picture),
                 None => Shown::Pending,
@@ -194,7 +195,7 @@ impl Session {
     }
 
     /// The position in output order of the unit that has the id: how many valid units are shown before it. `None`
-    /// where it has a fault.
+    /// where it isn't valid.
     pub fn position(&self, id: AuId) -> Result<Option<usize>, NoSuchUnit>
         ensures { MatchResult result
             (λ position. position_in self.now.register.stream id ≡ Some position)
@@ -209,7 +210,7 @@ impl Session {
         }
     }
 
-    /// The number of the key of the unit that has the id: of what its picture is made of. `None` where it has a fault.
+    /// The number of the key of the unit that has the id: of what its picture is made of. `None` where it isn't valid.
     /// Units have equal numbers exactly where they have equal keys, and while a key stays in use, its number stays. It
     /// takes no memory.
     pub fn key(&self, id: AuId) -> Result<Option<KeyId>, NoSuchUnit>

@@ -12,6 +12,8 @@ pub enum Shown {
     Pending,
     /// It has this fault, so that it has no picture.
     Fault(ValidityFault),
+    /// It is a unit without a slice, so that it has no picture.
+    Empty,
     /// No unit has the id.
     NoSuchUnit,
 }

@@ -31,11 +31,13 @@ impl Drop for Plan {
     }
 }
 
-/// What a unit leads to: requests, or a fault.
+/// What a unit leads to: requests, or a fault, or nothing where it has no picture.
 #[derive(Debug, Drop)]
 pub enum Outcome {
     Plan(Plan),
     Fault(ValidityFault),
+    /// The unit has no slice: no picture, and neither a plan nor a fault.
+    Empty,
 }
 
 impl Plan {
@@ -60,6 +62,7 @@ impl Outcome {
         match self {
             Outcome::Plan(plan) => Ok(Outcome::Plan(plan.copy(alloc)?)),
             Outcome::Fault(fault) => Ok(Outcome::Fault(*fault)),
+            Outcome::Empty => Ok(Outcome::Empty),
         }
     }
 }

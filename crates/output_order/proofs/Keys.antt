@@ -6,9 +6,22 @@ use Rattle.std.proofs.lemmas.List.Sums.{sum_by_more}
 use Rattle.std.proofs.lemmas.Option.{slice_get_read}
 use Rattle.std.specs.List.{filter_map, cons_option, range_with_len, count_by}
 use mir.Val.{bool_byte}
+use Rattle.outcomes.specs.declared.outcome.Plan.{Plan}
 use Rattle.outcomes.specs.declared.outcome.Outcome.{Outcome}
+use Rattle.outcomes.specs.declared.outcome.Outcome.TheVariants as outcomes
 use Rattle.output_order.specs.declared.positions_by_key.Key.{Key}
 use Rattle.output_order.specs.OutputOrder.{begins_period, order_of, period_at, key_at}
+
+-- a unit that isn't valid has no order, and begins no period
+pub order-without : (outcome : Outcome) → ((plan : Plan) → outcome ≡ outcomes.Plan plan → ⊥) → order_of outcome ≡ None
+order-without (outcomes.Plan plan) not = absurd (not plan refl)
+order-without (outcomes.Fault fault) not = refl
+order-without outcomes.Empty not = refl
+
+pub begins-without : (outcome : Outcome) → ((plan : Plan) → outcome ≡ outcomes.Plan plan → ⊥) → begins_period outcome ≡ false
+begins-without (outcomes.Plan plan) not = absurd (not plan refl)
+begins-without (outcomes.Fault fault) not = refl
+begins-without outcomes.Empty not = refl
 
 -- one number more
 range_more : (first count last : ℕ) → first + count ≡ last → range_with_len first (count + 1) ≡ range_with_len first count ++ last ∷ []
@@ -42,7 +55,7 @@ module _ (outcomes : List Outcome) (place period : ℕ) (keys : List Key) (befor
       ∙ filter_map-append (key_at outcomes) (range_with_len 0 place) (place ∷ [])
       ∙ ap (λ found. found ++ cons_option (key_at outcomes place) []) (sym before.keys_are)
 
-  -- a faulted unit has no key
+  -- a unit that isn't valid has no key
   pub AreKeysBefore-fault : order_of outcome ≡ None → begins_period outcome ≡ false → AreKeysBefore outcomes (place + 1) period keys
   AreKeysBefore-fault none begins_none = record {
     periods = sym (begun_more ∙ ap (λ begins. period + cond begins 1 0) begins_none ∙ omega arith);

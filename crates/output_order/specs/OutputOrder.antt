@@ -3,18 +3,20 @@ use Rattle.std.specs.Prelude.{ℕ, ℤ, ◌+◌, Bool, false, Option, Some, None
 use Rattle.std.specs.List.{filter_map, range_with_len}
 use Rattle.std.specs.Ordering.{is_lt, nat_cmp, int_cmp, ordering_then}
 use Rattle.outcomes.specs.declared.outcome.Outcome.{Outcome}
-use Rattle.outcomes.specs.declared.outcome.Outcome.TheVariants.{Plan, Fault}
+use Rattle.outcomes.specs.declared.outcome.Outcome.TheVariants.{Plan, Fault, Empty}
 use Rattle.output_order.specs.declared.positions_by_key.Key.{Key}
 
 -- a valid unit that begins a period
 abbrev pub begins_period : Outcome → Bool
 begins_period (Plan plan) = plan.begins_period
 begins_period (Fault fault) = false
+begins_period Empty = false
 
 -- the picture order count of a valid unit
 abbrev pub order_of : Outcome → Option ℤ
 order_of (Plan plan) = Some plan.order
 order_of (Fault fault) = None
+order_of Empty = None
 
 -- the period at a place: how many units up to it begin one
 abbrev pub period_at : List Outcome → ℕ → ℕ

@@ -33,7 +33,7 @@ module _ (units : List (Option Shown)) (at : ℕ) (keys : List OrderKey) (d : Op
       ∙ ap (λ rest. order_keys (take at units) ++ rest) (same_offset (0 + length (take at units)) at (get_or units at d ∷ []) (omega (arith, length-take-le at units (omega arith))))
       ∙ ap (λ front. front ++ order_keys_from at (get_or units at d ∷ [])) (sym are)
 
-  -- a faulted unit has no key
+  -- a unit that isn't valid has no key
   pub keys-fault : get_or units at d ≡ None → keys ≡ order_keys (take (at + 1) units)
   keys-fault is = sym (more ∙ ap (λ unit. keys ++ order_keys_from at (unit ∷ [])) is ∙ append-nil keys)
 

@@ -7,7 +7,7 @@ use Rattle.std.proofs.lemmas.List.Sums.{sum_by-cons, sum_by_more}
 use Rattle.std.proofs.lemmas.Option.{slice_get_read}
 use Rattle.std.specs.List.{filter_map, cons_option, range_with_len, count_by}
 use Rattle.outcomes.specs.declared.outcome.Outcome.{Outcome}
-use Rattle.outcomes.specs.declared.outcome.Outcome.TheVariants.{Plan, Fault}
+use Rattle.outcomes.specs.declared.outcome.Outcome.TheVariants.{Plan, Fault, Empty}
 use Rattle.output_order.specs.declared.positions_by_key.Key.{Key}
 use Rattle.output_order.specs.OutputOrder as order
 use Rattle.period_counts.specs.declared.shown.Shown.{Shown}
@@ -134,6 +134,7 @@ keys_of_period period start (Some shown ∷ rest) none =
 begins-shown : (outcome : Outcome) → begins_period (shown_of outcome) ≡ order.begins_period outcome
 begins-shown (Plan plan) = refl
 begins-shown (Fault fault) = refl
+begins-shown Empty = refl
 
 module _ (all : List Outcome) where
   abbrev before : ℕ → ℕ
@@ -172,6 +173,11 @@ module _ (all : List Outcome) where
       let now : period ≡ before (place + 1) = omega (arith, more, begins) in
       ap (λ found. cons_option found (filter_map (order.key_at all) (range_with_len (place + 1) (length rest)))) (key_here place (Fault fault) rest is None refl)
       ∙ keys_rest (place + 1) period rest (rest_is place (Fault fault) rest is) now
+  keys_rest place period (Empty ∷ rest) is begins =
+      let more = before_more place Empty rest is in
+      let now : period ≡ before (place + 1) = omega (arith, more, begins) in
+      ap (λ found. cons_option found (filter_map (order.key_at all) (range_with_len (place + 1) (length rest)))) (key_here place Empty rest is None refl)
+      ∙ keys_rest (place + 1) period rest (rest_is place Empty rest is) now
 
   pub keys_are : order.keys all ≡ keys_from 0 0 (map shown_of all)
   keys_are = keys_rest 0 0 all refl refl
@@ -190,6 +196,7 @@ shown_order unit = option_map (λ shown. shown.order) unit
 order-shown : (outcome : Outcome) → order.order_of outcome ≡ shown_order (shown_of outcome)
 order-shown (Plan plan) = refl
 order-shown (Fault fault) = refl
+order-shown Empty = refl
 
 pub order_at : (outcomes : List Outcome) (place : ℕ) (d : Option Shown) → place < length outcomes
     → option_and_then order.order_of (slice_get outcomes place) ≡ shown_order (get_or (map shown_of outcomes) place d)

@@ -15,7 +15,7 @@ pub struct Shown {
 }
 
 impl Shown {
-    /// That of a unit with this outcome; nothing where it has a fault.
+    /// That of a unit with this outcome; nothing where it isn't valid.
     pub fn of(outcome: &Outcome) -> Option<Shown>
         ensures { result ≡ shown_of outcome.now }
     {
@@ -24,7 +24,7 @@ impl Shown {
                 order: plan.order,
                 begins_period: plan.begins_period,
             }),
-            Outcome::Fault(_) => None,
+            Outcome::Fault(_) | Outcome::Empty => None,
         }
     }
 }

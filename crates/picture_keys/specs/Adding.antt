@@ -3,7 +3,7 @@ use Rattle.std.specs.Prelude.{◌≡◌, ◌⊎◌, ℕ, List}
 use Rattle.h264_controls.specs.declared.request.Request.{Request}
 use Rattle.h264_controls.specs.declared.work.Work.{Work}
 use Rattle.outcomes.specs.declared.outcome.Outcome.{Outcome}
-use Rattle.outcomes.specs.declared.outcome.Outcome.TheVariants.{Plan, Fault}
+use Rattle.outcomes.specs.declared.outcome.Outcome.TheVariants.{Plan, Fault, Empty}
 use Rattle.dep_keys.specs.Interning.{IsInterned}
 use Rattle.dep_keys.specs.KeyMaps.{KeyMap, tree_of}
 use Rattle.dep_keys.specs.Nodes.{NodeOf}
@@ -18,7 +18,8 @@ node_over numbers requests = record { work = works_of requests; entries = number
 abbrev pub AddsAtMostKey : KeyMap (List Work) → Key → KeyMap (List Work) → Type 0
 AddsAtMostKey keys key more = (more ≡ keys) ⊎ ((number : ℕ) × IsInterned keys key number more)
 
--- to the keys comes at most that of a unit, and none where it has a fault
+-- to the keys comes at most that of a unit, and none where it isn't valid
 abbrev pub AddsAtMost : KeyMap (List Work) → Numbers → Outcome → KeyMap (List Work) → Type 0
 AddsAtMost keys numbers (Plan plan) more = AddsAtMostKey keys (tree_of keys (node_over numbers plan.requests)) more
 AddsAtMost keys numbers (Fault fault) more = more ≡ keys
+AddsAtMost keys numbers Empty more = more ≡ keys

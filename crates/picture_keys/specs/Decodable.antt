@@ -3,7 +3,7 @@ use Rattle.std.specs.Prelude.{◌≡◌, ℕ, List, [], ◌∷◌, Option, None,
 use Rattle.std.specs.List.{All}
 use Rattle.h264_controls.specs.declared.request.Request.{Request}
 use Rattle.outcomes.specs.declared.outcome.Outcome.{Outcome}
-use Rattle.outcomes.specs.declared.outcome.Outcome.TheVariants.{Plan, Fault}
+use Rattle.outcomes.specs.declared.outcome.Outcome.TheVariants.{Plan, Fault, Empty}
 use Rattle.stand_in_device.specs.Inputs.{are_of_one_picture, entries_of}
 use Rattle.picture_keys.specs.Known.{Known, key_at, key_of_outcome, known_with}
 
@@ -21,10 +21,11 @@ pub record CanDecode (known : Known) (requests : List Request) : Type 0 where
   pub one_picture : IsTrue (are_of_one_picture requests)
   pub named : All (RequestNamesKnown known) requests
 
--- a unit with a fault isn't decoded; the plan of another can be
+-- a unit with a fault isn't decoded, nor is one without a picture; the plan of another can be
 abbrev pub OutcomeCanDecode : Known → Outcome → Type 0
 OutcomeCanDecode known (Plan plan) = CanDecode known plan.requests
 OutcomeCanDecode known (Fault fault) = Unit {0}
+OutcomeCanDecode known Empty = Unit {0}
 
 -- units with what becomes of them, after those whose keys are known: each can be decoded once those before it are
 abbrev pub AllCanDecode : Known → List (ℕ × Outcome) → Type 0

@@ -6,7 +6,7 @@ use Rattle.dep_keys.specs.KeyMaps.{KeyMap}
 use Rattle.picture_keys.specs.Known.{Known, key_of_outcome, known_with, known_after, keys_after}
 use Rattle.picture_keys.specs.Numbered.{Numbers, StandsFor, AreNumbered, AllStandFor}
 
--- the numbers by the units' ids, and in the order of the units, nothing for one with a fault
+-- the numbers by the units' ids, and in the order of the units, nothing for one that isn't valid
 pub record UnitNumbers : Type 0 where
   pub numbers : Numbers
   pub found : List (Option ℕ)
@@ -20,7 +20,7 @@ pub record Follow (keys : KeyMap (List Work)) (known : Known) (units : List (ℕ
 abbrev pub AreNumberedSome : KeyMap (List Work) → Numbers → Type 0
 AreNumberedSome keys numbers = (known : Known) × AreNumbered keys numbers known
 
--- a unit was given the number of its key, after those whose keys are known; one with a fault has none
+-- a unit was given the number of its key, after those whose keys are known; one that isn't valid has none
 pub record HasNumber (keys : KeyMap (List Work)) (numbers : Numbers) (known : Known) (id : ℕ) (outcome : Outcome)
     (number : Option ℕ) : Type 0 where
   pub numbered : AreNumbered keys numbers (known_with known id (key_of_outcome known outcome))

@@ -42,7 +42,7 @@ impl<'a> KeyNumbers<'a> {
         KeyNumbers::over(alloc, &[], &[])
     }
 
-    /// Units with these ids, whose keys have these numbers, nothing for one with a fault.
+    /// Units with these ids, whose keys have these numbers, nothing for one that isn't valid.
     pub fn over(alloc: Global, ids: &'a [AuId], found: &'a [Option<KeyId>]) -> KeyNumbers<'a>
         ensures { result ≡ numbers_over [] ids.now found.now }
     {

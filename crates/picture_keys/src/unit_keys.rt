@@ -87,7 +87,7 @@ impl<'a> UnitKeys<'a> {
         self.numbers.get(id)
     }
 
-    /// The number of each unit's key, in the order of the units, nothing for a unit with a fault.
+    /// The number of each unit's key, in the order of the units, nothing for a unit that isn't valid.
     pub fn into_found(self) -> Vec<Option<KeyId>>
         ensures { result.items ≡ self.entry.found }
     {
@@ -96,7 +96,7 @@ impl<'a> UnitKeys<'a> {
     }
 }
 
-/// Interns the key of a unit and gives the unit its number, or nothing where it has a fault. Where memory is wanted, no
+/// Interns the key of a unit and gives the unit its number, or nothing where it isn't valid. Where memory is wanted, no
 /// unit is given one.
 fn number_of<F: Fingerprint<Works>>(
     alloc: Global,
@@ -115,7 +115,7 @@ fn number_of<F: Fingerprint<Works>>(
 {
     match outcome {
         Outcome::Plan(plan) => Ok(Some(intern(alloc, numbers, keys, id, &plan.requests)?)),
-        Outcome::Fault(_) => Ok(None),
+        Outcome::Fault(_) | Outcome::Empty => Ok(None),
     }
 }
 

@@ -5,7 +5,7 @@ use Rattle.std.specs.List.{zip}
 use Rattle.std.proofs.lemmas.List.{map-append, length-take-le}
 use Rattle.std.proofs.lemmas.List.Elements.{All-contains, All-push}
 use Rattle.outcomes.specs.declared.outcome.Outcome.{Outcome}
-use Rattle.outcomes.specs.declared.outcome.Outcome.TheVariants.{Plan as Planned, Fault as Faulty}
+use Rattle.outcomes.specs.declared.outcome.Outcome.TheVariants.{Plan as Planned, Fault as Faulty, Empty}
 use Rattle.dep_keys.specs.KeyMaps.{tree_at}
 use Rattle.stand_in_device.specs.declared.picture.Picture.{Picture}
 use Rattle.stand_in_device.specs.Inputs.{InputValue, is_whole}
@@ -184,6 +184,7 @@ module _ (keys : Trees) (ids : List ℕ) (outcomes : List Outcome) (found : List
         (viewed keys ids outcomes found places cached room more next))
         × (at ≡ length takes.before)
     taken (Faulty fault) same none input made next next_is more more_is = absurd made
+    taken Empty same none input made next next_is more more_is = absurd made
     taken (Planned plan) same none input made next next_is more more_is =
         let tree : tree_at keys number ≡ Some (key_of known plan.requests) =
         tree_is ∙ ap (key_of_outcome known) same in
@@ -216,6 +217,7 @@ module _ (keys : Trees) (ids : List ℕ) (outcomes : List Outcome) (found : List
         → (next : ℕ) (more : List JobOut) → more ≡ out ++ (record { number = next; key = number; input = input }) ∷ []
         → IsKept keys ids outcomes found places cached more
     kept_taken (Faulty fault) same input made next more more_is = absurd made
+    kept_taken Empty same input made next more more_is = absurd made
     kept_taken (Planned plan) same input made next more more_is =
         let tree : tree_at keys number ≡ Some (key_of known plan.requests) =
         tree_is ∙ ap (key_of_outcome known) same in
@@ -245,3 +247,4 @@ module _ (keys : Trees) (ids : List ℕ) (outcomes : List Outcome) (found : List
     pub whole_of : (outcome : Outcome) (input : InputValue) → IsInputOf known outcome input → IsTrue (is_whole input)
     whole_of (Planned plan) input made = made.2
     whole_of (Faulty fault) input made = absurd made
+    whole_of Empty input made = absurd made

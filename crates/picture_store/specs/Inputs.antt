@@ -19,3 +19,4 @@ abbrev pub IsInputOf : Known → Outcome → InputValue → Type 0
 IsInputOf known (outcomes.Plan plan) input =
     (input.requests ≡ plan.requests) × ShowsKnown known input × IsTrue (is_whole input)
 IsInputOf known (outcomes.Fault fault) input = ⊥
+IsInputOf known outcomes.Empty input = ⊥

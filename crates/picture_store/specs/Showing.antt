@@ -15,7 +15,7 @@ IsPictureAt store at (Some picture) =
     (key : Key) × HasKey store at key × Contains store.held key × (picture ≡ picture_of_key key)
 IsPictureAt store at None = (key : Key) → HasKey store at key → Contains store.held key → ⊥
 
--- the number of the key of the unit at a place: nothing for a unit with a fault, which has no key
+-- the number of the key of the unit at a place: nothing for one that isn't valid, which has no key
 abbrev pub IsNumberAt : StoreValue → ℕ → Option ℕ → Type 0
 IsNumberAt store at (Some number) =
     (key : Key) × HasKey store at key × (slice_get store.numbers at ≡ Some (Some number))

@@ -34,7 +34,7 @@ empty room = record { ids = []; outcomes = []; numbers = []; room = room; held =
 abbrev pub units_of : StoreValue → List (ℕ × Outcome)
 units_of store = zip store.ids store.outcomes
 
--- the key of each unit's picture, nothing for a unit with a fault
+-- the key of each unit's picture, nothing for a unit that isn't valid
 abbrev pub unit_keys : StoreValue → List (Option Key)
 unit_keys store = keys_of (units_of store)
 

@@ -26,7 +26,7 @@ use request_core::State;
 use stand_in_device::Picture;
 use std::alloc::{AllocError, Global};
 
-/// The numbers of the keys of units, nothing for one with a fault. Keys that have a number keep it.
+/// The numbers of the keys of units, nothing for one that isn't valid. Keys that have a number keep it.
 pub fn numbers_of<F: Fingerprint<Works>>(
     alloc: Global,
     keys: &mut Keys<Works, F>,

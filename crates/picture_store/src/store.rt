@@ -216,7 +216,7 @@ impl PictureStore {
         self.places.get(self.found[at]?)?
     }
 
-    /// The number of the key of the unit at a place of the stream; nothing where it has a fault. While a key stays in use,
+    /// The number of the key of the unit at a place of the stream; nothing where it isn't valid. While a key stays in use,
     /// its number stays.
     pub fn key_at(&self, at: usize) -> Option<KeyId>
         requires { at < length self.now.ids }

@@ -21,6 +21,7 @@ use Rattle.plan_stream.proofs.UnitTexts.{length-outcomes_of}
 same_head : (id : ℕ) (position : Option ℕ) (outcome : Outcome) → outcome_head id position (shown_of outcome) ≡ outcome_head id position outcome
 same_head id position (outcomes.Plan plan) = refl
 same_head id position (outcomes.Fault fault) = refl
+same_head id position outcomes.Empty = refl
 
 -- they are the lines of the units
 kept_is : (id : ℕ) (done : List (List (List ℕ))) (stream : List Outcome) (positions : List (Option ℕ)) → length stream ≡ length done

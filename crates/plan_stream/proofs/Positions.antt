@@ -13,10 +13,12 @@ use Rattle.plan_stream.specs.Shown.{shown_of}
 same_begins : (outcome : Outcome) → begins_period (shown_of outcome) ≡ begins_period outcome
 same_begins (outcomes.Plan plan) = refl
 same_begins (outcomes.Fault fault) = refl
+same_begins outcomes.Empty = refl
 
 same_order : (outcome : Outcome) → order_of (shown_of outcome) ≡ order_of outcome
 same_order (outcomes.Plan plan) = refl
 same_order (outcomes.Fault fault) = refl
+same_order outcomes.Empty = refl
 
 same_count : (stream : List Outcome) (count : ℕ) → count_by begins_period (take count (map shown_of stream)) ≡ count_by begins_period (take count stream)
 same_count stream zero = refl

@@ -7,3 +7,4 @@ use Rattle.outcomes.specs.declared.outcome.Outcome.TheVariants as outcomes
 abbrev pub shown_of : Outcome → Outcome
 shown_of (outcomes.Plan plan) = outcomes.Plan (record plan { requests = [] })
 shown_of (outcomes.Fault fault) = outcomes.Fault fault
+shown_of outcomes.Empty = outcomes.Empty

@@ -18,5 +18,6 @@ pub(crate) fn shown_of(alloc: Global, outcome: &Outcome) -> Outcome
             begins_period: plan.begins_period,
         }),
         Outcome::Fault(fault) => Outcome::Fault(*fault),
+        Outcome::Empty => Outcome::Empty,
     }
 }

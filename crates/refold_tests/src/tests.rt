@@ -126,7 +126,7 @@ fn is_valid(folded: &Folded, at: usize) -> bool {
     match folded.outcomes().get(at) {
         Some(outcome) => match &**outcome {
             Outcome::Plan(_) => true,
-            Outcome::Fault(_) => false,
+            Outcome::Fault(_) | Outcome::Empty => false,
         },
         None => false,
     }

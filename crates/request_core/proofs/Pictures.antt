@@ -7,6 +7,7 @@ use Rattle.order_count.specs.Counting.{counts_of}
 use Rattle.pictures.specs.MarkedFrames.{Marked}
 use Rattle.ref_marking.specs.MarksAfter.{marks_after}
 use Rattle.validity_faults.specs.declared.validity_fault.ValidityFault.{ValidityFault}
+use Rattle.outcomes.specs.declared.outcome.Outcome.TheVariants.{Plan}
 use Rattle.unit_slices.specs.declared.stop.Stop.{Stop}
 use Rattle.unit_slices.specs.declared.stop.Stop.TheVariants.{Fault, Memory}
 use Rattle.unit_slices.specs.Answers.{Ends}
@@ -26,7 +27,7 @@ pub picture-is : (state : FoldState) (id : ℕ) (first : SliceRead) (slices : Li
     → counted (counts_of state.anchor first.sps first.header) ≡ Ok counts
     → gathered (map (listed state.marks counts) slices) ≡ Ok with_lists
     → marked (marks_after state.marks id first.sps first.header counts) ≡ Ok marks
-    → picture_after state id first slices ≡ Ok (state_after state first counts marks, plan_of state id first counts with_lists)
+    → picture_after state id first slices ≡ Ok (state_after state first counts marks, Plan (plan_of state id first counts with_lists))
 unfolding picture_after
 picture-is state id first slices counts with_lists marks followed counts_are lists_are marks_are =
     bind-ok _ followed ∙ (bind-ok _ counts_are ∙ (bind-ok _ lists_are ∙ bind-ok _ marks_are))

@@ -18,7 +18,7 @@ use Rattle.ref_lists.specs.declared.fault.ListFault.{ListFault}
 use Rattle.ref_lists.specs.declared.fault.ListFault.TheVariants as listing
 use Rattle.ref_lists.specs.ReferenceLists.{lists_of}
 use Rattle.validity_faults.specs.declared.validity_fault.ValidityFault.{ValidityFault}
-use Rattle.validity_faults.specs.declared.validity_fault.ValidityFault.TheVariants.{MissingPps, OrderRange, OrderTie, NoReference, BadModification, BadMarking, TooManyReferences}
+use Rattle.validity_faults.specs.declared.validity_fault.ValidityFault.TheVariants.{OrderRange, OrderTie, NoReference, BadModification, BadMarking, TooManyReferences}
 use Rattle.outcomes.specs.declared.outcome.Plan.{Plan}
 use Rattle.outcomes.specs.declared.outcome.Outcome.{Outcome}
 use Rattle.outcomes.specs.declared.outcome.Outcome.TheVariants as outcomes
@@ -86,17 +86,17 @@ plan_of state id first counts slices = record {
 }
 
 -- what a picture leads to whose slices agree: the state after it and its plan, or the first fault
-unfoldable pub picture_after : FoldState → ℕ → SliceRead → List SliceRead → Result (FoldState × Plan) ValidityFault
+unfoldable pub picture_after : FoldState → ℕ → SliceRead → List SliceRead → Result (FoldState × Outcome) ValidityFault
 picture_after state id first slices =
     passes (first_shown (picture_rows state first.sps first.header)) >>= λ passed.
     counted (counts_of state.anchor first.sps first.header) >>= λ counts.
     gathered (map (listed state.marks counts) slices) >>= λ slices.
     marked (marks_after state.marks id first.sps first.header counts) >>= λ marks.
-    Ok (state_after state first counts marks, plan_of state id first counts slices)
+    Ok (state_after state first counts marks, outcomes.Plan (plan_of state id first counts slices))
 
--- slices make a picture; a unit has one at least
-abbrev pub picture_of : FoldState → ℕ → List SliceRead → Result (FoldState × Plan) ValidityFault
-picture_of state id [] = Err MissingPps
+-- slices make a picture; a unit without any has none, and leaves the state as it was
+abbrev pub picture_of : FoldState → ℕ → List SliceRead → Result (FoldState × Outcome) ValidityFault
+picture_of state id [] = Ok (state, outcomes.Empty)
 picture_of state id (first ∷ others) =
     passes (first_shown (slice_rows first others)) >>= λ passed. picture_after state id first (first ∷ others)
 
@@ -105,13 +105,13 @@ abbrev pub with_sets : FoldState → List (List ℕ) → FoldState
 with_sets state unit = record state { tables = put_all state.tables (sets_of unit) }
 
 -- what a state leads to in which the sets of the unit are put
-abbrev pub planned : FoldState → ℕ → List (List ℕ) → Result (FoldState × Plan) ValidityFault
+abbrev pub planned : FoldState → ℕ → List (List ℕ) → Result (FoldState × Outcome) ValidityFault
 planned state id unit =
     gathered (map (slice_at state.tables) (filter is_slice unit)) >>= picture_of state id
 
 -- a unit with a fault leaves all but its sets as it was
-abbrev pub outcome_of : FoldState → Result (FoldState × Plan) ValidityFault → FoldState × Outcome
-outcome_of state (Ok planned) = (planned.0, outcomes.Plan planned.1)
+abbrev pub outcome_of : FoldState → Result (FoldState × Outcome) ValidityFault → FoldState × Outcome
+outcome_of state (Ok planned) = planned
 outcome_of state (Err fault) = (state, outcomes.Fault fault)
 
 -- one step: the state after a unit, and what becomes of the unit

@@ -2,7 +2,7 @@
 
 ghost use Rattle.std.specs.Prelude.{◌≡◌, ◌<◌, ◌∷◌, ◌++◌, ◌+◌, ◌^◌, List, Result, Ok, Some, None, IsTrue, IfOk, OnOk, OnErr, if◌then◌else◌};
 ghost use Rattle.validity_faults.specs.declared.validity_fault.ValidityFault.{ValidityFault};
-ghost use Rattle.outcomes.specs.declared.outcome.Plan.{Plan as PlanValue};
+ghost use Rattle.outcomes.specs.declared.outcome.Outcome.{Outcome as Becomes};
 ghost use Rattle.request_core.specs.States.{FoldState};
 ghost use Rattle.order_count.specs.Counting.{counts_of};
 ghost use Rattle.header_types.specs.Pictures.{is_idr};
@@ -64,14 +64,14 @@ fn answer_of(
 /// What becomes of the unit, by what the state leads to in which its sets are put.
 fn answer(
     state: State,
-    planned: Result<(State, Plan), Stop>,
+    planned: Result<(State, Outcome), Stop>,
 ) -> Result<(State, Outcome), AllocError>
-    ensures { (says : Result (FoldState × PlanValue) ValidityFault)
+    ensures { (says : Result (FoldState × Becomes) ValidityFault)
         → AnswersAs (λ planned. planned) planned says
         → IfOk result (λ answer. answer ≡ outcome_of state says) }
 {
     match planned {
-        Ok((after, plan)) => Ok((after, Outcome::Plan(plan))),
+        Ok(planned) => Ok(planned),
         Err(Stop::Fault(fault)) => Ok((state, Outcome::Fault(fault))),
         Err(Stop::Memory) => Err(AllocError),
     }
@@ -91,20 +91,20 @@ fn with_sets(alloc: Global, state: &State, unit: &Unit) -> Result<State, AllocEr
 }
 
 /// What the unit leads to in a state in which its sets are put.
-fn plan(alloc: Global, state: &State, id: AuId, unit: &Unit) -> Result<(State, Plan), Stop>
+fn plan(alloc: Global, state: &State, id: AuId, unit: &Unit) -> Result<(State, Outcome), Stop>
     ensures { AnswersAs (λ planned. planned) result (planned state.now id unit.now) }
 {
     let slices = read_slices(alloc, &state.tables, unit.slices())?;
     plan_picture(alloc, state, id, slices.as_slice())
 }
 
-/// What the slices of a picture lead to.
+/// What the slices of a unit lead to; without any there is no picture.
 fn plan_picture(
     alloc: Global,
     state: &State,
     id: AuId,
     slices: &[Slice],
-) -> Result<(State, Plan), Stop>
+) -> Result<(State, Outcome), Stop>
     ensures { AnswersAs (λ planned. planned) result (picture_of state.now id slices.now) }
 {
     match slices {
@@ -112,7 +112,7 @@ fn plan_picture(
             pass(slice_fault(first, others))?;
             plan_first(alloc, state, id, first, slices)
         }
-        [] => Err(Stop::Fault(ValidityFault::MissingPps)),
+        [] => Ok((state.copy()?, Outcome::Empty)),
     }
 }
 
@@ -123,7 +123,7 @@ fn plan_first(
     id: AuId,
     first: &Slice,
     slices: &[Slice],
-) -> Result<(State, Plan), Stop>
+) -> Result<(State, Outcome), Stop>
     ensures { AnswersAs (λ planned. planned) result
         (picture_after state.now id first.now slices.now) }
 {
@@ -132,7 +132,10 @@ fn plan_first(
     let listed = list_picture(alloc, state, counts, slices)?;
     let marks = mark_picture(state, id, first, counts)?;
     let plan = make_plan(alloc, state, id, first, counts, listed.as_slice())?;
-    Ok((state_after(state, first, counts, marks)?, plan))
+    Ok((
+        state_after(state, first, counts, marks)?,
+        Outcome::Plan(plan),
+    ))
 }
 
 /// The plan of a picture.

@@ -6,7 +6,7 @@ use Rattle.validity_faults.specs.Names.{name_of}
 use Rattle.validity_faults.specs.Numbers.{number_of}
 use Rattle.stand_in_device.specs.declared.picture.Picture.{Picture}
 use Rattle.edit_engine.specs.declared.showing.Shown.{Shown}
-use Rattle.edit_engine.specs.declared.showing.Shown.TheVariants.{Ready, Pending, Fault, NoSuchUnit}
+use Rattle.edit_engine.specs.declared.showing.Shown.TheVariants.{Ready, Pending, Fault, Empty, NoSuchUnit}
 
 -- the line of a unit of which a word is shown
 abbrev pub word_line : ℕ → List ℕ → List ℕ
@@ -31,4 +31,5 @@ abbrev pub shown_line : Bool → ℕ → Shown → List ℕ
 shown_line hex number (Ready picture) = ready_line hex number picture
 shown_line hex number Pending = word_line number (codes "pending")
 shown_line hex number (Fault fault) = fault_line number fault
+shown_line hex number Empty = word_line number (codes "empty")
 shown_line hex number NoSuchUnit = word_line number (codes "none")

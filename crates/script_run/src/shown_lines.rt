@@ -19,6 +19,7 @@ pub fn shown_line(alloc: Global, number: u64, shown: Shown, hex: bool) -> Result
         Shown::Ready(_) => WordLine(number, "ready").to_string(alloc),
         Shown::Pending => WordLine(number, "pending").to_string(alloc),
         Shown::Fault(fault) => FaultLine(number, fault).to_string(alloc),
+        Shown::Empty => WordLine(number, "empty").to_string(alloc),
         Shown::NoSuchUnit => WordLine(number, "none").to_string(alloc),
     }
 }

@@ -33,6 +33,7 @@ module _ (journal : List Edit) (key : Key) where
       (is.0, λ k register above below leads. is.1 k register above (omega (arith, low, below)) leads)
   shows_less n m (receipts.Show id shown.Pending from) low is = absurd is
   shows_less n m (receipts.Show id (shown.Fault fault) from) low is = absurd is
+  shows_less n m (receipts.Show id shown.Empty from) low is = absurd is
   shows_less n m (receipts.Show id shown.NoSuchUnit from) low is = absurd is
 
   -- and where it is in use after an edit more, for one edit more
@@ -56,6 +57,7 @@ module _ (journal : List Edit) (key : Key) where
           ]
   shows_more n register (receipts.Show id shown.Pending from) leads used is = absurd is
   shows_more n register (receipts.Show id (shown.Fault fault) from) leads used is = absurd is
+  shows_more n register (receipts.Show id shown.Empty from) leads used is = absurd is
   shows_more n register (receipts.Show id shown.NoSuchUnit from) leads used is = absurd is
 
   -- it is in use at the end
@@ -66,6 +68,7 @@ module _ (journal : List Edit) (key : Key) where
       is.1 n register above (omega arith) leads
   shows_used n register (receipts.Show id shown.Pending from) above leads is = absurd is
   shows_used n register (receipts.Show id (shown.Fault fault) from) above leads is = absurd is
+  shows_used n register (receipts.Show id shown.Empty from) above leads is = absurd is
   shows_used n register (receipts.Show id shown.NoSuchUnit from) above leads is = absurd is
 
   -- among one receipt more

@@ -76,14 +76,15 @@ WasReady journal earlier n key =
     (receipt : SeatReceipt) × Contains earlier receipt × ShowsReady journal n key receipt
 
 -- the answer of a show is possible after so many edits, which lead to the stream: the picture of the unit's key; that a
--- valid unit waits, whose key isn't one that was shown ready before and stayed in use; the unit's fault; or that there is
--- no such unit
+-- valid unit waits, whose key isn't one that was shown ready before and stayed in use; the unit's fault; that the
+-- unit has no picture; or that there is no such unit
 abbrev pub IsPossible : List Edit → List SeatReceipt → ℕ → Stream → ℕ → Shown → Type 0
 IsPossible journal earlier n stream id (shown.Ready picture) =
     (key : Key) × HasKey stream id key × (picture ≡ picture_of_key key)
 IsPossible journal earlier n stream id shown.Pending =
     (key : Key) × HasKey stream id key × (WasReady journal earlier n key → ⊥)
 IsPossible journal earlier n stream id (shown.Fault fault) = outcome_in stream id ≡ Some (outcomes.Fault fault)
+IsPossible journal earlier n stream id shown.Empty = outcome_in stream id ≡ Some outcomes.Empty
 IsPossible journal earlier n stream id shown.NoSuchUnit = place_of stream id ≡ None
 
 -- the receipt of a show agrees, after the earlier receipts of its book: its length is that of the journal at most, and

@@ -171,6 +171,7 @@ impl Replay {
             Shown::Ready(picture) => self.shows(id, picture),
             Shown::Pending => self.may_wait(id),
             Shown::Fault(fault) => Ok(has_fault(&self.session, id, fault)),
+            Shown::Empty => Ok(is_empty(&self.session, id)),
             Shown::NoSuchUnit => Ok(is_absent(&self.session, id)),
         }
     }
@@ -228,7 +229,17 @@ fn has_fault(session: &Session, id: AuId, fault: ValidityFault) -> bool
 {
     match session.outcome(id) {
         Ok(Outcome::Fault(other)) => *other == fault,
-        Ok(Outcome::Plan(_)) | Err(_) => false,
+        Ok(Outcome::Plan(_) | Outcome::Empty) | Err(_) => false,
+    }
+}
+
+/// Whether the unit that has the id has no picture.
+fn is_empty(session: &Session, id: AuId) -> bool
+    ensures { Decides result (outcome_in session.now.register.stream id ≡ Some outcomes.Empty) }
+{
+    match session.outcome(id) {
+        Ok(Outcome::Empty) => true,
+        Ok(Outcome::Plan(_) | Outcome::Fault(_)) | Err(_) => false,
     }
 }
 

@@ -100,6 +100,7 @@ fn is_answer(answer: Result<Receipt, EditRefused>, wanted: Answer) -> bool {
 enum Shown {
     Gone,
     Fault(ValidityFault),
+    Empty,
     At(usize),
 }
 
@@ -109,6 +110,7 @@ fn shows(session: &Session, id: u32, shown: Shown) -> bool {
     match (session.outcome(id), session.position(id), shown) {
         (Err(NoSuchUnit), Err(NoSuchUnit), Shown::Gone) => true,
         (Ok(Outcome::Fault(fault)), Ok(None), Shown::Fault(wanted)) => *fault == wanted,
+        (Ok(Outcome::Empty), Ok(None), Shown::Empty) => true,
         (Ok(Outcome::Plan(_)), Ok(Some(place)), Shown::At(wanted)) => place == wanted,
         _ => false,
     }

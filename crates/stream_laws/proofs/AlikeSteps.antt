@@ -6,7 +6,6 @@ use Rattle.pictures.specs.MarkedFrames.{Marked}
 use Rattle.order_count.specs.Counting.{counts_of}
 use Rattle.ref_marking.specs.MarksAfter.{marks_after}
 use Rattle.validity_faults.specs.declared.validity_fault.ValidityFault.{ValidityFault}
-use Rattle.outcomes.specs.declared.outcome.Plan.{Plan}
 use Rattle.outcomes.specs.declared.outcome.Outcome.{Outcome}
 use Rattle.outcomes.specs.declared.outcome.Outcome.TheVariants as outcomes
 use Rattle.request_core.specs.States.{FoldState}
@@ -29,11 +28,11 @@ pub record StaysAlike (known other : Known) (id : ℕ) (step : FoldState × Outc
   pub frames : AreAlike (known_with known id (key_of_outcome known step.1)) (known_with other id (key_of_outcome other step.1)) step.0.marks.frames
 
 module _ (known other : Known) (state : FoldState) (id : ℕ) (all : AreAlike known other state.marks.frames) where
-  -- what is made is this state and this plan
-  made_stays : (after : FoldState) (plan : Plan) (made : FoldState × Plan) → ◌≡◌ {A = Result (FoldState × Plan) ValidityFault} (Ok (after, plan)) (Ok made)
-      → StaysAlike known other id (after, outcomes.Plan plan) → StaysAlike known other id (made.0, outcomes.Plan made.1)
-  made_stays after plan made is stays =
-      let same : (after, plan) ≡ made = cc in subst (λ (made : FoldState × Plan). StaysAlike known other id (made.0, outcomes.Plan made.1)) same stays
+  -- what is made is this state and this outcome
+  made_stays : (after : FoldState) (outcome : Outcome) (made : FoldState × Outcome) → ◌≡◌ {A = Result (FoldState × Outcome) ValidityFault} (Ok (after, outcome)) (Ok made)
+      → StaysAlike known other id (after, outcome) → StaysAlike known other id made
+  made_stays after outcome made is stays =
+      let same : (after, outcome) ≡ made = cc in subst (StaysAlike known other id) same stays
 
   module _ (first : SliceRead) (others : List SliceRead) where
     -- a picture with its counts, lists and marks
@@ -54,7 +53,7 @@ module _ (known other : Known) (state : FoldState) (id : ℕ) (all : AreAlike kn
         }
 
     -- what becomes of a picture
-    picture_stays : (made : FoldState × Plan) → picture_after state id first (first ∷ others) ≡ Ok made → StaysAlike known other id (made.0, outcomes.Plan made.1)
+    picture_stays : (made : FoldState × Outcome) → picture_after state id first (first ∷ others) ≡ Ok made → StaysAlike known other id made
     unfolding picture_after
     picture_stays made is =
         let passed = then_ok (passes (first_shown (picture_rows state first.sps first.header))) _ made is in
@@ -64,14 +63,14 @@ module _ (known other : Known) (state : FoldState) (id : ℕ) (all : AreAlike kn
         made_stays _ _ made marking.2 (marked_stays counting.0 listing.0 marking.0 marking.1)
 
   -- what becomes of the slices of a unit
-  slices_stay : (slices : List SliceRead) (made : FoldState × Plan) → picture_of state id slices ≡ Ok made
-      → StaysAlike known other id (made.0, outcomes.Plan made.1)
-  slices_stay [] made is = absurd cc
+  slices_stay : (slices : List SliceRead) (made : FoldState × Outcome) → picture_of state id slices ≡ Ok made
+      → StaysAlike known other id made
+  slices_stay [] made is = made_stays state outcomes.Empty made is (record { key = refl; frames = all })
   slices_stay (first ∷ others) made is =
       let passed = then_ok (passes (first_shown (slice_rows first others))) (λ passed. picture_after state id first (first ∷ others)) made is in
       picture_stays first others made passed.2
 
-  answer_stays : (unit : List (List ℕ)) (answer : Result (FoldState × Plan) ValidityFault) → planned state id unit ≡ answer → StaysAlike known other id (outcome_of state answer)
+  answer_stays : (unit : List (List ℕ)) (answer : Result (FoldState × Outcome) ValidityFault) → planned state id unit ≡ answer → StaysAlike known other id (outcome_of state answer)
   answer_stays unit (Ok made) is =
       let read = then_ok (gathered (map (slice_at state.tables) (filter is_slice unit))) (picture_of state id) made is in
       slices_stay read.0 made read.2

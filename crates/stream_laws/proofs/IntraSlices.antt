@@ -47,8 +47,7 @@ all_allowed before (unit ∷ units) is =
 
 -- all NAL units of an access unit that isn't refused
 pub allowed_units : (units : List (List ℕ)) → refusal_of units ≡ None → All IsAllowed units
-allowed_units units is =
-    all_allowed [] units (neither (first_refusal [] units) _ is).0
+allowed_units units is = all_allowed [] units is
 
 second_false : (first second : Bool) → (first && second) ≡ false → first ≡ true → second ≡ false
 second_false true second is holds = is

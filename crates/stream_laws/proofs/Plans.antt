@@ -11,7 +11,6 @@ use Rattle.ref_marking.specs.declared.fault.MarkFault.TheVariants.{BadMarking, N
 use Rattle.ref_marking.specs.MarksAfter.{marks_after}
 use Rattle.stand_in_device.specs.Inputs.{are_of_one_picture}
 use Rattle.validity_faults.specs.declared.validity_fault.ValidityFault.{ValidityFault}
-use Rattle.outcomes.specs.declared.outcome.Plan.{Plan}
 use Rattle.outcomes.specs.declared.outcome.Outcome.{Outcome}
 use Rattle.outcomes.specs.declared.outcome.Outcome.TheVariants as outcomes
 use Rattle.request_core.specs.States.{FoldState}
@@ -57,11 +56,11 @@ module _ (known : Known) (state : FoldState) (id : ℕ) (all : AreKnown known st
         (λ slice names hold. names) listed named);
   }
 
-  -- what is made is this state and this plan
-  made_goes_on : (after : FoldState) (plan : Plan) (made : FoldState × Plan) → ◌≡◌ {A = Result (FoldState × Plan) ValidityFault} (Ok (after, plan)) (Ok made)
-      → GoesOn known id (after, outcomes.Plan plan) → GoesOn known id (made.0, outcomes.Plan made.1)
-  made_goes_on after plan made is goes_on =
-      let same : (after, plan) ≡ made = cc in subst (λ (made : FoldState × Plan). GoesOn known id (made.0, outcomes.Plan made.1)) same goes_on
+  -- what is made is this state and this outcome
+  made_goes_on : (after : FoldState) (outcome : Outcome) (made : FoldState × Outcome) → ◌≡◌ {A = Result (FoldState × Outcome) ValidityFault} (Ok (after, outcome)) (Ok made)
+      → GoesOn known id (after, outcome) → GoesOn known id made
+  made_goes_on after outcome made is goes_on =
+      let same : (after, outcome) ≡ made = cc in subst (GoesOn known id) same goes_on
 
   module _ (first : SliceRead) (others : List SliceRead) (intra : All IsIntraInIdr (first ∷ others)) where
     -- a picture whose slices are without lists where it is IDR, with its counts, lists and marks
@@ -82,7 +81,7 @@ module _ (known : Known) (state : FoldState) (id : ℕ) (all : AreKnown known st
         }
 
     -- what becomes of such a picture
-    picture_goes_on : (made : FoldState × Plan) → picture_after state id first (first ∷ others) ≡ Ok made → GoesOn known id (made.0, outcomes.Plan made.1)
+    picture_goes_on : (made : FoldState × Outcome) → picture_after state id first (first ∷ others) ≡ Ok made → GoesOn known id made
     unfolding picture_after
     picture_goes_on made is =
         let passed = then_ok (passes (first_shown (picture_rows state first.sps first.header))) _ made is in
@@ -92,23 +91,23 @@ module _ (known : Known) (state : FoldState) (id : ℕ) (all : AreKnown known st
         made_goes_on _ _ made marking.2 (marked_goes_on counting.0 listing.0 marking.0 listing.1 marking.1)
 
   -- what becomes of the slices of a unit
-  slices_go_on : (slices : List SliceRead) (made : FoldState × Plan) → All IsIntraInIdr slices → picture_of state id slices ≡ Ok made
-      → GoesOn known id (made.0, outcomes.Plan made.1)
-  slices_go_on [] made intra is = absurd cc
+  slices_go_on : (slices : List SliceRead) (made : FoldState × Outcome) → All IsIntraInIdr slices → picture_of state id slices ≡ Ok made
+      → GoesOn known id made
+  slices_go_on [] made intra is = made_goes_on state outcomes.Empty made is (record { can = tt; are_known = all })
   slices_go_on (first ∷ others) made intra is =
       let passed = then_ok (passes (first_shown (slice_rows first others))) (λ passed. picture_after state id first (first ∷ others)) made is in
       picture_goes_on first others intra made passed.2
 
   module _ (unit : List (List ℕ)) (accepted : refusal_of unit ≡ None) where
-    -- where the unit has a plan, and in any case
-    unit_goes_on : (made : FoldState × Plan) → planned state id unit ≡ Ok made → GoesOn known id (made.0, outcomes.Plan made.1)
+    -- where the unit has no fault, and in any case
+    unit_goes_on : (made : FoldState × Outcome) → planned state id unit ≡ Ok made → GoesOn known id made
     unit_goes_on made is =
         let slices = filter is_slice unit in
         let read = then_ok (gathered (map (slice_at state.tables) slices)) (picture_of state id) made is in
         let allowed = All-filter is_slice IsAllowed unit (allowed_units unit accepted) in
         slices_go_on read.0 made (all_gathered IsAllowed IsIntraInIdr (slice_at state.tables) (read_allowed state.tables) slices read.0 allowed read.1) read.2
 
-    answer_goes_on : (answer : Result (FoldState × Plan) ValidityFault) → planned state id unit ≡ answer → GoesOn known id (outcome_of state answer)
+    answer_goes_on : (answer : Result (FoldState × Outcome) ValidityFault) → planned state id unit ≡ answer → GoesOn known id (outcome_of state answer)
     answer_goes_on (Ok made) is = unit_goes_on made is
     answer_goes_on (Err fault) is = record { can = tt; are_known = all }
 

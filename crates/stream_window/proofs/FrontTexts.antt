@@ -1,5 +1,5 @@
 -- What the text of an access unit within a stream is read as, by what its own text is read as.
-use Rattle.std.proofs.Common.{◌≡◌, ◌≢◌, ⊎_elim, ℕ, ◌≤◌, Bool, true, false, ◌||◌, cond, List, [], ◌∷◌, ◌++◌, length, Result, Ok, Err, Option, Some, None, refl, ap, arith}
+use Rattle.std.proofs.Common.{◌≡◌, ◌≢◌, ⊎_elim, ℕ, ◌≤◌, Bool, true, false, ◌||◌, List, [], ◌∷◌, ◌++◌, length, Result, Ok, Err, Option, Some, None, refl, ap, arith}
 use Rattle.std.proofs.lemmas.Bool.{false≢true}
 use Rattle.std.specs.List.{filter}
 use Rattle.std.specs.Option.{option_or}
@@ -8,7 +8,7 @@ use Rattle.annexb.specs.ByteStream.{HasUnits, joined}
 use Rattle.annexb.proofs.Readings.{same_reading, HasUnits-joined}
 use Rattle.access_unit.specs.declared.refused.Refused.{Refused}
 use Rattle.access_unit.specs.declared.refused.Refused.TheVariants as refusals
-use Rattle.access_unit.specs.Refusals.{Row, first_shown, header_rows, set_rows, order_rows, refusal_at, first_refusal, refusal_of, has_slice, most_bytes}
+use Rattle.access_unit.specs.Refusals.{Row, first_shown, header_rows, set_rows, order_rows, refusal_at, first_refusal, refusal_of, most_bytes}
 use Rattle.access_unit.specs.Answers.{IsRefused, too_long, unsplit, shown, IsReadAs}
 use Rattle.access_unit.proofs.Lengths.{length_joined}
 use Rattle.access_unit.proofs.Pieces.{all_units}
@@ -55,13 +55,7 @@ not_first before (unit ∷ units) e =
     either (refusal_at before unit) (first_refusal (before ++ unit ∷ []) units) e (not_shown_at before unit) (not_first (before ++ unit ∷ []) units)
 
 not_split : (units : List (List ℕ)) → refusal_of units ≡ Some refusals.Split → ⊥
-not_split units e =
-    either (first_refusal [] units) (cond (has_slice (filter is_slice units)) None (Some refusals.NoPicture)) e (not_first [] units)
-    (no_picture (has_slice (filter is_slice units)))
-  where
-    no_picture : (there : Bool) → cond there None (Some refusals.NoPicture) ≡ Some refusals.Split → ⊥
-    no_picture true e = cc
-    no_picture false e = cc
+not_split units e = not_first [] units e
 
 -- the units of a text are those of their own text, which isn't longer
 own : (text : List ℕ) (units : List (List ℕ)) → HasUnits text units → HasUnits (joined units) units

@@ -3,9 +3,10 @@ use Rattle.std.specs.Prelude.{ℕ, ◌++◌, List, [], Option, codes, decimal}
 use Rattle.std.specs.Option.{unwrap_or}
 use Rattle.validity_faults.specs.declared.validity_fault.ValidityFault.{ValidityFault}
 use Rattle.outcomes.specs.declared.outcome.Outcome.{Outcome}
-use Rattle.outcomes.specs.declared.outcome.Outcome.TheVariants.{Plan, Fault}
+use Rattle.outcomes.specs.declared.outcome.Outcome.TheVariants.{Plan, Fault, Empty}
 use Rattle.validity_faults.specs.Names.{name_of}
 use Rattle.validity_faults.specs.Numbers.{number_of}
+use Rattle.unit_lines.specs.declared.lines.EmptyLine.{EmptyLine}
 use Rattle.unit_lines.specs.declared.lines.FaultLine.{FaultLine}
 use Rattle.unit_lines.specs.declared.lines.UnitHead.{UnitHead}
 use Rattle.unit_lines.specs.declared.lines.UnitLines.{UnitLines}
@@ -20,15 +21,24 @@ fault_text id fault = codes "unit " ++ (decimal id ++ (codes " fault " ++ (decim
 abbrev pub fault_line : FaultLine → List ℕ
 fault_line line = fault_text line.id line.fault
 
--- the lines of what becomes of a unit up to its position, which a plan has; nothing where it has a fault
+-- the line of a unit without a slice
+abbrev pub empty_text : ℕ → List ℕ
+empty_text id = codes "unit " ++ (decimal id ++ codes " no picture\n")
+
+abbrev pub empty_line : EmptyLine → List ℕ
+empty_line line = empty_text line.id
+
+-- the lines of what becomes of a unit up to its position, which a plan has; nothing where it has none
 abbrev pub outcome_head : ℕ → Option ℕ → Outcome → List ℕ
 outcome_head id position (Plan plan) = plan_head id (unwrap_or position 0)
 outcome_head id position (Fault fault) = []
+outcome_head id position Empty = []
 
 -- and after it, which doesn't depend on the position
 abbrev pub outcome_tail : ℕ → Outcome → List ℕ
 outcome_tail id (Plan plan) = plan_tail id plan
 outcome_tail id (Fault fault) = fault_text id fault
+outcome_tail id Empty = empty_text id
 
 -- the lines of what becomes of a unit
 abbrev pub outcome_lines : ℕ → Option ℕ → Outcome → List ℕ

@@ -3,7 +3,7 @@
 ghost use Rattle.std.specs.Prelude.{Some};
 ghost use Rattle.std.specs.List.{flat_map, zip};
 ghost use Rattle.unit_lines.specs.Lines.{counts_text, entry_text, list_text, next_text, place_text, plan_head, plan_tail, request_line};
-ghost use Rattle.unit_lines.specs.UnitLines.{fault_line, unit_head, unit_lines, unit_tail};
+ghost use Rattle.unit_lines.specs.UnitLines.{empty_line, fault_line, unit_head, unit_lines, unit_tail};
 
 use h264_controls::{Request, V4l2H264DpbEntry};
 use outcomes::{Outcome, Plan, ValidityFault};
@@ -38,7 +38,7 @@ impl<'a> Display for UnitLines<'a> {
     }
 }
 
-/// The lines of a unit up to its place in output order; nothing where it has a fault.
+/// The lines of a unit up to its place in output order; nothing where it has none.
 #[derive(Drop)]
 pub struct UnitHead<'a> {
     pub id: AuId,
@@ -56,12 +56,12 @@ impl<'a> Display for UnitHead<'a> {
                 let position = self.position.unwrap_or_default();
                 write!(f, "{}", PlanHead { id, position })
             }
-            Outcome::Fault(_) => Ok(()),
+            Outcome::Fault(_) | Outcome::Empty => Ok(()),
         }
     }
 }
 
-/// The lines of a unit after its place in output order, which don't depend on it; all of them where it has a fault.
+/// The lines of a unit after its place in output order, which don't depend on it; all of them where it has none.
 #[derive(Drop)]
 pub struct UnitTail<'a> {
     pub id: AuId,
@@ -76,6 +76,7 @@ impl<'a> Display for UnitTail<'a> {
         match self.outcome {
             Outcome::Plan(plan) => write!(f, "{}", PlanTail { id, plan }),
             Outcome::Fault(fault) => write!(f, "{}", FaultLine { id, fault: *fault }),
+            Outcome::Empty => write!(f, "{}", EmptyLine { id }),
         }
     }
 }
@@ -150,6 +151,21 @@ impl Display for FaultLine {
     fn fmt<W: Write>(&self, f: &mut Formatter<W>) -> fmt::Result {
         let (id, number, name) = (self.id.number(), self.fault.number(), self.fault.name());
         writeln!(f, "unit {id} fault {number} {name}")
+    }
+}
+
+/// The line of a unit without a picture.
+#[derive(Drop)]
+struct EmptyLine {
+    id: AuId,
+}
+
+impl Display for EmptyLine {
+    ghost output = { λ line. Some (empty_line line) };
+
+    fn fmt<W: Write>(&self, f: &mut Formatter<W>) -> fmt::Result {
+        let id = self.id.number();
+        writeln!(f, "unit {id} no picture")
     }
 }
 

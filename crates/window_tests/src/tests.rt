@@ -37,6 +37,12 @@ request 1.0 ts 1000 bits 25 type 2 frame 0 dpb - l0 - l1 - hold 0\n\
 unit 2 position 1 counts 2 2 requests 1\n\
 request 2.0 ts 2000 bits 23 type 0 frame 1 dpb 1000:0:3 l0 0 l1 - hold 0\n";
 
+const LINES_OF_THREE: &str = "unit 1 position 0 counts 0 0 requests 1\n\
+request 1.0 ts 1000 bits 25 type 2 frame 0 dpb - l0 - l1 - hold 0\n\
+unit 2 position 1 counts 2 2 requests 1\n\
+request 2.0 ts 2000 bits 23 type 0 frame 1 dpb 1000:0:3 l0 0 l1 - hold 0\n\
+unit 3 no picture\n";
+
 /// A reader that gives so many bytes at a time, and at its end nothing more, or this failure.
 #[derive(Drop)]
 struct Pieces<'a> {
@@ -105,7 +111,7 @@ fn joined(alloc: Global, parts: &[&[u8]]) -> Result<Vec<u8>, AllocError> {
 /// The parts of a stream, how its plan ends, and the lines that are printed.
 type Plan = (&'static [&'static [u8]], Status, &'static str);
 
-const PLANS: [Plan; 10] = [
+const PLANS: [Plan; 11] = [
     (&[&A, &P1], Success, LINES_OF_BOTH),
     // Zeros before a start code, after a unit and at the end, and a unit with an emulation prevention byte.
     (
@@ -141,7 +147,8 @@ const PLANS: [Plan; 10] = [
         Failure,
         "unit 1 refused 2 UnitType\n",
     ),
-    (&[&A, &P1, &SETS], Failure, "unit 2 refused 12 NoPicture\n"),
+    (&[&A, &P1, &SETS], Success, LINES_OF_THREE),
+    (&[&SETS], Success, "unit 1 no picture\n"),
     (&[&A, &WRONG, &P1, &[0, 0, 1]], Failure, "refused 1 Split\n"),
 ];
 

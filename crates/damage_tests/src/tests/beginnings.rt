@@ -18,6 +18,7 @@ static WHOLE: [u8; 23] = [
 enum Answer {
     Refused(u8),
     Fault(ValidityFault),
+    Empty,
     Valid,
 }
 
@@ -32,16 +33,16 @@ const BEGINNINGS: [Answer; 24] = [
     Answer::Refused(4),
     Answer::Refused(4),
     Answer::Refused(4),
-    Answer::Refused(12),
-    Answer::Refused(12),
-    Answer::Refused(12),
+    Answer::Empty,
+    Answer::Empty,
+    Answer::Empty,
     Answer::Refused(1),
     Answer::Refused(5),
     Answer::Refused(5),
-    Answer::Refused(12),
-    Answer::Refused(12),
-    Answer::Refused(12),
-    Answer::Refused(12),
+    Answer::Empty,
+    Answer::Empty,
+    Answer::Empty,
+    Answer::Empty,
     Answer::Refused(1),
     Answer::Fault(ValidityFault::HeaderCut),
     Answer::Fault(ValidityFault::HeaderCut),
@@ -52,7 +53,7 @@ const BEGINNINGS: [Answer; 24] = [
 /// The text is read, or refused with the number.
 fn reads(alloc: Global, text: &[u8], answer: Answer) -> bool {
     match (read_unit(alloc, text), answer) {
-        (Ok(_), Answer::Fault(_) | Answer::Valid) => true,
+        (Ok(_), Answer::Fault(_) | Answer::Empty | Answer::Valid) => true,
         (Err(refused), Answer::Refused(number)) => refused.number() == number,
         _ => false,
     }
@@ -66,6 +67,7 @@ fn takes(session: &mut Session, text: &'static [u8], answer: Answer) -> bool {
         (Ok(receipt), _) => match (session.outcome(receipt.id), answer) {
             (Ok(Outcome::Fault(fault)), Answer::Fault(wanted)) => *fault == wanted,
             (Ok(Outcome::Plan(_)), Answer::Valid) => true,
+            (Ok(Outcome::Empty), Answer::Empty) => true,
             _ => false,
         },
         (Err(refused), Answer::Refused(number)) => refused.number() == number,

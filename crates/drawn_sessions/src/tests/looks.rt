@@ -123,7 +123,7 @@ fn has_key(session: &Session, id: AuId) -> Option<bool> {
     }
 }
 
-/// Whether outcomes are of one kind, with the same counts and as many requests, or with the same fault.
+/// Whether outcomes are of one kind, with the same counts and as many requests, or with the same fault, or without a picture.
 fn is_same(outcome: &Outcome, other: &Outcome) -> bool {
     match (outcome, other) {
         (Outcome::Plan(plan), Outcome::Plan(other)) => {
@@ -131,6 +131,7 @@ fn is_same(outcome: &Outcome, other: &Outcome) -> bool {
                 && plan.requests.as_slice().len() == other.requests.as_slice().len()
         }
         (Outcome::Fault(fault), Outcome::Fault(other)) => *fault == *other,
+        (Outcome::Empty, Outcome::Empty) => true,
         _ => false,
     }
 }

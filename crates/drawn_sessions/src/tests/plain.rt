@@ -76,6 +76,16 @@ impl Plain {
         self.outcomes.get(self.place_of(id)?)
     }
 
+    /// Whether a unit has no picture.
+    pub(super) fn has_empty(&self) -> bool {
+        for outcome in &self.outcomes {
+            if matches!(outcome, Outcome::Empty) {
+                return true;
+            }
+        }
+        false
+    }
+
     /// The position of the unit of an id.
     pub(super) fn position(&self, id: AuId) -> Option<usize> {
         *self.positions.get(self.place_of(id)?)?
@@ -85,6 +95,7 @@ impl Plain {
     pub(super) fn show(&self, id: AuId) -> Shown {
         match (self.outcome(id), key_at(&self.keys, Some(id))) {
             (Some(Outcome::Fault(fault)), _) => Shown::Fault(*fault),
+            (Some(Outcome::Empty), _) => Shown::Empty,
             (Some(Outcome::Plan(_)), Some(key)) => self.show_key(key.tree),
             (Some(Outcome::Plan(_)), None) => Shown::Pending,
             (None, _) => Shown::NoSuchUnit,

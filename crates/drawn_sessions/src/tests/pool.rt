@@ -4,7 +4,7 @@ use bytes::Bytes;
 use std::alloc::{AllocError, Global};
 
 /// Texts, each with the places of two texts that may follow it.
-const POOL: [(&[u8], usize, usize); 17] = [
+const POOL: [(&[u8], usize, usize); 19] = [
     // Sets and an IDR picture, of one macroblock, count type 2 and one reference frame.
     (
         &[
@@ -55,6 +55,9 @@ const POOL: [(&[u8], usize, usize); 17] = [
         4,
         10,
     ),
+    // Units without a slice: the first sequence parameter set, and another one under its id.
+    (&[0, 0, 1, 0x67, 0x42, 0x00, 0x0A, 0xDA, 0x79], 4, 36),
+    (&[0, 0, 1, 0x67, 0x42, 0x00, 0x0A, 0xDB, 0x79], 34, 4),
 ];
 
 /// Texts that are no unit: one that doesn't split, and a unit of type 14.

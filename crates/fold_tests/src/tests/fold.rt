@@ -66,15 +66,15 @@ fn outcomes_of(
     scratch(rt.alloc(), &stream)
 }
 
-/// The unit's fault, nothing where it is valid.
+/// The unit's fault, nothing where it has none.
 fn fault_of(outcome: &Outcome) -> Option<ValidityFault> {
     match outcome {
-        Outcome::Plan(_) => None,
+        Outcome::Plan(_) | Outcome::Empty => None,
         Outcome::Fault(fault) => Some(*fault),
     }
 }
 
-/// The units have these faults, nothing standing for a valid one.
+/// The units have these faults, nothing standing for one that has none.
 fn have_faults(outcomes: &[Outcome], faults: &[Option<ValidityFault>]) -> bool {
     outcomes.len() == faults.len()
         && outcomes
@@ -90,7 +90,7 @@ fn only_request(outcome: &Outcome) -> Option<&Request> {
             [request] => Some(request),
             _ => None,
         },
-        Outcome::Fault(_) => None,
+        Outcome::Fault(_) | Outcome::Empty => None,
     }
 }
 
@@ -190,6 +190,37 @@ fn names_the_first_fault(rt: HostRuntime) -> Result<(), Fail> {
         row_holds(&rt, row, have_faults(&outcomes_of(&rt, texts)?, faults));
     }
     assert!(rt; ValidityFault::FrameNumRepeat.number() == 12);
+    Ok(())
+}
+
+/// The sequence parameter set of A alone, and another one under its id.
+const SPS: &[u8] = &[0, 0, 1, 0x67, 0x42, 0x00, 0x0A, 0xDA, 0x79];
+
+const OTHER_SPS: &[u8] = &[0, 0, 1, 0x67, 0x42, 0x00, 0x0A, 0xDB, 0x79];
+
+/// Sets alone among pictures: P1 names the set that was sent last, and refers to A, whose set is the active one.
+const SETS_ALONE: [&[u8]; 5] = [&A, OTHER_SPS, &P1, SPS, &P1];
+
+/// What becomes of these units: the second and the fourth have no picture.
+const AFTER_SETS: [Option<ValidityFault>; 5] = [
+    None,
+    None,
+    Some(ValidityFault::SpsChange),
+    None,
+    None,
+];
+
+/// The unit has no picture.
+fn is_empty(outcome: Option<&Outcome>) -> bool {
+    matches!(outcome, Some(Outcome::Empty))
+}
+
+#[test]
+fn puts_sets_of_a_unit_without_a_slice(rt: HostRuntime) -> Result<(), Fail> {
+    let outcomes = outcomes_of(&rt, &SETS_ALONE)?;
+    assert!(rt; have_faults(&outcomes, &AFTER_SETS));
+    assert!(rt; is_empty(outcomes.get(1)) && is_empty(outcomes.get(3)));
+    assert!(rt; outcomes.len() == 5 && is_inter(&outcomes[4]));
     Ok(())
 }
 

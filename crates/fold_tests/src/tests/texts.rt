@@ -128,7 +128,7 @@ fn tells_faults_of_units(rt: HostRuntime) -> Result<(), Fail> {
 }
 
 /// Each refusal of a unit's text with its number, its name and its text.
-const REFUSALS: [(Refused, u8, &str, &str); 15] = [
+const REFUSALS: [(Refused, u8, &str, &str); 14] = [
     (
         Refused::Split,
         1,
@@ -190,7 +190,6 @@ const REFUSALS: [(Refused, u8, &str, &str); 15] = [
         "UnitOrder",
         "a unit stands behind a slice that belongs before it",
     ),
-    (Refused::NoPicture, 12, "NoPicture", "there is no slice"),
     (
         Refused::TwoPictures,
         13,
@@ -247,9 +246,9 @@ const READ: [(ReadFault, &str); 4] = [
     (
         ReadFault::Refused(Refusal::Unit {
             index: 10,
-            refused: Refused::NoPicture,
+            refused: Refused::UnitType,
         }),
-        "unit 10: there is no slice",
+        "unit 10: a unit's type isn't read",
     ),
     (
         ReadFault::Refused(Refusal::StreamFull),

@@ -111,7 +111,7 @@ fn reads_a_unit(rt: HostRuntime) -> Result<(), Fail> {
 }
 
 /// Texts that show no refusal, with their NAL units.
-const ACCEPTED: [(&[u8], Nals); 4] = [
+const ACCEPTED: [(&[u8], Nals); 7] = [
     // A slice of one byte, and one that doesn't begin at macroblock 0.
     (&[0, 0, 1, 0x65], &[&[0x65]]),
     (&[0, 0, 1, 0x41, 0x42, 0x21], &[&[0x41, 0x42, 0x21]]),
@@ -131,6 +131,15 @@ const ACCEPTED: [(&[u8], Nals); 4] = [
         ],
         &[IDR, NEXT_IDR, &[12, 0x80], &[0x25, 0x42, 0x21, 0x30]],
     ),
+    // No slice: sets, one set, and a delimiter.
+    (
+        &[
+            0, 0, 1, 0x67, 0x42, 0x00, 0x0A, 0xDA, 0x79, 0, 0, 1, 0x68, 0xCE, 0x38, 0x80,
+        ],
+        &[SPS, PPS],
+    ),
+    (&[0, 0, 1, 0x67, 0x42, 0x00, 0x0A, 0xDA, 0x79], &[SPS]),
+    (&[0, 0, 1, 9, 0x10], &[&[9, 0x10]]),
 ];
 
 #[test]

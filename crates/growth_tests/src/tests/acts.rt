@@ -2,8 +2,8 @@
 
 use super::seen::seen;
 use super::streams::{
-    A, B, IDR, P, P1, P2, PICTURE_OF_A, PICTURE_OF_B, PICTURE_OF_IDR, PICTURE_OF_P, PICTURE_OF_P1,
-    PICTURE_OF_P2, PICTURE_OF_SLICES, Planned, SLICES, TIED_B, planned,
+    A, B, IDR, OTHER_SPS, P, P1, P2, PICTURE_OF_A, PICTURE_OF_B, PICTURE_OF_IDR, PICTURE_OF_P,
+    PICTURE_OF_P1, PICTURE_OF_P2, PICTURE_OF_SLICES, Planned, SLICES, SPS, TIED_B, planned,
 };
 use super::{Told, edit_of, empty_runner, row_holds};
 use Shown::{NoSuchUnit, Pending, Ready};
@@ -25,6 +25,8 @@ pub(super) enum Act {
     /// A unit's position, and what is planned for it.
     Unit(u32, usize, Planned),
     Fault(u32, ValidityFault),
+    /// A unit without a picture.
+    Empty(u32),
     /// The job of this number, for this unit.
     Take(u64, u32),
     TakesNone,
@@ -121,13 +123,40 @@ const TWO_SLICES: Script = Script {
     at_last: &[(1, Ready(PICTURE_OF_SLICES))],
 };
 
-pub(super) const SCRIPTS: [Script; 3] = [REPAIR, B_PICTURES, TWO_SLICES];
+/// A unit without a slice sends another set, then the first one's once more; and a picture becomes such a unit.
+const WITHOUT_A_SLICE: Script = Script {
+    acts: &[
+        Act::Edit(First(A), 1, 1),
+        Act::Edit(After(1, OTHER_SPS), 2, 2),
+        Act::Empty(2),
+        Act::Edit(After(2, P1), 3, 3),
+        Act::Fault(3, ValidityFault::SpsChange),
+        Act::Edit(Replace(2, SPS), 4, 2),
+        Act::Unit(3, 1, (2, 2, 1)),
+        Act::Take(1, 1),
+        Act::Lands(1),
+        Act::Take(2, 3),
+        Act::Lands(2),
+        Act::Show(2, Shown::Empty),
+        Act::Show(3, Ready(PICTURE_OF_P1)),
+        Act::Edit(Replace(3, SPS), 5, 3),
+        Act::Empty(3),
+        Act::TakesNone,
+    ],
+    at_last: &[
+        (1, Ready(PICTURE_OF_A)),
+        (2, Shown::Empty),
+        (3, Shown::Empty),
+    ],
+};
+
+pub(super) const SCRIPTS: [Script; 4] = [REPAIR, B_PICTURES, TWO_SLICES, WITHOUT_A_SLICE];
 
 /// The command of an act.
 pub(super) fn command_of(act: Act) -> Command {
     match act {
         Act::Edit(told, _, _) => Command::Edit(edit_of(told)),
-        Act::Unit(id, _, _) | Act::Fault(id, _) => Command::Unit(AuId::new(id)),
+        Act::Unit(id, _, _) | Act::Fault(id, _) | Act::Empty(id) => Command::Unit(AuId::new(id)),
         Act::Take(..) | Act::TakesNone => Command::Take,
         Act::Lands(number) | Act::LandsNone(number) => Command::Land(number),
         Act::Gives(number) | Act::GivesNone(number) => Command::GiveBack(number),
@@ -152,7 +181,15 @@ fn is_report(report: &UnitReport, position: usize, plan: Planned) -> bool {
 fn is_fault(report: &UnitReport, wanted: ValidityFault) -> bool {
     match report.outcome {
         Outcome::Fault(fault) => fault == wanted && report.position.is_none(),
-        Outcome::Plan(_) => false,
+        Outcome::Plan(_) | Outcome::Empty => false,
+    }
+}
+
+/// The unit has no picture, and no position.
+fn is_empty(report: &UnitReport) -> bool {
+    match report.outcome {
+        Outcome::Empty => report.position.is_none(),
+        Outcome::Plan(_) | Outcome::Fault(_) => false,
     }
 }
 
@@ -164,6 +201,7 @@ pub(super) fn is_reply(reply: &Reply, act: Act) -> bool {
             is_report(report, position, plan)
         }
         (Reply::Unit(Ok(report)), Act::Fault(_, fault)) => is_fault(report, fault),
+        (Reply::Unit(Ok(report)), Act::Empty(_)) => is_empty(report),
         (Reply::Take(Ok(Some(taken))), Act::Take(number, unit)) => {
             (taken.number, taken.unit.number()) == (number, unit)
         }

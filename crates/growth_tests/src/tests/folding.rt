@@ -62,22 +62,34 @@ fn put_again(numbers: &mut KeyNumbers<'_>, id: AuId, key: KeyId) -> Result<(), A
     }
 }
 
-/// What becomes of the unit is its plan, whose key is a new one, and the same once more.
+/// The key of a unit's requests is a new one, and the same once more.
 fn has_new_key(
+    alloc: Global,
+    keys: &mut Keys<Works, Sha256Fingerprint>,
+    numbers: &mut KeyNumbers<'_>,
+    id: AuId,
+    requests: &Requests,
+) -> Result<bool, AllocError> {
+    let before = keys.len();
+    let key = intern_again(alloc, keys, numbers, requests)?;
+    let same = intern_again(alloc, keys, numbers, requests)?;
+    put_again(numbers, id, key)?;
+    Ok(same == key && keys.len() == before.saturating_add(1))
+}
+
+/// What becomes of the unit is valid with a new key, or that it has no picture.
+fn is_valid_or_empty(
     alloc: Global,
     keys: &mut Keys<Works, Sha256Fingerprint>,
     numbers: &mut KeyNumbers<'_>,
     id: AuId,
     outcome: &Outcome,
 ) -> Result<bool, AllocError> {
-    let Outcome::Plan(plan) = outcome else {
-        return Ok(false);
-    };
-    let before = keys.len();
-    let key = intern_again(alloc, keys, numbers, &plan.requests)?;
-    let same = intern_again(alloc, keys, numbers, &plan.requests)?;
-    put_again(numbers, id, key)?;
-    Ok(same == key && keys.len() == before.saturating_add(1))
+    match outcome {
+        Outcome::Plan(plan) => has_new_key(alloc, keys, numbers, id, &plan.requests),
+        Outcome::Empty => Ok(true),
+        Outcome::Fault(_) => Ok(false),
+    }
 }
 
 /// The stream's units, whose texts are read first, where there is memory for them.
@@ -90,20 +102,20 @@ fn units_of(alloc: Global, stream: &Stream) -> Option<Vec<Unit>> {
     Some(units)
 }
 
-/// The units have these plans in turn, each with a key of its own.
+/// The units have these plans in turn, each with a key of its own, or no picture.
 fn have_plans(
     alloc: Global,
     first: State,
     units: &[Unit],
-    plans: &[Planned],
+    plans: &[Option<Planned>],
 ) -> Result<bool, AllocError> {
     let (mut keys, mut numbers) = (Keys::new(alloc), KeyNumbers::new(alloc));
     let (mut state, mut id) = (first, 0u32);
     for (unit, plan) in units.iter().zip(plans) {
         id = id.saturating_add(1);
         let (after, outcome) = step_again(alloc, &state, AuId::new(id), unit)?;
-        let is_new = has_new_key(alloc, &mut keys, &mut numbers, AuId::new(id), &outcome)?;
-        if !is_new || planned(&outcome) != Some(*plan) {
+        let is_right = is_valid_or_empty(alloc, &mut keys, &mut numbers, AuId::new(id), &outcome)?;
+        if !is_right || planned(&outcome) != *plan {
             return Ok(false);
         }
         state = after;

@@ -119,18 +119,49 @@ fn takes_none(rt: &impl Abort, session: &mut Session) -> bool {
     }
 }
 
-/// Each unit's job is given back, taken again and landed: the unit has this picture then.
-fn settles(rt: &(impl Abort + AllocGlobal), session: &mut Session, pictures: &[Picture]) -> bool {
+/// What is shown of a unit when its job is done: its picture, or that it has none.
+pub(super) fn shown_at_last(picture: Option<Picture>) -> Shown {
+    match picture {
+        Some(picture) => Shown::Ready(picture),
+        None => Shown::Empty,
+    }
+}
+
+/// The job of this number is given back, taken again under the next one and landed, with this picture; nothing where the
+/// unit has none. How many numbers were given, if all is so.
+fn decodes(
+    rt: &(impl Abort + AllocGlobal),
+    session: &mut Session,
+    number: u64,
+    picture: Option<Picture>,
+) -> Option<u64> {
+    let Some(picture) = picture else {
+        return Some(0);
+    };
+    if gives_back(rt, session, number) && lands(rt, session, number.saturating_add(1), picture) {
+        Some(2)
+    } else {
+        None
+    }
+}
+
+/// Each unit's job is given back, taken again and landed: the unit has this picture then. One without a picture has no
+/// job.
+fn settles(
+    rt: &(impl Abort + AllocGlobal),
+    session: &mut Session,
+    pictures: &[Option<Picture>],
+) -> bool {
     let (mut number, mut id) = (1u64, 0u32);
     for picture in pictures {
         id = id.saturating_add(1);
-        if !gives_back(rt, session, number)
-            || !lands(rt, session, number.saturating_add(1), *picture)
-            || session.show(AuId::new(id)) != Shown::Ready(*picture)
-        {
+        let Some(given) = decodes(rt, session, number, *picture) else {
+            return false;
+        };
+        if session.show(AuId::new(id)) != shown_at_last(*picture) {
             return false;
         }
-        number = number.saturating_add(2);
+        number = number.saturating_add(given);
     }
     takes_none(rt, session)
 }

@@ -2,10 +2,11 @@
 //! decoded, and a result that lands, are answered as with memory.
 
 use super::seen::seen;
+use super::sessions::shown_at_last;
 use super::streams::{A, OTHER_A, STREAMS, Stream};
 use super::{Told, appended, edit_of, new_session, row_holds};
 use Told::{Delete, First, Replace};
-use edit_engine::{EditRefused, Finished, Job, Landing, Returning, Session, Shown, TakeRefused};
+use edit_engine::{EditRefused, Finished, Job, Landing, Returning, Session, TakeRefused};
 use pictures::AuId;
 use stand_in_device::{Device, Undone};
 use std::alloc::{AllocError, AllocGlobal, Global};
@@ -74,8 +75,8 @@ fn settle(rt: &(impl Abort + AllocGlobal), session: &mut Session) -> Result<(), 
     Ok(())
 }
 
-/// Inserts the units of a stream and decodes them, so far as there is memory; whether each has its picture, or memory was
-/// wanted.
+/// Inserts the units of a stream and decodes them, so far as there is memory; whether each has its picture, if it has one,
+/// or memory was wanted.
 fn lives(rt: &(impl Abort + AllocGlobal), session: &mut Session, stream: &Stream) -> bool {
     if insert(rt, session, stream).is_err() || settle(rt, session).is_err() {
         return true;
@@ -83,7 +84,7 @@ fn lives(rt: &(impl Abort + AllocGlobal), session: &mut Session, stream: &Stream
     let mut id = 0u32;
     for picture in stream.pictures {
         id = id.saturating_add(1);
-        if session.show(AuId::new(id)) != Shown::Ready(*picture) {
+        if session.show(AuId::new(id)) != shown_at_last(*picture) {
             return false;
         }
     }

@@ -5,7 +5,7 @@ use edit_engine::Picture;
 use outcomes::Outcome;
 use std::alloc::{AllocError, Global};
 
-/// A stream whose units are all valid.
+/// A stream whose units are all valid or have no picture.
 #[derive(Clone, Copy)]
 pub(super) struct Stream {
     /// The texts of the units.
@@ -14,16 +14,16 @@ pub(super) struct Stream {
     pub(super) nals: &'static [(u8, usize)],
     /// How many NAL units, parameter sets and slices each unit has.
     pub(super) parts: &'static [(usize, usize, usize)],
-    /// What is planned for each unit.
-    pub(super) plans: &'static [Planned],
-    /// The picture of each unit.
-    pub(super) pictures: &'static [Picture],
+    /// What is planned for each unit, nothing where it has no picture.
+    pub(super) plans: &'static [Option<Planned>],
+    /// The picture of each unit, if it has one.
+    pub(super) pictures: &'static [Option<Picture>],
 }
 
 /// The picture order counts of both fields of a unit's frame, and how many requests the unit has.
 pub(super) type Planned = (i32, i32, usize);
 
-/// What is planned for a unit, nothing where it has a fault.
+/// What is planned for a unit, nothing where it isn't valid.
 pub(super) fn planned(outcome: &Outcome) -> Option<Planned> {
     match outcome {
         Outcome::Plan(plan) => Some((
@@ -31,7 +31,7 @@ pub(super) fn planned(outcome: &Outcome) -> Option<Planned> {
             plan.counts.bottom,
             plan.requests.as_slice().len(),
         )),
-        Outcome::Fault(_) => None,
+        Outcome::Fault(_) | Outcome::Empty => None,
     }
 }
 
@@ -45,6 +45,11 @@ pub(super) const OTHER_A: &[u8] = &[
     0, 0, 1, 0x67, 0x42, 0x00, 0x0A, 0xDA, 0x79, 0, 0, 1, 0x68, 0xCE, 0x38, 0x80, 0, 0, 1, 0x65,
     0x88, 0x84, 0x81,
 ];
+
+/// The sequence parameter set of A alone, and another one under its id.
+pub(super) const SPS: &[u8] = &[0, 0, 1, 0x67, 0x42, 0x00, 0x0A, 0xDA, 0x79];
+
+pub(super) const OTHER_SPS: &[u8] = &[0, 0, 1, 0x67, 0x42, 0x00, 0x0A, 0xDB, 0x79];
 
 /// P pictures with frame_num 1 and 2.
 pub(super) const P1: &[u8] = &[0, 0, 1, 0x41, 0x9A, 0x23];
@@ -129,27 +134,35 @@ pub(super) const PICTURE_OF_SLICES: Picture = Picture {
     ],
 };
 
-pub(super) const STREAMS: [Stream; 3] = [
+pub(super) const STREAMS: [Stream; 4] = [
     Stream {
         texts: &[A, P1, P2],
         nals: &[(0x67, 6), (0x68, 4), (0x65, 4), (0x41, 3), (0x41, 3)],
         parts: &[(3, 2, 1), (1, 0, 1), (1, 0, 1)],
-        plans: &[(0, 0, 1), (2, 2, 1), (4, 4, 1)],
-        pictures: &[PICTURE_OF_A, PICTURE_OF_P1, PICTURE_OF_P2],
+        plans: &[Some((0, 0, 1)), Some((2, 2, 1)), Some((4, 4, 1))],
+        pictures: &[Some(PICTURE_OF_A), Some(PICTURE_OF_P1), Some(PICTURE_OF_P2)],
     },
     Stream {
         texts: &[IDR, P, B],
         nals: &[(0x67, 6), (0x68, 4), (0x65, 4), (0x41, 4), (0x01, 4)],
         parts: &[(3, 2, 1), (1, 0, 1), (1, 0, 1)],
-        plans: &[(0, 0, 1), (4, 4, 1), (2, 2, 1)],
-        pictures: &[PICTURE_OF_IDR, PICTURE_OF_P, PICTURE_OF_B],
+        plans: &[Some((0, 0, 1)), Some((4, 4, 1)), Some((2, 2, 1))],
+        pictures: &[Some(PICTURE_OF_IDR), Some(PICTURE_OF_P), Some(PICTURE_OF_B)],
     },
     Stream {
         texts: &[SLICES],
         nals: &[(0x67, 7), (0x68, 4), (0x65, 4), (0x65, 4)],
         parts: &[(4, 2, 2)],
-        plans: &[(0, 0, 2)],
-        pictures: &[PICTURE_OF_SLICES],
+        plans: &[Some((0, 0, 2))],
+        pictures: &[Some(PICTURE_OF_SLICES)],
+    },
+    // The last unit has no slice.
+    Stream {
+        texts: &[A, P1, SPS],
+        nals: &[(0x67, 6), (0x68, 4), (0x65, 4), (0x41, 3), (0x67, 6)],
+        parts: &[(3, 2, 1), (1, 0, 1), (1, 1, 0)],
+        plans: &[Some((0, 0, 1)), Some((2, 2, 1)), None],
+        pictures: &[Some(PICTURE_OF_A), Some(PICTURE_OF_P1), None],
     },
 ];
 

@@ -7,7 +7,7 @@ use std::process::Abort;
 use std::sync::Wait;
 use std::thread::Threads;
 
-const ROWS: [Row; 6] = [
+const ROWS: [Row; 7] = [
     Row {
         script: "insert first 000001 6742000ADA79 000001 68CE3880 000001 65888480\n\
         insert after 1 000001 419A23\n\
@@ -24,6 +24,13 @@ const ROWS: [Row; 6] = [
         script: "load one\nload one\nshow 1\nshow 9\ndelete 9\nshow 2\n",
         status: Status::Success,
         lines: "agreed 2 edits 3 shows\n",
+        message: "",
+    },
+    // A unit without a picture is waited for no more than one with a fault.
+    Row {
+        script: "load one\ninsert after 1 000001 6742000ADA79\nshow 2\nsettle\nshow 2\n",
+        status: Status::Success,
+        lines: "agreed 2 edits 2 shows\n",
         message: "",
     },
     Row {

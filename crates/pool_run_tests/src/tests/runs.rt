@@ -16,9 +16,9 @@ const ROWS: [Row; 6] = [
         message: "cannot read none\n",
     },
     Row {
-        script: "delete 7\ninsert first 00 00 01 67 42 00 0A DA 79\n",
+        script: "delete 7\ninsert first 00 00 01 67 42 00 0A DA 79\nsettle\nshow 1\n",
         status: Status::Success,
-        lines: "refused 16 NoSuchUnit\nrefused 12 NoPicture\n",
+        lines: "refused 16 NoSuchUnit\nedit 1 id 1\nsettled\nshow 1 empty\n",
         message: "",
     },
     Row {

@@ -1,4 +1,4 @@
-//! Audits of books that no desk keeps, against the journal of four edits.
+//! Audits of books that no desk keeps, against the journal of five edits.
 
 use super::{A, P1, P1X, PICTURE_OF_A, after, empty_session, first, replace, row_holds};
 use Note::{Edits, Shows};
@@ -17,9 +17,13 @@ fn edit_of(number: u32) -> Edit {
         2 => after(1, P1),
         3 => replace(2, P1X),
         4 => replace(2, P1),
+        5 => after(2, SPS),
         _ => first(P1),
     }
 }
+
+/// A sequence parameter set alone.
+const SPS: &[u8] = &[0, 0, 1, 0x67, 0x42, 0x00, 0x0A, 0xDA, 0x79];
 
 /// What a book notes.
 #[derive(Clone, Copy)]
@@ -52,7 +56,7 @@ const FAULT: Shown = Shown::Fault(ValidityFault::NoIdr);
 /// The books of seats, and the seat and number of the first receipt that disagrees.
 type Row = (&'static [&'static [Note]], Option<(usize, usize)>);
 
-const ROWS: [Row; 21] = [
+const ROWS: [Row; 26] = [
     (&[], None),
     (
         &[&[Edits(1, 1, 1), Edits(2, 2, 2)], &[Edits(3, 2, 3)]],
@@ -107,8 +111,8 @@ const ROWS: [Row; 21] = [
     (&[&[Edits(1, 1, 1)], &[], &[Edits(1, 1, 1)]], Some((3, 1))),
     // Lengths that no edit has.
     (&[&[Edits(1, 1, 0)]], Some((1, 1))),
-    (&[&[Shows(1, READY, 5)]], Some((1, 1))),
-    (&[&[Edits(4, 2, 5)]], Some((1, 1))),
+    (&[&[Shows(1, READY, 6)]], Some((1, 1))),
+    (&[&[Edits(4, 2, 6)]], Some((1, 1))),
     // Another edit, another id, another picture.
     (&[&[], &[Edits(0, 1, 1)]], Some((2, 1))),
     (&[&[Edits(1, 2, 1)]], Some((1, 1))),
@@ -117,6 +121,12 @@ const ROWS: [Row; 21] = [
     (&[&[Shows(1, FAULT, 1)]], Some((1, 1))),
     (&[&[Shows(1, Shown::NoSuchUnit, 1)]], Some((1, 1))),
     (&[&[Shows(2, Shown::Pending, 1)]], Some((1, 1))),
+    // That a unit has no picture is shown of one without a slice, and of no other; and nothing else is of that one.
+    (&[&[Edits(5, 3, 5), Shows(3, Shown::Empty, 5)]], None),
+    (&[&[Shows(3, Shown::Empty, 4)]], Some((1, 1))),
+    (&[&[Shows(2, Shown::Empty, 5)]], Some((1, 1))),
+    (&[&[Shows(3, Shown::Pending, 5)]], Some((1, 1))),
+    (&[&[Shows(3, FAULT, 5)]], Some((1, 1))),
 ];
 
 /// The receipt of a note.
@@ -157,10 +167,10 @@ fn is_audited(alloc: Global, session: &Session, row: &Row) -> Result<bool, Alloc
     Ok(audit(alloc, session.journal(), &books) == wanted)
 }
 
-/// A session with the four edits.
-fn session_of_four(rt: &(impl Abort + AllocGlobal)) -> Session {
+/// A session with the five edits.
+fn session_of_five(rt: &(impl Abort + AllocGlobal)) -> Session {
     let mut session = empty_session(rt);
-    for number in 1..5 {
+    for number in 1..6 {
         if session.edit(edit_of(number)).is_err() {
             panic!(rt; "an edit is refused");
         }
@@ -170,7 +180,7 @@ fn session_of_four(rt: &(impl Abort + AllocGlobal)) -> Session {
 
 #[test]
 fn audits_books_as_worked_out_by_hand(rt: HostRuntime) -> Result<(), Fail> {
-    let session = session_of_four(&rt);
+    let session = session_of_five(&rt);
     for (row, books) in ROWS.iter().enumerate() {
         row_holds(&rt, row, is_audited(rt.alloc(), &session, books)?);
     }

@@ -65,10 +65,7 @@ const LOADS: [Load; 6] = [
         &[INSERT_A, "load stream\nunit 2\nunit 1\n"],
         &[SETS],
         Success,
-        &[
-            "edit 1 id 1\nunit 0 refused 12 NoPicture\nunit 2 none\n",
-            LINES_OF_A,
-        ],
+        &["edit 1 id 1\nloaded 1\nunit 2 no picture\n", LINES_OF_A],
         "",
     ),
     (

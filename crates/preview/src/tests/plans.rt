@@ -37,7 +37,7 @@ pub(super) fn plan_holds(
     Ok(is_planned(rt, &text, row.1, lines.as_bytes()))
 }
 
-const PLANS: [Plan; 14] = [
+const PLANS: [Plan; 16] = [
     (&[&A], Success, &[LINES_OF_A]),
     (&[&A, &P1], Success, &[LINES_OF_A, LINES_OF_P1]),
     (&[&CLOCK], Success, &CLOCK_LINES),
@@ -66,8 +66,15 @@ const PLANS: [Plan; 14] = [
         Failure,
         &["refused 1 Split\n"],
     ),
-    // Parameter sets alone, and a type that isn't read, in the second unit.
-    (&[SETS], Failure, &["unit 0 refused 12 NoPicture\n"]),
+    // Parameter sets alone, one of them alone, and both at the end.
+    (&[SETS], Success, &["unit 1 no picture\n"]),
+    (
+        &[&[0, 0, 1, 0x67, 0x42, 0x00, 0x0A, 0xDA, 0x79]],
+        Success,
+        &["unit 1 no picture\n"],
+    ),
+    (&[&A, SETS], Success, &[LINES_OF_A, "unit 2 no picture\n"]),
+    // A type that isn't read, in the second unit.
     (
         &[&A, &[0, 0, 1, 0x6E, 0x40, 0x80]],
         Failure,

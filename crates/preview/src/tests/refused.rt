@@ -62,7 +62,13 @@ fn refused_plan(rt: HostRuntime) {
 
 #[test]
 fn refused_refusal(rt: HostRuntime) {
-    let wanted = (Failure, "unit 0 refused 12 NoPicture\n");
+    let wanted = (Failure, "unit 0 refused 2 UnitType\n");
+    assert!(rt; plans_or_wants_memory(&rt, &[0, 0, 1, 0x6E, 0x40, 0x80], wanted));
+}
+
+#[test]
+fn refused_empty_unit(rt: HostRuntime) {
+    let wanted = (Success, "unit 1 no picture\n");
     assert!(rt; plans_or_wants_memory(&rt, SETS, wanted));
 }
 

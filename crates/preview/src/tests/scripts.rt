@@ -119,7 +119,7 @@ pub(super) fn answers_with(
 /// The parts of a script, and the lines that it prints.
 pub(super) type Script = (&'static [&'static str], &'static [&'static str]);
 
-const SCRIPTS: [Script; 11] = [
+const SCRIPTS: [Script; 12] = [
     (
         &[
             "insert first 00 00 01 67 42 00 0A DA 79\n",
@@ -133,13 +133,33 @@ const SCRIPTS: [Script; 11] = [
             "insert after 7 00 00 01 41 9A 23",
         ],
         &[
-            "refused 12 NoPicture\n",
-            "refused 1 Split\n",
             "edit 1 id 1\n",
+            "refused 1 Split\n",
+            "edit 2 id 2\n",
             "refused 2 UnitType\n",
             "refused 4 Sps\n",
             "refused 1 Split\n",
             "refused 16 NoSuchUnit\n",
+        ],
+    ),
+    // A unit of a parameter set alone, which the pictures after it go by.
+    (
+        &[
+            INSERT_A,
+            "insert after 1 00 00 01 67 42 00 0A DB 79\n",
+            "insert after 2 00 00 01 41 9A 23\n",
+            "unit 2\nshow 2\nunit 3\nsettle\nshow 2\nshow 3\n",
+            "replace 2 00 00 01 67 42 00 0A DA 79\n",
+            "unit 3\nunit 2\ntake\ntake\nsettle\nshow 2\n",
+        ],
+        &[
+            "edit 1 id 1\nedit 2 id 2\nedit 3 id 3\n",
+            "unit 2 no picture\nshow 2 empty\nunit 3 fault 9 SpsChange\n",
+            "settled\nshow 2 empty\nshow 3 fault 9 SpsChange\n",
+            "edit 4 id 2\n",
+            "unit 3 position 1 counts 2 2 requests 1\n",
+            "request 3.0 ts 3000 bits 23 type 0 frame 1 dpb 1000:0:3 l0 0 l1 - hold 0\n",
+            "unit 2 no picture\njob 2 unit 3\njob none\nsettled\nshow 2 empty\n",
         ],
     ),
     (
@@ -350,6 +370,7 @@ fn edits_by_the_library(rt: HostRuntime) -> Result<(), Fail> {
     match session.outcome(receipt.id)? {
         Outcome::Plan(plan) => assert_eq!(rt; plan.requests.as_slice().len(), 1),
         Outcome::Fault(fault) => panic!(rt; "unit {} shows {fault}", receipt.id.number()),
+        Outcome::Empty => panic!(rt; "unit {} has no picture", receipt.id.number()),
     }
     Ok(())
 }

@@ -1,7 +1,7 @@
 //! Edits of a session, and what becomes of its units.
 
 use super::{A, I, P1, P2, Shown, Step, Told, empty_session, holds, row_holds};
-use Shown::{At, Fault, Gone};
+use Shown::{At, Empty, Fault, Gone};
 use Step::Unit;
 use Told::{After, Delete, First, Replace};
 use edit_engine::{Config, ConfigFault, Last, Session};
@@ -11,6 +11,9 @@ use pictures::AuId;
 
 /// A sequence parameter set alone.
 const SPS: &[u8] = &[0, 0, 1, 0x67, 0x42, 0x00, 0x0A, 0xDA, 0x79];
+
+/// Another one under its id.
+const OTHER_SPS: &[u8] = &[0, 0, 1, 0x67, 0x42, 0x00, 0x0A, 0xDB, 0x79];
 
 /// A unit of type 14.
 const PREFIX: &[u8] = &[0, 0, 1, 0x6E, 0x40, 0x80];
@@ -44,7 +47,7 @@ fn ends_at(session: &Session, units: usize, id: u32) -> bool {
 
 /// Refused edits, which spend no id and no number.
 const REFUSED: [Step; 8] = [
-    Step::Edit(First(SPS), Err(12)),
+    Step::Edit(First(&[0, 0, 1, 0x67]), Err(4)),
     Step::Edit(First(&[]), Err(1)),
     Step::Edit(After(1, A), Err(16)),
     Step::Edit(After(1, PREFIX), Err(2)),
@@ -76,6 +79,30 @@ const REPAIRED: [Step; 10] = [
     Unit(4, At(1)),
     Unit(3, At(2)),
 ];
+
+/// A unit without a slice sends another set, and then the first one's once more; it has no position, and spends one id.
+const EMPTY: [Step; 11] = [
+    Step::Edit(First(A), Ok((1, 1, 0))),
+    Step::Edit(After(1, OTHER_SPS), Ok((2, 2, 0))),
+    Unit(2, Empty),
+    Step::Edit(After(2, P1), Ok((3, 3, 0))),
+    Unit(3, Fault(ValidityFault::SpsChange)),
+    Step::Edit(Replace(2, SPS), Ok((4, 2, 1))),
+    Unit(2, Empty),
+    Unit(3, At(1)),
+    Step::Edit(First(SPS), Ok((5, 4, 1))),
+    Unit(4, Empty),
+    Unit(3, At(1)),
+];
+
+#[test]
+fn edits_units_without_a_slice(rt: HostRuntime) {
+    let mut session = empty_session(&rt);
+    for (row, step) in EMPTY.iter().enumerate() {
+        row_holds(&rt, row, holds(&mut session, step));
+    }
+    assert!(rt; ends_at(&session, 4, 3));
+}
 
 /// The request of unit 3 after unit 4.
 fn is_request(request: &Request) -> bool {

@@ -11,6 +11,9 @@ use std::test::Fail;
 /// P1 with one byte more of slice data.
 const P1X: &[u8] = &[0, 0, 1, 0x41, 0x9A, 0x23, 0x80];
 
+/// The sequence parameter set of A alone.
+const SPS: &[u8] = &[0, 0, 1, 0x67, 0x42, 0x00, 0x0A, 0xDA, 0x79];
+
 /// A P picture with frame_num 2 that is no reference, and the same with other slice data.
 const NON_REFERENCE: &[u8] = &[0, 0, 1, 0x01, 0x9A, 0x47];
 
@@ -51,6 +54,7 @@ pub(super) enum Act {
     Ready(u32),
     Pending(u32),
     Fault(u32, u8),
+    Empty(u32),
     Gone(u32),
     /// Jobs are taken and landed until none is due.
     Settle,
@@ -211,8 +215,27 @@ const CACHE_OF_ONE: &[Act] = &[
     Act::Ready(1),
 ];
 
+/// A unit without a slice has no job, and a result for the picture that it was comes too late.
+const WITHOUT_A_SLICE: &[Act] = &[
+    Act::Edit(Told::First(A)),
+    Act::Edit(Told::After(1, SPS)),
+    Act::Empty(2),
+    Act::Take(1, 1),
+    Act::TakesNone,
+    Act::Land(1, Landing::Taken),
+    Act::Edit(Told::Replace(2, P1)),
+    Act::Pending(2),
+    Act::Take(2, 2),
+    Act::Edit(Told::Replace(2, SPS)),
+    Act::Empty(2),
+    Act::Land(2, Landing::Stale),
+    Act::TakesNone,
+    Act::Ready(1),
+    Act::Empty(2),
+];
+
 /// What runners are told, and for how many pictures their caches have room.
-const ROWS: [(u16, &[Act]); 11] = [
+const ROWS: [(u16, &[Act]); 12] = [
     (64, DELETE_AND_REPAIR),
     (64, REPLACE),
     (64, NON_REFERENCES),
@@ -223,6 +246,7 @@ const ROWS: [(u16, &[Act]); 11] = [
     (64, OUT_OF_ORDER),
     (64, LEFT_OUT),
     (64, GIVEN_BACK),
+    (64, WITHOUT_A_SLICE),
     (1, CACHE_OF_ONE),
 ];
 
@@ -233,9 +257,8 @@ fn command_of(act: Act) -> Command {
         Act::Take(..) | Act::TakesNone | Act::Settle => Command::Take,
         Act::Land(number, _) | Act::LandsNone(number) => Command::Land(number),
         Act::Give(number) | Act::GivesNone(number) => Command::GiveBack(number),
-        Act::Ready(id) | Act::Pending(id) | Act::Fault(id, _) | Act::Gone(id) => Command::Show(
-            AuId::new(id),
-        ),
+        Act::Ready(id) | Act::Pending(id) | Act::Fault(id, _) => Command::Show(AuId::new(id)),
+        Act::Empty(id) | Act::Gone(id) => Command::Show(AuId::new(id)),
     }
 }
 
@@ -262,6 +285,7 @@ fn is_shown(shown: Shown, act: Act) -> bool {
         (Shown::Ready(_), Act::Ready(_)) => true,
         (Shown::Pending, Act::Pending(_)) => true,
         (Shown::Fault(fault), Act::Fault(_, number)) => fault.number() == number,
+        (Shown::Empty, Act::Empty(_)) => true,
         (Shown::NoSuchUnit, Act::Gone(_)) => true,
         _ => false,
     }
@@ -319,13 +343,14 @@ fn jobs_and_pictures(rt: HostRuntime) -> Result<(), Fail> {
 }
 
 /// What a run of commands is told, an act a command.
-const RUNS: [&[Act]; 6] = [
+const RUNS: [&[Act]; 7] = [
     STALE_AND_LATE,
     EQUAL_UNITS,
     ANOTHER_UNIT,
     OUT_OF_ORDER,
     LEFT_OUT,
     GIVEN_BACK,
+    WITHOUT_A_SLICE,
 ];
 
 /// The commands of the acts.

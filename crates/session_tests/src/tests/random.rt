@@ -14,8 +14,8 @@ use std::test::Fail;
 use test_builders::Draws;
 
 /// Texts: an IDR picture with sets and one without, P pictures with frame_num 1, 2 and 3, one with adaptive marking, a
-/// picture that is no reference, and a text that is no unit.
-static TEXTS: [&[u8]; 8] = [
+/// picture that is no reference, the sequence parameter set alone, another one under its id, and a text that is no unit.
+static TEXTS: [&[u8]; 10] = [
     A,
     I,
     P1,
@@ -23,13 +23,15 @@ static TEXTS: [&[u8]; 8] = [
     &[0, 0, 1, 0x41, 0x9A, 0x63],
     &[0, 0, 1, 0x41, 0x9A, 0x44, 0xDF],
     &[0, 0, 1, 0x01, 0x9A, 0x47],
+    &[0, 0, 1, 0x67, 0x42, 0x00, 0x0A, 0xDA, 0x79],
+    &[0, 0, 1, 0x67, 0x42, 0x00, 0x0A, 0xDB, 0x79],
     &[0, 0, 1],
 ];
 
 /// Draws a text, and says whether it is a unit.
 fn draw_text(draws: &mut Draws) -> (&'static [u8], bool) {
-    let place = draws.below(8) as usize;
-    (TEXTS.get(place).copied().unwrap_or(&[]), place < 7)
+    let place = draws.below(10) as usize;
+    (TEXTS.get(place).copied().unwrap_or(&[]), place < 9)
 }
 
 /// A unit of the mirror: its id and its text.

@@ -19,7 +19,7 @@ fn is_report(report: &Result<UnitReport, NoSuchUnit>, shown: Shown) -> bool {
         }
         (Ok(report), Fault(wanted)) => match report.outcome {
             Outcome::Fault(fault) => fault == wanted && report.position.is_none(),
-            Outcome::Plan(_) => false,
+            Outcome::Plan(_) | Outcome::Empty => false,
         },
         _ => false,
     }

@@ -15,10 +15,10 @@ const REFUSALS: [(EditRefused, u8, &str, &str); 6] = [
         "the text doesn't split into units",
     ),
     (
-        EditRefused::Unit(Refused::NoPicture),
-        12,
-        "NoPicture",
-        "there is no slice",
+        EditRefused::Unit(Refused::TwoPictures),
+        13,
+        "TwoPictures",
+        "a second picture begins",
     ),
     (EditRefused::Memory, 15, "Memory", "out of memory"),
     (

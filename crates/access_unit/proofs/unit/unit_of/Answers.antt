@@ -1,8 +1,7 @@
 -- Each NAL unit is cut off with its start code and stored, or the first refusal is shown.
-use Rattle.std.proofs.Common.{[], ◌+◌, drop, ◌∙◌, arith}
+use Rattle.std.proofs.Common.{[], ◌+◌, drop, ◌∙◌}
 use Rattle.std.proofs.lemmas.List.{get_or_read}
 use Rattle.std.proofs.lemmas.Result.{err_from_is_err_and}
-use Rattle.std.proofs.lemmas.Grind.{common_steps}
 use Rattle.access_unit.proofs.Firsts.{IsShown-first}
 use Rattle.access_unit.proofs.Progress.{left_next, IsReadTo-first, IsAddedTo-more, IsOfUnit-end}
 use Rattle.access_unit.proofs.unit.unit_of.Goals as goal
@@ -40,4 +39,4 @@ loop-nal-init c = IsReadTo-first _ _ _ c.requires.has c.in_ok-parts.ensures
 
 pub keep-requires : goal.keep-requires
 keep-requires c =
-    IsOfUnit-end _ _ _ c.loop-nal.invariant.added c.loop-nal-test.false _ c.requires (grind (arith, common_steps, c.if-is_empty.ensures))
+    IsOfUnit-end _ _ _ c.loop-nal.invariant.added c.loop-nal-test.false _ c.requires

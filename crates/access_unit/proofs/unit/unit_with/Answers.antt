@@ -1,8 +1,7 @@
 -- Each NAL unit is stored, or the first refusal is shown.
-use Rattle.std.proofs.Common.{[], ◌∙◌, arith}
+use Rattle.std.proofs.Common.{[], ◌∙◌}
 use Rattle.std.proofs.lemmas.List.{get_or_read}
 use Rattle.std.proofs.lemmas.Result.{err_from_is_err_and}
-use Rattle.std.proofs.lemmas.Grind.{common_steps}
 use Rattle.access_unit.proofs.Firsts.{IsShown-first}
 use Rattle.access_unit.proofs.Progress.{IsAddedTo-more, IsOfUnit-end}
 use Rattle.access_unit.proofs.unit.unit_with.Goals as goal
@@ -26,4 +25,4 @@ loop-nal-preserved c =
 
 pub keep-requires : goal.keep-requires
 keep-requires c =
-    IsOfUnit-end _ _ _ c.loop-nal.invariant c.loop-nal-test.false _ c.requires (grind (arith, common_steps, c.if-is_empty.ensures))
+    IsOfUnit-end _ _ _ c.loop-nal.invariant c.loop-nal-test.false _ c.requires

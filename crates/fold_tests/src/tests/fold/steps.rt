@@ -64,7 +64,7 @@ fn last_fault(
 
 fn fault_of(outcome: &Outcome) -> Option<ValidityFault> {
     match outcome {
-        Outcome::Plan(_) => None,
+        Outcome::Plan(_) | Outcome::Empty => None,
         Outcome::Fault(fault) => Some(*fault),
     }
 }

@@ -53,7 +53,7 @@ const COUNTS: [(i32, i32); 6] = [(0, 1), (2, 3), (6, 7), (5, 6), (8, 9), (19, 17
 fn has_counts(outcome: &Outcome, counts: (i32, i32)) -> bool {
     match outcome {
         Outcome::Plan(plan) => (plan.counts.top, plan.counts.bottom) == counts,
-        Outcome::Fault(_) => false,
+        Outcome::Fault(_) | Outcome::Empty => false,
     }
 }
 

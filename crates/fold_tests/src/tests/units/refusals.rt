@@ -26,7 +26,7 @@ fn are_refused(alloc: Global, nals: &[&[u8]], wanted: u8) -> Result<bool, AllocE
 }
 
 /// NAL units that are no access unit, each with the number of its refusal.
-const REFUSED: [(Nals, u8); 42] = [
+const REFUSED: [(Nals, u8); 39] = [
     // No NAL unit; a type for partitioned data; the top bit of a set; sets that are cut.
     (&[], 1),
     (&[&[0x62, 0x40, 0x80]], 2),
@@ -38,10 +38,9 @@ const REFUSED: [(Nals, u8); 42] = [
     (&[IDR, &[0x41, 0x42, 0x21]], 7),
     (&[&[0x65, 0xC0, 0x80]], 8),
     (&[&[0x05, 0x88, 0x84, 0x80]], 9),
-    // A slice that is no reference; a set after a slice; no slice; a second picture.
+    // A slice that is no reference; a set after a slice; a second picture.
     (&[P, &[0x01, 0x42, 0x21]], 10),
     (&[IDR, SPS], 11),
-    (&[SPS, PPS], 12),
     (&[IDR, IDR], 13),
     // A profile that isn't known.
     (&[&[0x67, 0x58, 0x00, 0x0A, 0xDA, 0x79]], 4),
@@ -56,8 +55,6 @@ const REFUSED: [(Nals, u8); 42] = [
     (&[IDR, &[9, 0x10]], 11),
     (&[IDR, &[16, 1]], 11),
     (&[IDR, &[18, 1]], 11),
-    (&[SPS], 12),
-    (&[&[9, 0x10]], 12),
     // The least of the first: a refused type with the forbidden bit, and one after a slice.
     (&[&[0xEE, 0x40]], 2),
     (&[IDR, &[14, 1]], 2),
@@ -70,7 +67,7 @@ const REFUSED: [(Nals, u8); 42] = [
     // The first unit's, though it's the greater one.
     (&[IDR, PPS, &[0x6E, 0x40]], 11),
     (&[&[0x05, 0x88, 0x84, 0x80], &[0xE7, 0x42]], 9),
-    // That there is no slice comes last.
+    // A unit without a slice is refused for what it shows.
     (&[SPS, &[0xEC, 0x80]], 3),
     // Slices by those before them.
     (&[IDR, &[0x41, 0x42, 0x21]], 7),
@@ -152,10 +149,10 @@ fn tells_refusals(rt: HostRuntime) -> Result<(), Fail> {
     assert!(rt; told.as_str() == "the text doesn't split into units");
     assert!(rt; split.name() == "Split" && Refused::Memory.number() == 15);
     let index = 3;
-    let refused = Refused::NoPicture;
+    let refused = Refused::UnitType;
     let stream = StreamRefused::Unit { index, refused };
     let told = format!(in rt.alloc(); "{stream}")?;
-    assert!(rt; told.as_str() == "unit 3: there is no slice" && stream.number() == 2);
+    assert!(rt; told.as_str() == "unit 3: a unit's type isn't read" && stream.number() == 2);
     assert!(rt; StreamRefused::Split.number() == 1 && StreamRefused::Memory.number() == 3);
     Ok(())
 }

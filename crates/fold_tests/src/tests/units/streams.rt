@@ -6,11 +6,13 @@ use std::alloc::{AllocError, Global};
 use std::test::Fail;
 
 /// Access units, as NAL units.
-const UNITS: [Nals; 4] = [
+const UNITS: [Nals; 5] = [
     &[SPS, PPS, IDR],
     &[P],
     &[&[0x41, 0x9A, 0x43]],
     &[&[9, 0x10], IDR],
+    // Sets at the end are a unit without a slice.
+    &[SPS, PPS],
 ];
 
 /// The units have just these NAL units.
@@ -26,7 +28,17 @@ fn are_units(units: &[Unit], wanted: &[Nals]) -> bool {
 fn reads_streams(rt: HostRuntime) -> Result<(), Fail> {
     let text = text_of(
         rt.alloc(),
-        &[SPS, PPS, IDR, P, &[0x41, 0x9A, 0x43], &[9, 0x10], IDR],
+        &[
+            SPS,
+            PPS,
+            IDR,
+            P,
+            &[0x41, 0x9A, 0x43],
+            &[9, 0x10],
+            IDR,
+            SPS,
+            PPS,
+        ],
     )?;
     assert!(rt; are_units(&read_stream(&rt, rt.alloc(), &text)?, &UNITS));
     Ok(())
@@ -34,13 +46,13 @@ fn reads_streams(rt: HostRuntime) -> Result<(), Fail> {
 
 /// NAL units that are no stream of access units, with the index and the refusal of the first that is none.
 const REFUSED: [(Nals, usize, Refused); 2] = [
-    // Two refused units: the first one's index. Sets at the end are a unit without a slice.
+    // Two refused units: the first one's index.
     (
         &[IDR, &[0x6E, 0x40], P, &[0xE7, 0x42], P, SPS],
         1,
         Refused::UnitType,
     ),
-    (&[IDR, P, SPS, PPS], 2, Refused::NoPicture),
+    (&[IDR, P, SPS, &[0x68, 0xCE]], 2, Refused::Pps),
 ];
 
 #[test]

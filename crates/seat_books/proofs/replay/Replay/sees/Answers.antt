@@ -9,6 +9,12 @@ returns-in-Fault c = λ journal earlier replayed.
     (Sees-plain journal earlier c.args.self.now c.args.self.now c.args.id (shown.Fault c.in-Fault.fault) c.has_fault.result
     (λ key shows. shows) refl replayed c.has_fault.ensures.0 c.has_fault.ensures.1)
 
+pub returns-in-Empty : goal.returns-in-Empty
+returns-in-Empty c = λ journal earlier replayed.
+    rw c.in-Empty.is
+    (Sees-plain journal earlier c.args.self.now c.args.self.now c.args.id shown.Empty c.is_empty.result
+    (λ key shows. shows) refl replayed c.is_empty.ensures.0 c.is_empty.ensures.1)
+
 pub returns-in-NoSuchUnit : goal.returns-in-NoSuchUnit
 returns-in-NoSuchUnit c = λ journal earlier replayed.
     rw c.in-NoSuchUnit.is

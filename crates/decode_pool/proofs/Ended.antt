@@ -30,7 +30,7 @@ book_found seats n seat (Ok copy) among number copied = (seat, among, number, co
 book_found seats n seat (Err wanted) among number copied = tt
 
 -- the end, where all is well
-pub finished : (opened : ℕ) (seats : List Seat) (journal : List Edit) (books : List SeatBook) → AreNumbered opened seats
+pub finished : (opened : ℕ) (seats : List Seat) (journal : List (List Edit)) (books : List SeatBook) → AreNumbered opened seats
     → AreBooksOf opened seats books → BooksAgree journal books
     → ((at : ℕ) → at < length journal → is_noted books (at + 1) ≡ true) → IsFinished opened seats journal
 finished opened seats journal books numbered theirs agree noted = record {
@@ -53,15 +53,15 @@ want_err {T} opened seats answer refusal is want =
     subst (λ (it : Result T Refusal). IfErr it (IsRefusal opened seats)) (sym is) (wanted opened seats refusal want)
 
 -- this cause, of the journal
-told : (opened : ℕ) (seats : List Seat) (cause : FinishFault) (journal : List Edit) (refusal : Refusal)
+told : (opened : ℕ) (seats : List Seat) (cause : FinishFault) (journal : List (List Edit)) (refusal : Refusal)
     → Tells cause journal refusal → IsFault opened seats cause (Some journal) → IsRefusal opened seats refusal
 told opened seats cause journal refusal (inl tells) fault =
     subst (λ (it : FinishFault). IsFault opened seats it (journal_in refusal)) (sym tells.0)
-    (subst (λ (it : Option (List Edit)). IsFault opened seats cause it) (sym tells.1) fault)
+    (subst (λ (it : Option (List (List Edit))). IsFault opened seats cause it) (sym tells.1) fault)
 told opened seats cause journal refusal (inr want) fault = wanted opened seats refusal want
 
 -- the fault of the audit
-pub audited : (opened : ℕ) (seats : List Seat) (journal : List Edit) (books : List SeatBook) (fault : AuditFault)
+pub audited : (opened : ℕ) (seats : List Seat) (journal : List (List Edit)) (books : List SeatBook) (fault : AuditFault)
     (refusal : Refusal) → AreNumbered opened seats → AreBooksOf opened seats books → TellsAudit fault journal refusal
     → IsFaultOf journal books fault → IsRefusal opened seats refusal
 audited opened seats journal books (audits.SeatDisagrees seat number) refusal numbered theirs tells fault =
@@ -70,11 +70,11 @@ audited opened seats journal books (audits.SeatDisagrees seat number) refusal nu
 audited opened seats journal books audits.Memory refusal numbered theirs tells fault =
     wanted opened seats refusal tells
 
--- an edit of no book
-abbrev pub Lacks : List Edit → List SeatBook → Type 0
+-- an entry of no book
+abbrev pub Lacks : List (List Edit) → List SeatBook → Type 0
 Lacks journal books = (at : ℕ) × (at < length journal) × (is_noted books (at + 1) ≡ false)
 
-pub missed : (opened : ℕ) (seats : List Seat) (journal : List Edit) (books : List SeatBook) (refusal : Refusal)
+pub missed : (opened : ℕ) (seats : List Seat) (journal : List (List Edit)) (books : List SeatBook) (refusal : Refusal)
     → AreNumbered opened seats → AreBooksOf opened seats books → BooksAgree journal books
     → Tells faults.SeatMissing journal refusal
     → Lacks journal books → IsRefusal opened seats refusal

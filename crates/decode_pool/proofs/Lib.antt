@@ -4,3 +4,4 @@ pub mod Agreed
 pub mod Outs
 pub mod Gathered
 pub mod Ended
+pub mod Noted

@@ -41,26 +41,27 @@ AreBooksOf opened seats books =
     (length books ≡ opened)
     × ((at : ℕ) (book : SeatBook) → slice_get books at ≡ Some book → IsBookOf seats (at + 1) book)
 
--- how many receipts of the books are of the edit that made the journal so long
+-- how many receipts of the books are of the edit or group that made the journal so long
 abbrev pub times_noted : List SeatBook → ℕ → ℕ
 times_noted books n = sum_by (λ book. count_by (is_edit_of n) book.receipts.items) books
 
--- each edit of the journal stands in the books once
-abbrev pub IsEachOnce : List Edit → List SeatBook → Type 0
+-- each entry of the journal stands in the books once
+abbrev pub IsEachOnce : List (List Edit) → List SeatBook → Type 0
 IsEachOnce journal books = (at : ℕ) → at < length journal → times_noted books (at + 1) ≡ 1
 
--- whether the receipt is of an edit
+-- whether the receipt is of an edit or a group
 abbrev pub is_edit : SeatReceipt → Bool
 is_edit (receipts.Edit edit id n) = true
+is_edit (receipts.Group group n) = true
 is_edit (receipts.Show id answer n) = false
 
--- how many edits the books have
+-- how many edits and groups the books have
 abbrev pub edits_in : List SeatBook → ℕ
 edits_in books = sum_by (λ book. count_by is_edit book.receipts.items) books
 
--- the seats are those that were opened, their books agree with the journal, and each edit of the journal stands in one
+-- the seats are those that were opened, their books agree with the journal, and each entry of the journal stands in one
 -- of them, as many as the seats made
-pub record IsFinished (opened : ℕ) (seats : List Seat) (journal : List Edit) : Type 0 where
+pub record IsFinished (opened : ℕ) (seats : List Seat) (journal : List (List Edit)) : Type 0 where
   pub numbered : AreNumbered opened seats
   pub books : List SeatBook
   pub theirs : AreBooksOf opened seats books
@@ -68,8 +69,8 @@ pub record IsFinished (opened : ℕ) (seats : List Seat) (journal : List Edit) :
   pub once : IsEachOnce journal books
   pub counted : edits_in books ≡ length journal
 
--- the seats are those that were opened and their books agree with the journal, but one of its edits stands in no book
-pub record LacksBook (opened : ℕ) (seats : List Seat) (journal : List Edit) : Type 0 where
+-- the seats are those that were opened and their books agree with the journal, but one of its entries stands in no book
+pub record LacksBook (opened : ℕ) (seats : List Seat) (journal : List (List Edit)) : Type 0 where
   pub numbered : AreNumbered opened seats
   pub books : List SeatBook
   pub theirs : AreBooksOf opened seats books
@@ -79,14 +80,14 @@ pub record LacksBook (opened : ℕ) (seats : List Seat) (journal : List Edit) : 
   pub lacks : is_noted books (at + 1) ≡ false
 
 -- the seats are those that were opened, and this receipt is the first that doesn't agree with the journal
-pub record HasFault (opened : ℕ) (seats : List Seat) (journal : List Edit) (seat number : ℕ) : Type 0 where
+pub record HasFault (opened : ℕ) (seats : List Seat) (journal : List (List Edit)) (seat number : ℕ) : Type 0 where
   pub numbered : AreNumbered opened seats
   pub books : List SeatBook
   pub theirs : AreBooksOf opened seats books
   pub disagrees : Disagrees journal books seat number
 
 -- why a desk isn't finished, of the seats alone or of the journal too; want of memory says nothing of either
-abbrev pub IsFault : ℕ → List Seat → FinishFault → Option (List Edit) → Type 0
+abbrev pub IsFault : ℕ → List Seat → FinishFault → Option (List (List Edit)) → Type 0
 IsFault opened seats faults.SeatMissing None = AreNumbered opened seats → ⊥
 IsFault opened seats faults.SeatMissing (Some journal) = LacksBook opened seats journal
 IsFault opened seats (faults.SeatDisagrees seat number) (Some journal) = HasFault opened seats journal seat number
@@ -94,7 +95,7 @@ IsFault opened seats (faults.SeatDisagrees seat number) None = ⊥
 IsFault opened seats faults.Memory journal = Unit {0}
 
 -- the journal that a refusal copies
-abbrev pub journal_in : Refusal → Option (List Edit)
+abbrev pub journal_in : Refusal → Option (List (List Edit))
 journal_in refusal = option_map (λ copy. copy.items) refusal.journal
 
 -- a refusal tells why, of the seats alone or of the journal that it copies
@@ -107,12 +108,12 @@ abbrev pub IsWant : Refusal → Type 0
 IsWant refusal = refusal.cause ≡ faults.Memory
 
 -- a refusal tells this cause with a copy of the journal; or, where that finds no memory, that memory is wanted
-abbrev pub Tells : FinishFault → List Edit → Refusal → Type 0
+abbrev pub Tells : FinishFault → List (List Edit) → Refusal → Type 0
 Tells cause journal refusal =
     ((refusal.cause ≡ cause) × (journal_in refusal ≡ Some journal)) ⊎ IsWant refusal
 
 -- a refusal tells the fault of an audit
-abbrev pub TellsAudit : AuditFault → List Edit → Refusal → Type 0
+abbrev pub TellsAudit : AuditFault → List (List Edit) → Refusal → Type 0
 TellsAudit (audits.SeatDisagrees seat number) journal refusal =
     Tells (faults.SeatDisagrees seat number) journal refusal
 TellsAudit audits.Memory journal refusal = IsWant refusal

@@ -2,6 +2,9 @@
 use Rattle.std.specs.Prelude.{◌≡◌, ◌⊎◌, ℕ, ◌+◌, ◌≤◌, List, [], ◌∷◌, ◌++◌, length, slice_get, Some, IfOk, Result, Ok, Err}
 use Rattle.std.specs.declared.alloc.AllocError.{AllocError}
 use Rattle.stream_edits.specs.declared.edits.Edit.{Edit}
+use Rattle.stream_edits.specs.declared.group_refused.GroupRefused.{GroupRefused}
+use Rattle.stream_edits.specs.declared.group_refused.GroupRefused.TheVariants as groups
+use Rattle.stream_edits.specs.declared.receipts.GroupReceipt.{GroupReceipt}
 use Rattle.stream_edits.specs.declared.receipts.Receipt.{Receipt}
 use Rattle.stream_edits.specs.declared.receipts.Last.{Last}
 use Rattle.stream_edits.specs.declared.refusals.EditRefused.{EditRefused}
@@ -10,6 +13,8 @@ use Rattle.edit_engine.specs.declared.showing.Shown.{Shown}
 use Rattle.edit_engine.specs.declared.showing.Shown.TheVariants as shown
 use Rattle.stream_edits.specs.Streams.{ids_of, last_of}
 use Rattle.stream_edits.specs.Edits.{no_units, Replays}
+use Rattle.stream_edits.specs.Journals.{edits_of}
+use Rattle.edit_engine.specs.Grouping.{AnswersGroup}
 use Rattle.edit_engine.specs.Machines.{Machine, AnswersEdit}
 use Rattle.edit_engine.specs.Showing.{Shows}
 use Rattle.seat_books.specs.declared.receipts.SeatReceipt.{SeatReceipt}
@@ -31,6 +36,12 @@ abbrev pub AnswersEditIn : Machine → Edit → Result Receipt EditRefused → M
 AnswersEditIn old edit answer new =
     AnswersEdit old edit answer new ⊎ ((answer ≡ Err refusals.Memory) × (new ≡ old))
 
+-- what a seat answers to a group of edits of a session that is lent: what the session answers; or memory for the book is
+-- refused, and nothing changes
+abbrev pub AnswersGroupIn : Machine → List Edit → Result GroupReceipt GroupRefused → Machine → Type 0
+AnswersGroupIn old edits answer new =
+    AnswersGroup old edits answer new ⊎ ((answer ≡ Err groups.Memory) × (new ≡ old))
+
 -- the seat's book has one receipt more
 abbrev pub Notes : Seat → SeatReceipt → Seat → Type 0
 Notes old receipt new =
@@ -45,6 +56,12 @@ abbrev pub NotesEdit : Seat → Edit → Result Receipt EditRefused → ℕ → 
 NotesEdit old edit (Ok receipt) n new = Notes old (receipts.Edit edit receipt.id n) new
 NotesEdit old edit (Err refused) n new = NotesNothing old new
 
+-- an accepted group is noted as one receipt, with the ids that it was answered and the journal's length, a refused one isn't
+abbrev pub NotesGroup : Seat → List Edit → Result GroupReceipt GroupRefused → ℕ → Seat → Type 0
+NotesGroup old edits (Ok receipt) n new =
+    Notes old (receipts.Group (record { edits = edits; ids = receipt.ids.items }) n) new
+NotesGroup old edits (Err refused) n new = NotesNothing old new
+
 -- what is shown is noted with the journal's length; where memory is wanted, nothing is shown
 abbrev pub NotesShow : Seat → ℕ → Result Shown AllocError → ℕ → Seat → Type 0
 NotesShow old id (Ok answer) n new = Notes old (receipts.Show id answer n) new
@@ -52,13 +69,19 @@ NotesShow old id (Err wanted) n new = NotesNothing old new
 
 -- the session's stream is what its journal leads to
 abbrev pub IsReached : Machine → Type 0
-IsReached machine = Replays no_units machine.journal machine.register
+IsReached machine = Replays no_units (edits_of machine.journal) machine.register
 
 -- a seat edits a session, which no clause can name
 abbrev pub EditsOne : Seat → Edit → Result Receipt EditRefused → Seat → Type 0
 EditsOne old edit answer new =
     (before : Machine) × (after : Machine) × IsReached before × AnswersEditIn before edit answer after
     × NotesEdit old edit answer (length after.journal) new
+
+-- a seat makes a group of edits on a session, which no clause can name
+abbrev pub EditsGroupOne : Seat → List Edit → Result GroupReceipt GroupRefused → Seat → Type 0
+EditsGroupOne old edits answer new =
+    (before : Machine) × (after : Machine) × IsReached before × AnswersGroupIn before edits answer after
+    × NotesGroup old edits answer (length after.journal) new
 
 -- a seat is shown a unit of a session, which no clause can name
 abbrev pub ShowsOne : Seat → ℕ → Result Shown AllocError → Seat → Type 0

@@ -6,7 +6,7 @@ ghost use Rattle.decode_pool.specs.Numbers.{number_of};
 
 use crate::desk::Desk;
 use crate::seat::Seat;
-use edit_engine::Edit;
+use edit_engine::JournalEntry;
 use std::alloc::AllocError;
 use thiserror::Error;
 
@@ -14,7 +14,7 @@ use thiserror::Error;
 #[derive(Clone, Copy, Debug, PartialEq, Eq, Hash, Error)]
 pub enum FinishFault {
     /// The seats aren't those that the desk was opened with: a number is missing, is there twice or is none of theirs. Or,
-    /// where the journal is handed back too, one of its edits stands in no book.
+    /// where the journal is handed back too, one of its edits or groups stands in no book.
     #[error("a seat is missing")]
     SeatMissing,
     /// This receipt is the first that doesn't agree with the journal, in the first book that has one. Both are counted
@@ -46,5 +46,5 @@ pub struct Unfinished {
     pub seats: Vec<Seat>,
     pub cause: FinishFault,
     /// The journal, where the cause speaks of it.
-    pub journal: Option<Vec<Edit>>,
+    pub journal: Option<Vec<JournalEntry>>,
 }

@@ -10,8 +10,8 @@ use crate::faults::{FinishFault, Unfinished};
 use crate::gathering::{are_all_noted, are_numbered, books_of};
 use crate::seat::Seat;
 use crate::state::State;
-use edit_engine::{Edit, Session};
-use seat_books::{AuditFault, audit};
+use edit_engine::{JournalEntry, Session};
+use seat_books::{AuditFault, audit, copy_of_entry};
 use std::alloc::{AllocError, Global};
 use std::sync::Mutex;
 
@@ -19,7 +19,7 @@ use std::sync::Mutex;
 #[derive(Drop)]
 struct Refusal {
     cause: FinishFault,
-    journal: Option<Vec<Edit>>,
+    journal: Option<Vec<JournalEntry>>,
 }
 
 impl From<AllocError> for Refusal {
@@ -34,7 +34,7 @@ impl From<AllocError> for Refusal {
 }
 
 /// Ends a desk. Its session is handed out where the seats are those that the desk was opened with and their books bear out
-/// the session's journal: each receipt agrees with it, and each of its edits stands in one book. Else all that was handed
+/// the session's journal: each receipt agrees with it, and each of its edits and groups stands in one book. Else all that was handed
 /// in is handed back. A seat of another desk is known by its number and its book alone.
 pub fn finish(alloc: Global, desk: Desk, seats: Vec<Seat>) -> Result<Session, Unfinished>
     ensures ok { IfOk result (λ session. IsFinished desk.seats seats.items session.journal) }
@@ -95,7 +95,7 @@ fn look_through(
 }
 
 /// Why a desk isn't finished whose books don't pass their audit.
-fn refusal_of(alloc: Global, fault: AuditFault, journal: &[Edit]) -> Refusal
+fn refusal_of(alloc: Global, fault: AuditFault, journal: &[JournalEntry]) -> Refusal
     ensures { TellsAudit fault journal.now result }
 {
     match fault {
@@ -107,7 +107,7 @@ fn refusal_of(alloc: Global, fault: AuditFault, journal: &[Edit]) -> Refusal
 }
 
 /// Why a desk isn't finished, with a copy of the journal of which that is said.
-fn with_journal(alloc: Global, cause: FinishFault, journal: &[Edit]) -> Refusal
+fn with_journal(alloc: Global, cause: FinishFault, journal: &[JournalEntry]) -> Refusal
     ensures { Tells cause journal.now result }
 {
     match copy_of(alloc, journal) {
@@ -119,13 +119,13 @@ fn with_journal(alloc: Global, cause: FinishFault, journal: &[Edit]) -> Refusal
     }
 }
 
-/// The edits once more.
-fn copy_of(alloc: Global, journal: &[Edit]) -> Result<Vec<Edit>, AllocError>
+/// The entries once more.
+fn copy_of(alloc: Global, journal: &[JournalEntry]) -> Result<Vec<JournalEntry>, AllocError>
     ensures { IfOk result (λ copy. copy.items ≡ journal.now) }
 {
     let mut copy = Vec::with_capacity(alloc, journal.len())?;
-    for edit in journal {
-        copy.push(edit.copy()?)?;
+    for entry in journal {
+        copy.push(copy_of_entry(alloc, entry)?)?;
     }
     Ok(copy)
 }

@@ -1,4 +1,4 @@
-//! The seats' books by their numbers, and whether a journal's edits stand in them.
+//! The seats' books by their numbers, and whether a journal's entries stand in them.
 
 ghost use Rattle.std.specs.Prelude.{◌≡◌, ◌+◌, ◌<◌, ℕ, length, IfOk, MatchBool, false, true};
 ghost use Rattle.std.specs.Bool.{Decides};
@@ -6,7 +6,7 @@ ghost use Rattle.seat_books.specs.Books.{is_noted};
 ghost use Rattle.decode_pool.specs.Finishing.{AreBooksOf, AreEachOnce, AreNumbered, AreWithin, IsBookOf, seats_of};
 
 use crate::seat::Seat;
-use edit_engine::Edit;
+use edit_engine::JournalEntry;
 use seat_books::{SeatBook, is_noted};
 use std::alloc::{AllocError, Global};
 
@@ -78,8 +78,8 @@ fn book_of(alloc: Global, seats: &[Seat], number: usize) -> Result<SeatBook, All
     unreachable!()
 }
 
-/// Whether each edit of the journal stands in one of the books.
-pub(crate) fn are_all_noted(journal: &[Edit], books: &[SeatBook]) -> bool
+/// Whether each edit and each group of the journal stands in one of the books.
+pub(crate) fn are_all_noted(journal: &[JournalEntry], books: &[SeatBook]) -> bool
     ensures { MatchBool result
         ((at : ℕ) → at < length journal.now → is_noted books.now (at + 1) ≡ true)
         ((at : ℕ) × (at < length journal.now) × (is_noted books.now (at + 1) ≡ false)) }

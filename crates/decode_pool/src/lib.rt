@@ -4,9 +4,9 @@
 //! `worker` takes jobs, decodes them by its `Gate` while nobody has the lock, and brings what comes of them. At the end
 //! `finish` looks whether the books of all seats agree with the session's journal. Below are edit_engine and seat_books.
 //!
-//! What a call does to a session that is lent is its contract (`Seat::edit_in`, `Seat::show_in`). No clause names what
-//! lies under a lock, so of the calls that take it the clauses say what they answer and note: that `Seat::edit` and
-//! `Seat::show` reach the desk's own session is known at `finish`, and by tests.
+//! What a call does to a session that is lent is its contract (`Seat::edit_in`, `Seat::edit_group_in`, `Seat::show_in`). No
+//! clause names what lies under a lock, so of the calls that take it the clauses say what they answer and note: that
+//! `Seat::edit`, `Seat::edit_group` and `Seat::show` reach the desk's own session is known at `finish`, and by tests.
 #![tactic(auto)]
 
 mod desk;
@@ -14,6 +14,7 @@ mod faults;
 mod finishing;
 mod gate;
 mod gathering;
+mod group_note;
 mod seat;
 mod settling;
 mod state;

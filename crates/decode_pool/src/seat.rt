@@ -3,11 +3,15 @@
 ghost use Rattle.std.specs.Prelude.{◌≡◌, [], length, IfOk};
 ghost use Rattle.stream_edits.specs.Streams.{last_of};
 ghost use Rattle.edit_engine.specs.Showing.{Shows};
-ghost use Rattle.decode_pool.specs.Seats.{AnswersEditIn, EditsOne, IsLastOfOne, NotesEdit, NotesShow, ShowsOne, WaitsForOne};
+ghost use Rattle.decode_pool.specs.Seats.{AnswersEditIn, AnswersGroupIn, EditsGroupOne, EditsOne, IsLastOfOne, NotesEdit, NotesGroup, NotesShow, ShowsOne, WaitsForOne};
 
 use crate::desk::Desk;
+use crate::group_note::GroupNote;
 use crate::settling::Settled;
-use edit_engine::{Edit, EditRefused, Last, ReadEdit, Receipt, Session, Shown};
+use edit_engine::{
+    Edit, EditRefused, GroupReceipt, GroupRefused, Last, ReadEdit, ReadGroup, Receipt, Session,
+    Shown,
+};
 use pictures::AuId;
 use seat_books::{SeatBook, SeatReceipt};
 use std::alloc::{AllocError, Global};
@@ -71,6 +75,41 @@ impl Seat {
         Ok(receipt)
     }
 
+    /// Makes edits together on a session that is lent, as one step, and notes them as one receipt where they are accepted.
+    /// What the book needs is made first, as in `edit_in`.
+    pub fn edit_group_in(
+        &mut self,
+        session: &mut Session,
+        edits: Vec<Edit>,
+    ) -> Result<GroupReceipt, GroupRefused>
+        ensures session { AnswersGroupIn session.old edits.items result session.new }
+        ensures book { NotesGroup self.old edits.items result (length session.new.journal) self.new }
+    {
+        let note = GroupNote::of(self.alloc, &edits)?;
+        let group = ReadGroup::read(self.alloc, edits)?;
+        self.edit_group_read_in(session, group, note)
+    }
+
+    /// Makes edits together on a session that is lent, those of a group whose texts are read, of which this is noted.
+    pub(crate) fn edit_group_read_in(
+        &mut self,
+        session: &mut Session,
+        group: ReadGroup,
+        note: GroupNote,
+    ) -> Result<GroupReceipt, GroupRefused>
+        requires { note.edits.items ≡ group }
+        ensures session { AnswersGroupIn session.old group result session.new }
+        ensures book { NotesGroup self.old group result (length session.new.journal) self.new }
+    {
+        self.book.receipts.reserve(1)?;
+        let receipt = session.edit_group_read(group)?;
+        let (group, length) = (note.with_ids(&receipt.ids), receipt.number);
+        self.book
+            .receipts
+            .push_reserved(SeatReceipt::Group { group, length });
+        Ok(receipt)
+    }
+
     /// What a session that is lent shows of the unit that has the id, which is noted.
     pub fn show_in(&mut self, session: &Session, id: AuId) -> Result<Shown, AllocError>
         ensures session { IfOk result (λ shown. Shows session.now id shown) }
@@ -105,6 +144,23 @@ impl Seat {
         ensures { EditsOne self.old read result self.new }
     {
         let answer = desk.state.lock(rt).edit_read(self, read);
+        desk.changed.notify_all();
+        answer
+    }
+
+    /// Makes edits together on the desk's session as `edit_group_in` does, while no one else edits it or asks. Their texts
+    /// are read and they are copied for the book before that, so that others don't wait for it.
+    pub fn edit_group<R: Wait>(
+        &mut self,
+        rt: &R,
+        desk: &Desk,
+        edits: Vec<Edit>,
+    ) -> Result<GroupReceipt, GroupRefused>
+        ensures { EditsGroupOne self.old edits.items result self.new }
+    {
+        let note = GroupNote::of(self.alloc, &edits)?;
+        let group = ReadGroup::read(self.alloc, edits)?;
+        let answer = desk.state.lock(rt).edit_group(self, group, note);
         desk.changed.notify_all();
         answer
     }

@@ -7,12 +7,14 @@ ghost use Rattle.stream_edits.specs.Edits.{no_units, Replays};
 ghost use Rattle.edit_engine.specs.Showing.{Shows};
 ghost use Rattle.decode_pool.specs.Jobs.{JobsDiffer};
 ghost use Rattle.decode_pool.specs.Counts.{Brings, Takes, brought};
-ghost use Rattle.decode_pool.specs.Seats.{AnswersEditIn, IsReached, NotesEdit, NotesShow};
+ghost use Rattle.decode_pool.specs.Seats.{AnswersEditIn, AnswersGroupIn, IsReached, NotesEdit, NotesGroup, NotesShow};
 
+use crate::group_note::GroupNote;
 use crate::seat::Seat;
 use crate::tally::Tally;
 use edit_engine::{
-    EditRefused, Finished, Job, Last, ReadEdit, Receipt, Session, Shown, TakeRefused,
+    EditRefused, Finished, GroupReceipt, GroupRefused, Job, Last, ReadEdit, ReadGroup, Receipt,
+    Session, Shown, TakeRefused,
 };
 use pictures::AuId;
 use std::alloc::AllocError;
@@ -51,6 +53,22 @@ impl State {
     {
         let _ = self.session.journal();
         seat.edit_read_in(&mut self.session, read)
+    }
+
+    /// A seat edits the session by a group whose texts are read.
+    pub(crate) fn edit_group(
+        &mut self,
+        seat: &mut Seat,
+        group: ReadGroup,
+        note: GroupNote,
+    ) -> Result<GroupReceipt, GroupRefused>
+        requires { note.edits.items ≡ group }
+        ensures reached { IsReached self.old.session }
+        ensures session { AnswersGroupIn self.old.session group result self.new.session }
+        ensures book { NotesGroup seat.old group result (length self.new.session.journal) seat.new }
+    {
+        let _ = self.session.journal();
+        seat.edit_group_read_in(&mut self.session, group, note)
     }
 
     /// A seat is shown a unit.

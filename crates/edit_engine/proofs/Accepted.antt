@@ -8,14 +8,18 @@ use Rattle.picture_keys.specs.Decodable.{AllCanDecode}
 use Rattle.stream_laws.proofs.Decodable.{IsNotRefused, AllCanDecode-outcomes_of}
 use Rattle.stream_edits.specs.declared.edits.Edit.{Edit}
 use Rattle.stream_edits.specs.Streams.{ids_of}
-use Rattle.stream_edits.specs.Edits.{Register, no_units, Makes, Replays}
-use Rattle.stream_edits.proofs.Accepted.{accepted-made, accepted-replayed}
+use Rattle.stream_edits.specs.Edits.{Register, no_units, Replays}
+use Rattle.stream_edits.specs.Groups.{MakesAll}
+use Rattle.stream_edits.specs.Journals.{edits_of}
+use Rattle.stream_edits.proofs.Accepted.{accepted-replayed}
+use Rattle.stream_edits.proofs.Grouped.{accepted-all}
 
--- the units of the stream after an edit of one that edits lead to, with what becomes of them
-pub decodable-after : (journal : List Edit) (old : Register) (edit : Edit) (id : ℕ) (new : Register) (ids : List ℕ) (outcomes : List Outcome)
-    → Replays no_units journal old → Makes old edit id new → ids ≡ ids_of new.stream → outcomes ≡ outcomes_of new.stream
+-- the units of the stream after edits of one that edits lead to, with what becomes of them
+pub decodable-after : (journal : List (List Edit)) (old : Register) (edits : List Edit) (about : List ℕ) (new : Register) (ids : List ℕ)
+    (outcomes : List Outcome)
+    → Replays no_units (edits_of journal) old → MakesAll old edits about new → ids ≡ ids_of new.stream → outcomes ≡ outcomes_of new.stream
     → AllCanDecode [] (zip ids outcomes)
-decodable-after journal old edit id new ids outcomes replays makes ids_are outcomes_are =
+decodable-after journal old edits about new ids outcomes replays makes ids_are outcomes_are =
     rw (ids_are, outcomes_are)
     (AllCanDecode-outcomes_of new.stream
-    (accepted-made old edit id new (accepted-replayed no_units journal old (All-nil IsNotRefused) replays) makes))
+    (accepted-all old edits about new (accepted-replayed no_units (edits_of journal) old (All-nil IsNotRefused) replays) makes))

@@ -7,3 +7,4 @@ pub mod Stored
 pub mod Seen
 pub mod Taking
 pub mod Told
+pub mod Moved

@@ -9,7 +9,8 @@ use Rattle.output_order.specs.OutputOrder.{positions_of}
 use Rattle.picture_store.specs.Stores.{StoreValue}
 use Rattle.stream_edits.specs.declared.edits.Edit.{Edit}
 use Rattle.stream_edits.specs.Edits.{Register}
-use Rattle.stream_edits.specs.Ids.{AreDifferent}
+use Rattle.stream_edits.specs.Ids.{AreDifferent, HasIds}
+use Rattle.stream_edits.specs.Journals.{edits_of}
 use Rattle.stream_edits.specs.Streams.{Stream, place_of}
 use Rattle.stream_edits.proofs.GivenIds.{AreDifferent-ids, HasIds-journal}
 use Rattle.edit_engine.specs.Kept.{IsKept}
@@ -36,7 +37,11 @@ position_found stream id place position stands at =
     ap (option_and_then (slice_get (positions_of (outcomes_of stream)))) stands ∙ at
 
 -- the ids that are stored differ
-pub ids_apart : (journal : List Edit) (register : Register) (store : StoreValue) → IsKept journal register store
+pub ids_apart : (journal : List (List Edit)) (register : Register) (store : StoreValue) → IsKept journal register store
     → AreDifferent store.ids
 ids_apart journal register store kept =
-    subst AreDifferent (sym kept.identified) (AreDifferent-ids register (HasIds-journal journal register kept.replayed))
+    subst AreDifferent (sym kept.identified) (AreDifferent-ids register (HasIds-journal (edits_of journal) register kept.replayed))
+
+-- and belong to units that have ids
+pub ids_kept : (journal : List (List Edit)) (register : Register) (store : StoreValue) → IsKept journal register store → HasIds register
+ids_kept journal register store kept = HasIds-journal (edits_of journal) register kept.replayed

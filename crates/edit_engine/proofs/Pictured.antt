@@ -31,19 +31,19 @@ pub record IsOf (stream : Stream) (store : StoreValue) : Type 0 where
   pub folded : store.outcomes ≡ outcomes_of stream
 
 -- what is kept is of the stream
-pub IsOf-kept : (journal : List Edit) (register : Register) (store : StoreValue)
+pub IsOf-kept : (journal : List (List Edit)) (register : Register) (store : StoreValue)
     → IsKept journal register store → IsOf register.stream store
 IsOf-kept journal register store kept = record { identified = kept.identified; folded = kept.folded }
 
 -- what contracts see of the pictures is what is stored
-pub store_is : (journal : List Edit) (register : Register) (store : StoreValue) → IsOf register.stream store
+pub store_is : (journal : List (List Edit)) (register : Register) (store : StoreValue) → IsOf register.stream store
     → store_of (machine_of journal register store) ≡ store
 store_is journal register store is =
     ap (λ (ids : List ℕ). record store { ids = ids; outcomes = outcomes_of register.stream }) (sym is.identified)
     ∙ ap (λ (outcomes : List Outcome). record store { outcomes = outcomes }) (sym is.folded)
 
 -- what holds of stores holds of what contracts see of them
-both_seen : (Holds : StoreValue → StoreValue → Type 0) (journal edited : List Edit) (old new : Register) (before after : StoreValue)
+both_seen : (Holds : StoreValue → StoreValue → Type 0) (journal edited : List (List Edit)) (old new : Register) (before after : StoreValue)
     → IsOf old.stream before → IsOf new.stream after → Holds before after
     → Holds (store_of (machine_of journal old before)) (store_of (machine_of edited new after))
 both_seen Holds journal edited old new before after was is holds =
@@ -51,12 +51,12 @@ both_seen Holds journal edited old new before after was is holds =
     (subst (λ (store : StoreValue). Holds before store) (sym (store_is edited new after is)) holds)
 
 -- what holds of a store holds of what contracts see of it
-pub one_seen : (Holds : StoreValue → Type 0) (journal : List Edit) (register : Register) (store : StoreValue)
+pub one_seen : (Holds : StoreValue → Type 0) (journal : List (List Edit)) (register : Register) (store : StoreValue)
     → IsOf register.stream store → Holds store → Holds (store_of (machine_of journal register store))
 one_seen Holds journal register store is holds = subst Holds (sym (store_is journal register store is)) holds
 
 -- the pictures after an edit
-pub RefitsTo-stored : (journal : List Edit) (old : Register) (store : StoreValue) (edited : List Edit) (new : Register) (ids : List ℕ) (outcomes : List Outcome) (after : StoreValue)
+pub RefitsTo-stored : (journal : List (List Edit)) (old : Register) (store : StoreValue) (edited : List (List Edit)) (new : Register) (ids : List ℕ) (outcomes : List Outcome) (after : StoreValue)
     → IsOf old.stream store → ids ≡ ids_of new.stream → outcomes ≡ outcomes_of new.stream → Refits store ids outcomes after
     → RefitsTo (store_of (machine_of journal old store)) new.stream (store_of (machine_of edited new after))
 RefitsTo-stored journal old store edited new ids outcomes after is ids_are outcomes_are refits =
@@ -105,7 +105,7 @@ IsOf-stays stream old new is stay = record {
   folded = stay.outcomes_stay ∙ is.folded;
 }
 
-module _ (journal : List Edit) (register : Register) (old new : StoreValue) (is : IsOf register.stream old) where
+module _ (journal : List (List Edit)) (register : Register) (old new : StoreValue) (is : IsOf register.stream old) where
   -- a job is taken
   pub take_seen : (answer : Result (Option JobValue) TakeRefused) → pictures.AnswersTake old answer new
       → AnswersTake (machine_of journal register old) answer (machine_of journal register new)
@@ -134,7 +134,7 @@ module _ (journal : List Edit) (register : Register) (old new : StoreValue) (is 
   )
 
 -- and is kept
-pub IsKept-stays : (journal : List Edit) (register : Register) (old new : StoreValue)
+pub IsKept-stays : (journal : List (List Edit)) (register : Register) (old new : StoreValue)
     → IsKept journal register old → UnitsStay old new → IsKept journal register new
 IsKept-stays journal register old new kept stay = record {
   identified = stay.ids_stay ∙ kept.identified;

@@ -31,7 +31,7 @@ length-stored stream store is = ap length is.identified ∙ length-map stream (�
 pub length-folded : (stream : Stream) (store : StoreValue) → IsOf stream store → length store.outcomes ≡ length stream
 length-folded stream store is = ap length is.folded ∙ length-outcomes_of stream
 
-module _ (journal : List Edit) (register : Register) (store : StoreValue) (id place : ℕ) where
+module _ (journal : List (List Edit)) (register : Register) (store : StoreValue) (id place : ℕ) where
   -- the key at the place of the unit is the unit's
   key_found : IsOf register.stream store → place_of register.stream id ≡ Some place → (key : Key)
       → slice_get (unit_keys store) place ≡ Some (Some key) → HasKey register.stream id key

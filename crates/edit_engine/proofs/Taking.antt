@@ -24,7 +24,7 @@ use Rattle.edit_engine.specs.Taken.{as_taken, taken_of, AreRising, AreOut}
 pub same_machine : (old new : Machine) → store_of new ≡ store_of old → KeepsStream old new → new ≡ old
 same_machine old new pictures stream =
     ap (λ (store : StoreValue). machine_of new.journal new.register store) pictures
-    ∙ (ap (λ (journal : List Edit). machine_of journal new.register (store_of old)) stream.0
+    ∙ (ap (λ (journal : List (List Edit)). machine_of journal new.register (store_of old)) stream.0
     ∙ ap (λ (register : Register). machine_of old.journal register (store_of old)) stream.1)
 
 -- what is made of a list without an item

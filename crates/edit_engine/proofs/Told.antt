@@ -103,7 +103,7 @@ module _ (stream : Stream) (old : StoreValue) (is : IsOf stream old) (job : JobV
   }
 
   -- the job goes out, and its unit is told
-  pub told_seen : (journal : List Edit) (given : ℕ) (id : ℕ) → slice_get (ids_of stream) (length takes.before) ≡ Some id
+  pub told_seen : (journal : List (List Edit)) (given : ℕ) (id : ℕ) → slice_get (ids_of stream) (length takes.before) ≡ Some id
       → TellsTake (machine_of journal (record { given = given; stream = stream }) old) (Ok (Some (id, job)))
       (machine_of journal (record { given = given; stream = stream }) new)
   told_seen journal given id stands = (

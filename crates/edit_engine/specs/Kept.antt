@@ -3,19 +3,21 @@ use Rattle.std.specs.Prelude.{◌≡◌, ◌≤◌, List, length}
 use Rattle.request_core.specs.Fold.{outcomes_of}
 use Rattle.stream_edits.specs.declared.edits.Edit.{Edit}
 use Rattle.edit_engine.specs.declared.preparing.Prepared.{Prepared}
-use Rattle.stream_edits.specs.Changes.{IsFor, given_after, id_of}
+use Rattle.stream_edits.specs.declared.changes.Change.{Change}
+use Rattle.stream_edits.specs.Journals.{edits_of}
 use Rattle.stream_fold.specs.Prepared.{change_in, steps_in}
 use Rattle.ordered_fold.specs.Kept.{OrderedValue}
 use Rattle.ordered_fold.specs.Prepared as ordering
 use Rattle.picture_store.specs.Stores.{StoreValue}
 use Rattle.access_unit.specs.Rooms.{most_units}
 use Rattle.stream_edits.specs.Edits.{Register, no_units, Replays}
-use Rattle.stream_edits.specs.Streams.{ids_of}
-use Rattle.edit_engine.specs.Machines.{Machine, AreFew}
+use Rattle.stream_edits.specs.Streams.{Stream, ids_of}
+use Rattle.edit_engine.specs.Machines.{Machine}
+use Rattle.edit_engine.specs.Moves.{MakesFew}
 use Rattle.edit_engine.specs.Stretches.{IsStretchOf}
 
 -- what contracts see of a session, of which this is stored
-abbrev pub machine_of : List Edit → Register → StoreValue → Machine
+abbrev pub machine_of : List (List Edit) → Register → StoreValue → Machine
 machine_of journal register store = record {
   room = store.room;
   journal = journal;
@@ -28,17 +30,15 @@ machine_of journal register store = record {
 }
 
 -- ids and outcomes are those of the stream, which is what the accepted edits lead to
-pub record IsKept (journal : List Edit) (register : Register) (store : StoreValue) : Type 0 where
+pub record IsKept (journal : List (List Edit)) (register : Register) (store : StoreValue) : Type 0 where
   pub identified : store.ids ≡ ids_of register.stream
   pub folded : store.outcomes ≡ outcomes_of register.stream
   pub bounded : length register.stream ≤ most_units
-  pub replayed : Replays no_units journal register
+  pub replayed : Replays no_units (edits_of journal) register
 
--- what is prepared is the change that the edit comes to, in few steps, and the stretch that this makes anew
-pub record IsPrepared (old : Register) (edit : Edit) (ordered : OrderedValue) (prepared : Prepared) : Type 0 where
-  pub comes_to : IsFor old edit (change_in prepared.change.refolded)
+-- what is prepared is the change, in few steps, and the stretch that this makes anew
+pub record IsPrepared (change : Change) (stream : Stream) (ordered : OrderedValue) (prepared : Prepared) : Type 0 where
+  pub change_is : change_in prepared.change.refolded ≡ change
   pub ready : ordering.IsPrepared ordered prepared.change
-  pub stretch_is : IsStretchOf (change_in prepared.change.refolded) old.stream prepared.stretch
-  pub id_is : prepared.id ≡ id_of (change_in prepared.change.refolded)
-  pub given_is : prepared.given ≡ given_after (change_in prepared.change.refolded) old.given
-  pub few : AreFew (change_in prepared.change.refolded) old.stream (steps_in prepared.change.refolded)
+  pub stretch_is : IsStretchOf change stream prepared.stretch
+  pub few : MakesFew change stream (steps_in prepared.change.refolded)

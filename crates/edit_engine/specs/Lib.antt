@@ -1,5 +1,7 @@
 pub mod Streams
 pub mod Machines
+pub mod Grouping
+pub mod Moves
 pub mod Stretches
 pub mod Showing
 pub mod Jobs
@@ -7,3 +9,4 @@ pub mod Taken
 pub mod Numbers
 pub mod Kept
 pub mod Runs
+pub mod Copies

@@ -4,6 +4,7 @@ use Rattle.request_core.specs.Fold.{outcomes_of}
 use Rattle.picture_keys.specs.Keys.{Key}
 use Rattle.picture_store.specs.Stores.{OutValue, StoreValue}
 use Rattle.picture_store.specs.Changes.{Refits}
+use Rattle.stream_edits.specs.declared.acceptance.AcceptedEdit.{AcceptedEdit}
 use Rattle.stream_edits.specs.declared.edits.Edit.{Edit}
 use Rattle.stream_edits.specs.declared.receipts.Receipt.{Receipt}
 use Rattle.stream_edits.specs.declared.refusals.EditRefused.{EditRefused}
@@ -14,12 +15,12 @@ use Rattle.stream_edits.specs.Changes.{IsFor, after}
 use Rattle.stream_fold.specs.Meeting.{IsMeeting}
 use Rattle.stream_edits.specs.Refusals.{IsRefused}
 
--- the room of the cache; the accepted edits in order, and what they leave; the number of each unit's key, nothing for a
+-- the room of the cache; the accepted edits in order, those of a group as one entry, and what they leave; the number of each unit's key, nothing for a
 -- unit that isn't valid; the keys whose pictures are held, and those whose pictures are cached, the one put last first; the
 -- jobs that are out; and how many numbers of jobs were given
 pub record Machine : Type 0 where
   pub room : ℕ
-  pub journal : List Edit
+  pub journal : List (List Edit)
   pub register : Register
   pub numbers : List (Option ℕ)
   pub held : List Key
@@ -56,15 +57,15 @@ AreFew change stream steps = (count : ℕ) → IsMeeting change stream count →
 
 -- the edit comes to a change that leaves this, and takes few steps of the fold
 pub record Refolds (old : Register) (edit : Edit) (steps : ℕ) (new : Register) : Type 0 where
-  pub change : Change
-  pub comes_to : IsFor old edit change
-  pub leaves : new ≡ after change old
-  pub few : AreFew change old.stream steps
+  pub accepted : AcceptedEdit
+  pub comes_to : IsFor old edit accepted
+  pub leaves : new ≡ after accepted.change accepted.given old.stream
+  pub few : AreFew accepted.change old.stream steps
 
 -- the edit is accepted with the receipt
 pub record Edits (old : Machine) (edit : Edit) (receipt : Receipt) (new : Machine) : Type 0 where
   pub made : Makes old.register edit receipt.id new.register
-  pub journaled : new.journal ≡ old.journal ++ edit ∷ []
+  pub journaled : new.journal ≡ old.journal ++ (edit ∷ []) ∷ []
   pub refits : RefitsTo (store_of old) new.register.stream (store_of new)
   pub number_is : receipt.number ≡ length new.journal
   pub refolds : Refolds old.register edit receipt.steps new.register

@@ -7,6 +7,8 @@ use Rattle.picture_store.specs.declared.answers.Landing.{Landing}
 use Rattle.picture_store.specs.declared.answers.Returning.{Returning}
 use Rattle.edit_engine.specs.declared.commands.Command.{Command}
 use Rattle.edit_engine.specs.declared.commands.Command.TheVariants as commands
+use Rattle.stream_edits.specs.declared.group_refused.GroupRefused.{GroupRefused}
+use Rattle.stream_edits.specs.declared.receipts.GroupReceipt.{GroupReceipt}
 use Rattle.stream_edits.specs.declared.receipts.Receipt.{Receipt}
 use Rattle.stream_edits.specs.declared.refusals.EditRefused.{EditRefused}
 use Rattle.edit_engine.specs.declared.refusals.NoSuchUnit.{NoSuchUnit}
@@ -19,6 +21,7 @@ use Rattle.edit_engine.specs.declared.replies.UnitReport.{UnitReport}
 use Rattle.stream_edits.specs.Streams.{Stream, place_of}
 use Rattle.edit_engine.specs.Streams.{outcome_in, position_in}
 use Rattle.edit_engine.specs.Machines.{Machine, empty, AnswersEdit}
+use Rattle.edit_engine.specs.Grouping.{AnswersGroup}
 use Rattle.edit_engine.specs.Jobs.{AnswersTake, AnswersLand, AnswersGiveBack, IsUnitOf}
 use Rattle.edit_engine.specs.Showing.{Shows}
 use Rattle.edit_engine.specs.Taken.{taken_of}
@@ -62,6 +65,8 @@ GivesJobBack old number (Err none) new = IsNotOut old number new
 abbrev pub Answers : Machine → Command → Reply → Machine → Type 0
 Answers old (commands.Edit edit) reply new =
     (answer : Result Receipt EditRefused) × (reply ≡ replies.Edit answer) × AnswersEdit old edit answer new
+Answers old (commands.Group edits) reply new =
+    (answer : Result GroupReceipt GroupRefused) × (reply ≡ replies.Group answer) × AnswersGroup old edits.items answer new
 Answers old (commands.Unit id) reply new =
     (answer : Result UnitReport NoSuchUnit) × (reply ≡ replies.Unit answer) × Reports old.register.stream id answer
     × (new ≡ old)

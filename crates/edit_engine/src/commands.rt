@@ -1,9 +1,10 @@
 //! Commands to a session.
 
 ghost use Rattle.std.specs.Prelude.{◌≡◌, IfOk};
+ghost use Rattle.edit_engine.specs.Copies.{IsCopy};
 
 use pictures::AuId;
-use std::alloc::AllocError;
+use std::alloc::{AllocError, Global};
 use stream_edits::Edit;
 
 /// What a session is told to do.
@@ -11,6 +12,8 @@ use stream_edits::Edit;
 pub enum Command {
     /// To edit the stream.
     Edit(Edit),
+    /// To make these edits together, as one step.
+    Group(Vec<Edit>),
     /// To say what becomes of the unit of this id.
     Unit(AuId),
     /// To give a picture to decode.
@@ -24,12 +27,13 @@ pub enum Command {
 }
 
 impl Command {
-    /// The command once more; it shares the bytes of its edit.
-    pub fn copy(&self) -> Result<Command, AllocError>
-        ensures { IfOk result (λ copy. copy ≡ self.now) }
+    /// The command once more; it shares the bytes of its edits.
+    pub fn copy(&self, alloc: Global) -> Result<Command, AllocError>
+        ensures { IfOk result (IsCopy self.now) }
     {
         match self {
             Command::Edit(edit) => Ok(Command::Edit(edit.copy()?)),
+            Command::Group(edits) => Ok(Command::Group(copies_of(alloc, edits)?)),
             Command::Unit(id) => Ok(Command::Unit(*id)),
             Command::Take => Ok(Command::Take),
             Command::Land(number) => Ok(Command::Land(*number)),
@@ -37,4 +41,15 @@ impl Command {
             Command::Show(id) => Ok(Command::Show(*id)),
         }
     }
+}
+
+/// The edits once more; they share the bytes.
+fn copies_of(alloc: Global, edits: &[Edit]) -> Result<Vec<Edit>, AllocError>
+    ensures { IfOk result (λ copies. copies.items ≡ edits.now) }
+{
+    let mut copies = Vec::with_capacity(alloc, edits.len())?;
+    for edit in edits {
+        copies.push(edit.copy()?)?;
+    }
+    Ok(copies)
 }

@@ -5,13 +5,15 @@ use crate::showing::Shown;
 use outcomes::Outcome;
 use picture_store::{Landing, Returning, TakeRefused};
 use pictures::AuId;
-use stream_edits::{EditRefused, Receipt};
+use stream_edits::{EditRefused, GroupReceipt, GroupRefused, Receipt};
 
 /// What a command is answered, by the variant of the command's name.
 #[derive(Debug, Drop)]
 pub enum Reply {
     /// The edit's receipt, or why it is refused.
     Edit(Result<Receipt, EditRefused>),
+    /// The group's receipt, or why it is refused.
+    Group(Result<GroupReceipt, GroupRefused>),
     /// What becomes of the unit.
     Unit(Result<UnitReport, NoSuchUnit>),
     /// The job, `None` where no picture is due, or that all numbers of jobs were given.

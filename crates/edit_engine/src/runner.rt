@@ -2,6 +2,7 @@
 
 ghost use Rattle.std.specs.Prelude.{◌≡◌, ◌≤◌, ◌↔◌, IfOk, IsErrOf, OnErr};
 ghost use Rattle.picture_cache.specs.Bounded.{most_room};
+ghost use Rattle.edit_engine.specs.Grouping.{AnswersGroup};
 ghost use Rattle.edit_engine.specs.Machines.{AnswersEdit, empty};
 ghost use Rattle.edit_engine.specs.Runs.{Answers, IsRun, Reports};
 
@@ -16,7 +17,7 @@ use pictures::AuId;
 use stand_in_device::Device;
 use std::alloc::{AllocError, Global};
 use std::marker::Model;
-use stream_edits::{EditRefused, ReadEdit, Receipt};
+use stream_edits::{EditRefused, GroupReceipt, GroupRefused, ReadEdit, ReadGroup, Receipt};
 
 /// A session that follows commands, one at a time, with the jobs that are out and a device that decodes them. Clauses
 /// see it as the session.
@@ -79,6 +80,7 @@ impl Runner {
     {
         match command {
             Command::Edit(edit) => Ok(Reply::Edit(self.session.edit(edit))),
+            Command::Group(edits) => Ok(Reply::Group(self.session.edit_group(edits))),
             Command::Unit(id) => Ok(Reply::Unit(report(self.alloc, &self.session, id)?)),
             Command::Take => Ok(Reply::Take(take(&mut self.session, &mut self.jobs)?)),
             Command::Land(number) => {
@@ -99,6 +101,13 @@ impl Runner {
         ensures { AnswersEdit self.old read result self.new }
     {
         self.session.edit_read(read)
+    }
+
+    /// Makes the edits of a group whose texts are read, as `step` does at `Command::Group`.
+    pub fn edit_group_read(&mut self, group: ReadGroup) -> Result<GroupReceipt, GroupRefused>
+        ensures { AnswersGroup self.old group result self.new }
+    {
+        self.session.edit_group_read(group)
     }
 
     /// The session as it is, to be looked at without a copy.
@@ -137,7 +146,7 @@ pub fn run(alloc: Global, config: Config, commands: &[Command]) -> Result<Vec<Re
     };
     let mut replies = Vec::with_capacity(alloc, commands.len())?;
     for command in commands {
-        replies.push(runner.step(command.copy()?)?)?;
+        replies.push(runner.step(command.copy(alloc)?)?)?;
     }
     Ok(replies)
 }

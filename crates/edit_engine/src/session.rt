@@ -1,13 +1,17 @@
 //! The session: a stream under edits, and the pictures of its units.
 
-ghost use Rattle.std.specs.Prelude.{◌≡◌, ◌<◌, ◌≤◌, ◌↔◌, length, Contains, Some, None, IsTrue, IfOk, IfSome, IsErrOf, MatchResult};
+ghost use Rattle.std.specs.Prelude.{◌≡◌, ◌<◌, ◌≤◌, ◌↔◌, length, Contains, Some, None, IsTrue, IfOk, IfSome, IsErrOf, MatchResult, OnErr};
 ghost use Rattle.request_core.specs.Fold.{outcomes_of};
 ghost use Rattle.picture_cache.specs.Bounded.{most_room};
 ghost use Rattle.picture_store.specs.Stores.{AreOneToOne};
+ghost use Rattle.stream_edits.specs.Changes.{IsInside};
+ghost use Rattle.stream_edits.specs.Journals.{edits_of};
 ghost use Rattle.stream_edits.specs.Streams.{ids_of, last_of, place_of};
 ghost use Rattle.stream_edits.specs.Edits.{no_units, Replays};
 ghost use Rattle.edit_engine.specs.Streams.{outcome_in, position_in};
+ghost use Rattle.edit_engine.specs.Grouping.{AnswersGroup};
 ghost use Rattle.edit_engine.specs.Machines.{empty, AnswersEdit, store_of};
+ghost use Rattle.edit_engine.specs.Moves.{ComeTo, Moves};
 ghost use Rattle.edit_engine.specs.Jobs.{AnswersGiveBack, AnswersLand, AnswersTake, TellsTake};
 ghost use Rattle.edit_engine.specs.Showing.{HasNumber, Shows};
 
@@ -23,16 +27,19 @@ use period_counts::Comparisons;
 use picture_store::{JobAt, Landing, MOST_ROOM, PictureStore, Returning, TakeRefused};
 use pictures::AuId;
 use stand_in_device::{Finished, Job};
-use std::alloc::Global;
+use std::alloc::{AllocError, Global};
 use std::marker::Model;
-use stream_edits::{Edit, EditRefused, Last, ReadEdit, Receipt, place_of};
+use stream_edits::{
+    AcceptedEdit, AcceptedGroup, Change, Edit, EditRefused, GroupReceipt, GroupRefused,
+    JournalEntry, Last, ReadEdit, ReadGroup, Receipt, change_of, change_of_group, place_of,
+};
 
 /// A stream of access units under edits, with what becomes of each unit, and with pictures, which jobs bring. Clauses see
 /// the accepted edits and what they leave, the keys whose pictures are held or cached, and the jobs that are out.
 #[derive(Debug)]
 pub struct Session {
     alloc: Global,
-    journal: Vec<Edit>,
+    journal: Vec<JournalEntry>,
     given: u32,
     ordered: OrderedFold,
     store: PictureStore,
@@ -107,19 +114,61 @@ impl Session {
     pub fn edit_read(&mut self, read: ReadEdit) -> Result<Receipt, EditRefused>
         ensures { AnswersEdit self.old read result self.new }
     {
-        let (ids, given) = (self.store.ids(), self.given);
-        let prepared = prepare(self.alloc, &mut self.ordered, ids, given, &read)?;
+        let (units, ids) = (self.ordered.units(), self.store.ids());
+        let accepted = change_of(self.alloc, units, ids, self.given, &read)?;
+        let AcceptedEdit { change, id, given } = accepted;
+        let entry = JournalEntry::of_edit(read.into_edit());
+        let steps = self.make(change, given, entry)?;
+        Ok(Receipt {
+            number: self.journal.len() as u64,
+            id,
+            steps,
+        })
+    }
+
+    /// Makes edits together, as one step: all of them, each on the stream that those before it left, or none. An edit may
+    /// name an id that one before it gave.
+    ///
+    /// The pictures change once, between the streams before and after the group, by the rule of an edit. A refused group
+    /// changes nothing and spends no id. Memory may stand in for the refusal of an edit.
+    pub fn edit_group(&mut self, edits: Vec<Edit>) -> Result<GroupReceipt, GroupRefused>
+        ensures { AnswersGroup self.old edits.items result self.new }
+    {
+        let group = ReadGroup::read(self.alloc, edits)?;
+        self.edit_group_read(group)
+    }
+
+    /// Makes edits together as `edit_group` does, those of a group whose texts are read.
+    pub fn edit_group_read(&mut self, group: ReadGroup) -> Result<GroupReceipt, GroupRefused>
+        ensures { AnswersGroup self.old group result self.new }
+    {
+        let (units, ids) = (self.ordered.units(), self.store.ids());
+        let accepted = change_of_group(self.alloc, units, ids, self.given, &group)?;
+        let AcceptedGroup { change, ids, given } = accepted;
+        let entry = JournalEntry::of_group(group.into_edits());
+        let steps = self.make(change, given, entry)?;
+        Ok(GroupReceipt {
+            number: self.journal.len() as u64,
+            ids,
+            steps,
+        })
+    }
+
+    /// Makes the change that edits come to, with so many ids given then, and says in how many steps of the fold.
+    fn make(&mut self, change: Change, given: u32, edits: JournalEntry) -> Result<u64, AllocError>
+        requires inside { IsInside change self.old.register.stream }
+        requires come { ComeTo self.old.register edits change given }
+        ensures ok { IfOk result (λ steps. Moves self.old edits change given steps self.new) }
+        ensures err { OnErr result (self.new ≡ self.old) }
+    {
+        let prepared = prepare(self.alloc, &mut self.ordered, change)?;
         let steps = prepared.change.refolded().steps();
         self.journal.reserve(1)?;
         self.store.refit(prepared.stretch, self.ordered.states())?;
         self.ordered.commit(prepared.change);
-        self.journal.push_reserved(read.into_edit());
-        self.given = prepared.given;
-        Ok(Receipt {
-            number: self.journal.len() as u64,
-            id: prepared.id,
-            steps,
-        })
+        self.journal.push_reserved(edits);
+        self.given = given;
+        Ok(steps)
     }
 
     /// Gives a picture to decode: the earliest one of the stream that isn't held and isn't out as a job, and whose
@@ -272,11 +321,11 @@ impl Session {
         }
     }
 
-    /// The accepted edits, in order.
-    pub fn journal(&self) -> &[Edit]
+    /// The accepted edits, in order, those of a group as one entry.
+    pub fn journal(&self) -> &[JournalEntry]
         ensures value { result.now ≡ self.now.journal }
         // Each accepted after those before it, they lead to the stream.
-        ensures replayed { Replays no_units self.now.journal self.now.register }
+        ensures replayed { Replays no_units (edits_of self.now.journal) self.now.register }
     {
         self.journal.as_slice()
     }

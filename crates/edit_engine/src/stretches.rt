@@ -2,7 +2,7 @@
 
 ghost use Rattle.std.specs.Prelude.{◌≡◌, ◌≤◌, ◌++◌, ◌-◌, drop, length, take, IfOk, OnOk};
 ghost use Rattle.ordered_fold.specs.Prepared.{IsPrepared};
-ghost use Rattle.stream_edits.specs.Changes.{at_of, rest_from, units_of};
+ghost use Rattle.stream_edits.specs.Changes.{at_of, rest_from};
 ghost use Rattle.stream_edits.specs.Streams.{ids_of};
 ghost use Rattle.stream_fold.specs.Prepared.{IsAnew, change_in};
 ghost use Rattle.edit_engine.specs.Stretches.{IsStretchOf, ids_between};
@@ -46,13 +46,14 @@ fn ids_anew(
     to: usize,
 ) -> Result<Vec<AuId>, AllocError>
     requires before { from ≤ at_of change.now }
+    requires ordered { at_of change.now ≤ rest_from change.now }
     requires behind { rest_from change.now ≤ to }
     requires within { to ≤ length units.now }
     ensures { IfOk result (λ ids. ids.items ≡ ids_between change.now units.now from to) }
 {
     let mut ids = Vec::new(alloc);
     add_ids(&mut ids, &units[from..change.at()])?;
-    add_brought(&mut ids, change)?;
+    add_ids(&mut ids, change.units())?;
     add_ids(&mut ids, &units[change.rest_from()..to])?;
     Ok(ids)
 }
@@ -65,19 +66,6 @@ fn add_ids(ids: &mut Vec<AuId>, units: &[(AuId, Shared<Unit>)]) -> Result<(), Al
         ids.push(unit.0)?;
     }
     Ok(())
-}
-
-/// Adds the id of the unit that a change brings, if it brings one.
-fn add_brought(ids: &mut Vec<AuId>, change: &Change) -> Result<(), AllocError>
-    ensures { OnOk result (ids.new.items ≡ ids.old.items ++ ids_of (units_of change.now)) }
-{
-    match change {
-        Change::Insertion { id, .. } | Change::Replacement { id, .. } => {
-            ids.push(*id)?;
-            Ok(())
-        }
-        Change::Deletion { .. } => Ok(()),
-    }
 }
 
 /// The outcomes, with one owner more of each.

@@ -1,1 +1,4 @@
-pub mod ScriptLines
+pub mod GroupLines
+pub mod NumberedLines
+pub mod OneReading
+pub mod ReadCommands

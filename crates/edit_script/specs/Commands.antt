@@ -74,9 +74,10 @@ abbrev pub are_alone : List ℕ → List (List ℕ) → Bool
 are_alone name (word ∷ []) = bytes_eq word name
 are_alone name words = false
 
--- the words are this command
+-- the words are this command, which is no group
 abbrev pub IsCommand : List (List ℕ) → Command → Type 0
 IsCommand words (command.Edit edit) = edit_of words ≡ Some edit
+IsCommand words (command.Group edits) = ⊥
 IsCommand words (command.Load path) = path_of words ≡ Some path.now
 IsCommand words (command.Unit number) = number_after (codes "unit") words ≡ Some number
 IsCommand words command.Take = are_alone (codes "take") words ≡ true

@@ -1,5 +1,5 @@
 pub mod Commands
+pub mod Lines
 pub mod Scripts
-pub mod SeatCommands
 pub mod SeatScripts
 pub mod Words

@@ -1,4 +1,4 @@
-//! The command that a line of a script is (docs/OUTPUT.md).
+//! The command that the words of a script's line are (docs/OUTPUT.md).
 
 ghost use Rattle.std.specs.Prelude.{◌≡◌, ◌∷◌, [], map, IfOk, None, Some, MatchResult, option_map};
 ghost use Rattle.std.specs.Char.{is_ascii_digit};
@@ -13,11 +13,13 @@ use pictures::AuId;
 use std::alloc::{AllocError, AllocFailed, Global};
 use stream_edits::{Edit, Place};
 
-/// What a line of a script asks for.
+/// What a line of a script asks for, or the lines of a group.
 #[derive(Debug, Drop)]
 pub enum Command<'a> {
     /// An edit of the stream.
     Edit(Edit),
+    /// These edits, all of them or none.
+    Group(Vec<Edit>),
     /// The insertion of the units in the file of this name, each after the last one.
     Load { path: &'a str },
     /// The lines of the unit of this number.

@@ -1,18 +1,19 @@
-//! The command of a seat that a line of a script is (docs/OUTPUT.md).
+//! The commands of a script that a seat runs (docs/OUTPUT.md).
 
-ghost use Rattle.std.specs.Prelude.{◌∷◌, []};
-ghost use Rattle.edit_script.specs.Words.{texts_of};
-ghost use Rattle.edit_script.specs.SeatCommands.{IsSeatCommandAnswer};
+ghost use Rattle.std.specs.Prelude.{◌≡◌, MatchOption};
+ghost use Rattle.edit_script.specs.SeatScripts.{as_command};
+ghost use Rattle.edit_script.specs.declared.seat_commands.SeatCommand.{SeatCommand as Seats};
 
-use crate::commands::{LineFault, read_edit, read_given};
-use std::alloc::Global;
+use crate::commands::Command;
 use stream_edits::Edit;
 
-/// What a line of a script asks of a seat. Jobs are the workers' then, and of a unit a seat is shown the picture alone.
+/// What a script asks of a seat. Jobs are the workers' then, and of a unit a seat is shown the picture alone.
 #[derive(Debug, Drop)]
 pub enum SeatCommand<'a> {
     /// An edit of the stream.
     Edit(Edit),
+    /// These edits, all of them or none.
+    Group(Vec<Edit>),
     /// The insertion of the units in the file of this name, each after the last one.
     Load { path: &'a str },
     /// All pictures that are due.
@@ -21,43 +22,19 @@ pub enum SeatCommand<'a> {
     Show { number: u64 },
 }
 
-/// The command of a seat that the words of a line are.
-pub(crate) fn read_seat_command<'a>(
-    alloc: Global,
-    words: &[&'a str],
-) -> Result<SeatCommand<'a>, LineFault>
-    ensures { IsSeatCommandAnswer (texts_of words.now) result }
+/// The command as one of a seat's, if it is.
+pub(crate) fn for_seat<'a>(command: Command<'a>) -> Option<SeatCommand<'a>>
+    ensures { MatchOption result ((it : Seats) → ¬ (as_command it ≡ command.entry))
+        (λ it. as_command it ≡ command.entry) }
 {
-    match words {
-        [name] => read_settle(*name),
-        [name, word] => read_seat_pair(alloc, *name, *word),
-        _ => Ok(SeatCommand::Edit(read_edit(alloc, words)?)),
-    }
-}
-
-/// The command of a seat that a word alone is.
-fn read_settle<'a>(name: &str) -> Result<SeatCommand<'a>, LineFault>
-    ensures { IsSeatCommandAnswer (name.now ∷ []) result }
-{
-    match name {
-        "settle" => Ok(SeatCommand::Settle),
-        _ => Err(LineFault::Wrong),
-    }
-}
-
-/// The command of a seat that two words are.
-fn read_seat_pair<'a>(
-    alloc: Global,
-    name: &'a str,
-    word: &'a str,
-) -> Result<SeatCommand<'a>, LineFault>
-    ensures { IsSeatCommandAnswer (name.now ∷ word.now ∷ []) result }
-{
-    match name {
-        "load" => Ok(SeatCommand::Load { path: word }),
-        "show" => Ok(SeatCommand::Show {
-            number: read_given(word)?,
-        }),
-        _ => Ok(SeatCommand::Edit(read_edit(alloc, &[name, word])?)),
+    match command {
+        Command::Edit(edit) => Some(SeatCommand::Edit(edit)),
+        Command::Group(edits) => Some(SeatCommand::Group(edits)),
+        Command::Load { path } => Some(SeatCommand::Load { path }),
+        Command::Settle => Some(SeatCommand::Settle),
+        Command::Show { number } => Some(SeatCommand::Show { number }),
+        Command::Unit { .. } | Command::Take | Command::Land { .. } | Command::GiveBack { .. } => {
+            None
+        }
     }
 }

@@ -3,6 +3,7 @@ ghost use Rattle.edit_engine.specs.Machines.{empty};
 
 mod acts;
 mod folding;
+mod groups;
 mod middle;
 mod reading;
 mod runs;

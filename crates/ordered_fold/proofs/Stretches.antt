@@ -5,11 +5,10 @@ use Rattle.request_core.specs.States.{no_units}
 use Rattle.request_core.specs.Fold.{outcomes_of}
 use Rattle.request_core.specs.Agreement.{Stream}
 use Rattle.stream_edits.specs.declared.changes.Change as changes
-use Rattle.stream_edits.specs.declared.changes.Change.TheVariants.{Insertion, Deletion, Replacement}
 use Rattle.stream_fold.specs.declared.folded.Prepared.{Prepared}
-use Rattle.stream_edits.specs.Changes.{IsInside, stream_after}
+use Rattle.stream_edits.specs.Changes.{IsInside, stream_after, units_of as brought_by}
 use Rattle.stream_fold.specs.Prepared.{IsAnew, change_in, begin_in, end_in, outcomes_in}
-use Rattle.stream_fold.proofs.Changed.{length_after}
+use Rattle.stream_fold.proofs.Changed.{length_after, place_is}
 use Rattle.stream_fold.proofs.Folds.{length-outcomes_from}
 use Rattle.period_counts.specs.declared.shown.Shown.{Shown}
 use Rattle.period_counts.specs.Shown.{shown_of}
@@ -24,11 +23,11 @@ length-outcomes stream = length-outcomes_from no_units stream
 pub length-shown : (stream : Stream) → length (map shown_of (outcomes_of stream)) ≡ length stream
 length-shown stream = length-map (outcomes_of stream) shown_of ∙ length-outcomes stream
 
--- a change makes a stream longer by one unit at most
-pub one_longer : (change : changes.Change) (stream : Stream) → IsInside change stream → length (stream_after change stream) ≤ length stream + 1
-one_longer (Insertion at id unit) stream inside = omega (arith, length_after (Insertion at id unit) stream inside)
-one_longer (Deletion at id) stream inside = omega (arith, length_after (Deletion at id) stream inside)
-one_longer (Replacement at id unit) stream inside = omega (arith, length_after (Replacement at id unit) stream inside)
+-- a change makes a stream longer by the units that it brings at most
+pub longer : (change : changes.Change) (stream : Stream) → IsInside change stream
+    → length (stream_after change stream) ≤ length stream + length (brought_by change)
+longer change stream inside =
+    omega (arith, length_after change stream inside, place_is change (length stream) inside.within, inside.ordered, inside.within)
 
 module _ (stream : Stream) (periods : List (List (Option Shown))) (are : AreOrdered stream periods) where
   pub length-units : length (units_of periods) ≡ length stream
@@ -66,8 +65,8 @@ module _ (stream : Stream) (periods : List (List (Option Shown))) (are : AreOrde
     pub spliced_is : spliced begin end shown (units_of periods) ≡ map shown_of (outcomes_of after)
     spliced_is = rw (begin_is, end_is, shown_is) (shown_anew prepared anew)
 
-    pub spliced_fits : length stream + 1 < 2 ^ 64 → length (spliced begin end shown (units_of periods)) < 2 ^ 64
-    spliced_fits short = omega (arith, short, ap length spliced_is ∙ length-shown after, one_longer (change_in prepared) stream inside)
+    pub spliced_fits : length stream + length (brought_by (change_in prepared)) < 2 ^ 64 → length (spliced begin end shown (units_of periods)) < 2 ^ 64
+    spliced_fits short = omega (arith, short, ap length spliced_is ∙ length-shown after, longer (change_in prepared) stream inside)
 
     -- and then the periods are those of the stream after the change
     pub ordered_after : (splice : Change) → IsSplice splice periods begin end shown → AreOrdered after (changed splice periods)

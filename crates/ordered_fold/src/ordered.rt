@@ -4,7 +4,7 @@ ghost use Rattle.std.specs.Prelude.{◌≡◌, ℕ, ◌+◌, ◌^◌, ◌<◌, �
 ghost use Rattle.request_core.specs.Fold.{outcomes_of};
 ghost use Rattle.output_order.specs.OutputOrder.{positions_of};
 ghost use Rattle.period_counts.specs.Bounds.{period_size};
-ghost use Rattle.stream_edits.specs.Changes.{IsInside, stream_after};
+ghost use Rattle.stream_edits.specs.Changes.{IsInside, stream_after, units_of};
 ghost use Rattle.stream_fold.specs.Kept.{ArePast};
 ghost use Rattle.stream_fold.specs.Meeting.{IsMeeting};
 ghost use Rattle.stream_fold.specs.Prepared.{IsAnew, change_in, end_in, steps_in};
@@ -108,7 +108,7 @@ impl OrderedFold {
     /// stay as they were.
     pub fn prepare(&mut self, alloc: Global, change: Change) -> Result<PreparedChange, AllocError>
         requires inside { IsInside change self.old.folded.stream }
-        requires short { length self.old.folded.stream + 1 < 2 ^ 64 }
+        requires short { length self.old.folded.stream + length (units_of change) < 2 ^ 64 }
         ensures kept { self.new.folded.stream ≡ self.old.folded.stream }
         ensures ready { IfOk result (λ prepared. IsPrepared self.new prepared) }
         ensures change { IfOk result (λ prepared. change_in prepared.refolded ≡ change) }
@@ -116,7 +116,7 @@ impl OrderedFold {
             (λ prepared. IsAnew prepared.refolded self.old.folded.stream) }
         ensures few { IfOk result (λ prepared. (count : ℕ)
             → IsMeeting change self.old.folded.stream count
-            → steps_in prepared.refolded ≤ count + 64) }
+            → steps_in prepared.refolded ≤ length (units_of change) + count + 63) }
     {
         let refolded = self.folded.prepare(alloc, change)?;
         let shown = shown_of_each(alloc, refolded.outcomes())?;

@@ -10,7 +10,7 @@ use Rattle.pool_run.proofs.Numbered.{one-numbered}
 
 module _ (it : Seat) (opened : ℕ) (seats : List Seat) (cause : FinishFault) (one : opened ≡ 1) (only : seats ≡ it ∷ []) where
   -- a receipt that disagrees is told
-  pub disagreed : (journal : Option (List Edit)) (of number : ℕ) → cause ≡ faults.SeatDisagrees of number
+  pub disagreed : (journal : Option (List (List Edit))) (of number : ℕ) → cause ≡ faults.SeatDisagrees of number
       → IsFault opened seats cause journal → IsDisagreed it of number
   disagreed None of number is fault =
       let none : ⊥ = rw (one, only, is) at fault in absurd none
@@ -18,7 +18,7 @@ module _ (it : Seat) (opened : ℕ) (seats : List Seat) (cause : FinishFault) (o
       let first : HasFault 1 (it ∷ []) journal of number = rw (one, only, is) at fault in (journal, inl first)
 
   -- the seat isn't missing, so an edit stands in no book
-  pub lacking : (journal : Option (List Edit)) (number : ℕ) → it.number ≡ 1 → cause ≡ faults.SeatMissing
+  pub lacking : (journal : Option (List (List Edit))) (number : ℕ) → it.number ≡ 1 → cause ≡ faults.SeatMissing
       → IsFault opened seats cause journal → number ≡ length it.book.receipts.items + 1 → IsDisagreed it 1 number
   lacking None number first is fault after =
       let missing = rw (one, only, is) at fault in absurd (missing (one-numbered it first))

@@ -5,10 +5,12 @@ use Rattle.console_io.specs.Inputs.{Files}
 use Rattle.edit_script.specs.declared.seat_commands.SeatCommand.{SeatCommand}
 use Rattle.edit_script.specs.declared.seat_commands.SeatCommand.TheVariants as seat
 use Rattle.stream_edits.specs.declared.edits.Edit.{Edit}
+use Rattle.stream_edits.specs.declared.group_refused.GroupRefused.{GroupRefused}
+use Rattle.stream_edits.specs.declared.receipts.GroupReceipt.{GroupReceipt}
 use Rattle.stream_edits.specs.declared.receipts.Receipt.{Receipt}
 use Rattle.stream_edits.specs.declared.refusals.EditRefused.{EditRefused}
 use Rattle.decode_pool.specs.Finishing.{AreNumbered, seats_of}
-use Rattle.decode_pool.specs.Seats.{EditsOne}
+use Rattle.decode_pool.specs.Seats.{EditsGroupOne, EditsOne}
 use Rattle.decode_pool.specs.declared.seat.Seat.{Seat}
 use Rattle.pool_run.specs.Running.{Answers, InsertsAll, InsertsLast, Runs}
 
@@ -17,6 +19,12 @@ edit-keeps : (old : Seat) (edit : Edit) (answer : Result Receipt EditRefused) (n
     → EditsOne old edit answer new → new.number ≡ old.number
 edit-keeps old edit (Ok receipt) new edits = edits.4.0
 edit-keeps old edit (Err refused) new edits = edits.4.0
+
+-- a group of edits
+group-keeps : (old : Seat) (edits : List Edit) (answer : Result GroupReceipt GroupRefused) (new : Seat)
+    → EditsGroupOne old edits answer new → new.number ≡ old.number
+group-keeps old edits (Ok receipt) new makes = makes.4.0
+group-keeps old edits (Err refused) new makes = makes.4.0
 
 -- the insertion of a unit
 insertion-keeps : (old : Seat) (part : List (List ℕ)) (answer : Result Receipt EditRefused) (new : Seat)
@@ -37,6 +45,7 @@ module _ (files : Files) (hex : Bool) where
   answer-keeps : (old : Seat) (it : SeatCommand) (lines : List ℕ) (new : Seat)
       → Answers files hex old it lines new → new.number ≡ old.number
   answer-keeps old (seat.Edit edit) lines new answers = edit-keeps old edit answers.0 new answers.1
+  answer-keeps old (seat.Group edits) lines new answers = group-keeps old edits.items answers.0 new answers.1
   answer-keeps old (seat.Load path) lines new answers =
       elim answers.2.2 [
         | inl loaded ↦ insertions-keep _ old loaded.0 lines new loaded.3

@@ -19,6 +19,7 @@ module _ (files : Files) (hex : Bool) where
       → (old : Seat) (it : SeatCommand) (lines : List ℕ) (new : Seat)
       → Answers others hex old it lines new → Answers files hex old it lines new
   Answers-same others same old (seat.Edit edit) lines new answers = answers
+  Answers-same others same old (seat.Group edits) lines new answers = answers
   Answers-same others same old (seat.Load path) lines new answers =
       (answers.0, rw (same path.now) at answers.1, answers.2)
   Answers-same others same old seat.Settle lines new answers = answers

@@ -7,12 +7,14 @@ use Rattle.access_unit.specs.Rooms.{IsStream, IsStreamRefused, most_units}
 use Rattle.access_unit.specs.declared.room.Refusal.{Refusal}
 use Rattle.stream_edits.specs.declared.edits.Edit.{Edit}
 use Rattle.stream_edits.specs.declared.edits.Edit.TheVariants.{Insert}
+use Rattle.stream_edits.specs.declared.group_refused.GroupRefused.{GroupRefused}
+use Rattle.stream_edits.specs.declared.receipts.GroupReceipt.{GroupReceipt}
 use Rattle.stream_edits.specs.declared.receipts.Last.{Last}
 use Rattle.stream_edits.specs.declared.receipts.Receipt.{Receipt}
 use Rattle.stream_edits.specs.declared.refusals.EditRefused.{EditRefused}
 use Rattle.stream_edits.specs.declared.refusals.EditRefused.TheVariants as refusals
 use Rattle.edit_engine.specs.declared.showing.Shown.{Shown}
-use Rattle.decode_pool.specs.Seats.{EditsOne, IsLastOfOne, ShowsOne, WaitsForOne}
+use Rattle.decode_pool.specs.Seats.{EditsGroupOne, EditsOne, IsLastOfOne, ShowsOne, WaitsForOne}
 use Rattle.decode_pool.specs.declared.seat.Seat.{Seat}
 use Rattle.decode_pool.specs.declared.settling.Settled.TheVariants as settled
 use Rattle.console_io.specs.Inputs.{Files}
@@ -22,6 +24,7 @@ use Rattle.edit_script.specs.Words.{id_of}
 use Rattle.edit_script.specs.declared.seat_commands.SeatCommand.{SeatCommand}
 use Rattle.edit_script.specs.declared.seat_commands.SeatCommand.TheVariants as seat
 use Rattle.script_run.specs.Answers.{edit_line, refused_line, loaded_line}
+use Rattle.script_run.specs.GroupLines.{group_answer_line}
 use Rattle.script_run.specs.JobLines.{settled_line}
 use Rattle.script_run.specs.Running.{place_after}
 use Rattle.script_run.specs.ShownLines.{shown_line}
@@ -33,6 +36,11 @@ IsNew seat = (seat.number ≡ 1) × (seat.book.receipts.items ≡ [])
 -- the seat edits, and the line is that of its answer
 abbrev pub Edits : Seat → Edit → List ℕ → Seat → Type 0
 Edits old edit line new = (answer : Result Receipt EditRefused) × EditsOne old edit answer new × (line ≡ edit_line answer)
+
+-- the seat makes edits together, and the line is that of its answer
+abbrev pub EditsGroup : Seat → List Edit → List ℕ → Seat → Type 0
+EditsGroup old edits line new =
+    (answer : Result GroupReceipt GroupRefused) × EditsGroupOne old edits answer new × (line ≡ group_answer_line answer)
 
 -- no unit was pending, and the line says so
 abbrev pub Settles : List ℕ → Type 0
@@ -71,6 +79,7 @@ Loads old text lines new = (room : ℕ) × IsRoomOfOne room
 -- a command is answered by the lines, and leads from one state of the seat to the other
 abbrev pub Answers : Files → Bool → Seat → SeatCommand → List ℕ → Seat → Type 0
 Answers files hex old (seat.Edit edit) lines new = Edits old edit lines new
+Answers files hex old (seat.Group edits) lines new = EditsGroup old edits.items lines new
 Answers files hex old (seat.Load path) lines new =
     (text : List ℕ) × IfSome (files path.now) (λ bytes. text ≡ bytes) × Loads old text lines new
 Answers files hex old seat.Settle lines new = Settles lines × (new ≡ old)

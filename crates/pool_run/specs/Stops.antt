@@ -5,7 +5,6 @@ use Rattle.std.specs.Io.KnownBytes.{Appends, Keeps}
 use Rattle.console_io.specs.Chunks.{AppendsFront}
 use Rattle.console_io.specs.Inputs.{Files}
 use Rattle.decode_pool.specs.declared.seat.Seat.{Seat}
-use Rattle.edit_script.specs.Scripts.{lines_of}
 use Rattle.edit_script.specs.SeatScripts.{HasFirstWrongForSeat, IsSeatScript}
 use Rattle.edit_script.specs.declared.seat_commands.SeatCommand.{SeatCommand}
 use Rattle.edit_script.specs.declared.seat_commands.SeatCommand.TheVariants as seat
@@ -17,6 +16,7 @@ use Rattle.pool_run.specs.Running.{Answers, IsNew, Runs}
 -- why a command isn't answered; that no worker is left while pictures are due is told as want of memory is
 abbrev pub IsCommandFault : SeatCommand → RunFault → Type 0
 IsCommandFault (seat.Edit edit) fault = fault ≡ Memory
+IsCommandFault (seat.Group edits) fault = fault ≡ Memory
 IsCommandFault (seat.Load path) fault = IsLoadFault path fault
 IsCommandFault seat.Settle fault = fault ≡ Memory
 IsCommandFault (seat.Show number) fault = fault ≡ Memory
@@ -50,7 +50,7 @@ StopsRun files hex from commands fault refused old new =
 abbrev pub StopsText : Files → List ℕ → Bool → RunFault → Type 0 → Option (List ℕ) → Option (List ℕ) → Type 0
 StopsText files text hex fault refused old new =
     ((fault ≡ Memory) × Keeps old new)
-    ⊎ ((number : ℕ) × HasFirstWrongForSeat (lines_of text) number × (fault ≡ Script number) × Keeps old new)
+    ⊎ ((number : ℕ) × HasFirstWrongForSeat text number × (fault ≡ Script number) × Keeps old new)
     ⊎ ((commands : List SeatCommand) × (first : Seat) × IsSeatScript text commands × IsNew first
     × StopsAt files hex first commands fault refused old new)
 

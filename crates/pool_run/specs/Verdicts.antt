@@ -18,17 +18,18 @@ verdict_line (Disagrees seat number) =
 abbrev pub is_show : SeatReceipt → Bool
 is_show receipt = not (is_edit receipt)
 
--- a session's journal bears out the book of its desk's one seat, which has so many edits and so many shows
+-- a session's journal bears out the book of its desk's one seat, which has so many edits, a group counting as one, and so
+-- many shows
 pub record IsAgreed (seat : Seat) (edits shows : ℕ) : Type 0 where
-  pub journal : List Edit
+  pub journal : List (List Edit)
   pub finished : IsFinished 1 (seat ∷ []) journal
   pub edited : edits ≡ count_by is_edit seat.book.receipts.items
   pub shown : shows ≡ count_by is_show seat.book.receipts.items
 
--- the journal doesn't: a receipt is the first that doesn't agree with it; or all do, and one of its edits has none, of
+-- the journal doesn't: a receipt is the first that doesn't agree with it; or all do, and one of its entries has none, of
 -- which the receipt after the last is told
 abbrev pub IsDisagreed : Seat → ℕ → ℕ → Type 0
-IsDisagreed seat of number = (journal : List Edit)
+IsDisagreed seat of number = (journal : List (List Edit))
     × (HasFault 1 (seat ∷ []) journal of number
     ⊎ (LacksBook 1 (seat ∷ []) journal × (of ≡ 1) × (number ≡ length seat.book.receipts.items + 1)))
 

@@ -1,7 +1,7 @@
 //! The commands of a script, run by a seat one after the other.
 
 ghost use Rattle.std.specs.Prelude.{◌≡◌, ℕ, List, IfErr, IfOk, OnOk, string_bytes};
-ghost use Rattle.pool_run.specs.Running.{Answers, Edits, Settles, ShowsLine, WritesRun};
+ghost use Rattle.pool_run.specs.Running.{Answers, Edits, EditsGroup, Settles, ShowsLine, WritesRun};
 ghost use Rattle.pool_run.specs.Stops.{IsCommandFault, StopsAt};
 
 use crate::loading::load;
@@ -9,7 +9,7 @@ use console_io::{Sink, Source, write_bytes};
 use decode_pool::{Desk, Seat, Settled};
 use edit_engine::Edit;
 use edit_script::{SeatCommand, id_of_number};
-use script_run::{AcceptedLine, RefusedLine, RunFault, shown_line};
+use script_run::{AcceptedLine, GroupLine, GroupRefusedLine, RefusedLine, RunFault, shown_line};
 use std::alloc::{AllocError, Global};
 use std::sync::Wait;
 use std::thread::Threads;
@@ -57,6 +57,7 @@ fn run_command<'a, R: Threads + Wait + Sync, S: Source>(
 {
     match command {
         SeatCommand::Edit(edit) => Ok(edit_desk(rt, alloc, desk, seat, edit)?),
+        SeatCommand::Group(edits) => Ok(group_desk(rt, alloc, desk, seat, edits)?),
         SeatCommand::Load { path } => load(rt, alloc, desk, seat, path, source),
         SeatCommand::Settle => Ok(settle(rt, alloc, desk, seat)?),
         SeatCommand::Show { number } => Ok(show(rt, alloc, desk, seat, number, hex)?),
@@ -76,6 +77,22 @@ fn edit_desk<R: Wait>(
     match seat.edit(rt, desk, edit) {
         Ok(receipt) => AcceptedLine(receipt).to_string(alloc),
         Err(refused) => RefusedLine(refused).to_string(alloc),
+    }
+}
+
+/// Makes edits of the desk's stream together, and gives the line that says what becomes of them.
+fn group_desk<R: Wait>(
+    rt: &R,
+    alloc: Global,
+    desk: &Desk,
+    seat: &mut Seat,
+    edits: Vec<Edit>,
+) -> Result<String, AllocError>
+    ensures { IfOk result (λ line. EditsGroup seat.old edits.items (string_bytes line) seat.new) }
+{
+    match seat.edit_group(rt, desk, edits) {
+        Ok(receipt) => GroupLine(&receipt).to_string(alloc),
+        Err(refused) => GroupRefusedLine(refused).to_string(alloc),
     }
 }
 

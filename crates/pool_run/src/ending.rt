@@ -9,7 +9,7 @@ use decode_pool::{Desk, FinishFault, Seat, finish};
 use seat_books::{SeatBook, SeatReceipt};
 use std::alloc::{AllocError, Global};
 
-/// Ends the desk whose one seat this is, and says whether its book agrees with the journal. Where one of the journal's edits
+/// Ends the desk whose one seat this is, and says whether its book agrees with the journal. Where one of the journal's entries
 /// stands in no book, the receipt that disagrees is the one that is missing after the last.
 pub(crate) fn end(alloc: Global, desk: Desk, seat: Seat) -> Result<Verdict, AllocError>
     requires opened { desk.seats ≡ 1 }
@@ -40,7 +40,7 @@ fn next_number(book: &SeatBook) -> usize
     book.receipts.len() + 1
 }
 
-/// How many receipts of the book are of edits.
+/// How many receipts of the book are of edits and groups.
 fn edits_in(book: &SeatBook) -> usize
     ensures { result ≡ count_by is_edit book.now.receipts.items }
 {
@@ -60,9 +60,12 @@ fn shows_in(book: &SeatBook) -> usize
         .count()
 }
 
-/// Whether the receipt is of an edit.
+/// Whether the receipt is of an edit or a group.
 fn is_edit(receipt: &SeatReceipt) -> bool
     ensures { result ≡ is_edit receipt.now }
 {
-    matches!(receipt, SeatReceipt::Edit { .. })
+    matches!(
+        receipt,
+        SeatReceipt::Edit { .. } | SeatReceipt::Group { .. }
+    )
 }

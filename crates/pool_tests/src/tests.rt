@@ -4,6 +4,7 @@ ghost use Rattle.edit_engine.specs.Machines.{empty};
 mod books;
 mod ends;
 mod gates;
+mod groups;
 mod three_seats;
 mod two_workers;
 

@@ -3,6 +3,7 @@
 mod command_lines;
 mod controls;
 mod examples;
+mod groups;
 mod jobs;
 mod limits;
 mod loads;

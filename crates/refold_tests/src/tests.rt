@@ -1,8 +1,7 @@
 mod period_rows;
 mod stored_states;
 
-ghost use Rattle.std.specs.Prelude.{◌<◌, length};
-ghost use Rattle.stream_edits.specs.Changes.{IsInside};
+ghost use Rattle.std.specs.Prelude.{◌<◌, ◌≤◌, length};
 
 use access_unit::{Refused, Unit, read_unit};
 use base_types::Shared;
@@ -65,12 +64,24 @@ fn unit(rt: &(impl Abort + AllocGlobal), text: &[u8]) -> Result<Shared<Unit>, Al
     }
 }
 
-/// Makes the change, and says how many steps of the fold it took.
-fn changed(alloc: Global, folded: &mut Folded, change: Change) -> Result<u64, AllocError>
-    requires inside { IsInside change folded.old.stream }
+/// Puts the unit, if there is one, in place of those from `at` on and below `rest`, under the id of the place, and says how
+/// many steps of the fold it took.
+fn changed(
+    alloc: Global,
+    folded: &mut Folded,
+    at: usize,
+    rest: usize,
+    unit: Option<Shared<Unit>>,
+) -> Result<u64, AllocError>
+    requires ordered { at ≤ rest }
+    requires inside { rest ≤ length folded.old.stream }
     requires short { length folded.old.stream < 70000 }
 {
-    let prepared = folded.prepare(alloc, change)?;
+    let mut units = Vec::new(alloc);
+    if let Some(unit) = unit {
+        units.push((AuId::new(at as u32 + 1), unit))?;
+    }
+    let prepared = folded.prepare(alloc, Change::new(at, rest, units))?;
     let steps = prepared.steps();
     folded.commit(prepared);
     Ok(steps)
@@ -86,9 +97,8 @@ fn append(
     if at >= 69_999 {
         panic!(rt; "the stream is too long");
     }
-    let id = AuId::new(at as u32 + 1);
     let unit = unit(rt, text)?;
-    changed(rt.alloc(), folded, Change::Insertion { at, id, unit })
+    changed(rt.alloc(), folded, at, at, Some(unit))
 }
 
 /// Puts the unit of a text in the place of the one at the place.
@@ -102,9 +112,8 @@ fn replace(
     if at >= count || count >= 70_000 {
         panic!(rt; "there is no such unit");
     }
-    let id = AuId::new(at as u32 + 1);
     let unit = unit(rt, text)?;
-    changed(rt.alloc(), folded, Change::Replacement { at, id, unit })
+    changed(rt.alloc(), folded, at, at + 1, Some(unit))
 }
 
 /// Takes the unit at the place away.
@@ -117,8 +126,7 @@ fn delete(
     if at >= count || count >= 70_000 {
         panic!(rt; "there is no such unit");
     }
-    let id = AuId::new(at as u32 + 1);
-    changed(rt.alloc(), folded, Change::Deletion { at, id })
+    changed(rt.alloc(), folded, at, at + 1, None)
 }
 
 /// Whether the unit at the place is valid.
@@ -188,9 +196,9 @@ fn append_in_order(
     if at >= 69_999 {
         panic!(rt; "the stream is too long");
     }
-    let id = AuId::new(at as u32 + 1);
-    let unit = unit(rt, text)?;
-    let prepared = ordered.prepare(rt.alloc(), Change::Insertion { at, id, unit })?;
+    let mut units = Vec::with_capacity(rt.alloc(), 1)?;
+    units.push((AuId::new(at as u32 + 1), unit(rt, text)?))?;
+    let prepared = ordered.prepare(rt.alloc(), Change::new(at, at, units))?;
     ordered.commit(prepared);
     Ok(())
 }

@@ -20,6 +20,7 @@ module _ (files : Files) (hex : Bool) where
       → (old : Machine) (it : Command) (lines : List ℕ) (new : Machine)
       → Answers others hex old it lines new → Answers files hex old it lines new
   Answers-same others same old (command.Edit edit) lines new answers = answers
+  Answers-same others same old (command.Group edits) lines new answers = answers
   Answers-same others same old (command.Load path) lines new answers =
       (answers.0, rw (same path.now) at answers.1, answers.2)
   Answers-same others same old (command.Unit number) lines new answers = answers

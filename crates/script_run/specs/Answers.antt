@@ -10,6 +10,7 @@ use Rattle.stream_edits.specs.Names.{name_of}
 use Rattle.stream_edits.specs.Numbers.{number_of}
 use Rattle.unit_lines.specs.UnitLines.{outcome_lines}
 use Rattle.edit_script.specs.Words.{id_of}
+use Rattle.script_run.specs.GroupLines.{group_answer_line}
 use Rattle.script_run.specs.JobLines.{taken_line, landed_line, given_line}
 use Rattle.script_run.specs.ShownLines.{shown_line}
 
@@ -45,6 +46,7 @@ report_lines number (Err none) = no_unit_line number
 -- for. That all numbers of jobs were given has no line: it ends the run
 abbrev pub reply_lines : Bool → ℕ → Reply → Option (List ℕ)
 reply_lines hex number (replies.Edit answer) = Some (edit_line answer)
+reply_lines hex number (replies.Group answer) = Some (group_answer_line answer)
 reply_lines hex number (replies.Unit report) = Some (report_lines number report)
 reply_lines hex number (replies.Take (Ok job)) = Some (taken_line job)
 reply_lines hex number (replies.Take (Err refused)) = None

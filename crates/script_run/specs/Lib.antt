@@ -1,5 +1,6 @@
 pub mod Answers
 pub mod JobLines
+pub mod GroupLines
 pub mod ShownLines
 pub mod Settling
 pub mod RunFaults

@@ -34,6 +34,7 @@ IsLoadFault name fault = (fault ≡ Memory) ⊎ (fault ≡ Unread name)
 -- why a command isn't answered; that all numbers of jobs were given is told as want of memory is
 abbrev pub IsCommandFault : Command → RunFault → Type 0
 IsCommandFault (command.Edit edit) fault = fault ≡ Memory
+IsCommandFault (command.Group edits) fault = fault ≡ Memory
 IsCommandFault (command.Load path) fault = IsLoadFault path fault
 IsCommandFault (command.Unit number) fault = fault ≡ Memory
 IsCommandFault command.Take fault = fault ≡ Memory

@@ -1,7 +1,6 @@
 -- The run of a script's commands on a session, and what it writes (docs/OUTPUT.md).
 use Rattle.std.specs.Prelude.{◌≡◌, ℕ, ◌-◌, ◌≤◌, ◌++◌, Bool, List, [], ◌∷◌, length, Ok, Err, Option, Some, None, IfSome, ◌⊎◌}
 use Rattle.std.specs.Io.KnownBytes.{Appends}
-use Rattle.std.specs.List.{AllZip, filter}
 use Rattle.annexb.specs.ByteStream.{joined}
 use Rattle.stream_edits.specs.declared.edits.Edit.TheVariants.{Insert}
 use Rattle.stream_edits.specs.declared.edits.Place.{Place}
@@ -23,7 +22,7 @@ use Rattle.script_run.specs.Settling.{Settles}
 use Rattle.console_io.specs.Inputs.{Files}
 use Rattle.access_unit.specs.Rooms.{IsStream, IsStreamRefused, most_units}
 use Rattle.unit_lines.specs.Refusals.{refusal_text}
-use Rattle.edit_script.specs.Scripts.{lines_of, is_read, IsLine}
+use Rattle.edit_script.specs.Scripts.{IsScript}
 use Rattle.edit_script.specs.Words.{id_of}
 use Rattle.edit_script.specs.declared.commands.Command.{Command}
 use Rattle.edit_script.specs.declared.commands.Command.TheVariants as command
@@ -71,6 +70,7 @@ Follows hex old told number lines new =
 -- a command is answered by the lines, and leads from one state of the session to the other
 abbrev pub Answers : Files → Bool → Machine → Command → List ℕ → Machine → Type 0
 Answers files hex old (command.Edit edit) lines new = Follows hex old (told.Edit edit) 0 lines new
+Answers files hex old (command.Group edits) lines new = Follows hex old (told.Group edits) 0 lines new
 Answers files hex old (command.Load path) lines new =
     (text : List ℕ) × IfSome (files path.now) (λ bytes. text ≡ bytes) × Loads old text lines new
 Answers files hex old (command.Unit number) lines new = Follows hex old (told.Unit (id_of number)) number lines new
@@ -98,5 +98,5 @@ WritesRun files hex from commands to old new =
 pub record WritesScript (files : Files) (text : List ℕ) (room : ℕ) (hex : Bool) (old new : Option (List ℕ)) : Type 0 where
   pub commands : List Command
   pub last : Machine
-  pub read : AllZip IsLine (filter is_read (lines_of text)) commands
+  pub read : IsScript text commands
   pub answered : WritesRun files hex (empty room) commands last old new

@@ -2,11 +2,10 @@
 use Rattle.std.specs.Prelude.{◌≡◌, ℕ, ◌++◌, Bool, List, ◌∷◌, Option, ◌⊎◌}
 use Rattle.std.specs.Borrow.{Bor}
 use Rattle.std.specs.Io.KnownBytes.{Appends, Keeps}
-use Rattle.std.specs.List.{AllZip, filter}
 use Rattle.console_io.specs.Chunks.{AppendsFront}
 use Rattle.console_io.specs.Inputs.{Files}
 use Rattle.edit_engine.specs.Machines.{Machine, empty}
-use Rattle.edit_script.specs.Scripts.{lines_of, is_read, HasFirstWrong, IsLine}
+use Rattle.edit_script.specs.Scripts.{HasFirstWrong, IsScript}
 use Rattle.edit_script.specs.declared.commands.Command.{Command}
 use Rattle.script_run.specs.Running.{Answers, Runs}
 use Rattle.script_run.specs.RunFaults.{IsCommandFault}
@@ -37,8 +36,8 @@ pub record StopsAt (files : Files) (hex : Bool) (from : Machine) (commands : Lis
 abbrev pub StopsText : Files → List ℕ → ℕ → Bool → RunFault → Type 0 → Option (List ℕ) → Option (List ℕ) → Type 0
 StopsText files text room hex fault refused old new =
     ((fault ≡ Memory) × Keeps old new)
-    ⊎ ((number : ℕ) × HasFirstWrong (lines_of text) number × (fault ≡ Script number) × Keeps old new)
-    ⊎ ((commands : List Command) × AllZip IsLine (filter is_read (lines_of text)) commands
+    ⊎ ((number : ℕ) × HasFirstWrong text number × (fault ≡ Script number) × Keeps old new)
+    ⊎ ((commands : List Command) × IsScript text commands
     × StopsAt files hex (empty room) commands fault refused old new)
 
 -- the script of this name and text isn't run to its end by this fault: it can't be read, or its text isn't run

@@ -6,6 +6,7 @@
 #![tactic(auto)]
 
 mod answers;
+mod group_lines;
 mod job_lines;
 mod loading;
 mod messages;
@@ -17,6 +18,7 @@ mod shown_lines;
 
 pub use answers::{AcceptedLine, LoadedLine, RefusedLine};
 pub use edit_engine::MOST_ROOM;
+pub use group_lines::{GroupLine, GroupRefusedLine};
 pub use loading::shared_file;
 pub use messages::say_run_fault;
 pub use options::Options;

@@ -11,6 +11,7 @@ ghost use Rattle.script_run.specs.Running.{Answers, Follows, WritesRun, WritesSc
 ghost use Rattle.script_run.specs.Stops.{StopsAt, StopsBy, StopsText};
 
 use crate::answers::{AcceptedLine, NoUnitLine, RefusedLine};
+use crate::group_lines::{GroupLine, GroupRefusedLine};
 use crate::job_lines::{GivenLine, LandedLine, TakenLine};
 use crate::loading::load;
 use crate::messages::say_run_fault;
@@ -132,6 +133,7 @@ fn run_command<'a, S: Source>(
 {
     match command {
         Command::Edit(edit) => Ok(follow(alloc, runner, Told::Edit(edit), 0, hex)?),
+        Command::Group(edits) => Ok(follow(alloc, runner, Told::Group(edits), 0, hex)?),
         Command::Load { path } => load(threads, alloc, path, runner, source),
         Command::Unit { number } => {
             let told = Told::Unit(id_of_number(number));
@@ -172,6 +174,8 @@ fn reply_lines(alloc: Global, number: u64, hex: bool, reply: &Reply) -> Result<S
     match reply {
         Reply::Edit(Ok(receipt)) => AcceptedLine(*receipt).to_string(alloc),
         Reply::Edit(Err(refused)) => RefusedLine(*refused).to_string(alloc),
+        Reply::Group(Ok(receipt)) => GroupLine(receipt).to_string(alloc),
+        Reply::Group(Err(refused)) => GroupRefusedLine(*refused).to_string(alloc),
         Reply::Unit(report) => report_lines(alloc, number, report),
         Reply::Take(Ok(job)) => TakenLine(*job).to_string(alloc),
         // All numbers of jobs were given, which is told as want of memory is.

@@ -18,7 +18,7 @@ below_or (suc k) (suc n) low =
     elim (below_or k n (omega (arith, low))) [ inl less ↦ inl (omega (arith, less)) | inr same ↦ inr (ap suc same) ]
 
 -- one receipt more agrees
-pub FirstAgree-more : (journal : List Edit) (lower : List SeatBook) (book : List SeatReceipt) (n : ℕ) (receipt : SeatReceipt)
+pub FirstAgree-more : (journal : List (List Edit)) (lower : List SeatBook) (book : List SeatReceipt) (n : ℕ) (receipt : SeatReceipt)
     → slice_get book n ≡ Some receipt → Agrees journal lower (take n book) receipt → FirstAgree journal lower book n
     → FirstAgree journal lower book (n + 1)
 FirstAgree-more journal lower book n receipt stands agrees first at other low there =
@@ -32,7 +32,7 @@ FirstAgree-more journal lower book n receipt stands agrees first at other low th
     ]
 
 -- one book more agrees
-pub FirstBooksAgree-more : (journal : List Edit) (books : List SeatBook) (n : ℕ) (book : SeatBook)
+pub FirstBooksAgree-more : (journal : List (List Edit)) (books : List SeatBook) (n : ℕ) (book : SeatBook)
     → slice_get books n ≡ Some book → BookAgrees journal (take n books) book → FirstBooksAgree journal books n
     → FirstBooksAgree journal books (n + 1)
 FirstBooksAgree-more journal books n book stands agrees first at other low there =

@@ -12,7 +12,8 @@ use Rattle.key_places.proofs.Members.{nowhere}
 use Rattle.stream_edits.specs.declared.edits.Edit.{Edit}
 use Rattle.edit_engine.specs.declared.showing.Shown.{Shown}
 use Rattle.edit_engine.specs.declared.showing.Shown.TheVariants as shown
-use Rattle.stream_edits.specs.Edits.{Register, Makes}
+use Rattle.stream_edits.specs.Edits.{Register}
+use Rattle.stream_edits.specs.Groups.{MakesAll}
 use Rattle.edit_engine.specs.Machines.{Machine, empty}
 use Rattle.edit_engine.specs.Showing.{keys_in, HasKey}
 use Rattle.seat_books.specs.declared.book.SeatBook.{SeatBook}
@@ -20,40 +21,40 @@ use Rattle.seat_books.specs.declared.receipts.SeatReceipt.{SeatReceipt}
 use Rattle.seat_books.specs.declared.receipts.SeatReceipt.TheVariants as receipts
 use Rattle.seat_books.specs.declared.replay.Replay.{Replay}
 use Rattle.seat_books.specs.Books.{Agrees, EditAgrees, IsPossible, LeadTo, ShowAgrees, ShowsReady, WasReady, is_noted, length_in}
-use Rattle.seat_books.specs.Following.{AreReady, IsChecked, IsKeyOf, IsReplayed, IsUpTo, MakesEdit, Sees, reach}
+use Rattle.seat_books.specs.Following.{AreReady, IsChecked, IsKeyOf, IsOf, IsReplayed, IsUpTo, MakesEntry, Sees, reach}
 use Rattle.seat_books.proofs.Fronts.{IsFront-next, IsFront-same, LeadTo-next, length_next}
 use Rattle.seat_books.proofs.Numbers.{one_key}
-use Rattle.seat_books.proofs.Readies.{AreReady-edit, AreReady-extended, AreReady-plain, AreReady-shown}
-use Rattle.seat_books.proofs.Unique.{one_edit, one_lead, some_same}
+use Rattle.seat_books.proofs.Readies.{AreReady-entry, AreReady-extended, AreReady-plain, AreReady-shown}
+use Rattle.seat_books.proofs.Unique.{all_edits, one_lead, some_same}
 
 pub not_true : false ≡ true → ⊥
 not_true is = cc
 
--- a replay that makes the next edit
-pub IsReplayed-next : (journal : List Edit) (earlier : List SeatReceipt) (old new : Replay) (edit : Edit) (id : ℕ)
-    (found : List (Option ℕ)) → IsReplayed journal earlier old → slice_get journal (reach old) ≡ Some edit
-    → MakesEdit old edit id new → Extends old.keys new.keys → IsKeyMap new.keys
+-- a replay that makes the next entry
+pub IsReplayed-next : (journal : List (List Edit)) (earlier : List SeatReceipt) (old new : Replay) (edits : List Edit)
+    (ids : List ℕ) (found : List (Option ℕ)) → IsReplayed journal earlier old → slice_get journal (reach old) ≡ Some edits
+    → MakesEntry old.session edits ids new.session → Extends old.keys new.keys → IsKeyMap new.keys
     → AllStandFor new.keys found (keys_in new.session.register.stream)
     → ((number : ℕ) → Contains new.ready.items number ↔ (Contains old.ready.items number × Contains found (Some number)))
     → IsReplayed journal earlier new
-IsReplayed-next journal earlier old new edit id found replayed stands makes extends one stand used =
-    let more : reach new ≡ reach old + 1 = length_next old.session.journal new.session.journal edit makes.journaled in
+IsReplayed-next journal earlier old new edits ids found replayed stands makes extends one stand used =
+    let more : reach new ≡ reach old + 1 = length_next old.session.journal new.session.journal edits makes.journaled in
     let leads : LeadTo journal (reach old + 1) new.session.register =
-    LeadTo-next journal (reach old) old.session.register edit id new.session.register replayed.made.leads stands makes.made in
+    LeadTo-next journal (reach old) old.session.register edits ids new.session.register replayed.made.leads stands makes.made in
     record {
-      made = IsFront-next journal old.session new.session edit id replayed.made stands makes.made makes.journaled;
+      made = IsFront-next journal old.session new.session edits ids replayed.made stands makes;
       passed =
           All-weaker (λ (receipt : SeatReceipt). length_in receipt ≤ reach old) (λ (receipt : SeatReceipt). length_in receipt ≤ reach new)
           (λ receipt below. omega (arith, more, below)) earlier replayed.passed;
       one = one;
       ready =
           subst (λ (n : ℕ). AreReady journal earlier n new.keys new.ready.items) (sym more)
-          (AreReady-edit journal earlier (reach old) new.session.register old.keys new.keys found old.ready.items new.ready.items
+          (AreReady-entry journal earlier (reach old) new.session.register old.keys new.keys found old.ready.items new.ready.items
           replayed.passed leads extends one stand used replayed.ready);
     }
 
--- a replay of the same edits, by more keys
-pub IsReplayed-extended : (journal : List Edit) (earlier : List SeatReceipt) (old new : Replay)
+-- a replay of the same entries, by more keys
+pub IsReplayed-extended : (journal : List (List Edit)) (earlier : List SeatReceipt) (old new : Replay)
     → new.session.journal ≡ old.session.journal → new.session.register ≡ old.session.register
     → Extends old.keys new.keys → IsKeyMap new.keys → new.ready.items ≡ old.ready.items
     → IsReplayed journal earlier old → IsReplayed journal earlier new
@@ -70,7 +71,7 @@ IsReplayed-extended journal earlier old new journal_is register_is extends one r
     }
 
 -- a receipt of no picture follows
-pub IsReplayed-plain : (journal : List Edit) (earlier : List SeatReceipt) (receipt : SeatReceipt) (replay : Replay)
+pub IsReplayed-plain : (journal : List (List Edit)) (earlier : List SeatReceipt) (receipt : SeatReceipt) (replay : Replay)
     → ((key : Key) → ShowsReady journal (reach replay) key receipt → ⊥) → length_in receipt ≤ reach replay
     → IsReplayed journal earlier replay → IsReplayed journal (earlier ++ receipt ∷ []) replay
 IsReplayed-plain journal earlier receipt replay plain below replayed = record {
@@ -81,7 +82,7 @@ IsReplayed-plain journal earlier receipt replay plain below replayed = record {
 }
 
 -- a receipt of a picture follows, whose key is noted
-pub IsReplayed-shown : (journal : List Edit) (earlier : List SeatReceipt) (old new : Replay) (id number : ℕ) (key : Key)
+pub IsReplayed-shown : (journal : List (List Edit)) (earlier : List SeatReceipt) (old new : Replay) (id number : ℕ) (key : Key)
     (picture : Picture) → new.session.journal ≡ old.session.journal → new.session.register ≡ old.session.register
     → new.keys ≡ old.keys → new.ready.items ≡ old.ready.items ++ number ∷ []
     → tree_at old.keys number ≡ Some key → HasKey old.session.register.stream id key
@@ -104,7 +105,7 @@ IsReplayed-shown journal earlier old new id number key picture journal_is regist
     }
 
 -- no receipt of that kind agrees
-pub unchecked : (journal : List Edit) (lower : List SeatBook) (earlier : List SeatReceipt) (receipt : SeatReceipt) (new : Replay)
+pub unchecked : (journal : List (List Edit)) (lower : List SeatBook) (earlier : List SeatReceipt) (receipt : SeatReceipt) (new : Replay)
     → (Agrees journal lower earlier receipt → ⊥) → IsChecked journal lower earlier receipt false new
 unchecked journal lower earlier receipt new differs = record {
   is = λ agrees. absurd (not_true agrees);
@@ -112,10 +113,10 @@ unchecked journal lower earlier receipt new differs = record {
   follows = λ agrees. absurd (not_true agrees);
 }
 
-module _ (journal : List Edit) (lower : List SeatBook) (earlier : List SeatReceipt) (replay : Replay)
-    (up : IsUpTo journal earlier replay) (edit : Edit) (id n : ℕ) where
+module _ (journal : List (List Edit)) (lower : List SeatBook) (earlier : List SeatReceipt) (replay : Replay)
+    (up : IsUpTo journal earlier replay) (edits : List Edit) (ids : List ℕ) (n : ℕ) where
   -- a length that isn't above those before
-  pub edit_too_low : n ≤ reach replay → EditAgrees journal lower earlier edit id n → ⊥
+  pub edit_too_low : n ≤ reach replay → EditAgrees journal lower earlier edits ids n → ⊥
   edit_too_low low agrees =
       elim up.last [
         | inl none ↦ omega (arith, none, low, agrees.counted)
@@ -125,22 +126,19 @@ module _ (journal : List Edit) (lower : List SeatBook) (earlier : List SeatRecei
       ]
 
   -- a length that the journal doesn't reach
-  pub edit_too_long : length journal < n → EditAgrees journal lower earlier edit id n → ⊥
-  edit_too_long long agrees = omega (arith, long, agrees.counted, slice_get_within journal agrees.at edit agrees.stands)
+  pub edit_too_long : length journal < n → EditAgrees journal lower earlier edits ids n → ⊥
+  edit_too_long long agrees = omega (arith, long, agrees.counted, slice_get_within journal agrees.at edits agrees.stands)
 
-  -- an edit of a lower seat
-  pub edit_of_another : is_noted lower n ≡ true → EditAgrees journal lower earlier edit id n → ⊥
+  -- an entry of a lower seat
+  pub edit_of_another : is_noted lower n ≡ true → EditAgrees journal lower earlier edits ids n → ⊥
   edit_of_another noted agrees = not_true (sym agrees.own ∙ noted)
 
-  -- another edit
-  pub another_edit : (at : ℕ) (other : Edit) → n ≡ at + 1 → slice_get journal at ≡ Some other → (edit ≡ other → ⊥)
-      → EditAgrees journal lower earlier edit id n → ⊥
-  another_edit at other counted stands differs agrees =
+  -- other edits
+  pub other_edits : (at : ℕ) (others : List Edit) → n ≡ at + 1 → slice_get journal at ≡ Some others → (edits ≡ others → ⊥)
+      → EditAgrees journal lower earlier edits ids n → ⊥
+  other_edits at others counted stands differs agrees =
       let same : agrees.at ≡ at = omega (arith, counted, agrees.counted) in
-      differs (some_edit edit other (sym (subst (λ (k : ℕ). slice_get journal k ≡ Some edit) same agrees.stands) ∙ stands))
-    where
-      some_edit : (a b : Edit) → Some a ≡ Some b → a ≡ b
-      some_edit a b same = cc
+      differs (some_same edits others (sym (subst (λ (k : ℕ). slice_get journal k ≡ Some edits) same agrees.stands) ∙ stands))
 
   -- a length as it has to be
   pub lengths_below : reach replay < n → All (λ (receipt : SeatReceipt). length_in receipt < n) earlier
@@ -148,44 +146,88 @@ module _ (journal : List Edit) (lower : List SeatBook) (earlier : List SeatRecei
       All-weaker (λ (receipt : SeatReceipt). length_in receipt ≤ reach replay) (λ (receipt : SeatReceipt). length_in receipt < n)
       (λ receipt below. omega (arith, low, below)) earlier up.replayed.passed
 
--- the edit was made anew, and its id is compared
-pub checked_edit : (journal : List Edit) (lower : List SeatBook) (earlier : List SeatReceipt) (replay mid new : Replay)
-    (edit : Edit) (id n given : ℕ) (agrees : Bool) → IsUpTo journal earlier replay → reach replay < n
-    → is_noted lower n ≡ false → slice_get journal (reach mid) ≡ Some edit → n ≡ reach mid + 1
-    → IsReplayed journal earlier mid → MakesEdit mid edit given new → IsReplayed journal earlier new
-    → (IsTrue agrees → given ≡ id) → (given ≡ id → IsTrue agrees)
-    → IsChecked journal lower earlier (receipts.Edit edit id n) agrees new
-checked_edit journal lower earlier replay mid new edit id n given agrees up low own stands counted replayed makes next same only =
-    let more : reach new ≡ n = length_next mid.session.journal new.session.journal edit makes.journaled ∙ sym counted in
+-- no receipt of those edits agrees, where they don't
+pub of_disagrees : (journal : List (List Edit)) (lower : List SeatBook) (earlier : List SeatReceipt) (receipt : SeatReceipt)
+    (edits : List Edit) (ids : List ℕ) (n : ℕ) → IsOf receipt edits ids n
+    → (EditAgrees journal lower earlier edits ids n → ⊥) → Agrees journal lower earlier receipt → ⊥
+of_disagrees journal lower earlier (receipts.Edit edit id m) edits ids n of differs agrees =
+    differs (rw (of.0, of.1, of.2) agrees)
+of_disagrees journal lower earlier (receipts.Group group m) edits ids n of differs agrees =
+    differs (rw (of.0, of.1, of.2) agrees)
+of_disagrees journal lower earlier (receipts.Show id answer m) edits ids n of differs agrees = absurd of
+
+-- a receipt of those edits shows no picture, and has their length
+of_plain : (journal : List (List Edit)) (receipt : SeatReceipt) (edits : List Edit) (ids : List ℕ) (n m : ℕ)
+    → IsOf receipt edits ids n → (key : Key) → ShowsReady journal m key receipt → ⊥
+of_plain journal (receipts.Edit edit id k) edits ids n m of key shows = shows
+of_plain journal (receipts.Group group k) edits ids n m of key shows = shows
+of_plain journal (receipts.Show id answer k) edits ids n m of key shows = absurd of
+
+of_length : (receipt : SeatReceipt) (edits : List Edit) (ids : List ℕ) (n : ℕ) → IsOf receipt edits ids n
+    → length_in receipt ≡ n
+of_length (receipts.Edit edit id m) edits ids n of = sym of.2
+of_length (receipts.Group group m) edits ids n of = sym of.2
+of_length (receipts.Show id answer m) edits ids n of = absurd of
+
+-- it agrees where they do
+of_agrees : (journal : List (List Edit)) (lower : List SeatBook) (earlier : List SeatReceipt) (receipt : SeatReceipt)
+    (edits : List Edit) (ids : List ℕ) (n : ℕ) → IsOf receipt edits ids n → EditAgrees journal lower earlier edits ids n
+    → Agrees journal lower earlier receipt
+of_agrees journal lower earlier (receipts.Edit edit id m) edits ids n of agrees = rw (of.0, of.1, of.2) at agrees
+of_agrees journal lower earlier (receipts.Group group m) edits ids n of agrees = rw (of.0, of.1, of.2) at agrees
+of_agrees journal lower earlier (receipts.Show id answer m) edits ids n of agrees = absurd of
+
+of_edits : (journal : List (List Edit)) (lower : List SeatBook) (earlier : List SeatReceipt) (receipt : SeatReceipt)
+    (edits : List Edit) (ids : List ℕ) (n : ℕ) → IsOf receipt edits ids n → Agrees journal lower earlier receipt
+    → EditAgrees journal lower earlier edits ids n
+of_edits journal lower earlier (receipts.Edit edit id m) edits ids n of agrees = rw (of.0, of.1, of.2) agrees
+of_edits journal lower earlier (receipts.Group group m) edits ids n of agrees = rw (of.0, of.1, of.2) agrees
+of_edits journal lower earlier (receipts.Show id answer m) edits ids n of agrees = absurd of
+
+-- the entry was made anew, and its ids are compared
+pub checked_edit : (journal : List (List Edit)) (lower : List SeatBook) (earlier : List SeatReceipt) (replay mid new : Replay)
+    (receipt : SeatReceipt) (edits : List Edit) (ids : List ℕ) (n : ℕ) (given : List ℕ) (agrees : Bool)
+    → IsOf receipt edits ids n → IsUpTo journal earlier replay → reach replay < n
+    → is_noted lower n ≡ false → slice_get journal (reach mid) ≡ Some edits → n ≡ reach mid + 1
+    → IsReplayed journal earlier mid → MakesEntry mid.session edits given new.session → IsReplayed journal earlier new
+    → (IsTrue agrees → given ≡ ids) → (given ≡ ids → IsTrue agrees)
+    → IsChecked journal lower earlier receipt agrees new
+checked_edit journal lower earlier replay mid new receipt edits ids n given agrees of up low own stands counted replayed makes next
+    same only =
+    let more : reach new ≡ n = length_next mid.session.journal new.session.journal edits makes.journaled ∙ sym counted in
+    let long : length_in receipt ≡ n = of_length receipt edits ids n of in
     record {
-      is = λ so. record {
-        at = reach mid;
-        before = mid.session.register;
-        after = new.session.register;
-        counted = counted;
-        stands = stands;
-        leads = replayed.made.leads;
-        made = subst (λ (k : ℕ). Makes mid.session.register edit k new.session.register) (same so) makes.made;
-        later = lengths_below journal lower earlier replay up edit id n low;
-        own = own;
-      };
-      only = λ is.
+      is = λ so.
+          of_agrees journal lower earlier receipt edits ids n of (record {
+            at = reach mid;
+            before = mid.session.register;
+            after = new.session.register;
+            counted = counted;
+            stands = stands;
+            leads = replayed.made.leads;
+            made = subst (λ (ks : List ℕ). MakesAll mid.session.register edits ks new.session.register) (same so) makes.made;
+            later = lengths_below journal lower earlier replay up edits ids n low;
+            own = own;
+          });
+      only = λ agreed.
+          let is = of_edits journal lower earlier receipt edits ids n of agreed in
           let at : is.at ≡ reach mid = omega (arith, counted, is.counted) in
           let register : is.before ≡ mid.session.register =
           one_lead journal (reach mid) is.before mid.session.register
           (subst (λ (k : ℕ). LeadTo journal k is.before) at is.leads) replayed.made.leads in
-          let made : Makes mid.session.register edit id is.after =
-          subst (λ (r : Register). Makes r edit id is.after) register is.made in
-          only (one_edit mid.session.register edit given id new.session.register is.after makes.made made).ids;
+          let made : MakesAll mid.session.register edits ids is.after =
+          subst (λ (r : Register). MakesAll r edits ids is.after) register is.made in
+          only (all_edits mid.session.register edits given ids new.session.register is.after makes.made made).given;
       follows = λ so. record {
         replayed =
-            IsReplayed-plain journal earlier (receipts.Edit edit id n) new (λ key shows. shows) (omega (arith, more)) next;
-        last = inr (receipts.Edit edit id n, Contains-push earlier (receipts.Edit edit id n), sym more);
+            IsReplayed-plain journal earlier receipt new (of_plain journal receipt edits ids n (reach new) of)
+            (omega (arith, more, long)) next;
+        last = inr (receipt, Contains-push earlier receipt, long ∙ sym more);
       };
     }
 
 -- a show whose length isn't as it has to be
-pub show_too_low : (journal : List Edit) (earlier : List SeatReceipt) (replay : Replay) (id : ℕ) (answer : Shown) (n : ℕ)
+pub show_too_low : (journal : List (List Edit)) (earlier : List SeatReceipt) (replay : Replay) (id : ℕ) (answer : Shown) (n : ℕ)
     → IsUpTo journal earlier replay → n < reach replay → ShowAgrees journal earlier id answer n → ⊥
 show_too_low journal earlier replay id answer n up low agrees =
     elim up.last [
@@ -196,7 +238,7 @@ show_too_low journal earlier replay id answer n up low agrees =
     ]
 
 -- what is seen is what is shown
-pub checked_show : (journal : List Edit) (lower : List SeatBook) (earlier : List SeatReceipt) (mid new : Replay)
+pub checked_show : (journal : List (List Edit)) (lower : List SeatBook) (earlier : List SeatReceipt) (mid new : Replay)
     (id : ℕ) (answer : Shown) (n : ℕ) (agrees : Bool) → IsReplayed journal earlier mid → reach mid ≡ n
     → Sees journal earlier mid id answer agrees new
     → IsChecked journal lower earlier (receipts.Show id answer n) agrees new
@@ -224,7 +266,7 @@ checked_show journal lower earlier mid new id answer n agrees replayed reached s
     })
 
 -- what is seen, where it isn't a picture
-pub Sees-plain : (journal : List Edit) (earlier : List SeatReceipt) (old new : Replay) (id : ℕ) (answer : Shown)
+pub Sees-plain : (journal : List (List Edit)) (earlier : List SeatReceipt) (old new : Replay) (id : ℕ) (answer : Shown)
     (possible : Bool) → ((key : Key) → ShowsReady journal (reach old) key (receipts.Show id answer (reach old)) → ⊥)
     → new.session.journal ≡ old.session.journal → IsReplayed journal earlier new
     → (IsTrue possible → IsPossible journal earlier (reach old) old.session.register.stream id answer)
@@ -243,7 +285,7 @@ Sees-plain journal earlier old new id answer possible plain journal_is replayed 
     }
 
 -- before the first edit and the first receipt
-pub IsUpTo-new : (journal : List Edit) (replay : Replay) → replay.session ≡ empty 1 → replay.keys ≡ []
+pub IsUpTo-new : (journal : List (List Edit)) (replay : Replay) → replay.session ≡ empty 1 → replay.keys ≡ []
     → replay.ready.items ≡ [] → IsUpTo journal [] replay
 IsUpTo-new journal replay session_is keys_are ready_is = record {
   replayed = record {
@@ -273,7 +315,7 @@ or_else true not_so = absurd (not_so refl)
 or_else false not_so = refl
 
 -- a unit waits whose key isn't among those that are ready
-pub Sees-pending : (journal : List Edit) (earlier : List SeatReceipt) (old new : Replay) (id number : ℕ) (among : Bool)
+pub Sees-pending : (journal : List (List Edit)) (earlier : List SeatReceipt) (old new : Replay) (id number : ℕ) (among : Bool)
     → new.session.journal ≡ old.session.journal → IsReplayed journal earlier new
     → IsKeyOf new.keys old.session.register.stream id (Some number)
     → IsTrue among ↔ Contains new.ready.items number
@@ -306,7 +348,7 @@ Sees-pending journal earlier old new id number among journal_is replayed key is 
         waits.2 (subst (λ (k : Key). WasReady journal earlier (reach old) k) (first ∙ then) noted.2))
 
 -- the picture of a unit's key was made, and its key is noted
-pub Sees-ready : (journal : List Edit) (earlier : List SeatReceipt) (old new : Replay) (id number : ℕ) (picture : Picture)
+pub Sees-ready : (journal : List (List Edit)) (earlier : List SeatReceipt) (old new : Replay) (id number : ℕ) (picture : Picture)
     → new.session.journal ≡ old.session.journal → new.session.register ≡ old.session.register
     → Extends old.keys new.keys → IsKeyMap new.keys → new.ready.items ≡ old.ready.items ++ number ∷ []
     → IsKeyOf new.keys old.session.register.stream id (Some number)
@@ -324,7 +366,7 @@ Sees-ready journal earlier old new id number picture journal_is register_is exte
     }
 
 -- another picture isn't that of the unit's key
-pub Sees-other : (journal : List Edit) (earlier : List SeatReceipt) (old new : Replay) (id : ℕ) (picture : Picture)
+pub Sees-other : (journal : List (List Edit)) (earlier : List SeatReceipt) (old new : Replay) (id : ℕ) (picture : Picture)
     → new.session.journal ≡ old.session.journal
     → (((key : Key) × HasKey old.session.register.stream id key × (picture ≡ picture_of_key key)) → ⊥)
     → Sees journal earlier old id (shown.Ready picture) false new
@@ -336,7 +378,7 @@ Sees-other journal earlier old new id picture journal_is wrong = record {
 }
 
 -- a unit without a key doesn't wait
-pub Sees-no_key : (journal : List Edit) (earlier : List SeatReceipt) (old new : Replay) (id : ℕ)
+pub Sees-no_key : (journal : List (List Edit)) (earlier : List SeatReceipt) (old new : Replay) (id : ℕ)
     → new.session.journal ≡ old.session.journal
     → ((key : Key) → HasKey old.session.register.stream id key → ⊥)
     → Sees journal earlier old id shown.Pending false new

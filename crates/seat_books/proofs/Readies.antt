@@ -1,4 +1,4 @@
--- Which keys were shown ready, as edits are made and receipts are added.
+-- Which keys were shown ready, as entries are made and receipts are added.
 use Rattle.std.proofs.Common.{◌≡◌, ◌⊎◌, ℕ, zero, suc, ◌+◌, ◌<◌, ◌≤◌, List, [], ◌∷◌, ◌++◌, Option, Some, sym, ◌∙◌, subst, arith, inl, inr}
 use Rattle.std.specs.Prelude.{All, Contains, ◌↔◌}
 use Rattle.std.proofs.lemmas.List.Elements.{All-contains, Contains-append_left, Contains-push, Contains-push_cases}
@@ -25,10 +25,11 @@ at_most_or (suc k) zero = inr (omega arith)
 at_most_or (suc k) (suc n) =
     elim (at_most_or k n) [ inl low ↦ inl (omega (arith, low)) | inr high ↦ inr (omega (arith, high)) ]
 
-module _ (journal : List Edit) (key : Key) where
+module _ (journal : List (List Edit)) (key : Key) where
   -- what stayed in use for longer did so for less
   shows_less : (n m : ℕ) (receipt : SeatReceipt) → n ≤ m → ShowsReady journal m key receipt → ShowsReady journal n key receipt
   shows_less n m (receipts.Edit edit id from) low is = absurd is
+  shows_less n m (receipts.Group group from) low is = absurd is
   shows_less n m (receipts.Show id (shown.Ready picture) from) low is =
       (is.0, λ k register above below leads. is.1 k register above (omega (arith, low, below)) leads)
   shows_less n m (receipts.Show id shown.Pending from) low is = absurd is
@@ -36,10 +37,11 @@ module _ (journal : List Edit) (key : Key) where
   shows_less n m (receipts.Show id shown.Empty from) low is = absurd is
   shows_less n m (receipts.Show id shown.NoSuchUnit from) low is = absurd is
 
-  -- and where it is in use after an edit more, for one edit more
+  -- and where it is in use after an entry more, for one entry more
   shows_more : (n : ℕ) (register : Register) (receipt : SeatReceipt) → LeadTo journal (n + 1) register
       → IsInUse register.stream key → ShowsReady journal n key receipt → ShowsReady journal (n + 1) key receipt
   shows_more n register (receipts.Edit edit id from) leads used is = absurd is
+  shows_more n register (receipts.Group group from) leads used is = absurd is
   shows_more n register (receipts.Show id (shown.Ready picture) from) leads used is = (is.0, still)
     where
       at_last : (k : ℕ) (other : Register) → n < k → k ≤ n + 1 → LeadTo journal k other → IsInUse other.stream key
@@ -64,6 +66,7 @@ module _ (journal : List Edit) (key : Key) where
   shows_used : (n : ℕ) (register : Register) (receipt : SeatReceipt) → length_in receipt ≤ n → LeadTo journal n register
       → ShowsReady journal n key receipt → IsInUse register.stream key
   shows_used n register (receipts.Edit edit id from) above leads is = absurd is
+  shows_used n register (receipts.Group group from) above leads is = absurd is
   shows_used n register (receipts.Show id (shown.Ready picture) from) above leads is =
       is.1 n register above (omega arith) leads
   shows_used n register (receipts.Show id shown.Pending from) above leads is = absurd is
@@ -88,12 +91,12 @@ module _ (journal : List Edit) (key : Key) where
       → WasReady journal (earlier ++ receipt ∷ []) n key
   was_last earlier receipt n shows = (receipt, Contains-push earlier receipt, shows)
 
-  -- before one edit more
+  -- before one entry more
   was_less : (earlier : List SeatReceipt) (n : ℕ) → WasReady journal earlier (n + 1) key → WasReady journal earlier n key
   was_less earlier n was = (was.0, was.1, shows_less n (n + 1) was.0 (omega arith) was.2)
 
 -- a receipt that shows no picture leaves the keys as they are
-pub AreReady-plain : (journal : List Edit) (earlier : List SeatReceipt) (receipt : SeatReceipt) (n : ℕ)
+pub AreReady-plain : (journal : List (List Edit)) (earlier : List SeatReceipt) (receipt : SeatReceipt) (n : ℕ)
     (keys : KeyMap (List Work)) (ready : List ℕ) → ((key : Key) → ShowsReady journal n key receipt → ⊥)
     → AreReady journal earlier n keys ready → AreReady journal (earlier ++ receipt ∷ []) n keys ready
 AreReady-plain journal earlier receipt n keys ready plain are = record {
@@ -108,7 +111,7 @@ AreReady-plain journal earlier receipt n keys ready plain are = record {
 }
 
 -- more keys have numbers
-pub AreReady-extended : (journal : List Edit) (earlier : List SeatReceipt) (n : ℕ) (keys more : KeyMap (List Work))
+pub AreReady-extended : (journal : List (List Edit)) (earlier : List SeatReceipt) (n : ℕ) (keys more : KeyMap (List Work))
     (ready : List ℕ) → Extends keys more → AreReady journal earlier n keys ready → AreReady journal earlier n more ready
 AreReady-extended journal earlier n keys more ready extends are = record {
   right = λ number there.
@@ -119,14 +122,14 @@ AreReady-extended journal earlier n keys more ready extends are = record {
       (is.0, extends is.0 key is.1, is.2);
 }
 
--- after one edit more those are ready that still are in use
-pub AreReady-edit : (journal : List Edit) (earlier : List SeatReceipt) (n : ℕ) (register : Register)
+-- after one entry more those are ready that still are in use
+pub AreReady-entry : (journal : List (List Edit)) (earlier : List SeatReceipt) (n : ℕ) (register : Register)
     (keys more : KeyMap (List Work)) (found : List (Option ℕ)) (ready used : List ℕ)
     → All (λ receipt. length_in receipt ≤ n) earlier → LeadTo journal (n + 1) register
     → Extends keys more → IsKeyMap more → AllStandFor more found (keys_in register.stream)
     → ((number : ℕ) → Contains used number ↔ (Contains ready number × Contains found (Some number)))
     → AreReady journal earlier n keys ready → AreReady journal earlier (n + 1) more used
-AreReady-edit journal earlier n register keys more found ready used passed leads extends one stand is are =
+AreReady-entry journal earlier n register keys more found ready used passed leads extends one stand is are =
     record { right = right; whole = whole }
   where
     right : (number : ℕ) → Contains used number
@@ -152,7 +155,7 @@ AreReady-edit journal earlier n register keys more found ready used passed leads
         (old.0, tree, (is old.0).1 (old.2, subst (λ (m : ℕ). Contains found (Some m)) same unit.1))
 
 -- the key of a picture that is shown is ready
-pub AreReady-shown : (journal : List Edit) (earlier : List SeatReceipt) (n : ℕ) (register : Register)
+pub AreReady-shown : (journal : List (List Edit)) (earlier : List SeatReceipt) (n : ℕ) (register : Register)
     (keys : KeyMap (List Work)) (ready : List ℕ) (id number : ℕ) (key : Key) (picture : Picture)
     → LeadTo journal n register → tree_at keys number ≡ Some key → HasKey register.stream id key
     → AreReady journal earlier n keys ready

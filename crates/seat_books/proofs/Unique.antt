@@ -1,5 +1,5 @@
 -- Edits lead to one stream, and each is given one id.
-use Rattle.std.proofs.Common.{◌≡◌, ℕ, List, [], ◌∷◌, Some, ap, sym, ◌∙◌, subst, take}
+use Rattle.std.proofs.Common.{◌≡◌, ℕ, List, [], ◌∷◌, Some, ap, refl, sym, ◌∙◌, subst, take}
 use Rattle.std.specs.Prelude.{insert, remove, set}
 use Rattle.access_unit.specs.Answers.{IsAccepted}
 use Rattle.annexb.proofs.Readings.{same_reading}
@@ -7,6 +7,8 @@ use Rattle.stream_edits.specs.declared.edits.Edit.{Edit}
 use Rattle.stream_edits.specs.declared.edits.Edit.TheVariants.{Insert, Delete, Replace}
 use Rattle.stream_edits.specs.declared.edits.Place.{Place}
 use Rattle.stream_edits.specs.Streams.{Stream}
+use Rattle.stream_edits.specs.Groups.{MakesAll}
+use Rattle.stream_edits.specs.Journals.{edits_of}
 use Rattle.stream_edits.specs.Edits.{Register, no_units, Inserts, Deletes, Replaces, Makes, Replays}
 use Rattle.seat_books.specs.Books.{LeadTo}
 
@@ -68,7 +70,28 @@ one_edit old (Delete deleted) id other new another a b =
 one_edit old (Replace replaced text) id other new another a b =
     record { ids = a.0 ∙ sym b.0; registers = one_replacement old replaced text new another a.1 b.1 }
 
--- and so do edits, one after the other
+-- and so do edits that are made together
+pub record SameEdits (ids others : List ℕ) (new another : Register) : Type 0 where
+  pub given : ids ≡ others
+  pub registers : new ≡ another
+
+pub all_edits : (old : Register) (edits : List Edit) (ids others : List ℕ) (new another : Register)
+    → MakesAll old edits ids new → MakesAll old edits others another → SameEdits ids others new another
+all_edits old [] [] [] new another a b = record { given = refl; registers = sym a ∙ b }
+all_edits old [] [] (other ∷ others) new another a b = absurd b
+all_edits old [] (id ∷ ids) others new another a b = absurd a
+all_edits old (edit ∷ edits) [] others new another a b = absurd a
+all_edits old (edit ∷ edits) (id ∷ ids) [] new another a b = absurd b
+all_edits old (edit ∷ edits) (id ∷ ids) (other ∷ others) new another a b =
+    let first = one_edit old edit id other a.0 b.0 a.1 b.1 in
+    let rest = all_edits b.0 edits ids others new another
+    (subst (λ (r : Register). MakesAll r edits ids new) first.registers a.2) b.2 in
+    record {
+      given = ap (λ (k : ℕ). k ∷ ids) first.ids ∙ ap (λ (ks : List ℕ). other ∷ ks) rest.given;
+      registers = rest.registers;
+    }
+
+-- and edits that are made one after the other
 one_replay : (from : Register) (edits : List Edit) (to other : Register) → Replays from edits to → Replays from edits other
     → to ≡ other
 one_replay from [] to other a b = sym a ∙ b
@@ -76,6 +99,6 @@ one_replay from (edit ∷ edits) to other a b =
     let same = one_edit from edit a.0 b.0 a.1 b.1 a.2 b.2 in
     one_replay b.1 edits to other (subst (λ (r : Register). Replays r edits to) same.registers a.3) b.3
 
--- so many edits of a journal lead to one stream
-pub one_lead : (journal : List Edit) (n : ℕ) (a b : Register) → LeadTo journal n a → LeadTo journal n b → a ≡ b
-one_lead journal n a b is so = one_replay no_units (take n journal) a b is.replayed so.replayed
+-- so many entries of a journal lead to one stream
+pub one_lead : (journal : List (List Edit)) (n : ℕ) (a b : Register) → LeadTo journal n a → LeadTo journal n b → a ≡ b
+one_lead journal n a b is so = one_replay no_units (edits_of (take n journal)) a b is.replayed so.replayed

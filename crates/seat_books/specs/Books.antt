@@ -1,5 +1,5 @@
 -- Books of seats, and when they agree with a journal.
-use Rattle.std.specs.Prelude.{◌≡◌, ℕ, ◌+◌, ◌<◌, ◌≤◌, ◌==◌, Bool, false, List, Some, None, length, take, slice_get, All, Contains}
+use Rattle.std.specs.Prelude.{◌≡◌, ℕ, ◌+◌, ◌<◌, ◌≤◌, ◌==◌, Bool, false, List, [], ◌∷◌, Some, None, length, take, slice_get, All, Contains}
 use Rattle.std.specs.List.{list_any}
 use Rattle.outcomes.specs.declared.outcome.Outcome.TheVariants as outcomes
 use Rattle.picture_keys.specs.Keys.{Key}
@@ -9,7 +9,9 @@ use Rattle.edit_engine.specs.declared.showing.Shown.{Shown}
 use Rattle.edit_engine.specs.declared.showing.Shown.TheVariants as shown
 use Rattle.stream_edits.specs.Streams.{Stream, place_of}
 use Rattle.edit_engine.specs.Streams.{outcome_in}
-use Rattle.stream_edits.specs.Edits.{Register, no_units, Makes, Replays}
+use Rattle.stream_edits.specs.Edits.{Register, no_units, Replays}
+use Rattle.stream_edits.specs.Groups.{MakesAll}
+use Rattle.stream_edits.specs.Journals.{edits_of}
 use Rattle.edit_engine.specs.Showing.{keys_in, HasKey}
 use Rattle.seat_books.specs.declared.book.SeatBook.{SeatBook}
 use Rattle.seat_books.specs.declared.receipts.SeatReceipt.{SeatReceipt}
@@ -18,34 +20,36 @@ use Rattle.seat_books.specs.declared.receipts.SeatReceipt.TheVariants as receipt
 -- the journal's length that a receipt notes
 abbrev pub length_in : SeatReceipt → ℕ
 length_in (receipts.Edit edit id n) = n
+length_in (receipts.Group group n) = n
 length_in (receipts.Show id answer n) = n
 
--- whether the receipt is of the edit that made the journal so long
+-- whether the receipt is of the edit or group that made the journal so long
 abbrev pub is_edit_of : ℕ → SeatReceipt → Bool
 is_edit_of n (receipts.Edit edit id m) = m == n
+is_edit_of n (receipts.Group group m) = m == n
 is_edit_of n (receipts.Show id answer m) = false
 
--- whether one of the books has a receipt of that edit
+-- whether one of the books has a receipt of that edit or group
 abbrev pub is_noted : List SeatBook → ℕ → Bool
 is_noted books n = list_any (λ book. list_any (is_edit_of n) book.receipts.items) books
 
--- the first edits of the journal, so many, lead to this from the empty stream
-pub record LeadTo (journal : List Edit) (n : ℕ) (register : Register) : Type 0 where
+-- the edits of the journal's first entries, so many, lead to this from the empty stream
+pub record LeadTo (journal : List (List Edit)) (n : ℕ) (register : Register) : Type 0 where
   pub within : n ≤ length journal
-  pub replayed : Replays no_units (take n journal) register
+  pub replayed : Replays no_units (edits_of (take n journal)) register
 
--- the receipt of an edit agrees, after the books of lower seats and the earlier receipts of its own: it is the journal's
--- edit at its length, which replay gives its id; its length is above those of earlier receipts, and no book of a lower
--- seat has that edit
-pub record EditAgrees (journal : List Edit) (lower : List SeatBook) (earlier : List SeatReceipt)
-    (edit : Edit) (id n : ℕ) : Type 0 where
+-- the receipt of edits agrees, after the books of lower seats and the earlier receipts of its own: they are the journal's
+-- entry at its length, which replay gives its ids; its length is above those of earlier receipts, and no book of a lower
+-- seat has that entry
+pub record EditAgrees (journal : List (List Edit)) (lower : List SeatBook) (earlier : List SeatReceipt)
+    (edits : List Edit) (ids : List ℕ) (n : ℕ) : Type 0 where
   pub at : ℕ
   pub before : Register
   pub after : Register
   pub counted : n ≡ at + 1
-  pub stands : slice_get journal at ≡ Some edit
+  pub stands : slice_get journal at ≡ Some edits
   pub leads : LeadTo journal at before
-  pub made : Makes before edit id after
+  pub made : MakesAll before edits ids after
   pub later : All (λ receipt. length_in receipt < n) earlier
   pub own : is_noted lower n ≡ false
 
@@ -53,32 +57,32 @@ pub record EditAgrees (journal : List Edit) (lower : List SeatBook) (earlier : L
 abbrev pub IsInUse : Stream → Key → Type 0
 IsInUse stream key = Contains (keys_in stream) (Some key)
 
--- the key is in use after each number of edits from one to another
-abbrev pub StaysInUse : List Edit → Key → ℕ → ℕ → Type 0
+-- the key is in use after each number of entries from one to another
+abbrev pub StaysInUse : List (List Edit) → Key → ℕ → ℕ → Type 0
 StaysInUse journal key from to =
     (n : ℕ) (register : Register) → from ≤ n → n ≤ to → LeadTo journal n register
     → IsInUse register.stream key
 
--- after so many edits the unit that has the id has the key
-abbrev pub HasKeyAfter : List Edit → ℕ → ℕ → Key → Type 0
+-- after so many entries the unit that has the id has the key
+abbrev pub HasKeyAfter : List (List Edit) → ℕ → ℕ → Key → Type 0
 HasKeyAfter journal n id key =
     (register : Register) × LeadTo journal n register × HasKey register.stream id key
 
--- the receipt is of a picture that was shown of a unit with the key, which stayed in use up to so many edits
-abbrev pub ShowsReady : List Edit → ℕ → Key → SeatReceipt → Type 0
+-- the receipt is of a picture that was shown of a unit with the key, which stayed in use up to so many entries
+abbrev pub ShowsReady : List (List Edit) → ℕ → Key → SeatReceipt → Type 0
 ShowsReady journal n key (receipts.Show id (shown.Ready picture) from) =
     HasKeyAfter journal from id key × StaysInUse journal key from n
 ShowsReady journal n key _ = ⊥
 
 -- one of the receipts is of such a picture
-abbrev pub WasReady : List Edit → List SeatReceipt → ℕ → Key → Type 0
+abbrev pub WasReady : List (List Edit) → List SeatReceipt → ℕ → Key → Type 0
 WasReady journal earlier n key =
     (receipt : SeatReceipt) × Contains earlier receipt × ShowsReady journal n key receipt
 
--- the answer of a show is possible after so many edits, which lead to the stream: the picture of the unit's key; that a
+-- the answer of a show is possible after so many entries, which lead to the stream: the picture of the unit's key; that a
 -- valid unit waits, whose key isn't one that was shown ready before and stayed in use; the unit's fault; that the
 -- unit has no picture; or that there is no such unit
-abbrev pub IsPossible : List Edit → List SeatReceipt → ℕ → Stream → ℕ → Shown → Type 0
+abbrev pub IsPossible : List (List Edit) → List SeatReceipt → ℕ → Stream → ℕ → Shown → Type 0
 IsPossible journal earlier n stream id (shown.Ready picture) =
     (key : Key) × HasKey stream id key × (picture ≡ picture_of_key key)
 IsPossible journal earlier n stream id shown.Pending =
@@ -88,8 +92,8 @@ IsPossible journal earlier n stream id shown.Empty = outcome_in stream id ≡ So
 IsPossible journal earlier n stream id shown.NoSuchUnit = place_of stream id ≡ None
 
 -- the receipt of a show agrees, after the earlier receipts of its book: its length is that of the journal at most, and
--- not below those of earlier receipts, and after so many edits its answer is possible
-pub record ShowAgrees (journal : List Edit) (earlier : List SeatReceipt) (id : ℕ) (answer : Shown) (n : ℕ)
+-- not below those of earlier receipts, and after so many entries its answer is possible
+pub record ShowAgrees (journal : List (List Edit)) (earlier : List SeatReceipt) (id : ℕ) (answer : Shown) (n : ℕ)
     : Type 0 where
   pub register : Register
   pub leads : LeadTo journal n register
@@ -97,27 +101,28 @@ pub record ShowAgrees (journal : List Edit) (earlier : List SeatReceipt) (id : �
   pub possible : IsPossible journal earlier n register.stream id answer
 
 -- a receipt agrees with the journal, after the books of lower seats and the earlier receipts of its own
-abbrev pub Agrees : List Edit → List SeatBook → List SeatReceipt → SeatReceipt → Type 0
-Agrees journal lower earlier (receipts.Edit edit id n) = EditAgrees journal lower earlier edit id n
+abbrev pub Agrees : List (List Edit) → List SeatBook → List SeatReceipt → SeatReceipt → Type 0
+Agrees journal lower earlier (receipts.Edit edit id n) = EditAgrees journal lower earlier (edit ∷ []) (id ∷ []) n
+Agrees journal lower earlier (receipts.Group group n) = EditAgrees journal lower earlier group.edits group.ids n
 Agrees journal lower earlier (receipts.Show id answer n) = ShowAgrees journal earlier id answer n
 
 -- the first receipts of a book, so many, agree after the books of lower seats
-abbrev pub FirstAgree : List Edit → List SeatBook → List SeatReceipt → ℕ → Type 0
+abbrev pub FirstAgree : List (List Edit) → List SeatBook → List SeatReceipt → ℕ → Type 0
 FirstAgree journal lower book n =
     (at : ℕ) (receipt : SeatReceipt) → at < n → slice_get book at ≡ Some receipt
     → Agrees journal lower (take at book) receipt
 
 -- a book agrees after those of lower seats: each receipt does
-abbrev pub BookAgrees : List Edit → List SeatBook → SeatBook → Type 0
+abbrev pub BookAgrees : List (List Edit) → List SeatBook → SeatBook → Type 0
 BookAgrees journal lower book =
     FirstAgree journal lower book.receipts.items (length book.receipts.items)
 
 -- the books of the first seats, so many, agree with the journal
-abbrev pub FirstBooksAgree : List Edit → List SeatBook → ℕ → Type 0
+abbrev pub FirstBooksAgree : List (List Edit) → List SeatBook → ℕ → Type 0
 FirstBooksAgree journal books n =
     (at : ℕ) (book : SeatBook) → at < n → slice_get books at ≡ Some book
     → BookAgrees journal (take at books) book
 
 -- the books of the seats, in their order, agree with the journal
-abbrev pub BooksAgree : List Edit → List SeatBook → Type 0
+abbrev pub BooksAgree : List (List Edit) → List SeatBook → Type 0
 BooksAgree journal books = FirstBooksAgree journal books (length books)

@@ -8,7 +8,7 @@ use Rattle.seat_books.specs.declared.receipts.SeatReceipt.{SeatReceipt}
 use Rattle.seat_books.specs.Books.{Agrees, FirstAgree, FirstBooksAgree}
 
 -- the receipt of the number, counted from 1, doesn't agree after the books of lower seats, and all before it do
-pub record IsFirstFault (journal : List Edit) (lower : List SeatBook) (book : List SeatReceipt) (number : ℕ)
+pub record IsFirstFault (journal : List (List Edit)) (lower : List SeatBook) (book : List SeatReceipt) (number : ℕ)
     : Type 0 where
   pub at : ℕ
   pub receipt : SeatReceipt
@@ -18,7 +18,7 @@ pub record IsFirstFault (journal : List Edit) (lower : List SeatBook) (book : Li
   pub differs : Agrees journal lower (take at book) receipt → ⊥
 
 -- the book of the seat, counted from 1, has it at the number, and the books of all lower seats agree
-pub record Disagrees (journal : List Edit) (books : List SeatBook) (seat number : ℕ) : Type 0 where
+pub record Disagrees (journal : List (List Edit)) (books : List SeatBook) (seat number : ℕ) : Type 0 where
   pub at : ℕ
   pub book : SeatBook
   pub counted : seat ≡ at + 1
@@ -27,6 +27,6 @@ pub record Disagrees (journal : List Edit) (books : List SeatBook) (seat number 
   pub fault : IsFirstFault journal (take at books) book.receipts.items number
 
 -- the fault is shown by the books; want of memory says nothing of them
-abbrev pub IsFaultOf : List Edit → List SeatBook → AuditFault → Type 0
+abbrev pub IsFaultOf : List (List Edit) → List SeatBook → AuditFault → Type 0
 IsFaultOf journal books (faults.SeatDisagrees seat number) = Disagrees journal books seat number
 IsFaultOf journal books faults.Memory = Unit {0}

@@ -6,7 +6,7 @@ use Rattle.picture_keys.specs.Keys.{Key}
 use Rattle.stream_edits.specs.declared.edits.Edit.{Edit}
 use Rattle.edit_engine.specs.declared.showing.Shown.{Shown}
 use Rattle.stream_edits.specs.Streams.{Stream}
-use Rattle.stream_edits.specs.Edits.{Makes}
+use Rattle.stream_edits.specs.Groups.{MakesAll}
 use Rattle.edit_engine.specs.Machines.{Machine}
 use Rattle.edit_engine.specs.Showing.{HasKey}
 use Rattle.seat_books.specs.declared.book.SeatBook.{SeatBook}
@@ -27,25 +27,25 @@ AddsUsed old number found new =
     (Contains found (Some number) × (new ≡ old ++ number ∷ []))
     ⊎ ((Contains found (Some number) → ⊥) × (new ≡ old))
 
--- how many edits were made
+-- how many entries were made
 abbrev pub reach : Replay → ℕ
 reach replay = length replay.session.journal
 
--- the session is that of the journal's first edits
-pub record IsFront (journal : List Edit) (machine : Machine) : Type 0 where
+-- the session is that of the journal's first entries
+pub record IsFront (journal : List (List Edit)) (machine : Machine) : Type 0 where
   pub front : machine.journal ≡ take (length machine.journal) journal
   pub leads : LeadTo journal (length machine.journal) machine.register
 
 -- the numbers are those of the keys that a receipt shows as ready and that stayed in use
-pub record AreReady (journal : List Edit) (earlier : List SeatReceipt) (n : ℕ) (keys : KeyMap (List Work))
+pub record AreReady (journal : List (List Edit)) (earlier : List SeatReceipt) (n : ℕ) (keys : KeyMap (List Work))
     (ready : List ℕ) : Type 0 where
   pub right : (number : ℕ) → Contains ready number
       → (key : Key) × (tree_at keys number ≡ Some key) × WasReady journal earlier n key
   pub whole : (key : Key) → WasReady journal earlier n key
       → (number : ℕ) × (tree_at keys number ≡ Some key) × Contains ready number
 
--- the journal's first edits were made, no fewer than any of the receipts notes, and the keys are those that are ready
-pub record IsReplayed (journal : List Edit) (earlier : List SeatReceipt) (replay : Replay) : Type 0 where
+-- the journal's first entries were made, no fewer than any of the receipts notes, and the keys are those that are ready
+pub record IsReplayed (journal : List (List Edit)) (earlier : List SeatReceipt) (replay : Replay) : Type 0 where
   pub made : IsFront journal replay.session
   pub passed : All (λ receipt. length_in receipt ≤ reach replay) earlier
   pub one : IsKeyMap replay.keys
@@ -56,18 +56,24 @@ abbrev pub IsLastLength : List SeatReceipt → ℕ → Type 0
 IsLastLength earlier n =
     (n ≡ 0) ⊎ ((receipt : SeatReceipt) × Contains earlier receipt × (length_in receipt ≡ n))
 
--- as many edits were made as the last receipt notes
-pub record IsUpTo (journal : List Edit) (earlier : List SeatReceipt) (replay : Replay) : Type 0 where
+-- as many entries were made as the last receipt notes
+pub record IsUpTo (journal : List (List Edit)) (earlier : List SeatReceipt) (replay : Replay) : Type 0 where
   pub replayed : IsReplayed journal earlier replay
   pub last : IsLastLength earlier (reach replay)
 
--- one edit more was made
-pub record MakesEdit (old : Replay) (edit : Edit) (id : ℕ) (new : Replay) : Type 0 where
-  pub made : Makes old.session.register edit id new.session.register
-  pub journaled : new.session.journal ≡ old.session.journal ++ edit ∷ []
+-- one entry more was made
+pub record MakesEntry (old : Machine) (edits : List Edit) (ids : List ℕ) (new : Machine) : Type 0 where
+  pub made : MakesAll old.register edits ids new.register
+  pub journaled : new.journal ≡ old.journal ++ edits ∷ []
+
+-- the receipt is of these edits, which were answered these ids, with this length
+abbrev pub IsOf : SeatReceipt → List Edit → List ℕ → ℕ → Type 0
+IsOf (receipts.Edit edit id m) edits ids n = (edits ≡ edit ∷ []) × (ids ≡ id ∷ []) × (n ≡ m)
+IsOf (receipts.Group group m) edits ids n = (edits ≡ group.edits) × (ids ≡ group.ids) × (n ≡ m)
+IsOf (receipts.Show id answer m) edits ids n = ⊥
 
 -- an answer whether what was shown is possible now; where it is, its receipt may follow
-pub record Sees (journal : List Edit) (earlier : List SeatReceipt) (old : Replay) (id : ℕ) (answer : Shown)
+pub record Sees (journal : List (List Edit)) (earlier : List SeatReceipt) (old : Replay) (id : ℕ) (answer : Shown)
     (possible : Bool) (new : Replay) : Type 0 where
   pub is : IsTrue possible → IsPossible journal earlier (reach old) old.session.register.stream id answer
   pub only : IsPossible journal earlier (reach old) old.session.register.stream id answer → IsTrue possible
@@ -76,7 +82,7 @@ pub record Sees (journal : List Edit) (earlier : List SeatReceipt) (old : Replay
       → IsReplayed journal (earlier ++ receipts.Show id answer (reach old) ∷ []) new
 
 -- an answer whether a receipt agrees; where it does, the next one may follow
-pub record IsChecked (journal : List Edit) (lower : List SeatBook) (earlier : List SeatReceipt)
+pub record IsChecked (journal : List (List Edit)) (lower : List SeatBook) (earlier : List SeatReceipt)
     (receipt : SeatReceipt) (agrees : Bool) (new : Replay) : Type 0 where
   pub is : IsTrue agrees → Agrees journal lower earlier receipt
   pub only : Agrees journal lower earlier receipt → IsTrue agrees

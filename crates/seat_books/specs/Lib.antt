@@ -1,3 +1,4 @@
+pub mod Noted
 pub mod Books
 pub mod Faults
 pub mod Numbers

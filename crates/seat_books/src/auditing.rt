@@ -2,20 +2,24 @@
 
 ghost use Rattle.std.specs.Prelude.{◌≡◌, IfErr, IfOk, MatchOption, OnOk};
 ghost use Rattle.stream_edits.specs.Edits.{Register, no_units, Replays};
+ghost use Rattle.stream_edits.specs.Journals.{edits_of};
 ghost use Rattle.seat_books.specs.Books.{BookAgrees, BooksAgree};
 ghost use Rattle.seat_books.specs.Faults.{IsFaultOf, IsFirstFault};
 
 use crate::book::SeatBook;
 use crate::faults::AuditFault;
 use crate::replay::Replay;
-use edit_engine::Edit;
+use edit_engine::JournalEntry;
 use std::alloc::{AllocError, Global};
 
 /// Whether the books of seats, in the seats' order, agree with a journal of which each edit is accepted after those before
 /// it; or else the first receipt that doesn't, in the first book that has one. Each book is followed over the journal once,
 /// so that this takes as long as to make the journal's edits once for each book that isn't empty.
-pub fn audit(alloc: Global, journal: &[Edit], books: &[SeatBook]) -> Result<(), AuditFault>
-    requires { (register : Register) × Replays no_units journal.now register }
+///
+/// An entry that no session's journal has, of no edit or of more than 1,024, is answered as want of memory where a book comes
+/// to it.
+pub fn audit(alloc: Global, journal: &[JournalEntry], books: &[SeatBook]) -> Result<(), AuditFault>
+    requires { (register : Register) × Replays no_units (edits_of journal.now) register }
     ensures ok { OnOk result (BooksAgree journal.now books.now) }
     ensures err { IfErr result (IsFaultOf journal.now books.now) }
 {
@@ -33,7 +37,7 @@ pub fn audit(alloc: Global, journal: &[Edit], books: &[SeatBook]) -> Result<(), 
 /// The number of the first receipt of a book that doesn't agree, after the books of lower seats.
 fn first_fault(
     alloc: Global,
-    journal: &[Edit],
+    journal: &[JournalEntry],
     lower: &[SeatBook],
     book: &SeatBook,
 ) -> Result<Option<usize>, AllocError>

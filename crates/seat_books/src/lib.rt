@@ -1,15 +1,18 @@
 //! Books of seats, and whether they agree with a journal.
 //!
-//! A seat is one user of a session. It keeps a `SeatBook`: a receipt of each edit of its own that was accepted and of each
-//! unit that it was shown, with the journal's length then. `audit` follows each book over the journal and finds the first
+//! A seat is one user of a session. It keeps a `SeatBook`: a receipt of each edit and each group of edits of its own that was
+//! accepted and of each unit that it was shown, with the journal's length then. `audit` follows each book over the journal and finds the first
 //! receipt that the journal doesn't bear out. Below is edit_engine; above is the pool, whose seats keep these books.
 #![tactic(auto)]
 
 mod auditing;
 mod book;
 mod comparing;
+mod copying;
 mod faults;
 mod keys;
+mod making;
+mod noted_group;
 mod receipts;
 mod replay;
 mod settling;
@@ -17,5 +20,7 @@ mod settling;
 pub use auditing::audit;
 pub use book::SeatBook;
 pub use comparing::is_noted;
+pub use copying::{copy_of_edits, copy_of_entry};
 pub use faults::AuditFault;
+pub use noted_group::NotedGroup;
 pub use receipts::SeatReceipt;

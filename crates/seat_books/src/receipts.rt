@@ -3,6 +3,7 @@
 ghost use Rattle.std.specs.Prelude.{◌≡◌, IfOk};
 ghost use Rattle.seat_books.specs.Books.{length_in};
 
+use crate::noted_group::NotedGroup;
 use edit_engine::{Edit, Shown};
 use pictures::AuId;
 use std::alloc::AllocError;
@@ -12,6 +13,8 @@ use std::alloc::AllocError;
 pub enum SeatReceipt {
     /// An edit of its own that was accepted, and the id that it was answered.
     Edit { edit: Edit, id: AuId, length: u64 },
+    /// A group of edits of its own that was accepted, and the ids that it was answered.
+    Group { group: NotedGroup, length: u64 },
     /// What it was shown of the unit of the id.
     Show { id: AuId, shown: Shown, length: u64 },
 }
@@ -22,11 +25,13 @@ impl SeatReceipt {
         ensures { result ≡ length_in self.now }
     {
         match self {
-            SeatReceipt::Edit { length, .. } | SeatReceipt::Show { length, .. } => *length,
+            SeatReceipt::Edit { length, .. }
+            | SeatReceipt::Group { length, .. }
+            | SeatReceipt::Show { length, .. } => *length,
         }
     }
 
-    /// The receipt once more; it shares the bytes of its edit.
+    /// The receipt once more; it shares the bytes of its edits.
     pub fn copy(&self) -> Result<SeatReceipt, AllocError>
         ensures { IfOk result (λ copy. copy ≡ self.now) }
     {
@@ -34,6 +39,10 @@ impl SeatReceipt {
             SeatReceipt::Edit { edit, id, length } => Ok(SeatReceipt::Edit {
                 edit: edit.copy()?,
                 id: *id,
+                length: *length,
+            }),
+            SeatReceipt::Group { group, length } => Ok(SeatReceipt::Group {
+                group: group.copy()?,
                 length: *length,
             }),
             SeatReceipt::Show { id, shown, length } => Ok(SeatReceipt::Show {

@@ -3,28 +3,29 @@
 ghost use Rattle.std.specs.Bool.{Decides};
 ghost use Rattle.std.specs.Prelude.{◌≡◌, ◌≤◌, ◌∷◌, ◌++◌, [], ℕ, List, None, Some, IfOk, OnOk, length, slice_get};
 ghost use Rattle.stream_edits.specs.declared.edits.Edit.{Edit as EditValue};
-ghost use Rattle.stream_edits.specs.Edits.{Makes};
 ghost use Rattle.stream_edits.specs.Streams.{place_of};
 ghost use Rattle.edit_engine.specs.Streams.{outcome_in};
 ghost use Rattle.edit_engine.specs.declared.showing.Shown.TheVariants.{Ready, Pending};
 ghost use Rattle.outcomes.specs.declared.outcome.Outcome.TheVariants as outcomes;
 ghost use Rattle.seat_books.specs.declared.book.SeatBook.{SeatBook as Book};
 ghost use Rattle.seat_books.specs.declared.receipts.SeatReceipt.{SeatReceipt as Receipt};
-ghost use Rattle.seat_books.specs.declared.receipts.SeatReceipt.TheVariants.{Edit as EditNoted, Show as ShowNoted};
-ghost use Rattle.seat_books.specs.Following.{IsChecked, IsReplayed, IsUpTo, MakesEdit, Sees, reach};
+ghost use Rattle.seat_books.specs.declared.receipts.SeatReceipt.TheVariants.{Show as ShowNoted};
+ghost use Rattle.seat_books.specs.Following.{IsChecked, IsOf, IsReplayed, IsUpTo, MakesEntry, Sees, reach};
 
 use crate::book::SeatBook;
-use crate::comparing::{is_noted, same_edit};
+use crate::comparing::{is_noted, same_edits};
 use crate::keys::{is_among, number_of, numbers_in, those_in_use};
+use crate::making::make_entry;
 use crate::receipts::SeatReceipt;
 use crate::settling::settle;
 use dep_keys::{KeyId, Keys, Sha256Fingerprint};
-use edit_engine::{Config, Edit, Session, Shown};
+use edit_engine::{Config, Edit, JournalEntry, Session, Shown};
 use outcomes::{Outcome, ValidityFault};
 use picture_keys::Works;
 use pictures::AuId;
 use stand_in_device::Picture;
 use std::alloc::{AllocError, Global};
+use std::slice;
 
 /// A journal replayed so far, and the keys whose pictures the book shows as ready and that were in use since then. A key
 /// has one number throughout.
@@ -50,7 +51,7 @@ impl Drop for Replay {
 impl Replay {
     /// Before the first edit and the first receipt.
     pub(crate) fn new(alloc: Global) -> Result<Replay, AllocError>
-        ensures { IfOk result (λ replay. (journal : List EditValue) → IsUpTo journal [] replay) }
+        ensures { IfOk result (λ replay. (journal : List (List EditValue)) → IsUpTo journal [] replay) }
     {
         let Ok(session) = Session::new(alloc, Config { cache: 1 }) else {
             return Err(AllocError);
@@ -66,7 +67,7 @@ impl Replay {
     /// Whether the next receipt of a book agrees, after the books of lower seats.
     pub(crate) fn agrees(
         &mut self,
-        journal: &[Edit],
+        journal: &[JournalEntry],
         lower: &[SeatBook],
         receipt: &SeatReceipt,
     ) -> Result<bool, AllocError>
@@ -75,7 +76,11 @@ impl Replay {
     {
         match receipt {
             SeatReceipt::Edit { edit, id, length } => {
-                self.agrees_edit(journal, lower, edit, *id, *length)
+                let (edits, ids) = (slice::from_ref(edit), slice::from_ref(id));
+                self.agrees_edit(journal, lower, edits, ids, *length)
+            }
+            SeatReceipt::Group { group, length } => {
+                self.agrees_edit(journal, lower, group.edits(), group.ids(), *length)
             }
             SeatReceipt::Show { id, shown, length } => {
                 self.agrees_show(journal, *id, *shown, *length)
@@ -83,34 +88,35 @@ impl Replay {
         }
     }
 
-    /// Whether the receipt of an edit agrees.
+    /// Whether the receipt of an edit or a group agrees.
     fn agrees_edit(
         &mut self,
-        journal: &[Edit],
+        journal: &[JournalEntry],
         lower: &[SeatBook],
-        edit: &Edit,
-        id: AuId,
+        edits: &[Edit],
+        ids: &[AuId],
         length: u64,
     ) -> Result<bool, AllocError>
-        ensures { IfOk result (λ agrees. (earlier : List Receipt) → IsUpTo journal.now earlier self.old
-            → IsChecked journal.now lower.now earlier (EditNoted edit.now id length) agrees self.new) }
+        ensures { IfOk result (λ agrees. (earlier : List Receipt) (receipt : Receipt)
+            → IsOf receipt edits.now ids.now length → IsUpTo journal.now earlier self.old
+            → IsChecked journal.now lower.now earlier receipt agrees self.new) }
     {
         if length <= self.reach() || length > journal.len() as u64 || is_noted(lower, length) {
             return Ok(false);
         }
         let at = (length - 1) as usize;
-        if !same_edit(edit, &journal[at]) {
+        if !same_edits(edits, journal[at].edits()) {
             return Ok(false);
         }
         self.go_on(journal, at)?;
-        let given = self.make(edit)?;
-        Ok(given == id)
+        let given = self.make(edits)?;
+        Ok(given.as_slice() == ids)
     }
 
     /// Whether the receipt of a show agrees.
     fn agrees_show(
         &mut self,
-        journal: &[Edit],
+        journal: &[JournalEntry],
         id: AuId,
         shown: Shown,
         length: u64,
@@ -126,44 +132,42 @@ impl Replay {
         self.sees(id, shown)
     }
 
-    /// How many edits were made.
+    /// How many edits and groups were made.
     fn reach(&self) -> u64
         ensures { result ≡ reach self.now }
     {
         self.session.journal().len() as u64
     }
 
-    /// Makes the edits of the journal up to so many.
-    fn go_on(&mut self, journal: &[Edit], to: usize) -> Result<(), AllocError>
+    /// Makes the entries of the journal up to so many.
+    fn go_on(&mut self, journal: &[JournalEntry], to: usize) -> Result<(), AllocError>
         requires { to ≤ length journal.now }
         ensures { OnOk result ((earlier : List Receipt) → IsReplayed journal.now earlier self.old
             → reach self.old ≤ to → IsReplayed journal.now earlier self.new × (reach self.new ≡ to)) }
     {
         for at in self.session.journal().len()..to {
-            let _ = self.make(&journal[at])?;
+            let _ = self.make(journal[at].edits())?;
         }
         Ok(())
     }
 
-    /// Makes one edit more, and answers the id that it is given. A journal's edits are refused for want of memory alone.
-    fn make(&mut self, edit: &Edit) -> Result<AuId, AllocError>
-        ensures makes { IfOk result (λ id. MakesEdit self.old edit.now id self.new) }
-        ensures follows { OnOk result ((journal : List EditValue) (earlier : List Receipt)
+    /// Makes one entry more, and answers the ids that its edits are given.
+    fn make(&mut self, edits: &[Edit]) -> Result<Vec<AuId>, AllocError>
+        ensures makes { IfOk result (λ ids. MakesEntry self.old.session edits.now ids.items self.new.session) }
+        ensures follows { OnOk result ((journal : List (List EditValue)) (earlier : List Receipt)
             → IsReplayed journal earlier self.old
-            → slice_get journal (reach self.old) ≡ Some edit.now
+            → slice_get journal (reach self.old) ≡ Some edits.now
             → IsReplayed journal earlier self.new) }
     {
-        let Ok(receipt) = self.session.edit(edit.copy()?) else {
-            return Err(AllocError);
-        };
+        let ids = make_entry(self.alloc, &mut self.session, edits)?;
         let found = numbers_in(self.alloc, &mut self.keys, &self.session)?;
         self.ready = those_in_use(self.alloc, &self.ready, &found)?;
-        Ok(receipt.id)
+        Ok(ids)
     }
 
     /// Whether this may be shown now.
     fn sees(&mut self, id: AuId, shown: Shown) -> Result<bool, AllocError>
-        ensures { IfOk result (λ possible. (journal : List EditValue) (earlier : List Receipt)
+        ensures { IfOk result (λ possible. (journal : List (List EditValue)) (earlier : List Receipt)
             → IsReplayed journal earlier self.old
             → Sees journal earlier self.old id shown possible self.new) }
     {
@@ -179,7 +183,7 @@ impl Replay {
     /// Whether this is the picture of the unit's key, which is noted then. Once a session is settled, it holds the picture
     /// of each valid unit.
     fn shows(&mut self, id: AuId, picture: Picture) -> Result<bool, AllocError>
-        ensures { IfOk result (λ possible. (journal : List EditValue) (earlier : List Receipt)
+        ensures { IfOk result (λ possible. (journal : List (List EditValue)) (earlier : List Receipt)
             → IsReplayed journal earlier self.old
             → Sees journal earlier self.old id (Ready picture) possible self.new) }
     {
@@ -200,7 +204,7 @@ impl Replay {
 
     /// Whether the unit is valid, and its key isn't noted.
     fn may_wait(&mut self, id: AuId) -> Result<bool, AllocError>
-        ensures { IfOk result (λ possible. (journal : List EditValue) (earlier : List Receipt)
+        ensures { IfOk result (λ possible. (journal : List (List EditValue)) (earlier : List Receipt)
             → IsReplayed journal earlier self.old
             → Sees journal earlier self.old id Pending possible self.new) }
     {

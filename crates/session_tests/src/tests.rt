@@ -3,6 +3,7 @@ ghost use Rattle.edit_engine.specs.Machines.{empty};
 
 mod edits;
 mod foreign;
+mod groups;
 mod jobs;
 mod limits;
 mod many;

@@ -5,7 +5,7 @@ use Rattle.access_unit.specs.declared.refused.Refused.{Refused}
 use Rattle.access_unit.specs.declared.refused.Refused.TheVariants as texts
 use Rattle.access_unit.specs.Answers.{IsRefused as IsTextRefused}
 use Rattle.access_unit.specs.Rooms.{most_units}
-use Rattle.stream_edits.specs.declared.changes.Change.{Change}
+use Rattle.stream_edits.specs.declared.acceptance.AcceptedEdit.{AcceptedEdit}
 use Rattle.stream_edits.specs.declared.edits.Edit.{Edit}
 use Rattle.stream_edits.specs.declared.edits.Edit.TheVariants.{Insert, Delete, Replace}
 use Rattle.stream_edits.specs.declared.edits.Place.{Place}
@@ -45,11 +45,11 @@ length-made old (Delete deleted) id new makes short =
 length-made old (Replace replaced text) id new makes short =
     rw makes.1.stream_is (omega (arith, length-set old.stream makes.1.at (replaced, makes.1.unit), short))
 
--- an edit that comes to a change may want memory
-pub TakesMemory-for : (old : Register) (edit : Edit) (change : Change) → IsFor old edit change → TakesMemory old.stream edit
-TakesMemory-for old (Insert place text) change is = (is.makes.accepted.short, is.makes.unit, is.makes.accepted.has)
-TakesMemory-for old (Delete id) change is = (is.makes.1.at, is.makes.1.stands)
-TakesMemory-for old (Replace id text) change is = (is.makes.1.accepted.short, is.makes.1.unit, is.makes.1.accepted.has)
+-- an edit that is accepted may want memory
+pub TakesMemory-for : (old : Register) (edit : Edit) (accepted : AcceptedEdit) → IsFor old edit accepted → TakesMemory old.stream edit
+TakesMemory-for old (Insert place text) accepted is = (is.makes.accepted.short, is.makes.unit, is.makes.accepted.has)
+TakesMemory-for old (Delete id) accepted is = (is.makes.1.at, is.makes.1.stands)
+TakesMemory-for old (Replace id text) accepted is = (is.makes.1.accepted.short, is.makes.1.unit, is.makes.1.accepted.has)
 
 -- a text is refused as it is read
 pub refused_text : (text : List ℕ) (refused : Refused) → (refused ≡ texts.Memory → IsSplittable text)

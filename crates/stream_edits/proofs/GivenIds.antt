@@ -130,7 +130,7 @@ HasIds-replace old new id text ids replaces = record {
         (ap (λ n. cond (eqb n other) 1 0) (sym found.1))
 
 -- an accepted edit
-HasIds-made : (old : Register) (edit : Edit) (id : ℕ) (new : Register) → HasIds old → Makes old edit id new → HasIds new
+pub HasIds-made : (old : Register) (edit : Edit) (id : ℕ) (new : Register) → HasIds old → Makes old edit id new → HasIds new
 HasIds-made old (Insert place text) id new ids makes =
     HasIds-insert old new id makes.at makes.unit ids makes.id_is makes.given_is makes.stream_is
 HasIds-made old (Delete deleted) id new ids makes = HasIds-delete old new deleted ids makes.1

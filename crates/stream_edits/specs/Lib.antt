@@ -3,6 +3,12 @@ pub mod Edits
 pub mod Refusals
 pub mod Reading
 pub mod Changes
+pub mod Common
+pub mod Groups
+pub mod GroupReading
+pub mod GroupRefusals
+pub mod Drafts
+pub mod Journals
 pub mod Ids
 pub mod Names
 pub mod Numbers

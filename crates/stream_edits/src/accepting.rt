@@ -1,6 +1,6 @@
 //! What an edit comes to once its text is read and its places are found.
 
-ghost use Rattle.std.specs.Prelude.{◌≡◌, ℕ, List, IfOk, IfErr};
+ghost use Rattle.std.specs.Prelude.{◌≡◌, ℕ, List, [], ◌∷◌, IfOk, IfErr};
 ghost use Rattle.access_unit.specs.Answers.{IsAccepted};
 ghost use Rattle.stream_edits.specs.declared.edits.Edit.TheVariants.{Insert, Delete, Replace};
 ghost use Rattle.stream_edits.specs.Changes.{IsFor};
@@ -8,6 +8,7 @@ ghost use Rattle.stream_edits.specs.Ids.{AreDifferent};
 ghost use Rattle.stream_edits.specs.Refusals.{IsRefused};
 ghost use Rattle.stream_edits.specs.Streams.{ids_of};
 
+use crate::acceptance::AcceptedEdit;
 use crate::changes::Change;
 use crate::edits::{Edit, Place};
 use crate::places::{place_of, start_of};
@@ -16,6 +17,7 @@ use crate::refusals::EditRefused;
 use access_unit::{MOST_UNITS, Unit};
 use base_types::Shared;
 use pictures::AuId;
+use std::alloc::{AllocError, Global};
 
 /// What the edit comes to, of units with these ids and with so many ids given, or why it is refused.
 ///
@@ -24,32 +26,34 @@ use pictures::AuId;
 /// are looked at, so where that memory is refused, nothing is said of them. A text that is too long or doesn't
 /// split, and a deletion of a unit that isn't there, are never answered Memory.
 pub fn change_of(
+    alloc: Global,
     units: &[(AuId, Shared<Unit>)],
     ids: &[AuId],
     given: u32,
     read: &ReadEdit,
-) -> Result<Change, EditRefused>
+) -> Result<AcceptedEdit, EditRefused>
     requires ids { ids.now ≡ ids_of units.now }
     requires different { AreDifferent ids.now }
     ensures ok { IfOk result (IsFor (record { given = given; stream = units.now }) read.now) }
     ensures err { IfErr result (IsRefused (record { given = given; stream = units.now }) read.now) }
 {
     match (&read.edit, &read.unit) {
-        (Edit::Insert(place, _), Some(unit)) => insertion(units, ids, given, *place, unit),
-        (Edit::Replace(id, _), Some(unit)) => replacement(units, ids, given, *id, unit),
-        (Edit::Delete(id), _) => deletion(units, ids, given, *id),
+        (Edit::Insert(place, _), Some(unit)) => insertion(alloc, units, ids, given, *place, unit),
+        (Edit::Replace(id, _), Some(unit)) => replacement(alloc, units, ids, given, *id, unit),
+        (Edit::Delete(id), _) => deletion(alloc, units, ids, given, *id),
         _ => unreachable!(),
     }
 }
 
 /// The insertion of the unit of a text, under the next id.
 fn insertion(
+    alloc: Global,
     units: &[(AuId, Shared<Unit>)],
     ids: &[AuId],
     given: u32,
     place: Place,
     unit: &Shared<Unit>,
-) -> Result<Change, EditRefused>
+) -> Result<AcceptedEdit, EditRefused>
     requires ids { ids.now ≡ ids_of units.now }
     requires different { AreDifferent ids.now }
     ensures ok { (text : List ℕ) → IsAccepted text unit.now → IfOk result
@@ -66,20 +70,26 @@ fn insertion(
     let Some(number) = given.checked_add(1) else {
         return Err(EditRefused::IdsSpent);
     };
-    Ok(Change::Insertion {
-        at,
-        id: AuId::new(number),
-        unit: unit.clone()?,
+    let id = AuId::new(number);
+    Ok(AcceptedEdit {
+        change: Change {
+            at,
+            rest: at,
+            units: one_unit(alloc, id, unit)?,
+        },
+        id,
+        given: number,
     })
 }
 
 /// The deletion of the unit of an id.
 fn deletion(
+    alloc: Global,
     units: &[(AuId, Shared<Unit>)],
     ids: &[AuId],
     given: u32,
     id: AuId,
-) -> Result<Change, EditRefused>
+) -> Result<AcceptedEdit, EditRefused>
     requires ids { ids.now ≡ ids_of units.now }
     requires different { AreDifferent ids.now }
     ensures ok { IfOk result
@@ -87,20 +97,26 @@ fn deletion(
     ensures err { IfErr result
         (IsRefused (record { given = given; stream = units.now }) (Delete id)) }
 {
-    match place_of(ids, id) {
-        Some(at) => Ok(Change::Deletion { at, id }),
-        None => Err(EditRefused::NoSuchUnit),
-    }
+    let Some(at) = place_of(ids, id) else {
+        return Err(EditRefused::NoSuchUnit);
+    };
+    let change = Change {
+        at,
+        rest: at + 1,
+        units: Vec::new(alloc),
+    };
+    Ok(AcceptedEdit { change, id, given })
 }
 
 /// The replacement of the unit of an id by that of a text.
 fn replacement(
+    alloc: Global,
     units: &[(AuId, Shared<Unit>)],
     ids: &[AuId],
     given: u32,
     id: AuId,
     unit: &Shared<Unit>,
-) -> Result<Change, EditRefused>
+) -> Result<AcceptedEdit, EditRefused>
     requires ids { ids.now ≡ ids_of units.now }
     requires different { AreDifferent ids.now }
     ensures ok { (text : List ℕ) → IsAccepted text unit.now → IfOk result
@@ -111,9 +127,23 @@ fn replacement(
     let Some(at) = place_of(ids, id) else {
         return Err(EditRefused::NoSuchUnit);
     };
-    Ok(Change::Replacement {
+    let change = Change {
         at,
-        id,
-        unit: unit.clone()?,
-    })
+        rest: at + 1,
+        units: one_unit(alloc, id, unit)?,
+    };
+    Ok(AcceptedEdit { change, id, given })
+}
+
+/// The unit alone, under the id.
+fn one_unit(
+    alloc: Global,
+    id: AuId,
+    unit: &Shared<Unit>,
+) -> Result<Vec<(AuId, Shared<Unit>)>, AllocError>
+    ensures { IfOk result (λ units. units.items ≡ (id, unit.now) ∷ []) }
+{
+    let mut units = Vec::with_capacity(alloc, 1)?;
+    units.push((id, unit.clone()?))?;
+    Ok(units)
 }

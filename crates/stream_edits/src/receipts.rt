@@ -5,11 +5,22 @@ use pictures::AuId;
 /// What an accepted edit answers.
 #[derive(Clone, Copy, Debug, PartialEq, Eq)]
 pub struct Receipt {
-    /// How many edits were accepted, with this one.
+    /// How many edits and groups were accepted, with this one.
     pub number: u64,
     /// The id of the unit that was inserted, deleted or replaced.
     pub id: AuId,
     /// How many steps of the fold the edit made.
+    pub steps: u64,
+}
+
+/// What an accepted group of edits answers.
+#[derive(Debug, Drop)]
+pub struct GroupReceipt {
+    /// How many edits and groups were accepted, with this one.
+    pub number: u64,
+    /// The id of the unit that each edit inserted, deleted or replaced, in order.
+    pub ids: Vec<AuId>,
+    /// How many steps of the fold the group made.
     pub steps: u64,
 }
 

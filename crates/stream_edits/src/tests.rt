@@ -58,7 +58,11 @@ fn changed(alloc: Global, units: &Units, given: u32, edit: &Edit) -> Result<u32,
     requires same { units.now.1.items ≡ ids_of units.now.0.items }
 {
     let read = edit.copy()?.read(alloc)?;
-    Ok(change_of(&units.0, &units.1, given, &read)?.id().number())
+    Ok(
+        change_of(alloc, &units.0, &units.1, given, &read)?
+            .id
+            .number(),
+    )
 }
 
 /// How many units a stream has, how many ids were given, and the id of a unit that is inserted or why none is.

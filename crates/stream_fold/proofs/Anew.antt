@@ -20,7 +20,7 @@ use Rattle.stream_fold.specs.Meeting.{AgreeAt, IsMeeting}
 use Rattle.stream_fold.specs.Kept.{IsFolded, spacing}
 use Rattle.stream_fold.specs.Refolding.{Begins, IsRefolded, GoesOn, IsStart, CatchesUp, HasCaughtUp, IsMadeAnew, end_of}
 use Rattle.stream_fold.proofs.Fronts.{take_more_of, drop_drop}
-use Rattle.stream_fold.proofs.Changed.{at_inside, rest_inside, one_unit, take_behind}
+use Rattle.stream_fold.proofs.Changed.{at_inside, rest_inside, take_behind}
 use Rattle.stream_fold.proofs.Folds.{agree_on}
 use Rattle.stream_fold.proofs.Going.{begins, GoesOn-none, GoesOn-append}
 use Rattle.stream_fold.proofs.Storage.{States}
@@ -259,12 +259,12 @@ module _ (change : Change) (stream : Stream) (outcomes : List Outcome) (states :
       inside' : IsInside change stream
       inside' = inside
 
-  few : (count : ℕ) → IsMeeting change stream count → fold.steps ≤ count + 64
+  few : (count : ℕ) → IsMeeting change stream count → fold.steps ≤ length (units_of change) + count + 63
   few count is = elim is.meet [
     | inl agree ↦
         let near : to ≤ rest_from change + count + spacing = not_far count is.inside agree in
-        omega (arith, steps_are, near, start.close, start.before, one_unit change, bounds.0)
-    | inr all ↦ omega (arith, steps_are, all, start.close, start.before, one_unit change, bounds.0, bounds.1)
+        omega (arith, steps_are, near, start.close, start.before, bounds.0)
+    | inr all ↦ omega (arith, steps_are, all, start.close, start.before, bounds.0, bounds.1)
   ]
 
   pub made_anew : IsMadeAnew change stream states fold met

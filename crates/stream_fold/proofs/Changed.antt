@@ -1,53 +1,44 @@
--- A stream after a change of one unit: what is in front of it and what is behind.
-use Rattle.std.proofs.Common.{◌≡◌, ℕ, ◌+◌, ◌-◌, ◌≤◌, ◌++◌, length, take, drop, refl, ap, ◌∙◌, arith, length-append, length-drop, add-one}
-use Rattle.std.proofs.lemmas.List.{set_split, length-take-le}
+-- A stream after a change: what is in front of it and what is behind.
+use Rattle.std.proofs.Common.{◌≡◌, ◌⊎◌, ℕ, ◌+◌, ◌-◌, ◌<◌, ◌≤◌, ◌++◌, length, take, drop, refl, ap, ◌∙◌, arith, inl, inr, append_assoc, length-append, length-drop}
+use Rattle.std.proofs.lemmas.Bool.{cases_lt, lt-ltb, le-ltb}
+use Rattle.std.proofs.lemmas.List.{length-take-le}
+use Rattle.checkpoints.specs.declared.length_change.LengthChange.{LengthChange}
+use Rattle.checkpoints.specs.declared.length_change.LengthChange.TheVariants.{Longer, Shorter}
+use Rattle.checkpoints.specs.Changes.{changed}
 use Rattle.request_core.specs.Agreement.{Stream}
 use Rattle.stream_edits.specs.declared.changes.Change.{Change}
-use Rattle.stream_edits.specs.declared.changes.Change.TheVariants.{Insertion, Deletion, Replacement}
 use Rattle.stream_edits.specs.Changes.{IsInside, at_of, units_of, rest_from, stream_after}
-use Rattle.stream_fold.specs.Changes.{place_after}
+use Rattle.stream_fold.specs.Changes.{brought_to, change_between, place_after}
 use Rattle.stream_fold.proofs.Fronts.{take_front, take_past, drop_past, drop_drop}
 
 pub at_inside : (change : Change) (stream : Stream) → IsInside change stream → at_of change ≤ length stream
-at_inside (Insertion at id unit) stream inside = inside
-at_inside (Deletion at id) stream inside = omega (arith, inside)
-at_inside (Replacement at id unit) stream inside = omega (arith, inside)
+at_inside change stream inside = omega (arith, inside.ordered, inside.within)
 
 pub rest_inside : (change : Change) (stream : Stream) → IsInside change stream → rest_from change ≤ length stream
-rest_inside (Insertion at id unit) stream inside = inside
-rest_inside (Deletion at id) stream inside = omega (arith, inside)
-rest_inside (Replacement at id unit) stream inside = omega (arith, inside)
+rest_inside change stream inside = inside.within
 
-pub at_rest : (change : Change) → at_of change ≤ rest_from change
-at_rest (Insertion at id unit) = omega arith
-at_rest (Deletion at id) = omega arith
-at_rest (Replacement at id unit) = omega arith
+pub at_rest : (change : Change) (stream : Stream) → IsInside change stream → at_of change ≤ rest_from change
+at_rest change stream inside = inside.ordered
 
--- what it brings is one unit at most
-pub one_unit : (change : Change) → length (units_of change) ≤ 1
-one_unit (Insertion at id unit) = omega arith
-one_unit (Deletion at id) = omega arith
-one_unit (Replacement at id unit) = omega arith
-
--- what it brings takes no more places than the stream and one
-pub rest_steps : (change : Change) → at_of change + length (units_of change) ≤ rest_from change + 1
-rest_steps (Insertion at id unit) = omega arith
-rest_steps (Deletion at id) = omega arith
-rest_steps (Replacement at id unit) = omega arith
+-- an end moves up or down
+pub moves : (old new : ℕ) → ((new < old) × (change_between old new ≡ Shorter (old - new))) ⊎ ((old ≤ new) × (change_between old new ≡ Longer (new - old)))
+moves old new = elim (cases_lt new old) [
+  | inl less ↦ inl (less, rw (lt-ltb new old less) refl)
+  | inr le ↦ inr (le, rw (le-ltb new old le) refl)
+]
 
 -- a place behind the change is as far behind as before
 pub place_is : (change : Change) (place : ℕ) → rest_from change ≤ place
     → place_after change place ≡ at_of change + length (units_of change) + (place - rest_from change)
-place_is (Insertion at id unit) place le = omega (arith, le)
-place_is (Deletion at id) place le = omega (arith, le)
-place_is (Replacement at id unit) place le = omega (arith, le)
+place_is change place le = elim (moves (rest_from change) (brought_to change)) [
+  | inl down ↦ ap (λ (by : LengthChange). changed by place) down.1 ∙ omega (arith, down.0, le)
+  | inr up ↦ ap (λ (by : LengthChange). changed by place) up.1 ∙ omega (arith, up.0, le)
+]
 
 -- in front of the change, what it brings, and behind it
 pub split_after : (change : Change) (stream : Stream) → IsInside change stream
     → stream_after change stream ≡ take (at_of change) stream ++ (units_of change ++ drop (rest_from change) stream)
-split_after (Insertion at id unit) stream inside = refl
-split_after (Deletion at id) stream inside = rw add-one refl
-split_after (Replacement at id unit) stream inside = rw (set_split stream at (id, unit) inside, add-one) refl
+split_after change stream inside = append_assoc (take (at_of change) stream) (units_of change) (drop (rest_from change) stream)
 
 module _ (change : Change) (stream : Stream) (inside : IsInside change stream) where
   abbrev after : Stream

@@ -16,17 +16,16 @@ use Rattle.checkpoints.specs.Changes.{CanShift, cut, shifted}
 use Rattle.checkpoints.specs.Spacing.{HasNear}
 use Rattle.checkpoints.proofs.Members.{Contains_cases, kept_from_cut}
 use Rattle.stream_edits.specs.declared.changes.Change.{Change}
-use Rattle.stream_edits.specs.declared.changes.Change.TheVariants.{Insertion, Deletion, Replacement}
 use Rattle.stream_fold.specs.declared.refold.Refold.{Refold}
 use Rattle.stream_fold.specs.Streams.{state_past}
-use Rattle.stream_edits.specs.Changes.{IsInside, at_of, rest_from, stream_after}
-use Rattle.stream_fold.specs.Changes.{length_change, place_after}
+use Rattle.stream_edits.specs.Changes.{IsInside, at_of, rest_from, stream_after, units_of}
+use Rattle.stream_fold.specs.Changes.{brought_to, length_change, place_after}
 use Rattle.stream_fold.specs.Meeting.{AgreeAt}
 use Rattle.stream_fold.specs.Kept.{IsFolded, IsPast, ArePast, AreNear, spacing}
 use Rattle.stream_fold.specs.Storing.{stored_after}
 use Rattle.stream_fold.specs.Refolding.{IsNew, IsMadeAnew, end_of}
 use Rattle.stream_fold.proofs.Fronts.{take_take}
-use Rattle.stream_fold.proofs.Changed.{at_rest, rest_inside, place_is, take_before, length_after, apart_after}
+use Rattle.stream_fold.proofs.Changed.{moves, rest_inside, place_is, take_before, length_after, apart_after}
 use Rattle.stream_fold.proofs.Folds.{agree_on, outcomes_split, outcomes_behind, outcomes_before}
 use Rattle.stream_fold.proofs.Storage.{States, all_put, kept_cases, from_cut, has_low, has_high, has_put, has_made}
 use Rattle.stream_fold.proofs.Anew.{stored_of, place_of_stored}
@@ -36,18 +35,16 @@ abbrev pub stays_of : Stream → Option ℕ → ℕ
 stays_of stream met = unwrap_or met (length stream + 1)
 
 -- places that are kept on both sides of a change can move by it
-can_shift_by : (change : Change) (stays kept most : ℕ) (places : List ℕ) → most + 1 < 2 ^ 64
+can_shift_by : (change : Change) (stays kept most : ℕ) (places : List ℕ) → most + length (units_of change) < 2 ^ 64
     → ((place : ℕ) → Contains places place → place ≤ most) → ((place : ℕ) → Contains places place → (place ≤ kept) ⊎ (stays ≤ place))
-    → kept ≤ at_of change → rest_from change < stays → CanShift stays (length_change change) places
-can_shift_by (Insertion at id unit) stays kept most places short within sides low behind =
-    λ place there high. omega (arith, within place there, short)
-can_shift_by (Deletion at id) stays kept most places short within sides low behind =
-    λ place other at-place at-other below past. elim (sides place at-place) [
-      | inl le ↦ omega (arith, le, low, behind, past)
-      | inr ge ↦ absurd (omega (arith, ge, below))
-    ]
-can_shift_by (Replacement at id unit) stays kept most places short within sides low behind =
-    λ place there high. omega (arith, within place there, short)
+    → kept ≤ at_of change → at_of change ≤ rest_from change → rest_from change < stays → CanShift stays (length_change change) places
+can_shift_by change stays kept most places short within sides low ordered behind = elim (moves (rest_from change) (brought_to change)) [
+  | inl down ↦ rw down.1 (λ place other at-place at-other below past. elim (sides place at-place) [
+    | inl le ↦ omega (arith, le, low, behind, past, down.0)
+    | inr ge ↦ absurd (omega (arith, ge, below))
+  ])
+  | inr up ↦ rw up.1 (λ place there high. omega (arith, within place there, short, up.0, ordered))
+]
 
 module _ (change : Change) (stream : Stream) (outcomes : List Outcome) (states : States) (end : FoldState)
     (folded : IsFolded stream outcomes states end) (inside : IsInside change stream) (fold : Refold) where
@@ -117,7 +114,7 @@ module _ (change : Change) (stream : Stream) (outcomes : List Outcome) (states :
     kept_low = omega (arith, made.kept_before, made.before)
 
     pub kept_before : fold.kept < stays
-    kept_before = omega (arith, kept_low, at_rest change, bounds.stays)
+    kept_before = omega (arith, kept_low, inside.ordered, bounds.stays)
 
     cut_within : (place : ℕ) → Contains (keys_of (cut fold.kept stays states)) place → place ≤ length stream
     cut_within place there =
@@ -126,10 +123,10 @@ module _ (change : Change) (stream : Stream) (outcomes : List Outcome) (states :
         (folded.past place state.0 was.0).within
 
     -- the places that stay can move
-    pub can_shift : length stream + 1 < 2 ^ 64 → CanShift stays (length_change change) (keys_of (cut fold.kept stays states))
+    pub can_shift : length stream + length (units_of change) < 2 ^ 64 → CanShift stays (length_change change) (keys_of (cut fold.kept stays states))
     can_shift short =
         can_shift_by change stays fold.kept (length stream) (keys_of (cut fold.kept stays states)) short cut_within
-        (kept_from_cut states fold.kept stays) kept_low bounds.stays
+        (kept_from_cut states fold.kept stays) kept_low inside.ordered bounds.stays
 
     to_within : place_after change to ≤ length after
     to_within = omega (arith, length_after change stream inside, apart_after change stream inside to (length stream) bounds.behind bounds.within)
@@ -276,7 +273,7 @@ module _ (change : Change) (stream : Stream) (outcomes : List Outcome) (states :
         (ap (λ (n : ℕ). take n after) (sym (length_after change stream inside)) ∙ take-length after)))
 
     pub from_to : fold.from ≤ to
-    from_to = omega (arith, made.before, at_rest change, bounds.behind)
+    from_to = omega (arith, made.before, inside.ordered, bounds.behind)
 
     pub to_inside : to ≤ length stream
     to_inside = bounds.within
@@ -306,6 +303,6 @@ module _ (change : Change) (stream : Stream) (outcomes : List Outcome) (states :
       folded_by units kinds kept_states last_place stays_from by units_are kinds_are to_is states_are stays_is by_is =
           rw (units_are, kinds_are, to_is, states_are, stays_is, by_is) folded_after
 
-    pub can_shift_as : (stays_from : ℕ) (by : LengthChange) → stays_from ≡ stays → by ≡ length_change change → length stream + 1 < 2 ^ 64
+    pub can_shift_as : (stays_from : ℕ) (by : LengthChange) → stays_from ≡ stays → by ≡ length_change change → length stream + length (units_of change) < 2 ^ 64
         → CanShift stays_from by (keys_of (cut fold.kept stays_from states))
     can_shift_as stays_from by stays_is by_is short = rw (stays_is, by_is) (can_shift short)

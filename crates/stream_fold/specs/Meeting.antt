@@ -1,4 +1,4 @@
--- Where the folds over a stream before and after a change of one unit meet.
+-- Where the folds over a stream before and after a change meet.
 use Rattle.std.specs.Prelude.{◌≡◌, ◌⊎◌, ℕ, ◌+◌, ◌≤◌, length}
 use Rattle.request_core.specs.Agreement.{Stream}
 use Rattle.stream_edits.specs.declared.changes.Change.{Change}
@@ -11,7 +11,7 @@ abbrev pub AgreeAt : Change → Stream → ℕ → Type 0
 AgreeAt change stream place =
     state_past stream place ≡ state_past (stream_after change stream) (place_after change place)
 
--- so many units past the changed one the folds agree, or there are no more units
+-- so many units past the change the folds agree, or there are no more units
 pub record IsMeeting (change : Change) (stream : Stream) (count : ℕ) : Type 0 where
   pub inside : rest_from change + count ≤ length stream
   pub meet : AgreeAt change stream (rest_from change + count) ⊎ (rest_from change + count ≡ length stream)

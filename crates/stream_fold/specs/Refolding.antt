@@ -9,7 +9,7 @@ use Rattle.checkpoints.specs.Stored.{IsStoredAt}
 use Rattle.checkpoints.specs.Spacing.{HasNear}
 use Rattle.stream_edits.specs.declared.changes.Change.{Change}
 use Rattle.stream_fold.specs.declared.refold.Refold.{Refold}
-use Rattle.stream_edits.specs.Changes.{at_of, stream_after, rest_from}
+use Rattle.stream_edits.specs.Changes.{at_of, stream_after, rest_from, units_of}
 use Rattle.stream_fold.specs.Changes.{place_after}
 use Rattle.stream_fold.specs.Meeting.{IsMeeting}
 use Rattle.stream_fold.specs.Kept.{IsPast, spacing}
@@ -84,4 +84,4 @@ pub record IsMadeAnew (change : Change) (stream : Stream) (states : List (ℕ ×
   pub kept : (state : FoldState) × IsStoredAt states fold.kept state
   pub refolded : IsRefolded (take (place_after change (end_of stream met)) (stream_after change stream)) fold
   pub met_at : IfSome met (λ to. (rest_from change < to) × (to ≤ length stream) × IsStoredAt states to fold.state)
-  pub few : (count : ℕ) → IsMeeting change stream count → fold.steps ≤ count + 64
+  pub few : (count : ℕ) → IsMeeting change stream count → fold.steps ≤ length (units_of change) + count + 63

@@ -9,7 +9,6 @@ ghost use Rattle.stream_fold.specs.Meeting.{IsMeeting};
 
 use crate::changes::length_change;
 use crate::refold::Refold;
-use crate::replacing::replace_range;
 use crate::storing::{keep_end, store_anew};
 use access_unit::Unit;
 use base_types::Shared;
@@ -20,6 +19,7 @@ use request_core::State;
 use std::alloc::{AllocError, Global};
 use std::marker::Model;
 use stream_edits::Change;
+use vec_ranges::replace_range;
 
 /// A stream of access units under their ids, with what becomes of each, and the states of the fold past some of its places.
 #[derive(Debug)]
@@ -144,16 +144,17 @@ impl Folded {
     /// Prepares a change: folds anew what it changes, and makes room. All answers stay as they were.
     pub fn prepare(&mut self, alloc: Global, change: Change) -> Result<Prepared, AllocError>
         requires inside { IsInside change self.old.stream }
-        requires short { length self.old.stream + 1 < 2 ^ 64 }
+        requires short { length self.old.stream + length (units_of change) < 2 ^ 64 }
         ensures kept { self.new.stream ≡ self.old.stream }
         ensures ready { IfOk result (λ prepared. IsPrepared self.new prepared) }
         ensures change { IfOk result (λ prepared. change_in prepared ≡ change) }
         ensures anew { IfOk result (λ prepared. IsAnew prepared self.old.stream) }
         ensures few { IfOk result (λ prepared. (count : ℕ)
-            → IsMeeting change self.old.stream count → steps_in prepared ≤ count + 64) }
+            → IsMeeting change self.old.stream count
+            → steps_in prepared ≤ length (units_of change) + count + 63) }
     {
         let (fold, met) = self.refold(alloc, &change)?;
-        self.units.reserve(1)?;
+        self.units.reserve(change.units().len())?;
         self.outcomes.reserve(fold.outcomes.len())?;
         self.stored.reserve(fold.states.len())?;
         Ok(Prepared { change, fold, met })
@@ -184,10 +185,10 @@ impl Folded {
     }
 
     /// The fold over what a change changes, and the place at which it came to a stored state, if it did.
-    #[tactic(auto, using(crate::proofs::Changed::at_inside, crate::proofs::Changed::rest_inside, crate::proofs::Changed::at_rest, crate::proofs::Changed::one_unit, crate::proofs::Changed::rest_steps))]
+    #[tactic(auto, using(crate::proofs::Changed::at_inside, crate::proofs::Changed::rest_inside, crate::proofs::Changed::at_rest))]
     fn refold(&self, alloc: Global, change: &Change) -> Result<(Refold, Option<usize>), AllocError>
         requires inside { IsInside change.now self.now.stream }
-        requires short { length self.now.stream + 1 < 2 ^ 64 }
+        requires short { length self.now.stream + length (units_of change.now) < 2 ^ 64 }
         ensures { IfOk result (λ made.
             IsMadeAnew change.now self.now.stream self.now.stored.states made.0 made.1) }
     {
@@ -195,7 +196,7 @@ impl Folded {
         let mut fold = self.start(alloc, at)?;
         let from = fold.from;
         fold.go_over(alloc, &self.units[from..at])?;
-        fold.go_over_changed(alloc, change)?;
+        fold.go_over(alloc, change.units())?;
         let met = self.catch_up(alloc, change.rest_from(), &mut fold)?;
         Ok((fold, met))
     }

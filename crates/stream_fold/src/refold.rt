@@ -2,7 +2,6 @@
 
 ghost use Rattle.std.specs.Prelude.{◌≡◌, ◌+◌, ◌-◌, ◌^◌, ◌<◌, ◌≤◌, ◌∷◌, ◌++◌, [], length, IfOk, OnOk};
 ghost use Rattle.request_core.specs.Agreement.{Stream};
-ghost use Rattle.stream_edits.specs.Changes.{units_of};
 
 use access_unit::Unit;
 use base_types::Shared;
@@ -10,7 +9,6 @@ use outcomes::Outcome;
 use pictures::AuId;
 use request_core::{State, Steps, step};
 use std::alloc::{AllocError, Global};
-use stream_edits::Change;
 
 /// How far stored states stand apart at most, in units.
 pub(crate) const SPACING: usize = 32;
@@ -75,23 +73,6 @@ impl Refold {
             self.go_on(alloc, unit.0, &unit.1)?;
         }
         Ok(())
-    }
-
-    /// Goes on over the unit that a change brings, if it brings one.
-    pub(crate) fn go_over_changed(
-        &mut self,
-        alloc: Global,
-        change: &Change,
-    ) -> Result<(), AllocError>
-        requires { self.old.place + 1 < 2 ^ 64 }
-        ensures { OnOk result (GoesOn self.old (units_of change.now) self.new) }
-    {
-        match change {
-            Change::Insertion { id, unit, .. } | Change::Replacement { id, unit, .. } => {
-                self.go_on(alloc, *id, unit)
-            }
-            Change::Deletion { .. } => Ok(()),
-        }
     }
 
     /// Goes on over one unit more.

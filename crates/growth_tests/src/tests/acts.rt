@@ -14,7 +14,7 @@ use edit_engine::{
 };
 use outcomes::{Outcome, ValidityFault};
 use pictures::AuId;
-use std::alloc::AllocError;
+use std::alloc::{AllocError, AllocGlobal};
 use std::process::Abort;
 
 /// A command, and what it has to be answered.
@@ -219,8 +219,12 @@ pub(super) fn is_reply(reply: &Reply, act: Act) -> bool {
 }
 
 /// Follows the command, once more where memory is wanted.
-fn step(rt: &impl Abort, runner: &mut Runner, command: Command) -> Result<Reply, AllocError> {
-    let copy = command.copy()?;
+fn step(
+    rt: &(impl Abort + AllocGlobal),
+    runner: &mut Runner,
+    command: Command,
+) -> Result<Reply, AllocError> {
+    let copy = command.copy(rt.alloc())?;
     let before = seen(runner.session());
     match runner.step(command) {
         Err(_) | Ok(Reply::Edit(Err(EditRefused::Memory))) => {
@@ -232,7 +236,7 @@ fn step(rt: &impl Abort, runner: &mut Runner, command: Command) -> Result<Reply,
 }
 
 /// The runner answers all acts so.
-fn answers(rt: &impl Abort, runner: &mut Runner, acts: &[Act]) -> Result<bool, AllocError> {
+fn answers(rt: &(impl Abort + AllocGlobal), runner: &mut Runner, acts: &[Act]) -> Result<bool, AllocError> {
     for act in acts {
         if !is_reply(&step(rt, runner, command_of(*act))?, *act) {
             return Ok(false);
@@ -250,7 +254,7 @@ fn number_taken(reply: &Reply) -> Option<u64> {
 }
 
 /// Takes and lands jobs until none is due, at most ten; whether that came to its end.
-fn settles(rt: &impl Abort, runner: &mut Runner) -> Result<bool, AllocError> {
+fn settles(rt: &(impl Abort + AllocGlobal), runner: &mut Runner) -> Result<bool, AllocError> {
     for _ in 0..10 {
         let Some(number) = number_taken(&step(rt, runner, Command::Take)?) else {
             return Ok(true);
@@ -271,7 +275,7 @@ fn shows(runner: &Runner, units: &[(u32, Shown)]) -> bool {
 }
 
 /// The runner answers the script, and shows its pictures at last.
-fn follows(rt: &impl Abort, runner: &mut Runner, script: &Script) -> Result<bool, AllocError> {
+fn follows(rt: &(impl Abort + AllocGlobal), runner: &mut Runner, script: &Script) -> Result<bool, AllocError> {
     Ok(answers(rt, runner, script.acts)? && settles(rt, runner)? && shows(runner, script.at_last))
 }
 

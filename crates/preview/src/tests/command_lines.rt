@@ -41,6 +41,7 @@ impl Directory for Folder {
             "c.script" => b"\nunit 1 2\n",
             "repair" => REPAIR,
             "edited" => EDITED,
+            "grouped" => GROUPED,
             "memory" => return Err(ErrorKind::OutOfMemory),
             "forbidden" => return Err(ErrorKind::PermissionDenied),
             "folder" => return Err(ErrorKind::IsADirectory),
@@ -99,7 +100,7 @@ type Ran = (
     &'static str,
 );
 
-const RUNS: [Ran; 28] = [
+const RUNS: [Ran; 30] = [
     (&["plan", "a.264"], &P1, Success, LINES_OF_A, ""),
     (
         &["plan", "-"],
@@ -185,6 +186,21 @@ const RUNS: [Ran; 28] = [
         "agreed 3 edits 2 shows\n",
         "",
     ),
+    // A group counts as one edit.
+    (
+        &["audit", "grouped", "--workers", "2"],
+        &A,
+        Success,
+        "agreed 4 edits 2 shows\n",
+        "",
+    ),
+    (
+        &["run", "grouped", "--workers", "2"],
+        &A,
+        Success,
+        ANSWERED,
+        "",
+    ),
     (
         &["audit", "--workers", "1", "--cache", "1", "-"],
         SHOW_A,
@@ -235,6 +251,21 @@ settle\n\
 show 2\n\
 delete 1\n\
 show 2\n";
+
+/// Three edits, and a group that deletes a unit and inserts it again.
+const GROUPED: &[u8] = b"insert first 000001 6742000ADA79 000001 68CE3880 000001 65888480\n\
+insert after 1 000001 419A23\n\
+insert after 2 000001 419A43\n\
+settle\n\
+group\n\
+delete 2\n\
+insert after 1 000001 419A23\n\
+end\n\
+show 3\n\
+show 4\n";
+
+const ANSWERED: &str = "edit 1 id 1\nedit 2 id 2\nedit 3 id 3\nsettled\ngroup 4 ids 2 4\n\
+show 3 ready\nshow 4 ready\n";
 
 /// A script that shows the picture of A, and its lines without and with the hash, which is one of stand_in_device's tests.
 const SHOW_A: &[u8] = b"load a.264\nsettle\nshow 1\n";

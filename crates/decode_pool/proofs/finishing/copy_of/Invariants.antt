@@ -1,5 +1,5 @@
 use Rattle.std.proofs.Common.{◌≡◌, take}
 use Rattle.decode_pool.proofs.finishing.copy_of.Given as goal
 
-abbrev pub invariant-loop-edit : goal.invariant-loop-edit
-invariant-loop-edit l = l.copy.items ≡ take l.edit-index l.journal
+abbrev pub invariant-loop-entry : goal.invariant-loop-entry
+invariant-loop-entry l = l.copy.items ≡ take l.entry-index l.journal

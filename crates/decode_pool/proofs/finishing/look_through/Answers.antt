@@ -42,6 +42,6 @@ returns-clause-ok c =
     let noted : (at : ℕ) → at < length c.journal-journal.result.now → is_noted c.in_ok-books.books.items (at + 1) ≡ true =
     subst (λ (books : List SeatBook). (at : ℕ) → at < length c.journal-journal.result.now → is_noted books (at + 1) ≡ true)
     c.deref-2.ensures.value c.if-not-are_all_noted.ensures in
-    subst (λ (journal : List Edit). IsFinished c.args.opened c.args.seats.now journal) c.journal-journal.ensures.value
+    subst (λ (journal : List (List Edit)). IsFinished c.args.opened c.args.seats.now journal) c.journal-journal.ensures.value
     (finished c.args.opened c.args.seats.now c.journal-journal.result.now c.in_ok-books.books.items numbered
     c.in_ok-books.ensures agree noted)

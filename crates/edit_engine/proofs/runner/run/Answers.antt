@@ -3,7 +3,7 @@ use Rattle.std.proofs.lemmas.List.{take_more, get_or_read}
 use Rattle.edit_engine.specs.declared.commands.Command.{Command}
 use Rattle.edit_engine.specs.Machines.{empty}
 use Rattle.edit_engine.specs.Runs.{Runs}
-use Rattle.edit_engine.proofs.Ran.{Runs-push}
+use Rattle.edit_engine.proofs.Ran.{Answers-copy, Runs-push}
 use Rattle.edit_engine.proofs.runner.run.Goals as goal
 
 pub loop-command-preserved : goal.loop-command-preserved
@@ -14,7 +14,7 @@ loop-command-preserved c =
     (subst P (sym more)
     (Runs-push (empty c.args.config.cache) (take c.loop-command.command-index c.args.commands.now) c.loop-command.replies.items
     c.loop-command.runner c.command-item.result c.in_ok-step.field-0 c.step.new.self
-    c.loop-command.invariant (rw c.in_ok-copy.ensures at c.in_ok-step.ensures.ok)))
+    c.loop-command.invariant (Answers-copy c.loop-command.runner c.command-item.result _ c.in_ok-step.field-0 c.step.new.self c.in_ok-copy.ensures c.in_ok-step.ensures.ok)))
   where
     more : take (c.loop-command.command-index + 1) c.args.commands.now
         ≡ take c.loop-command.command-index c.args.commands.now ++ c.command-item.result ∷ []

@@ -7,6 +7,9 @@ pub ids_anew-requires-clause-before : goal.ids_anew-requires-clause-before
 ids_anew-requires-clause-before c =
     rw (c.begin-from.ensures, c.change.ensures, c.refolded-refolded.ensures) c.requires.ready.refolded.made.before
 
+pub ids_anew-requires-clause-ordered : goal.ids_anew-requires-clause-ordered
+ids_anew-requires-clause-ordered c = rw (c.change.ensures, c.refolded-refolded.ensures) c.requires.ready.refolded.inside.ordered
+
 pub ids_anew-requires-clause-behind : goal.ids_anew-requires-clause-behind
 ids_anew-requires-clause-behind c =
     rw (c.end_of-to.ensures, c.change.ensures, c.refolded-refolded.ensures)

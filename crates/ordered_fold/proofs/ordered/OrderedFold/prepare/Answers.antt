@@ -18,7 +18,7 @@ pub prepare_splice-requires-clause-fits : goal.prepare_splice-requires-clause-fi
 prepare_splice-requires-clause-fits c =
     let kept = c.in_ok-refolded.ensures.kept in
     let inside = rw kept at c.in_ok-refolded.ensures.ready.inside in
-    let short = rw (← c.self.view_is) at c.requires.short in
+    let short = rw (← c.self.view_is, ← c.in_ok-refolded.ensures.change) at c.requires.short in
     spliced_fits c.self.inside.folded.stream c.self.inside.periods.periods c.self.invariant c.in_ok-refolded.refolded
     c.in_ok-refolded.ensures.anew inside c.begin.result c.end-end.result c.deref.result.now c.begin.ensures
     (c.end-end.ensures ∙ ap (λ (stream : Stream). end_in c.in_ok-refolded.refolded stream) kept)

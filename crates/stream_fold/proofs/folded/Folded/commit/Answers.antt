@@ -3,7 +3,7 @@ use Rattle.std.specs.Prelude.{unwrap_or}
 use Rattle.request_core.specs.States.{no_units}
 use Rattle.stream_fold.specs.Refolding.{end_of}
 use Rattle.stream_fold.proofs.Folds.{length-outcomes_from}
-use Rattle.stream_fold.proofs.Committed.{stays_of, can_shift_as, to_inside, folded_by}
+use Rattle.stream_fold.proofs.Committed.{stays_of, can_shift_as, from_to, to_inside, folded_by}
 use Rattle.stream_fold.proofs.folded.Folded.commit.Goals as goal
 
 pub store_anew-requires-clause-apart : goal.store_anew-requires-clause-apart
@@ -15,6 +15,19 @@ store_anew-requires-clause-apart c =
     can_shift_as c.args.prepared.change c.self.inside.units.items c.self.inside.outcomes.items c.self.inside.stored.states c.self.inside.end
     c.self.invariant prepared.inside c.args.prepared.fold c.args.prepared.met prepared.made c.unwrap_or.result c.length_change.result stays
     c.length_change.ensures prepared.short
+
+pub replace_range-requires-clause-ordered : goal.replace_range-requires-clause-ordered
+replace_range-requires-clause-ordered c =
+    let prepared = rw (← c.self.view_is) at c.requires in
+    let long : c.len-end.result ≡ length c.self.inside.units.items = omega (arith, c.len-end.ensures, c.self.inside.units.ok.0) in
+    let ends : c.unwrap_or-2.result ≡ end_of c.self.inside.units.items c.args.prepared.met =
+    c.unwrap_or-2.ensures ∙ ap (λ (n : ℕ). unwrap_or c.args.prepared.met n) long in
+    omega (
+      arith,
+      ends,
+      from_to c.args.prepared.change c.self.inside.units.items c.self.inside.outcomes.items c.self.inside.stored.states c.self.inside.end
+          c.self.invariant prepared.inside c.args.prepared.fold c.args.prepared.met prepared.made,
+    )
 
 pub replace_range-requires-clause-inside : goal.replace_range-requires-clause-inside
 replace_range-requires-clause-inside c =

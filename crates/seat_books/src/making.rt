@@ -1,0 +1,55 @@
+//! The making of a journal's entries.
+
+ghost use Rattle.std.specs.Prelude.{◌∷◌, [], IfOk};
+ghost use Rattle.seat_books.specs.Following.{MakesEntry};
+
+use crate::copying::copy_of_edits;
+use edit_engine::{Edit, GroupReceipt, Session};
+use pictures::AuId;
+use std::alloc::{AllocError, Global};
+
+/// Makes the edits of an entry, and answers the ids that they are given. A journal's are refused for want of memory alone.
+pub(crate) fn make_entry(
+    alloc: Global,
+    session: &mut Session,
+    edits: &[Edit],
+) -> Result<Vec<AuId>, AllocError>
+    ensures { IfOk result (λ ids. MakesEntry session.old edits.now ids.items session.new) }
+{
+    if edits.len() == 1 {
+        return make_one(alloc, session, &edits[0]);
+    }
+    make_several(alloc, session, edits)
+}
+
+/// Makes an edit by itself, which no copy of the stream is made for.
+fn make_one(alloc: Global, session: &mut Session, edit: &Edit) -> Result<Vec<AuId>, AllocError>
+    ensures { IfOk result (λ ids. MakesEntry session.old (edit.now ∷ []) ids.items session.new) }
+{
+    let Ok(receipt) = session.edit(edit.copy()?) else {
+        return Err(AllocError);
+    };
+    let mut ids = Vec::new(alloc);
+    ids.push(receipt.id)?;
+    Ok(ids)
+}
+
+/// Makes edits together.
+fn make_several(
+    alloc: Global,
+    session: &mut Session,
+    edits: &[Edit],
+) -> Result<Vec<AuId>, AllocError>
+    ensures { IfOk result (λ ids. MakesEntry session.old edits.now ids.items session.new) }
+{
+    let copy = copy_of_edits(alloc, edits)?;
+    let Ok(receipt) = session.edit_group(copy) else {
+        return Err(AllocError);
+    };
+    let GroupReceipt {
+        number: _,
+        ids,
+        steps: _,
+    } = receipt;
+    Ok(ids)
+}

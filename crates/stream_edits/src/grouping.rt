@@ -1,0 +1,67 @@
+//! What a group of edits comes to.
+
+ghost use Rattle.std.specs.Prelude.{◌≡◌, IfErr, IfOk};
+ghost use Rattle.stream_edits.specs.Drafts.{IsDraft};
+ghost use Rattle.stream_edits.specs.GroupRefusals.{IsGroupRefused, IsRefusedAmong};
+ghost use Rattle.stream_edits.specs.Groups.{IsForAll};
+ghost use Rattle.stream_edits.specs.Ids.{HasIds};
+ghost use Rattle.stream_edits.specs.Streams.{ids_of};
+
+use crate::acceptance::AcceptedGroup;
+use crate::draft::Draft;
+use crate::group_refused::GroupRefused;
+use crate::read_edit::ReadEdit;
+use crate::read_group::ReadGroup;
+use access_unit::Unit;
+use base_types::Shared;
+use pictures::AuId;
+use std::alloc::Global;
+
+/// What the group comes to, of units with these ids and with so many ids given, or why it is refused.
+///
+/// Each edit is made on the stream that those before it left, and may name an id that one of them gave. Where one is
+/// refused, the whole group is, and so are no ids given.
+pub fn change_of_group(
+    alloc: Global,
+    units: &[(AuId, Shared<Unit>)],
+    ids: &[AuId],
+    given: u32,
+    group: &ReadGroup,
+) -> Result<AcceptedGroup, GroupRefused>
+    requires ids { ids.now ≡ ids_of units.now }
+    requires different { HasIds (record { given = given; stream = units.now }) }
+    ensures ok { IfOk result
+        (IsForAll (record { given = given; stream = units.now }) group.now) }
+    ensures err { IfErr result
+        (IsGroupRefused (record { given = given; stream = units.now }) group.now) }
+{
+    let draft = draft_of(alloc, units, ids, given, &group.read)?;
+    if let Some(refused) = group.refused {
+        return Err(GroupRefused::at(group.read.len(), refused));
+    }
+    Ok(draft.into_change(units))
+}
+
+/// The stream under these edits, made on it one after the other, or the refusal of the first that is refused.
+fn draft_of(
+    alloc: Global,
+    units: &[(AuId, Shared<Unit>)],
+    ids: &[AuId],
+    given: u32,
+    read: &[ReadEdit],
+) -> Result<Draft, GroupRefused>
+    requires ids { ids.now ≡ ids_of units.now }
+    requires different { HasIds (record { given = given; stream = units.now }) }
+    ensures ok { IfOk result
+        (IsDraft (record { given = given; stream = units.now }) read.now) }
+    ensures err { IfErr result
+        (IsRefusedAmong (record { given = given; stream = units.now }) read.now) }
+{
+    let mut draft = Draft::new(alloc, units, ids, given)?;
+    for index in 0..read.len() {
+        if let Err(refused) = draft.make(alloc, &read[index]) {
+            return Err(GroupRefused::at(index, refused));
+        }
+    }
+    Ok(draft)
+}

@@ -1,0 +1,103 @@
+//! Groups of edits whose texts are read.
+
+ghost use Rattle.std.specs.Prelude.{◌≡◌, IfErr, IfOk};
+ghost use Rattle.stream_edits.specs.Edits.{Register};
+ghost use Rattle.stream_edits.specs.GroupReading.{AreReadUpTo};
+ghost use Rattle.stream_edits.specs.GroupRefusals.{IsGroupRefused};
+ghost use Rattle.stream_edits.specs.Groups.{IsSized};
+
+use crate::edits::Edit;
+use crate::group_refused::GroupRefused;
+use crate::read_edit::ReadEdit;
+use crate::refusals::EditRefused;
+use std::alloc::{AllocError, Global};
+use std::marker::Model;
+
+/// How many edits a group has at most.
+pub const MOST_EDITS: usize = 1_024;
+
+/// A group of one edit at least and 1,024 at most, with the units that their texts are read as, up to the first text that
+/// is refused. Clauses see the edits.
+#[derive(Debug)]
+pub struct ReadGroup {
+    edits: Vec<Edit>,
+    pub(crate) read: Vec<ReadEdit>,
+    /// Why the text of the next one is refused, if one is.
+    pub(crate) refused: Option<EditRefused>,
+}
+
+// By hand, so that whoever drops one is proved over one call.
+impl Drop for ReadGroup {
+    fn drop(self) {
+        let ReadGroup {
+            edits: _,
+            read: _,
+            refused: _,
+        } = self;
+    }
+}
+
+impl Model for ReadGroup {
+    ghost use Rattle.std.specs.Prelude.{List};
+    ghost use Rattle.stream_edits.specs.declared.edits.Edit.{Edit as EditValue};
+    ghost use Rattle.stream_edits.specs.GroupReading.{IsReadGroup};
+
+    ghost Value = { List EditValue };
+
+    ghost view = { λ group. group.edits.items };
+
+    ghost invariant = { λ group. IsReadGroup group.edits.items group.read.items group.refused };
+}
+
+impl ReadGroup {
+    /// The group of these edits with their texts read, or why it is refused whatever the stream is: for its size, or for
+    /// want of memory. A text that is refused is answered when the group is made, since an edit before it may be refused
+    /// for the stream. No byte is copied.
+    pub fn read(alloc: Global, edits: Vec<Edit>) -> Result<ReadGroup, GroupRefused>
+        ensures ok { IfOk result (λ group. (group ≡ edits.items) × IsSized group) }
+        ensures err { IfErr result (λ refused. (old : Register)
+            → IsGroupRefused old edits.items refused) }
+    {
+        if edits.is_empty() {
+            return Err(GroupRefused::Empty);
+        }
+        if edits.len() > MOST_EDITS {
+            return Err(GroupRefused::TooLarge);
+        }
+        let (read, refused) = read_texts(alloc, &edits)?;
+        Ok(ReadGroup {
+            edits,
+            read,
+            refused,
+        })
+    }
+
+    /// The edits, without the units.
+    pub fn into_edits(self) -> Vec<Edit>
+        ensures { result.items ≡ self }
+    {
+        let ReadGroup {
+            edits,
+            read: _,
+            refused: _,
+        } = self;
+        edits
+    }
+}
+
+/// The edits with their texts read, up to the first text that is refused, and that refusal.
+fn read_texts(
+    alloc: Global,
+    edits: &[Edit],
+) -> Result<(Vec<ReadEdit>, Option<EditRefused>), AllocError>
+    ensures { IfOk result (λ texts. AreReadUpTo edits.now texts.0.items texts.1) }
+{
+    let mut read = Vec::with_capacity(alloc, edits.len())?;
+    for index in 0..edits.len() {
+        match edits[index].copy()?.read(alloc) {
+            Ok(edit) => read.push(edit)?,
+            Err(refused) => return Ok((read, Some(refused))),
+        }
+    }
+    Ok((read, None))
+}

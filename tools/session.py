@@ -7,7 +7,10 @@ import fold
 import syntax
 from fold import Empty, Plan
 
-MOST_UNITS, MOST_IDS = 65536, 4294967295
+MOST_UNITS, MOST_IDS, MOST_EDITS = 65536, 4294967295, 1024
+
+
+EDITS = "first", "after", "replace", "delete"
 
 
 class Open(Exception):
@@ -18,13 +21,44 @@ class Wrong(Exception):
     """A line is no command."""
 
 
+class WrongLine(Exception):
+    """The line of this number is the first that is no command."""
+
+
 class Cannot(Exception):
     """A file can't be read."""
+
+
+class GroupRefused(Exception):
+    """A group is refused, as its line says."""
 
 
 class Job(NamedTuple):
     number: int
     key: bytes
+
+
+def place_in(stream, unit_id):
+    return next((at for at, unit in enumerate(stream) if unit[0] == unit_id), None)
+
+
+def edited(stream, ids, edit):
+    """The stream after an edit, how many ids are given then, and the id that it is about."""
+    name, *operands = edit
+    if name in ("first", "after"):
+        unit = syntax.read_unit(operands[-1])
+        after = 0 if name == "first" else place_in(stream, operands[0])
+        at = after if name == "first" or after is None else after + 1
+        for number, is_so in ((16, at is None), (17, len(stream) >= MOST_UNITS), (18, ids >= MOST_IDS)):
+            if is_so:
+                raise syntax.Refused(number)
+        return stream[:at] + [(ids + 1, unit)] + stream[at:], ids + 1, ids + 1
+    unit_id = operands[0]
+    put = [(unit_id, syntax.read_unit(operands[1]))] if name == "replace" else []
+    at = place_in(stream, unit_id)
+    if at is None:
+        raise syntax.Refused(16)
+    return stream[:at] + put + stream[at + 1:], ids, unit_id
 
 
 class Session:
@@ -36,35 +70,34 @@ class Session:
         self.pictures, self.held, self.cached, self.out = {}, set(), [], []
 
     def place(self, unit_id):
-        return next((at for at, unit in enumerate(self.stream) if unit[0] == unit_id), None)
+        return place_in(self.stream, unit_id)
 
-    def insert(self, at, text):
-        """Inserts a unit at a place, None being none; its id."""
-        unit = syntax.read_unit(text)
-        for number, is_so in ((16, at is None), (17, len(self.stream) >= MOST_UNITS), (18, self.ids >= MOST_IDS)):
-            if is_so:
-                raise syntax.Refused(number)
-        self.ids += 1
-        return self.change(self.stream[:at] + [(self.ids, unit)] + self.stream[at:], self.ids)
+    def edit(self, edit):
+        """Makes an edit; the id that it is about."""
+        stream, ids, unit_id = edited(self.stream, self.ids, edit)
+        self.change(stream, ids)
+        return unit_id
 
-    def delete(self, unit_id):
-        at = self.there(unit_id)
-        return self.change(self.stream[:at] + self.stream[at + 1:], unit_id)
+    def group(self, edits):
+        """Makes edits as one step; their ids."""
+        if not edits:
+            raise GroupRefused("20 EmptyGroup")
+        if len(edits) > MOST_EDITS:
+            raise GroupRefused("21 GroupTooLarge")
+        stream, ids, about = self.stream, self.ids, []
+        for index, edit in enumerate(edits):
+            try:
+                stream, ids, unit_id = edited(stream, ids, edit)
+            except syntax.Refused as refused:
+                raise GroupRefused(f"at {index} {refused.number} {refused}") from None
+            about.append(unit_id)
+        self.change(stream, ids)
+        return about
 
-    def replace(self, unit_id, text):
-        unit = syntax.read_unit(text)
-        at = self.there(unit_id)
-        return self.change(self.stream[:at] + [(unit_id, unit)] + self.stream[at + 1:], unit_id)
-
-    def there(self, unit_id):
-        at = self.place(unit_id)
-        if at is None:
-            raise syntax.Refused(16)
-        return at
-
-    def change(self, stream, unit_id):
-        """The stream becomes this one."""
-        self.stream, self.rows, self.edits = stream, fold.rows(stream, self.pictures), self.edits + 1
+    def change(self, stream, ids):
+        """The stream becomes this one, with so many ids given, in one step."""
+        self.stream, self.ids = stream, ids
+        self.rows, self.edits = fold.rows(stream, self.pictures), self.edits + 1
         in_use = {row.key for row in self.rows} - {None}
         cached = {key for group in self.cached for key in group}
         gone = self.held - in_use
@@ -72,7 +105,6 @@ class Session:
         self.cached = [group - in_use for group in self.cached]
         self.cached = [group for group in [gone] + self.cached if group]
         self.shorten()
-        return unit_id
 
     def shorten(self):
         """Drops what the cache has no room for."""
@@ -126,13 +158,10 @@ class Ran(NamedTuple):
 
 def run(text, room, with_hex):
     """What a script prints, what it says on standard error, and its status."""
-    commands = []
-    for number, line in enumerate(text.split(b"\n"), 1):
-        if line and not line.startswith(b"#"):
-            try:
-                commands.append(command_of(line))
-            except Wrong:
-                return Ran("", f"script fault at line {number}\n", 1)
+    try:
+        commands = commands_of(text)
+    except WrongLine as wrong:
+        return Ran("", f"script fault at line {wrong}\n", 1)
     session, lines = Session(room), []
     for name, *operands in commands:
         try:
@@ -140,6 +169,43 @@ def run(text, room, with_hex):
         except Cannot as fault:
             return Ran("".join(lines), f"cannot read {fault}\n", 1)
     return Ran("".join(lines), "", 0)
+
+
+def commands_of(text):
+    """The commands of a script."""
+    lines = [(number, line) for number, line in enumerate(text.split(b"\n"), 1)
+             if line and not line.startswith(b"#")]
+    commands = []
+    while lines:
+        number, line = lines.pop(0)
+        command = command_at(number, line)
+        if command == ("group",):
+            command = "group", group_of(number, lines)
+        elif command == ("end",):
+            raise WrongLine(number)
+        commands.append(command)
+    return commands
+
+
+def command_at(number, line):
+    try:
+        return command_of(line)
+    except Wrong:
+        raise WrongLine(number) from None
+
+
+def group_of(first, lines):
+    """The edits of a group whose line `group` has this number; they go from the lines, with `end`."""
+    edits = []
+    while lines:
+        number, line = lines.pop(0)
+        command = command_at(number, line)
+        if command == ("end",):
+            return edits
+        if command[0] not in EDITS:
+            raise WrongLine(number)
+        edits.append(command)
+    raise WrongLine(first)
 
 
 def number_of(word):
@@ -171,15 +237,17 @@ def command_of(line):
             return "load", path
         case [("delete" | "unit" | "show" | "land" | "give") as name, number]:
             return name, number_of(number)
-        case [("take" | "settle") as name]:
+        case [("take" | "settle" | "group" | "end") as name]:
             return name,
     raise Wrong
 
 
 def answer(session, with_hex, name, operands):
     """The lines that answer a command."""
-    if name in ("first", "after", "replace", "delete"):
-        return [edited(session, name, operands)]
+    if name in EDITS:
+        return [edit_line(session, (name, *operands))]
+    if name == "group":
+        return [group_line(session, *operands)]
     if name == "load":
         return [loaded(session, *operands)]
     if name == "unit":
@@ -198,18 +266,20 @@ def answer(session, with_hex, name, operands):
     return ["settled\n"]
 
 
-def edited(session, name, operands):
+def edit_line(session, edit):
     try:
-        if name == "first":
-            unit_id = session.insert(0, *operands)
-        elif name == "after":
-            at = session.place(operands[0])
-            unit_id = session.insert(None if at is None else at + 1, operands[1])
-        else:
-            unit_id = session.delete(*operands) if name == "delete" else session.replace(*operands)
+        unit_id = session.edit(edit)
     except syntax.Refused as refused:
         return f"refused {refused.number} {refused}\n"
     return f"edit {session.edits} id {unit_id}\n"
+
+
+def group_line(session, edits):
+    try:
+        about = session.group(edits)
+    except GroupRefused as refused:
+        return f"group refused {refused}\n"
+    return f"group {session.edits} ids {' '.join(map(str, about))}\n"
 
 
 def loaded(session, path):
@@ -231,7 +301,8 @@ def loaded(session, path):
     if len(session.stream) + len(units) > MOST_UNITS:
         return "refused 17 StreamFull\n"
     for nals in units:
-        session.insert(len(session.stream), b"".join(syntax.START + nal for nal in nals))
+        text = b"".join(syntax.START + nal for nal in nals)
+        session.edit(("after", session.stream[-1][0], text) if session.stream else ("first", text))
     return f"loaded {len(units)}\n"
 
 

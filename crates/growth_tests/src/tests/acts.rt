@@ -236,7 +236,11 @@ fn step(
 }
 
 /// The runner answers all acts so.
-fn answers(rt: &(impl Abort + AllocGlobal), runner: &mut Runner, acts: &[Act]) -> Result<bool, AllocError> {
+fn answers(
+    rt: &(impl Abort + AllocGlobal),
+    runner: &mut Runner,
+    acts: &[Act],
+) -> Result<bool, AllocError> {
     for act in acts {
         if !is_reply(&step(rt, runner, command_of(*act))?, *act) {
             return Ok(false);
@@ -275,7 +279,11 @@ fn shows(runner: &Runner, units: &[(u32, Shown)]) -> bool {
 }
 
 /// The runner answers the script, and shows its pictures at last.
-fn follows(rt: &(impl Abort + AllocGlobal), runner: &mut Runner, script: &Script) -> Result<bool, AllocError> {
+fn follows(
+    rt: &(impl Abort + AllocGlobal),
+    runner: &mut Runner,
+    script: &Script,
+) -> Result<bool, AllocError> {
     Ok(answers(rt, runner, script.acts)? && settles(rt, runner)? && shows(runner, script.at_last))
 }
 

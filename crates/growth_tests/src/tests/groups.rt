@@ -19,6 +19,7 @@ const SPS: &[u8] = &[0, 0, 1, 0x67, 0x42, 0x00, 0x0A, 0xDA, 0x79];
 
 /// The P pictures of frame_num 1 and 2.
 const P1: &[u8] = &[0, 0, 1, 0x41, 0x9A, 0x23];
+
 const P2: &[u8] = &[0, 0, 1, 0x41, 0x9A, 0x43];
 
 /// Groups on one session, with the ids that each is answered, or the index of the edit that is refused.
@@ -61,14 +62,15 @@ fn group(
 }
 
 /// What a group is answered is this.
-fn is_answer(
-    answer: &Result<GroupReceipt, GroupRefused>,
-    wanted: Result<&[u32], usize>,
-) -> bool {
+fn is_answer(answer: &Result<GroupReceipt, GroupRefused>, wanted: Result<&[u32], usize>) -> bool {
     match (answer, wanted) {
         (Ok(receipt), Ok(ids)) => {
             receipt.ids.len() == ids.len()
-                && receipt.ids.iter().zip(ids).all(|(id, wanted)| id.number() == *wanted)
+                && receipt
+                    .ids
+                    .iter()
+                    .zip(ids)
+                    .all(|(id, wanted)| id.number() == *wanted)
         }
         (Err(GroupRefused::Edit { index, .. }), Err(wanted)) => *index == wanted,
         _ => false,

@@ -27,7 +27,11 @@ type Answer = Result<(u64, &'static [u32], u64), (Option<usize>, u8)>;
 
 /// Whether the ids have these numbers.
 fn are_ids(ids: &[AuId], wanted: &[u32]) -> bool {
-    ids.len() == wanted.len() && ids.iter().zip(wanted).all(|(id, wanted)| id.number() == *wanted)
+    ids.len() == wanted.len()
+        && ids
+            .iter()
+            .zip(wanted)
+            .all(|(id, wanted)| id.number() == *wanted)
 }
 
 /// The index of the edit that a refusal names.
@@ -68,7 +72,10 @@ const GROUPS: [(&[Told], Answer); 13] = [
     // What is inserted and deleted again changes nothing.
     (&[First(I), Delete(5)], Ok((6, &[5, 5], 64))),
     (&[After(3, I), First(I), Delete(7)], Ok((7, &[6, 7, 7], 65))),
-    (&[Delete(1), Delete(4), Delete(3), Delete(6)], Ok((8, &[1, 4, 3, 6], 64))),
+    (
+        &[Delete(1), Delete(4), Delete(3), Delete(6)],
+        Ok((8, &[1, 4, 3, 6], 64)),
+    ),
 ];
 
 #[test]

@@ -21,7 +21,7 @@ const WRONG: [&str; 52] = [
     "Take",
     "settled",
     "ready 1",
-    "group",
+    "groups",
     "end",
     // Numbers.
     "unit",

@@ -34,8 +34,8 @@ impl From<AllocError> for Refusal {
 }
 
 /// Ends a desk. Its session is handed out where the seats are those that the desk was opened with and their books bear out
-/// the session's journal: each receipt agrees with it, and each of its edits and groups stands in one book. Else all that was handed
-/// in is handed back. A seat of another desk is known by its number and its book alone.
+/// the session's journal: each receipt agrees with it, and each of its edits and groups stands in one book. Else all that
+/// was handed in is handed back. A seat of another desk is known by its number and its book alone.
 pub fn finish(alloc: Global, desk: Desk, seats: Vec<Seat>) -> Result<Session, Unfinished>
     ensures ok { IfOk result (λ session. IsFinished desk.seats seats.items session.journal) }
     ensures jobs { IfOk result JobsDiffer }

@@ -15,8 +15,8 @@ use Rattle.stream_edits.specs.Changes.{IsFor, after}
 use Rattle.stream_fold.specs.Meeting.{IsMeeting}
 use Rattle.stream_edits.specs.Refusals.{IsRefused}
 
--- the room of the cache; the accepted edits in order, those of a group as one entry, and what they leave; the number of each unit's key, nothing for a
--- unit that isn't valid; the keys whose pictures are held, and those whose pictures are cached, the one put last first; the
+-- the room of the cache; the accepted edits in order, those of a group as one entry, and what they leave; the number of
+-- each unit's key, nothing for a unit that isn't valid; the keys whose pictures are held, and those whose pictures are cached, the one put last first; the
 -- jobs that are out; and how many numbers of jobs were given
 pub record Machine : Type 0 where
   pub room : ℕ

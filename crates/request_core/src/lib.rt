@@ -1,4 +1,5 @@
-//! The fold over a stream: from the units before a unit to the requests of its slices, to its fault, or to that it has none.
+//! The fold over a stream: from the units before a unit to the requests of its slices, or to its fault; a unit without
+//! slices has neither.
 //!
 //! `step` is one step of it, `scratch` all of it. Below are the crates that read headers, count, mark and list; above,
 //! those that keep a stream under edits.

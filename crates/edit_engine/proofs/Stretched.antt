@@ -1,7 +1,7 @@
 -- The stretch that a change makes anew.
 use Rattle.std.proofs.Common.{◌≡◌, ℕ, ◌+◌, ◌-◌, ◌<◌, ◌≤◌, List, ◌++◌, length, take, drop, Option, None, Some, IfSome, ap, sym, ◌∙◌, arith, append_assoc}
-use Rattle.std.proofs.Math.Seq.{take-add, drop-append-add}
-use Rattle.std.proofs.lemmas.List.{take-append-drop, length-take-le, length-append, length-drop, length-map, map-append, take-map, drop-map}
+use Rattle.std.proofs.Math.Seq.{take-add}
+use Rattle.std.proofs.lemmas.List.{take-append-drop, drop-drop, length-take-le, length-append, length-drop, length-map, map-append, take-map, drop-map}
 use Rattle.outcomes.specs.declared.outcome.Outcome.{Outcome}
 use Rattle.request_core.specs.Fold.{outcomes_of}
 use Rattle.picture_store.specs.declared.stretch.Stretch.{Stretch}
@@ -21,21 +21,13 @@ module _ {A : Type 0} where
       let sum : q ≡ p + (q - p) = omega (arith, le) in
       ap (λ (n : ℕ). take n xs) sum ∙ take-add p (q - p) xs
 
-  -- the rest of a rest
-  drop_drop : (p q : ℕ) (xs : List A) → p ≤ length xs → drop q (drop p xs) ≡ drop (p + q) xs
-  drop_drop p q xs within =
-      let front : length (take p xs) ≡ p = length-take-le p xs within in
-      sym (drop-append-add (take p xs) (drop p xs) q)
-      ∙ (ap (λ (n : ℕ). drop (n + q) (take p xs ++ drop p xs)) front
-      ∙ ap (λ (ys : List A). drop (p + q) ys) (take-append-drop p xs))
-
   -- a stretch, and the rest behind it
-  drop_split : (p q : ℕ) (xs : List A) → p ≤ q → p ≤ length xs → drop p xs ≡ take (q - p) (drop p xs) ++ drop q xs
-  drop_split p q xs le within =
+  drop_split : (p q : ℕ) (xs : List A) → p ≤ q → drop p xs ≡ take (q - p) (drop p xs) ++ drop q xs
+  drop_split p q xs le =
       let sum : p + (q - p) ≡ q = omega (arith, le) in
       sym (take-append-drop (q - p) (drop p xs))
       ∙ ap (λ (ys : List A). take (q - p) (drop p xs) ++ ys)
-      (drop_drop p (q - p) xs within ∙ ap (λ (n : ℕ). drop n xs) sum)
+      (drop-drop (q - p) p xs ∙ ap (λ (n : ℕ). drop n xs) sum)
 
   seam : (a b c d e : List A) → a ++ (b ++ c ++ d) ++ e ≡ (a ++ b) ++ (c ++ (d ++ e))
   seam a b c d e =
@@ -59,7 +51,7 @@ module _ (change : Change) (stream : Stream) (inside : IsInside change stream) (
       ∙ (ap (λ (xs : Stream). xs ++ (units_of change ++ drop (rest_from change) stream))
       (take_split from (at_of change) stream before)
       ∙ ap (λ (xs : Stream). (take from stream ++ front) ++ (units_of change ++ xs))
-      (drop_split (rest_from change) to stream behind (omega (arith, behind, within))))
+      (drop_split (rest_from change) to stream behind))
 
   abbrev id_of_unit : ℕ × List (List ℕ) → ℕ
   id_of_unit unit = unit.0

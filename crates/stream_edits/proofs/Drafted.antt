@@ -2,7 +2,7 @@
 use Rattle.std.proofs.Common.{◌≡◌, ℕ, ◌+◌, ◌-◌, ◌≤◌, List, [], ◌∷◌, ◌++◌, length, take, drop, refl, ap, sym, ◌∙◌, subst, arith, append_assoc, length-append, length-drop}
 use Rattle.std.specs.Prelude.{min}
 use Rattle.std.proofs.Math.Seq.{drop-append-add, take-append_seam}
-use Rattle.std.proofs.lemmas.List.{take-append-drop, take-append-le, length-take-le, map-append, take-map, drop-map}
+use Rattle.std.proofs.lemmas.List.{take-append-drop, take-take, length-take-le, map-append, take-map, drop-map}
 use Rattle.stream_edits.specs.declared.acceptance.AcceptedEdit.{AcceptedEdit}
 use Rattle.stream_edits.specs.declared.acceptance.AcceptedGroup.{AcceptedGroup}
 use Rattle.stream_edits.specs.declared.changes.Change.{Change}
@@ -106,17 +106,11 @@ module _ (old new : Stream) (at rest : ℕ) (front : IsFront old new at) (behind
 
   pub replaced : take at old ++ drop at (take to new) ++ drop (length old - rest) old ≡ new
   replaced =
-      let within : to ≤ length new = omega arith in
       let below : at ≤ to = omega (arith, in_new) in
       rw (front.same, behind.same)
       (ap (λ (units : Stream). units ++ drop to new)
-      (ap (λ (units : Stream). units ++ drop at (take to new)) (sym (take_take at to new below within)) ∙ take-append-drop at (take to new))
+      (ap (λ (units : Stream). units ++ drop at (take to new)) (sym (take-take at to new below)) ∙ take-append-drop at (take to new))
       ∙ take-append-drop to new)
-    where
-      take_take : (p q : ℕ) (xs : Stream) → p ≤ q → q ≤ length xs → take p (take q xs) ≡ take p xs
-      take_take p q xs le within =
-          let short : p ≤ length (take q xs) = omega (arith, le, length-take-le q xs within) in
-          sym (take-append-le p (take q xs) (drop q xs) short) ∙ ap (λ (ys : Stream). take p ys) (take-append-drop q xs)
 
 -- what a draft comes to
 pub IsForAll-draft : (old : Register) (edits : List Edit) (draft : Draft) (rest : ℕ) (accepted : AcceptedGroup) → IsDraft old edits draft → IsSized edits

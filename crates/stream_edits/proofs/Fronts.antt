@@ -2,27 +2,13 @@
 use Rattle.std.proofs.Common.{◌≡◌, ℕ, suc, ◌+◌, ◌-◌, ◌<◌, ◌≤◌, List, [], ◌∷◌, ◌++◌, length, take, drop, get_or, refl, ap, sym, ◌∙◌, arith, inl, inr, add-one}
 use Rattle.std.specs.Prelude.{min}
 use Rattle.std.proofs.Math.Nat.{min-le_left, min-le_right}
-use Rattle.std.proofs.Math.Seq.{take-suc, drop-append-add}
+use Rattle.std.proofs.Math.Seq.{take-suc}
 use Rattle.std.proofs.lemmas.Bool.{cases_lt}
-use Rattle.std.proofs.lemmas.List.{take-append-drop, take-append-le, length-take-le, drop_more, get_or-take}
+use Rattle.std.proofs.lemmas.List.{length-take-le, take-take, drop-drop, drop_more, get_or-take}
 use Rattle.stream_edits.specs.Streams.{Stream}
 use Rattle.stream_edits.specs.Common.{IsFront, IsRest, IsLongestFront, IsLongestRest}
 
 module _ {A : Type 0} where
-  -- a front of a front
-  take_take : (p q : ℕ) (xs : List A) → p ≤ q → q ≤ length xs → take p (take q xs) ≡ take p xs
-  take_take p q xs le within =
-      let short : p ≤ length (take q xs) = omega (arith, le, length-take-le q xs within) in
-      sym (take-append-le p (take q xs) (drop q xs) short) ∙ ap (λ (ys : List A). take p ys) (take-append-drop q xs)
-
-  -- the rest of a rest
-  drop_drop : (p q : ℕ) (xs : List A) → p ≤ length xs → drop q (drop p xs) ≡ drop (p + q) xs
-  drop_drop p q xs within =
-      let front : length (take p xs) ≡ p = length-take-le p xs within in
-      sym (drop-append-add (take p xs) (drop p xs) q)
-      ∙ (ap (λ (n : ℕ). drop (n + q) (take p xs ++ drop p xs)) front
-      ∙ ap (λ (ys : List A). drop (p + q) ys) (take-append-drop p xs))
-
   -- the first of a rest
   first_of_rest : (xs ys : List A) (i j : ℕ) (d : A) → i < length xs → j < length ys → drop i xs ≡ drop j ys
       → get_or xs i d ≡ get_or ys j d
@@ -37,8 +23,8 @@ front_less old new count fewer is le = record {
   in_old = omega (arith, is.in_old, le);
   in_new = omega (arith, is.in_new, le);
   same =
-      sym (take_take fewer count old le is.in_old)
-      ∙ (ap (λ (units : Stream). take fewer units) is.same ∙ take_take fewer count new le is.in_new);
+      sym (take-take fewer count old le)
+      ∙ (ap (λ (units : Stream). take fewer units) is.same ∙ take-take fewer count new le);
 }
 
 pub rest_less : (old new : Stream) (count fewer : ℕ) → IsRest old new count → fewer ≤ count → IsRest old new fewer
@@ -50,9 +36,9 @@ rest_less old new count fewer is le =
       in_new = omega (arith, is.in_new, le);
       same =
           ap (λ (n : ℕ). drop n old) (sym in_old)
-          ∙ (sym (drop_drop (length old - count) (count - fewer) old (omega arith))
+          ∙ (sym (drop-drop (count - fewer) (length old - count) old)
           ∙ (ap (λ (units : Stream). drop (count - fewer) units) is.same
-          ∙ (drop_drop (length new - count) (count - fewer) new (omega arith) ∙ ap (λ (n : ℕ). drop n new) in_new)));
+          ∙ (drop-drop (count - fewer) (length new - count) new ∙ ap (λ (n : ℕ). drop n new) in_new)));
     }
 
 -- from one stream to the next, and on

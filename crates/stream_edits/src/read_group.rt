@@ -72,6 +72,14 @@ impl ReadGroup {
         })
     }
 
+    /// The edits.
+    pub fn edits(&self) -> &[Edit]
+        ensures edits { result.now ≡ self.now }
+        ensures sized { IsSized self.now }
+    {
+        &self.edits
+    }
+
     /// The edits, without the units.
     pub fn into_edits(self) -> Vec<Edit>
         ensures { result.items ≡ self }

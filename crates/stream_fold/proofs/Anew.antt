@@ -4,6 +4,7 @@ use Rattle.std.specs.Prelude.{nat_eq, IsSome}
 use Rattle.std.specs.Map.{keys_of, lookup}
 use Rattle.std.specs.Cmp.{nat_eq_equiv}
 use Rattle.std.proofs.Math.Seq.{take-length}
+use Rattle.std.proofs.lemmas.List.{drop-drop}
 use Rattle.std.proofs.lemmas.Bool.{cases_lt, eqb-true}
 use Rattle.std.proofs.lemmas.Map.Views.{Contains-from_lookup, Contains-keys_from_lookup, IsSome-lookup_from_Contains}
 use Rattle.outcomes.specs.declared.outcome.Outcome.{Outcome}
@@ -19,7 +20,7 @@ use Rattle.stream_fold.specs.Changes.{place_after}
 use Rattle.stream_fold.specs.Meeting.{AgreeAt, IsMeeting}
 use Rattle.stream_fold.specs.Kept.{IsFolded, spacing}
 use Rattle.stream_fold.specs.Refolding.{Begins, IsRefolded, GoesOn, IsStart, CatchesUp, HasCaughtUp, IsMadeAnew, end_of}
-use Rattle.stream_fold.proofs.Fronts.{take_more_of, drop_drop}
+use Rattle.stream_fold.proofs.Fronts.{take_more_of}
 use Rattle.stream_fold.proofs.Changed.{at_inside, rest_inside, take_behind}
 use Rattle.stream_fold.proofs.Folds.{agree_on}
 use Rattle.stream_fold.proofs.Going.{begins, GoesOn-none, GoesOn-append}
@@ -112,10 +113,9 @@ module _ (stream : Stream) (states : States) (from : ℕ) where
   one_more at le inside =
       let gap : at + 1 - from - (at - from) ≡ 1 = omega (arith, le) in
       let sum : from + (at - from) ≡ at = omega (arith, le) in
-      let below : from ≤ length stream = omega (arith, le, inside) in
       sym (take_more_of (at - from) (at + 1 - from) (drop from stream) (omega (arith, le))
       ∙ (ap (λ (n : ℕ). take (at - from) (drop from stream) ++ take n (drop (at - from) (drop from stream))) gap
-      ∙ (ap (λ (rest : Stream). take (at - from) (drop from stream) ++ take 1 rest) (drop_drop from (at - from) stream below)
+      ∙ (ap (λ (rest : Stream). take (at - from) (drop from stream) ++ take 1 rest) (drop-drop (at - from) from stream)
       ∙ ap (λ (n : ℕ). take (at - from) (drop from stream) ++ take 1 (drop n stream)) sum)))
 
   pub catches_none : (fold : Refold) → CatchesUp stream states from from fold fold

@@ -1,7 +1,7 @@
 -- A stream after a change: what is in front of it and what is behind.
 use Rattle.std.proofs.Common.{◌≡◌, ◌⊎◌, ℕ, ◌+◌, ◌-◌, ◌<◌, ◌≤◌, ◌++◌, length, take, drop, refl, ap, ◌∙◌, arith, inl, inr, append_assoc, length-append, length-drop}
 use Rattle.std.proofs.lemmas.Bool.{cases_lt, lt-ltb, le-ltb}
-use Rattle.std.proofs.lemmas.List.{length-take-le}
+use Rattle.std.proofs.lemmas.List.{length-take-le, drop-drop}
 use Rattle.checkpoints.specs.declared.length_change.LengthChange.{LengthChange}
 use Rattle.checkpoints.specs.declared.length_change.LengthChange.TheVariants.{Longer, Shorter}
 use Rattle.checkpoints.specs.Changes.{changed}
@@ -9,7 +9,7 @@ use Rattle.request_core.specs.Agreement.{Stream}
 use Rattle.stream_edits.specs.declared.changes.Change.{Change}
 use Rattle.stream_edits.specs.Changes.{IsInside, at_of, units_of, rest_from, stream_after}
 use Rattle.stream_fold.specs.Changes.{brought_to, change_between, place_after}
-use Rattle.stream_fold.proofs.Fronts.{take_front, take_past, drop_past, drop_drop}
+use Rattle.stream_fold.proofs.Fronts.{take_front, take_past, drop_past}
 
 pub at_inside : (change : Change) (stream : Stream) → IsInside change stream → at_of change ≤ length stream
 at_inside change stream inside = omega (arith, inside.ordered, inside.within)
@@ -73,7 +73,7 @@ module _ (change : Change) (stream : Stream) (inside : IsInside change stream) w
       rw (split_after change stream inside)
       (drop_past (take (at_of change) stream) (units_of change) (drop (rest_from change) stream) (place_after change place)
       (place - rest_from change) (past place le)
-      ∙ (drop_drop (rest_from change) (place - rest_from change) stream (rest_inside change stream inside)
+      ∙ (drop-drop (place - rest_from change) (rest_from change) stream
       ∙ ap (λ (n : ℕ). drop n stream) whole))
 
   -- the length

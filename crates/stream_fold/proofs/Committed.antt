@@ -3,7 +3,7 @@ use Rattle.std.proofs.Common.{◌≡◌, ◌⊎◌, ℕ, ◌+◌, ◌-◌, ◌^�
 use Rattle.std.specs.Prelude.{unwrap_or}
 use Rattle.std.specs.Map.{keys_of}
 use Rattle.std.proofs.lemmas.Bool.{cases_lt}
-use Rattle.std.proofs.lemmas.List.{length-take-le}
+use Rattle.std.proofs.lemmas.List.{length-take-le, take-take}
 use Rattle.std.proofs.lemmas.List.Elements.{All-weaker}
 use Rattle.std.proofs.Math.Seq.{take-length}
 use Rattle.outcomes.specs.declared.outcome.Outcome.{Outcome}
@@ -24,7 +24,6 @@ use Rattle.stream_fold.specs.Meeting.{AgreeAt}
 use Rattle.stream_fold.specs.Kept.{IsFolded, IsPast, ArePast, AreNear, spacing}
 use Rattle.stream_fold.specs.Storing.{stored_after}
 use Rattle.stream_fold.specs.Refolding.{IsNew, IsMadeAnew, end_of}
-use Rattle.stream_fold.proofs.Fronts.{take_take}
 use Rattle.stream_fold.proofs.Changed.{moves, rest_inside, place_is, take_before, length_after, apart_after}
 use Rattle.stream_fold.proofs.Folds.{agree_on, outcomes_split, outcomes_behind, outcomes_before}
 use Rattle.stream_fold.proofs.Storage.{States, all_put, kept_cases, from_cut, has_low, has_high, has_put, has_made}
@@ -154,7 +153,7 @@ module _ (change : Change) (stream : Stream) (outcomes : List Outcome) (states :
         let below : e.0 ≤ place_after change to = omega (arith, is.past.within, front_long) in
         record {
           within = omega (arith, below, to_within);
-          is = is.past.is ∙ ap (λ (units : Stream). state_from no_units units) (take_take e.0 (place_after change to) after below to_within);
+          is = is.past.is ∙ ap (λ (units : Stream). state_from no_units units) (take-take e.0 (place_after change to) after below);
         }
 
     -- those that are kept

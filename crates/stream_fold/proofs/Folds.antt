@@ -1,7 +1,7 @@
 -- Folds over fronts of streams, before and after a change.
 use Rattle.std.proofs.Common.{◌≡◌, ◌⊎◌, ℕ, zero, suc, ◌-◌, ◌≤◌, List, [], ◌∷◌, ◌++◌, length, take, drop, refl, ap, sym, ◌∙◌, arith, inl, inr}
 use Rattle.std.proofs.Math.Seq.{drop-length}
-use Rattle.std.proofs.lemmas.List.{take-append-drop}
+use Rattle.std.proofs.lemmas.List.{take-append-drop, take-take}
 use Rattle.outcomes.specs.declared.outcome.Outcome.{Outcome}
 use Rattle.request_core.specs.States.{FoldState, no_units}
 use Rattle.request_core.specs.Fold.{fold_step, outcomes_from, outcomes_of}
@@ -12,7 +12,7 @@ use Rattle.stream_fold.specs.Streams.{state_past}
 use Rattle.stream_edits.specs.Changes.{IsInside, at_of, rest_from, stream_after}
 use Rattle.stream_fold.specs.Changes.{place_after}
 use Rattle.stream_fold.specs.Meeting.{AgreeAt}
-use Rattle.stream_fold.proofs.Fronts.{take_more_of, take_take}
+use Rattle.stream_fold.proofs.Fronts.{take_more_of}
 use Rattle.stream_fold.proofs.Changed.{take_before, drop_behind, apart_after}
 
 pub length-outcomes_from : (state : FoldState) (stream : Stream) → length (outcomes_from state stream) ≡ length stream
@@ -82,5 +82,5 @@ module _ (change : Change) (stream : Stream) (inside : IsInside change stream) w
       → take place (outcomes_of (take other after)) ≡ take place (outcomes_of stream)
   outcomes_before place other le more within =
       take-outcomes_from no_units place (take other after)
-      ∙ (ap (λ (units : Stream). outcomes_of units) (take_take place other after more within ∙ take_before change stream inside place le)
+      ∙ (ap (λ (units : Stream). outcomes_of units) (take-take place other after more ∙ take_before change stream inside place le)
       ∙ sym (take-outcomes_from no_units place stream))

@@ -1,28 +1,14 @@
 -- Fronts and rests of lists.
 use Rattle.std.proofs.Common.{◌≡◌, ℕ, ◌+◌, ◌-◌, ◌<◌, ◌≤◌, List, [], ◌∷◌, ◌++◌, length, take, drop, ap, sym, ◌∙◌, arith, get_or, drop-cons}
 use Rattle.std.proofs.Math.Seq.{take-add, take-append-add, drop-append-add}
-use Rattle.std.proofs.lemmas.List.{take-append-drop, take-append-le, length-take-le}
+use Rattle.std.proofs.lemmas.List.{take-append-le, take-take, length-take-le}
 
 module _ {A : Type 0} where
-  -- a front of a front
-  pub take_take : (p q : ℕ) (xs : List A) → p ≤ q → q ≤ length xs → take p (take q xs) ≡ take p xs
-  take_take p q xs le within =
-      let short : p ≤ length (take q xs) = omega (arith, length-take-le q xs within) in
-      sym (take-append-le p (take q xs) (drop q xs) short) ∙ ap (λ (ys : List A). take p ys) (take-append-drop q xs)
-
   -- a front, whatever is behind it
   pub take_front : (p q : ℕ) (xs ys : List A) → p ≤ q → q ≤ length xs → take p (take q xs ++ ys) ≡ take p xs
   take_front p q xs ys le within =
       let short : p ≤ length (take q xs) = omega (arith, length-take-le q xs within) in
-      take-append-le p (take q xs) ys short ∙ take_take p q xs le within
-
-  -- the rest of a rest
-  pub drop_drop : (p q : ℕ) (xs : List A) → p ≤ length xs → drop q (drop p xs) ≡ drop (p + q) xs
-  drop_drop p q xs within =
-      let front : length (take p xs) ≡ p = length-take-le p xs within in
-      sym (drop-append-add (take p xs) (drop p xs) q)
-      ∙ (ap (λ (n : ℕ). drop (n + q) (take p xs ++ drop p xs)) front
-      ∙ ap (λ (ys : List A). drop (p + q) ys) (take-append-drop p xs))
+      take-append-le p (take q xs) ys short ∙ take-take p q xs le
 
   -- a front and a stretch behind it
   pub take_more_of : (p q : ℕ) (xs : List A) → p ≤ q → take q xs ≡ take p xs ++ take (q - p) (drop p xs)

@@ -1,6 +1,7 @@
 mod cached;
 mod drawing;
 mod edits;
+mod groups;
 mod hands;
 mod jobs;
 mod looks;
@@ -29,6 +30,8 @@ const COMMANDS: u64 = 60;
 struct Counts {
     accepted: u32,
     refused: u32,
+    grouped: u32,
+    group_refused: u32,
     taken: u32,
     stale: u32,
     foreign: u32,
@@ -43,6 +46,8 @@ impl Counts {
         let counted = match answer {
             Answer::Accepted(..) => &mut self.accepted,
             Answer::Refused(_) => &mut self.refused,
+            Answer::Grouped(..) => &mut self.grouped,
+            Answer::GroupRefused(..) => &mut self.group_refused,
             Answer::Landed(Landing::Taken) => &mut self.taken,
             Answer::Landed(Landing::Stale) => &mut self.stale,
             Answer::Landed(Landing::Foreign) => &mut self.foreign,
@@ -62,10 +67,12 @@ impl Counts {
     fn are_many(&self) -> bool {
         self.accepted > 1000
             && self.refused > 40
+            && self.grouped > 100
+            && self.group_refused > 40
             && self.taken > 250
             && self.stale > 40
             && self.foreign > 100
-            && self.restored > 40
+            && self.restored > 50
             && self.empty > 50
     }
 }
@@ -129,7 +136,7 @@ impl List {
         draws: &mut Draws,
         counts: &mut Counts,
     ) -> Result<bool, AllocError> {
-        for _ in draws.below(50)..COMMANDS {
+        for _ in draws.below(20)..COMMANDS {
             if !self.step(alloc, draws, counts)? {
                 return Ok(false);
             }
@@ -158,6 +165,8 @@ fn lists_agree(alloc: Global, seed: u64, room: u16) -> Result<bool, AllocError> 
     let mut counts = Counts {
         accepted: 0,
         refused: 0,
+        grouped: 0,
+        group_refused: 0,
         taken: 0,
         stale: 0,
         foreign: 0,

@@ -3,13 +3,14 @@
 
 use super::plain::Plain;
 use super::pool::{TEXTS, next_of};
-use super::told::{Change, Told};
+use super::told::{Change, EditGroup, MOST_TOGETHER, Told};
 use test_builders::Draws;
 
 /// Draws a command.
 pub(super) fn draw(draws: &mut Draws, plain: &Plain) -> Told {
     match draws.below(16) {
-        0..=4 => Told::Edit(draw_change(draws, plain)),
+        0..=3 => Told::Edit(draw_change(draws, plain)),
+        4 => Told::Group(draw_group(draws, plain)),
         5..=9 => Told::Take,
         // Where no job is out, mostly one is taken.
         10..=14 if plain.out.is_empty() && draws.below(8) > 0 => Told::Take,
@@ -70,6 +71,34 @@ fn draw_change(draws: &mut Draws, plain: &Plain) -> Change {
         21 => Change::Replace(id, draw_text(draws)),
         22 => Change::After(id, draw_text(draws)),
         _ => Change::First(draw_text(draws)),
+    }
+}
+
+/// Draws edits that are made together, some of which name the id that one before them is given.
+fn draw_group(draws: &mut Draws, plain: &Plain) -> EditGroup {
+    let mut changes = [Change::Delete(0); MOST_TOGETHER];
+    let mut given = None;
+    let mut next = plain.next_id();
+    for place in changes.iter_mut() {
+        *place = match given {
+            Some((id, text)) if draws.below(2) == 0 => draw_naming(draws, id, text),
+            _ => draw_change(draws, plain),
+        };
+        if let Some(text) = place.inserted() {
+            given = Some((next, text));
+            next = next.saturating_add(1);
+        }
+    }
+    let count = draws.below(MOST_TOGETHER as u64).saturating_add(1);
+    EditGroup::new(changes, count as usize)
+}
+
+/// Draws an edit that names the id that one before it is given, whose text this is.
+fn draw_naming(draws: &mut Draws, id: u32, text: usize) -> Change {
+    match draws.below(4) {
+        0 => Change::Delete(id),
+        1 => Change::Replace(id, text ^ 1),
+        _ => Change::After(id, next_of(text, draws.below(4) == 0)),
     }
 }
 

@@ -23,18 +23,27 @@ impl Plain {
         session: &Session,
         change: Change,
     ) -> Result<Answer, AllocError> {
-        let changed = match change {
-            Change::First(text) => self.insert(alloc, Some(0), text)?,
-            Change::After(id, text) => self.insert(alloc, self.place_after(id), text)?,
-            Change::Delete(id) => self.delete(id)?,
-            Change::Replace(id, text) => self.replace(alloc, id, text)?,
-        };
-        match changed {
+        match self.make(alloc, change)? {
             Ok(id) => {
+                self.journaled = self.journaled.saturating_add(1);
                 self.fold(alloc, session)?;
-                Ok(Answer::Accepted(self.undoing.len() as u64, AuId::new(id)))
+                Ok(Answer::Accepted(self.journaled, AuId::new(id)))
             }
             Err(number) => Ok(Answer::Refused(number)),
+        }
+    }
+
+    /// Makes an edit, and folds nothing: the id of its unit, or the number of the refusal.
+    pub(super) fn make(
+        &mut self,
+        alloc: Global,
+        change: Change,
+    ) -> Result<Result<u32, u8>, AllocError> {
+        match change {
+            Change::First(text) => self.insert(alloc, Some(0), text),
+            Change::After(id, text) => self.insert(alloc, self.place_after(id), text),
+            Change::Delete(id) => self.delete(id),
+            Change::Replace(id, text) => self.replace(alloc, id, text),
         }
     }
 
@@ -112,7 +121,7 @@ impl Plain {
 
     /// Folds the stream anew. Held are then the keys in use that were held or cached; those leave the cache, and then the
     /// keys that were held and went out of use are put into it.
-    fn fold(&mut self, alloc: Global, session: &Session) -> Result<(), AllocError> {
+    pub(super) fn fold(&mut self, alloc: Global, session: &Session) -> Result<(), AllocError> {
         self.outcomes = scratch(alloc, &self.units)?;
         self.positions = positions(alloc, &self.outcomes)?;
         self.keys = self.seen.keys_of(alloc, &self.units, &self.outcomes)?;
@@ -130,7 +139,7 @@ impl Plain {
 }
 
 /// The unit of a text, or the number of its refusal.
-fn read(alloc: Global, text: usize) -> Result<Result<Unit, u8>, AllocError> {
+pub(super) fn read(alloc: Global, text: usize) -> Result<Result<Unit, u8>, AllocError> {
     match read_unit(alloc, text_at(alloc, text)?.as_slice()) {
         Ok(unit) => Ok(Ok(unit)),
         Err(refused) => Ok(Err(refused.number())),

@@ -1,8 +1,11 @@
 //! A session that follows commands. What a job was given to decode may be brought again at any time.
 
 use super::jobs::Given;
-use super::told::{Answer, Told};
-use edit_engine::{EditRefused, Finished, Job, Landing, Receipt, Returning, Session};
+use super::told::{Answer, MOST_TOGETHER, Told};
+use edit_engine::{
+    EditRefused, Finished, GroupReceipt, GroupRefused, Job, Landing, Receipt, Returning, Session,
+};
+use pictures::AuId;
 use stand_in_device::{Device, Input, Undone};
 use std::alloc::{AllocError, Global};
 
@@ -21,6 +24,10 @@ impl Hands {
             Told::Edit(change) => {
                 let edited = self.session.edit(change.edit(alloc)?);
                 Ok(answer_of(edited, self.session.last().units))
+            }
+            Told::Group(group) => {
+                let edited = self.session.edit_group(group.edits(alloc)?);
+                Ok(answer_of_group(edited, self.session.last().units))
             }
             Told::Take => self.take(),
             Told::Land(number, of) => match self.job(alloc, number, of)? {
@@ -86,6 +93,28 @@ fn answer_of(edited: Result<Receipt, EditRefused>, units: usize) -> Answer {
         Ok(_) => Answer::Wrong,
         Err(refused) => Answer::Refused(refused.number()),
     }
+}
+
+/// What a group was answered, after which the stream has so many units.
+fn answer_of_group(edited: Result<GroupReceipt, GroupRefused>, units: usize) -> Answer {
+    match edited {
+        Ok(receipt) if receipt.steps <= units as u64 => {
+            Answer::Grouped(receipt.number, numbers_of(&receipt.ids))
+        }
+        Err(GroupRefused::Edit { index, refused }) => Answer::GroupRefused(index, refused.number()),
+        _ => Answer::Wrong,
+    }
+}
+
+/// The numbers of ids, with zeros after them.
+fn numbers_of(ids: &[AuId]) -> [u32; MOST_TOGETHER] {
+    let mut numbers = [0; MOST_TOGETHER];
+    for (index, id) in ids.iter().enumerate() {
+        if let Some(number) = numbers.get_mut(index) {
+            *number = id.number();
+        }
+    }
+    numbers
 }
 
 /// The timestamp of the first request.

@@ -82,7 +82,7 @@ fn has_number(named: &[(Tree, KeyId)], number: KeyId) -> bool {
     false
 }
 
-/// Whether the session has the model's stream and as many edits, and tells and shows of each id what the model does, also
+/// Whether the session has the model's stream and as long a journal, and tells and shows of each id what the model does, also
 /// of 0 and of the next one.
 pub(super) fn agree(session: &Session, plain: &Plain) -> bool {
     for number in 0..=plain.next_id() {
@@ -95,7 +95,7 @@ pub(super) fn agree(session: &Session, plain: &Plain) -> bool {
         units: plain.units.len(),
         id: plain.units.last().map(|unit| unit.0),
     };
-    session.last() == last && session.journal().len() == plain.undoing.len()
+    session.last() == last && session.journal().len() as u64 == plain.journaled
 }
 
 /// Whether the session tells of an id what the model does.

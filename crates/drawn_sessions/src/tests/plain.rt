@@ -26,8 +26,10 @@ pub(super) struct Plain {
     pub(super) out: Vec<u64>,
     /// The text of each id that was given, as a place of the pool.
     pub(super) texts: Vec<usize>,
-    /// For each accepted edit the one that undoes it.
+    /// For each accepted edit, also of a group, the one that undoes it.
     pub(super) undoing: Vec<Change>,
+    /// How many entries the journal has: an accepted group is one.
+    pub(super) journaled: u64,
 }
 
 impl Plain {
@@ -48,6 +50,7 @@ impl Plain {
             out: Vec::new(alloc),
             texts: Vec::new(alloc),
             undoing: Vec::new(alloc),
+            journaled: 0,
         }
     }
 
@@ -60,6 +63,7 @@ impl Plain {
     ) -> Result<Answer, AllocError> {
         match told {
             Told::Edit(change) => self.edit(alloc, session, change),
+            Told::Group(group) => self.edit_group(alloc, session, group),
             Told::Take => self.take(alloc),
             Told::Land(number, of) => Ok(Answer::Landed(self.land(number, of)?)),
             Told::Give(number, of) => Ok(Answer::GivenBack(self.give_back(number, of))),

@@ -23,7 +23,7 @@ use Rattle.edit_engine.specs.Grouping.{AnswersGroup}
 use Rattle.edit_engine.specs.Machines.{Machine, AnswersEdit, empty, store_of}
 use Rattle.edit_engine.specs.Jobs.{AnswersTake, AnswersLand, AnswersGiveBack}
 use Rattle.decode_pool.specs.Jobs.{JobsDiffer}
-use Rattle.decode_pool.specs.Seats.{AnswersEditIn, AnswersGroupIn}
+use Rattle.decode_pool.specs.Seats.{AnswersEditIn}
 use Rattle.decode_pool.proofs.Lists.{StoodAt, among, get_push, get_remove_above, get_remove_below}
 
 -- before the first edit none is out
@@ -198,17 +198,10 @@ seat_differ old new edit answer (inr stays) apart =
     (ap (λ (machine : Machine). machine.jobs) stays.1) apart
 
 -- after a seat makes a group
-group_differ : (old new : Machine) (edits : List Edit) (answer : Result GroupReceipt GroupRefused)
+pub group_differ : (old new : Machine) (edits : List Edit) (answer : Result GroupReceipt GroupRefused)
     → AnswersGroup old edits answer new → JobsDiffer old → JobsDiffer new
 group_differ old new edits (Ok receipt) made apart =
     same_differ old new made.refits.out_stays made.refits.given_stays apart
 group_differ old new edits (Err refused) made apart =
     same_differ old new (ap (λ (machine : Machine). machine.out) made.1)
     (ap (λ (machine : Machine). machine.jobs) made.1) apart
-
-pub seat_group_differ : (old new : Machine) (edits : List Edit) (answer : Result GroupReceipt GroupRefused)
-    → AnswersGroupIn old edits answer new → JobsDiffer old → JobsDiffer new
-seat_group_differ old new edits answer (inl made) apart = group_differ old new edits answer made apart
-seat_group_differ old new edits answer (inr stays) apart =
-    same_differ old new (ap (λ (machine : Machine). machine.out) stays.1)
-    (ap (λ (machine : Machine). machine.jobs) stays.1) apart

@@ -3,7 +3,6 @@ use Rattle.std.specs.Prelude.{◌≡◌, ◌⊎◌, ℕ, ◌+◌, ◌≤◌, Lis
 use Rattle.std.specs.declared.alloc.AllocError.{AllocError}
 use Rattle.stream_edits.specs.declared.edits.Edit.{Edit}
 use Rattle.stream_edits.specs.declared.group_refused.GroupRefused.{GroupRefused}
-use Rattle.stream_edits.specs.declared.group_refused.GroupRefused.TheVariants as groups
 use Rattle.stream_edits.specs.declared.receipts.GroupReceipt.{GroupReceipt}
 use Rattle.stream_edits.specs.declared.receipts.Receipt.{Receipt}
 use Rattle.stream_edits.specs.declared.receipts.Last.{Last}
@@ -35,12 +34,6 @@ AreNew n seats =
 abbrev pub AnswersEditIn : Machine → Edit → Result Receipt EditRefused → Machine → Type 0
 AnswersEditIn old edit answer new =
     AnswersEdit old edit answer new ⊎ ((answer ≡ Err refusals.Memory) × (new ≡ old))
-
--- what a seat answers to a group of edits of a session that is lent: what the session answers; or memory for the book is
--- refused, and nothing changes
-abbrev pub AnswersGroupIn : Machine → List Edit → Result GroupReceipt GroupRefused → Machine → Type 0
-AnswersGroupIn old edits answer new =
-    AnswersGroup old edits answer new ⊎ ((answer ≡ Err groups.Memory) × (new ≡ old))
 
 -- the seat's book has one receipt more
 abbrev pub Notes : Seat → SeatReceipt → Seat → Type 0
@@ -80,7 +73,7 @@ EditsOne old edit answer new =
 -- a seat makes a group of edits on a session, which no clause can name
 abbrev pub EditsGroupOne : Seat → List Edit → Result GroupReceipt GroupRefused → Seat → Type 0
 EditsGroupOne old edits answer new =
-    (before : Machine) × (after : Machine) × IsReached before × AnswersGroupIn before edits answer after
+    (before : Machine) × (after : Machine) × IsReached before × AnswersGroup before edits answer after
     × NotesGroup old edits answer (length after.journal) new
 
 -- a seat is shown a unit of a session, which no clause can name

@@ -15,7 +15,10 @@ use std::sync::{Condvar, Mutex, Wait};
 #[derive(Drop)]
 pub struct Desk {
     pub(crate) state: Mutex<State>,
-    pub(crate) changed: Condvar,
+    /// Told where a job may be due, of which one worker is woken. A worker that takes one tells it on.
+    pub(crate) job_due: Condvar,
+    /// Told where no unit may be pending any more, or a worker has ended.
+    pub(crate) settled: Condvar,
     pub(crate) workers: usize,
     pub(crate) seats: usize,
 }
@@ -40,7 +43,8 @@ impl Desk {
         };
         let desk = Desk {
             state: Mutex::new(State::new(session)),
-            changed: Condvar::new(),
+            job_due: Condvar::new(),
+            settled: Condvar::new(),
             workers,
             seats,
         };
@@ -50,7 +54,7 @@ impl Desk {
     /// Closes the desk: each worker brings the job that it has, if it has one, and ends. Seats may go on.
     pub fn close<R: Wait>(&self, rt: &R) {
         self.state.lock(rt).closed = true;
-        self.changed.notify_all();
+        self.job_due.notify_all();
     }
 
     /// Waits until no unit is pending, or until no worker is left though one is. Units are looked at from the first one
@@ -67,19 +71,26 @@ impl Desk {
                 Some(_) if state.ended >= self.workers => return Settled::Idle,
                 Some(at) => {
                     from = at;
-                    state = self.changed.wait(rt, state);
+                    state = self.settled.wait(rt, state);
                 }
             }
         }
         unreachable!()
     }
 
-    /// Counts a worker that has ended.
+    /// Tells of an edit: a job may be due, or no unit may be pending any more.
+    pub(crate) fn tell_edit(&self) {
+        self.job_due.notify_one();
+        self.settled.notify_all();
+    }
+
+    /// Counts a worker that has ended. A job that it left may be due.
     pub(crate) fn end_worker<R: Wait>(&self, rt: &R) {
         let mut state = self.state.lock(rt);
         state.ended = state.ended.saturating_add(1);
         drop(state);
-        self.changed.notify_all();
+        self.job_due.notify_one();
+        self.settled.notify_all();
     }
 }
 

@@ -46,7 +46,8 @@ pub fn finish(alloc: Global, desk: Desk, seats: Vec<Seat>) -> Result<Session, Un
 {
     let Desk {
         state,
-        changed,
+        job_due,
+        settled,
         workers,
         seats: opened,
     } = desk;
@@ -56,7 +57,8 @@ pub fn finish(alloc: Global, desk: Desk, seats: Vec<Seat>) -> Result<Session, Un
         Err(refusal) => Err(Unfinished {
             desk: Desk {
                 state: Mutex::new(state),
-                changed,
+                job_due,
+                settled,
                 workers,
                 seats: opened,
             },

@@ -1,9 +1,11 @@
 //! A seat: one user of a desk, and its book.
 
 ghost use Rattle.std.specs.Prelude.{◌≡◌, [], length, IfOk};
+ghost use Rattle.stream_edits.specs.Groups.{IsSized};
 ghost use Rattle.stream_edits.specs.Streams.{last_of};
+ghost use Rattle.edit_engine.specs.Grouping.{AnswersGroup};
 ghost use Rattle.edit_engine.specs.Showing.{Shows};
-ghost use Rattle.decode_pool.specs.Seats.{AnswersEditIn, AnswersGroupIn, EditsGroupOne, EditsOne, IsLastOfOne, NotesEdit, NotesGroup, NotesShow, ShowsOne, WaitsForOne};
+ghost use Rattle.decode_pool.specs.Seats.{AnswersEditIn, EditsGroupOne, EditsOne, IsLastOfOne, NotesEdit, NotesGroup, NotesShow, ShowsOne, WaitsForOne};
 
 use crate::desk::Desk;
 use crate::group_note::GroupNote;
@@ -82,23 +84,36 @@ impl Seat {
         session: &mut Session,
         edits: Vec<Edit>,
     ) -> Result<GroupReceipt, GroupRefused>
-        ensures session { AnswersGroupIn session.old edits.items result session.new }
+        ensures session { AnswersGroup session.old edits.items result session.new }
         ensures book { NotesGroup self.old edits.items result (length session.new.journal) self.new }
     {
-        let note = GroupNote::of(self.alloc, &edits)?;
         let group = ReadGroup::read(self.alloc, edits)?;
-        self.edit_group_read_in(session, group, note)
+        self.edit_group_read_in(session, group)
+    }
+
+    /// Makes edits together on a session that is lent as `edit_group_in` does, those of a group whose texts are read.
+    pub fn edit_group_read_in(
+        &mut self,
+        session: &mut Session,
+        group: ReadGroup,
+    ) -> Result<GroupReceipt, GroupRefused>
+        ensures session { AnswersGroup session.old group result session.new }
+        ensures book { NotesGroup self.old group result (length session.new.journal) self.new }
+    {
+        let note = GroupNote::of(self.alloc, group.edits())?;
+        self.edit_noted_group_in(session, group, note)
     }
 
     /// Makes edits together on a session that is lent, those of a group whose texts are read, of which this is noted.
-    pub(crate) fn edit_group_read_in(
+    pub(crate) fn edit_noted_group_in(
         &mut self,
         session: &mut Session,
         group: ReadGroup,
         note: GroupNote,
     ) -> Result<GroupReceipt, GroupRefused>
-        requires { note.edits.items ≡ group }
-        ensures session { AnswersGroupIn session.old group result session.new }
+        requires sized { IsSized group }
+        requires noted { note.edits.items ≡ group }
+        ensures session { AnswersGroup session.old group result session.new }
         ensures book { NotesGroup self.old group result (length session.new.journal) self.new }
     {
         self.book.receipts.reserve(1)?;
@@ -144,12 +159,13 @@ impl Seat {
         ensures { EditsOne self.old read result self.new }
     {
         let answer = desk.state.lock(rt).edit_read(self, read);
-        desk.changed.notify_all();
+        desk.tell_edit();
         answer
     }
 
     /// Makes edits together on the desk's session as `edit_group_in` does, while no one else edits it or asks. Their texts
-    /// are read and they are copied for the book before that, so that others don't wait for it.
+    /// are read and they are copied for the book before that, so that others don't wait for it; a group that is refused for
+    /// its size asks no session.
     pub fn edit_group<R: Wait>(
         &mut self,
         rt: &R,
@@ -158,10 +174,22 @@ impl Seat {
     ) -> Result<GroupReceipt, GroupRefused>
         ensures { EditsGroupOne self.old edits.items result self.new }
     {
-        let note = GroupNote::of(self.alloc, &edits)?;
         let group = ReadGroup::read(self.alloc, edits)?;
+        self.edit_group_read(rt, desk, group)
+    }
+
+    /// Makes edits together on the desk's session as `edit_group` does, those of a group whose texts are read.
+    pub fn edit_group_read<R: Wait>(
+        &mut self,
+        rt: &R,
+        desk: &Desk,
+        group: ReadGroup,
+    ) -> Result<GroupReceipt, GroupRefused>
+        ensures { EditsGroupOne self.old group result self.new }
+    {
+        let note = GroupNote::of(self.alloc, group.edits())?;
         let answer = desk.state.lock(rt).edit_group(self, group, note);
-        desk.changed.notify_all();
+        desk.tell_edit();
         answer
     }
 

@@ -1,13 +1,15 @@
 //! What lies under the lock of a desk.
 
 ghost use Rattle.std.specs.Prelude.{◌≡◌, ◌<◌, ◌^◌, length, IfOk};
+ghost use Rattle.stream_edits.specs.Groups.{IsSized};
 ghost use Rattle.stream_edits.specs.Streams.{last_of};
+ghost use Rattle.edit_engine.specs.Grouping.{AnswersGroup};
 ghost use Rattle.edit_engine.specs.Machines.{empty};
 ghost use Rattle.stream_edits.specs.Edits.{no_units, Replays};
 ghost use Rattle.edit_engine.specs.Showing.{Shows};
 ghost use Rattle.decode_pool.specs.Jobs.{JobsDiffer};
 ghost use Rattle.decode_pool.specs.Counts.{Brings, Takes, brought};
-ghost use Rattle.decode_pool.specs.Seats.{AnswersEditIn, AnswersGroupIn, IsReached, NotesEdit, NotesGroup, NotesShow};
+ghost use Rattle.decode_pool.specs.Seats.{AnswersEditIn, IsReached, NotesEdit, NotesGroup, NotesShow};
 
 use crate::group_note::GroupNote;
 use crate::seat::Seat;
@@ -62,13 +64,14 @@ impl State {
         group: ReadGroup,
         note: GroupNote,
     ) -> Result<GroupReceipt, GroupRefused>
-        requires { note.edits.items ≡ group }
+        requires sized { IsSized group }
+        requires noted { note.edits.items ≡ group }
         ensures reached { IsReached self.old.session }
-        ensures session { AnswersGroupIn self.old.session group result self.new.session }
+        ensures session { AnswersGroup self.old.session group result self.new.session }
         ensures book { NotesGroup seat.old group result (length self.new.session.journal) seat.new }
     {
         let _ = self.session.journal();
-        seat.edit_group_read_in(&mut self.session, group, note)
+        seat.edit_noted_group_in(&mut self.session, group, note)
     }
 
     /// A seat is shown a unit.

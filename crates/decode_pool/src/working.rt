@@ -32,7 +32,9 @@ pub fn worker<D: Gate + Drop, R: Wait>(rt: &R, alloc: Global, desk: &Desk, gate:
     tally.worked()
 }
 
-/// Waits for a job. There is none where the desk is closed, and where one is due and can't be taken.
+/// Waits for a job. There is none where the desk is closed, and where one is due and can't be taken. One who takes a job
+/// wakes another worker, who may find one too. One who finds none at once may have brought the last picture, which those who
+/// wait for it are told.
 fn next_job<R: Wait>(rt: &R, desk: &Desk, tally: &mut Tally) -> Option<Job>
     requires { tally.old.jobs < 2 ^ 63 }
     ensures { MatchOption result
@@ -40,13 +42,23 @@ fn next_job<R: Wait>(rt: &R, desk: &Desk, tally: &mut Tally) -> Option<Job>
         (λ _. (tally.new.jobs ≡ tally.old.jobs + 1) × (brought tally.new ≡ brought tally.old)) }
 {
     let mut state = desk.state.lock(rt);
+    let mut is_first_look = true;
     for _ in rt.forever() {
         if state.closed {
             return None;
         }
         match state.take(tally) {
-            Ok(Some(job)) => return Some(job),
-            Ok(None) => state = desk.changed.wait(rt, state),
+            Ok(Some(job)) => {
+                desk.job_due.notify_one();
+                return Some(job);
+            }
+            Ok(None) => {
+                if is_first_look {
+                    desk.settled.notify_all();
+                }
+                is_first_look = false;
+                state = desk.job_due.wait(rt, state);
+            }
             Err(_) => return None,
         }
     }
@@ -58,7 +70,7 @@ fn bring<R: Wait>(rt: &R, desk: &Desk, tally: &mut Tally, outcome: Result<Finish
     requires { brought tally.old < 2 ^ 63 }
     ensures { Brings tally.old tally.new }
 {
-    let is_result = match outcome {
+    match outcome {
         Ok(finished) => {
             desk.state.lock(rt).land(tally, finished);
             true
@@ -67,7 +79,5 @@ fn bring<R: Wait>(rt: &R, desk: &Desk, tally: &mut Tally, outcome: Result<Finish
             desk.state.lock(rt).give_back(tally, job);
             false
         }
-    };
-    desk.changed.notify_all();
-    is_result
+    }
 }

@@ -5,7 +5,7 @@ use super::{
     replace, row_holds,
 };
 use decode_pool::{Desk, Seat, Settled, Worked, finish, worker};
-use edit_engine::{Edit, EditRefused, GroupReceipt, GroupRefused, Session};
+use edit_engine::{Edit, EditRefused, GroupReceipt, GroupRefused, Session, Shown};
 use pictures::AuId;
 use seat_books::{AuditFault, NotedGroup, SeatBook, SeatReceipt, audit};
 use stand_in_device::Device;
@@ -112,6 +112,29 @@ fn a_refused_group_is_noted_nowhere(rt: HostRuntime) -> Result<(), Fail> {
     assert!(rt; seat.last(&rt, &desk).units == 1 && seat.book().receipts.len() == 1);
     assert!(rt; edits(&rt, &desk, &mut seat, after(1, P1), 2, 2));
     assert!(rt; are_lengths(&finished(&rt, desk, seat), &[1, 1]));
+    Ok(())
+}
+
+/// More insertions than a group has.
+fn too_many(alloc: Global) -> Result<Vec<Edit>, AllocError> {
+    let mut edits = Vec::with_capacity(alloc, 1_025)?;
+    for _ in 0..1_025 {
+        edits.push(first(A))?;
+    }
+    Ok(edits)
+}
+
+#[test]
+fn a_session_that_is_lent_is_edited_and_noted(rt: HostRuntime) -> Result<(), Fail> {
+    let mut session = empty_session(&rt);
+    let (_, mut seat) = opened_for_one(&rt, 1);
+    assert!(rt; seat.edit_in(&mut session, first(A)).is_ok());
+    let group = pair(rt.alloc(), after(1, P1), after(2, P2))?;
+    assert!(rt; is_made(seat.edit_group_in(&mut session, group), 2, &[2, 3]));
+    let refused = seat.edit_group_in(&mut session, too_many(rt.alloc())?);
+    assert!(rt; is_refused(refused, GroupRefused::TooLarge));
+    assert!(rt; seat.show_in(&session, AuId::new(3)) == Ok(Shown::Pending));
+    assert!(rt; seat.book().receipts.len() == 3 && are_lengths(&session, &[1, 2]));
     Ok(())
 }
 

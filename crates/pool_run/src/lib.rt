@@ -20,5 +20,4 @@ mod threads;
 mod verdict;
 
 pub use audit::{audit_with, audit_with_workers};
-pub use opening::MOST_WORKERS;
 pub use run::{script_with, script_with_workers};

@@ -8,9 +8,6 @@ use edit_engine::Config;
 use stand_in_device::Device;
 use std::alloc::{AllocError, Global};
 
-/// The most workers of a desk.
-pub const MOST_WORKERS: usize = 64;
-
 /// A desk with an empty stream for so many workers, and its one seat.
 pub(crate) fn open(alloc: Global, cache: u16, workers: usize) -> Result<(Desk, Seat), AllocError>
     requires cache { (1 ≤ cache) × (cache ≤ 4096) }

@@ -2,9 +2,9 @@
 
 use super::writers::{End, ShortWriter};
 use super::{A, LINES_OF_A, P1, row_holds};
-use crate::program::{run, run_on};
 use Status::{Failure, Success, Usage};
 use console_io::{Directory, Ended, PrintFault, Status};
+use program::{run, run_on};
 use std::alloc::{AllocError, Global};
 use std::io;
 use std::io::{ErrorKind, Read};

@@ -1,0 +1,247 @@
+//! What the words of a command line ask for.
+
+ghost use Rattle.std.specs.Prelude.{◌≡◌, ◌≤◌, IfOk, IfSome, Some, codes, false, map, option_map};
+ghost use Rattle.clap.specs.Words.{FailsBy, app_of, found_of, rows_of, rule_of, subcommand_rows_of};
+ghost use Rattle.picture_cache.specs.Bounded.{most_room};
+ghost use Rattle.command_line.specs.Bounds.{most_workers};
+ghost use Rattle.command_line.specs.CommandLine.{audit_app, audit_in, cache_in, cache_rule, faults_of, flag_rule, has_flag, needed_rule};
+ghost use Rattle.command_line.specs.CommandLine.{number_of, option_rule, plan_app, plan_in, preview_app, run_app, run_in, several};
+ghost use Rattle.command_line.specs.CommandLine.{wanted_from, wanted_in, wanted_of, workers_in};
+
+use crate::asked::{Asked, MOST_WORKERS, Workers};
+use clap::builder::ValueParser;
+use clap::error::ErrorKind;
+use clap::{Arg, ArgAction, ArgMatches, Command, Error, value_parser};
+use script_run::{MOST_ROOM, Options};
+use std::alloc::{AllocError, Global};
+use std::convert::AsStr;
+use std::{env, io};
+
+/// What `--version` prints after the program's name.
+const VERSION: &str = "0.1.0";
+
+/// The process's words, the program's name first. Words that aren't UTF-8 are InvalidData.
+pub fn words(rt: &HostRuntime) -> io::Result<Vec<String>> {
+    let words = env::args(rt)?.collect(rt.alloc())?;
+    Ok(words)
+}
+
+/// What the words ask for, or clap's answer to them.
+pub fn parse<'a, S: AsStr>(alloc: Global, words: &'a [S]) -> Result<Asked<'a>, Error>
+    ensures ok { IfOk result (λ asked. wanted_in (map S.text words.entry.now)
+        ≡ Some (wanted_of asked)) }
+    ensures faults { FailsBy (faults_of (map S.text words.entry.now)) result }
+{
+    let mut preview = preview_command(alloc)?;
+    let matches = preview.try_get_matches_from_mut(words)?;
+    match read_matches(&matches) {
+        Some(asked) => Ok(asked),
+        None => Err(preview.error(ErrorKind::MissingSubcommand, "a subcommand is required")?),
+    }
+}
+
+/// What the matches ask for.
+fn read_matches<'a>(matches: &ArgMatches<'a>) -> Option<Asked<'a>>
+    ensures { option_map wanted_of result ≡ wanted_from (subcommand_rows_of matches.now) }
+{
+    match matches.subcommand() {
+        Some(("plan", plan)) => read_plan(plan),
+        Some(("run", run)) => read_run(run),
+        Some(("audit", audit)) => read_audit(audit),
+        _ => None,
+    }
+}
+
+/// What the matches of `plan` ask for.
+fn read_plan<'a>(plan: &ArgMatches<'a>) -> Option<Asked<'a>>
+    ensures { option_map wanted_of result ≡ plan_in (rows_of (found_of plan.now)) }
+{
+    let file = plan.get_str("FILE")?;
+    Some(Asked::Plan { file })
+}
+
+/// What the matches of `run` ask for.
+fn read_run<'a>(run: &ArgMatches<'a>) -> Option<Asked<'a>>
+    ensures { option_map wanted_of result ≡ run_in (rows_of (found_of run.now)) }
+{
+    let name = run.get_str("SCRIPT")?;
+    let count = read_workers(run, 0)?;
+    let cache = read_cache(run)?;
+    let hex = has_flag(run, "hex");
+    let options = Options { name, cache, hex };
+    Some(Asked::Run {
+        options,
+        workers: several(count),
+    })
+}
+
+/// What the matches of `audit` ask for.
+fn read_audit<'a>(audit: &ArgMatches<'a>) -> Option<Asked<'a>>
+    ensures { option_map wanted_of result ≡ audit_in (rows_of (found_of audit.now)) }
+{
+    let name = audit.get_str("SCRIPT")?;
+    let count = read_workers(audit, 1)?;
+    let cache = read_cache(audit)?;
+    let hex = false;
+    let options = Options { name, cache, hex };
+    Some(Asked::Audit {
+        options,
+        workers: Workers { count },
+    })
+}
+
+/// How many workers are asked for, of which there are so many at least.
+fn read_workers(matches: &ArgMatches<'_>, least: usize) -> Option<usize>
+    ensures number { result ≡ workers_in least (rows_of (found_of matches.now)) }
+    ensures range { IfSome result (λ count. (least ≤ count) × (count ≤ most_workers)) }
+{
+    let count = usize::from(matches.get_one::<u16>("workers")?);
+    if count < least || count > MOST_WORKERS {
+        return None;
+    }
+    Some(count)
+}
+
+/// For how many pictures room is asked for.
+fn read_cache(matches: &ArgMatches<'_>) -> Option<u16>
+    ensures number { result ≡ cache_in (rows_of (found_of matches.now)) }
+    ensures range { IfSome result (λ room. (1 ≤ room) × (room ≤ most_room)) }
+{
+    let cache = matches.get_one::<u16>("cache")?;
+    if cache == 0 || cache > MOST_ROOM {
+        return None;
+    }
+    Some(cache)
+}
+
+/// So many workers, which are none for 0.
+fn several(count: usize) -> Option<Workers>
+    requires { count ≤ most_workers }
+    ensures { option_map (λ workers. workers.count) result ≡ several count }
+{
+    if count == 0 {
+        return None;
+    }
+    Some(Workers { count })
+}
+
+/// Whether the flag of this name was given.
+fn has_flag(matches: &ArgMatches<'_>, name: &str) -> bool
+    ensures { result ≡ has_flag name.now (rows_of (found_of matches.now)) }
+{
+    match matches.get_str(name) {
+        Some(text) => text == "true",
+        None => false,
+    }
+}
+
+/// The command `preview`.
+fn preview_command<'a>(alloc: Global) -> Result<Command<'a>, AllocError>
+    ensures { IfOk result (λ command. app_of command ≡ preview_app) }
+{
+    Command::new(alloc, "preview")
+        .about("Plans H.264 streams for stateless decoders, and keeps their plans under edits")
+        .version(VERSION)
+        .bin_name("preview")?
+        .subcommand_required(true)
+        .subcommand(plan_command(alloc)?)?
+        .subcommand(run_command(alloc)?)?
+        .subcommand(audit_command(alloc)?)
+}
+
+/// The subcommand `plan`.
+fn plan_command<'a>(alloc: Global) -> Result<Command<'a>, AllocError>
+    ensures { IfOk result (λ command. app_of command ≡ plan_app) }
+{
+    let file = needed(
+        alloc,
+        "FILE",
+        "An H.264 byte stream; - is the standard input",
+    );
+    Command::new(alloc, "plan")
+        .about("Prints what a stateless decoder is asked for, unit by unit")
+        .arg(file)
+}
+
+/// The subcommand `run`.
+fn run_command<'a>(alloc: Global) -> Result<Command<'a>, AllocError>
+    ensures { IfOk result (λ command. app_of command ≡ run_app) }
+{
+    let script = needed(alloc, "SCRIPT", "A command a line; - is the standard input");
+    let few = value_parser!(u16).range(0..=MOST_WORKERS as i64);
+    let help =
+        "How many threads decode while the script runs, 0 to 64; with 0 it is all one thread";
+    let workers = number_option(alloc, "workers", few, "0", help);
+    let cache = cache_option(alloc);
+    let hex = flag(alloc, "hex", "Shows the hash of each picture that is ready");
+    Command::new(alloc, "run")
+        .about("Runs a script that edits a stream, and prints what it answers")
+        .arg(script)?
+        .arg(workers)?
+        .arg(cache)?
+        .arg(hex)
+}
+
+/// The subcommand `audit`.
+fn audit_command<'a>(alloc: Global) -> Result<Command<'a>, AllocError>
+    ensures { IfOk result (λ command. app_of command ≡ audit_app) }
+{
+    let script = needed(alloc, "SCRIPT", "A command a line; - is the standard input");
+    let few = value_parser!(u16).range(1..=MOST_WORKERS as i64);
+    let help = "How many threads decode while the script runs, 1 to 64";
+    let workers = number_option(alloc, "workers", few, "2", help);
+    let cache = cache_option(alloc);
+    Command::new(alloc, "audit")
+        .about("Runs a script beside workers, and says whether its book agrees with the journal")
+        .arg(script)?
+        .arg(workers)?
+        .arg(cache)
+}
+
+/// `--cache`.
+fn cache_option<'a>(alloc: Global) -> Arg<'a>
+    ensures rule { rule_of result ≡ cache_rule }
+    ensures local { result.global ≡ false }
+{
+    let room = value_parser!(u16).range(1..=MOST_ROOM as i64);
+    let help = "For how many pictures that no unit has there is room, 1 to 4096";
+    number_option(alloc, "cache", room, "64", help)
+}
+
+/// An argument that has to be there.
+fn needed<'a>(alloc: Global, name: &'a str, help: &'a str) -> Arg<'a>
+    ensures rule { rule_of result ≡ needed_rule name.entry.now }
+    ensures local { result.global ≡ false }
+{
+    Arg::new(alloc, name).required(true).help(help)
+}
+
+/// A flag `--name`.
+fn flag<'a>(alloc: Global, name: &'a str, help: &'a str) -> Arg<'a>
+    ensures rule { rule_of result ≡ flag_rule name.entry.now }
+    ensures local { result.global ≡ false }
+{
+    Arg::new(alloc, name)
+        .long(name)
+        .action(ArgAction::SetTrue)
+        .help(help)
+}
+
+/// A number by `--name`, which is `usual` where it isn't given.
+fn number_option<'a>(
+    alloc: Global,
+    name: &'a str,
+    parser: ValueParser<'a>,
+    usual: &'a str,
+    help: &'a str,
+) -> Arg<'a>
+    ensures rule { rule_of result ≡ option_rule name.entry.now parser.entry usual.entry.now }
+    ensures local { result.global ≡ false }
+{
+    Arg::new(alloc, name)
+        .long(name)
+        .value_name("N")
+        .value_parser(parser)
+        .default_value(usual)
+        .help(help)
+}

@@ -1,0 +1,82 @@
+-- What the program does with the words of a command line, on files and a standard input (docs/OUTPUT.md).
+use Rattle.std.specs.Prelude.{◌≡◌, ◌⊎◌, ℕ, Bool, List, [], Option, None, Some, IfSome, Result}
+use Rattle.std.specs.Io.KnownBytes.{Appends, Keeps}
+use Rattle.clap.specs.Words.{Text}
+use Rattle.console_io.specs.Chunks.{AppendsFront}
+use Rattle.console_io.specs.Inputs.{Files, text_named}
+use Rattle.console_io.specs.Messages.{Tells, out_of_memory}
+use Rattle.console_io.specs.declared.chunks.PrintFault.{PrintFault}
+use Rattle.plan_stream.specs.Faults.{plan_fault_text}
+use Rattle.plan_stream.specs.Plans.{EndsBy, WritesPlan}
+use Rattle.plan_stream.specs.declared.fault.PlanFault.{PlanFault}
+use Rattle.pool_run.specs.Audits.{FailsAudit, WritesAgreed}
+use Rattle.pool_run.specs.Running.{WritesScript as WritesSeatScript}
+use Rattle.pool_run.specs.Stops.{StopsBy as StopsSeatBy}
+use Rattle.script_run.specs.Messages.{run_fault_text}
+use Rattle.script_run.specs.Running.{WritesScript}
+use Rattle.script_run.specs.Stops.{StopsBy}
+use Rattle.script_run.specs.declared.run_fault.RunFault.{RunFault}
+use Rattle.command_line.specs.CommandLine.{HasOne, IsRequest, Wanted, audit, faults_of, plan, run, wanted_in}
+
+-- a script was run: by a session in one thread, or by a desk's only seat beside workers
+abbrev pub RunsScript : Option ℕ → Files → List ℕ → ℕ → Bool → Option (List ℕ) → Option (List ℕ) → Type 0
+RunsScript None files text room hex old new = WritesScript files text room hex old new
+RunsScript (Some workers) files text room hex old new = WritesSeatScript files text hex old new
+
+-- a script wasn't run to its end by this fault
+abbrev pub StopsScript : Option ℕ → Files → List ℕ → List ℕ → ℕ → Bool → RunFault → Type 0
+    → Option (List ℕ) → Option (List ℕ) → Type 0
+StopsScript None files name text room hex fault refused old new =
+    StopsBy files name text room hex fault refused old new
+StopsScript (Some workers) files name text room hex fault refused old new =
+    StopsSeatBy files name text hex fault refused old new
+
+-- what is asked for was done, of what its name stands for
+abbrev pub IsDone : Files → Option (List ℕ) → Wanted → Option (List ℕ) → Option (List ℕ) → Type 0
+IsDone files standard (plan name) old new =
+    IfSome (text_named files standard name) (λ text. WritesPlan text old new)
+IsDone files standard (run name workers room hex) old new =
+    IfSome (text_named files standard name) (λ text. RunsScript workers files text room hex old new)
+IsDone files standard (audit name workers room) old new =
+    IfSome (text_named files standard name) (λ text. WritesAgreed files text old new)
+
+-- it ended by a fault, which was told; of the two outputs it is said whether each refused, and what it had and has
+abbrev pub FailsAt : {T : Type 0} → Files → Option (List ℕ) → Wanted → Result T PrintFault
+    → Type 0 → Option (List ℕ) → Option (List ℕ) → Type 0 → Option (List ℕ) → Option (List ℕ) → Type 0
+FailsAt files standard (plan name) told refused old new mute had has =
+    (fault : PlanFault) × IfSome (text_named files standard name) (λ text. EndsBy text fault refused old new)
+    × Tells told mute had has (plan_fault_text name fault)
+FailsAt files standard (run name workers room hex) told refused old new mute had has =
+    (fault : RunFault)
+    × IfSome (text_named files standard name) (λ text.
+    StopsScript workers files name text room hex fault refused old new)
+    × Tells told mute had has (run_fault_text fault)
+FailsAt files standard (audit name workers room) told refused old new mute had has =
+    FailsAudit files name (text_named files standard name) told refused old new mute had has
+
+-- memory was wanted for the words or for an answer to them: that was told, and nothing printed
+abbrev pub WantsMemory : {T : Type 0} → Result T PrintFault → Option (List ℕ) → Option (List ℕ)
+    → Type 0 → Option (List ℕ) → Option (List ℕ) → Type 0
+WantsMemory told old new mute had has = Keeps old new × Tells told mute had has out_of_memory
+
+-- the writer refused before a text was printed whole, and nothing was told
+abbrev pub WritesPart : Type 0 → Option (List ℕ) → Option (List ℕ) → Option (List ℕ) → Option (List ℕ) → Type 0
+WritesPart refused old new had has = refused × ((text : List ℕ) × AppendsFront old new text) × Keeps had has
+
+-- the words ask for this, and have no fault
+abbrev pub AskFor : List Text → Wanted → Type 0
+AskFor words wanted = (wanted_in words ≡ Some wanted) × (faults_of words ≡ [])
+
+-- what the words ask for was done, or they ask for help or the version, and a text was printed
+abbrev pub Succeeds : Files → Option (List ℕ) → List Text → Option (List ℕ) → Option (List ℕ) → Type 0
+Succeeds files standard words old new =
+    ((wanted : Wanted) × AskFor words wanted × IsDone files standard wanted old new)
+    ⊎ (HasOne IsRequest (faults_of words) × ((text : List ℕ) × Appends old new text))
+
+-- what the words ask for failed, or memory was wanted, or help or the version wasn't printed whole
+abbrev pub Fails : {T : Type 0} → Files → Option (List ℕ) → List Text → Result T PrintFault
+    → Type 0 → Option (List ℕ) → Option (List ℕ) → Type 0 → Option (List ℕ) → Option (List ℕ) → Type 0
+Fails files standard words told refused old new mute had has =
+    ((wanted : Wanted) × AskFor words wanted × FailsAt files standard wanted told refused old new mute had has)
+    ⊎ WantsMemory told old new mute had has
+    ⊎ (HasOne IsRequest (faults_of words) × WritesPart refused old new had has)

@@ -7,4 +7,5 @@ pub mod Stored
 pub mod Seen
 pub mod Taking
 pub mod Told
+pub mod Meetings
 pub mod Moved

@@ -4,12 +4,15 @@ use Rattle.stream_edits.specs.declared.acceptance.AcceptedEdit.{AcceptedEdit}
 use Rattle.stream_edits.specs.declared.acceptance.AcceptedGroup.{AcceptedGroup}
 use Rattle.stream_edits.specs.declared.edits.Edit.{Edit}
 use Rattle.stream_edits.specs.declared.receipts.GroupReceipt.{GroupReceipt}
-use Rattle.stream_edits.specs.Changes.{IsFor}
-use Rattle.stream_edits.specs.Edits.{Makes}
+use Rattle.stream_edits.specs.Changes.{IsFor, after}
+use Rattle.stream_edits.specs.Edits.{Register, Makes}
 use Rattle.stream_edits.specs.Groups.{IsForAll, MakesAll}
+use Rattle.stream_edits.specs.Ids.{HasIds}
+use Rattle.stream_edits.proofs.Grouped.{HasIds-all}
 use Rattle.edit_engine.specs.Machines.{Machine, Edits}
-use Rattle.edit_engine.specs.Grouping.{EditsAll}
+use Rattle.edit_engine.specs.Grouping.{AreFewForAll, EditsAll}
 use Rattle.edit_engine.specs.Moves.{Moves}
+use Rattle.edit_engine.proofs.Meetings.{few_everywhere}
 
 -- an edit by itself
 pub Edits-moved : (old : Machine) (edit : Edit) (accepted : AcceptedEdit) (steps number : ℕ) (new : Machine)
@@ -30,9 +33,9 @@ Edits-moved old edit accepted steps number new for moves number_is = record {
 
 -- a group of edits
 pub EditsAll-moved : (old : Machine) (edits : List Edit) (accepted : AcceptedGroup) (receipt : GroupReceipt) (new : Machine)
-    → IsForAll old.register edits accepted → Moves old edits accepted.change accepted.given receipt.steps new
+    → HasIds old.register → IsForAll old.register edits accepted → Moves old edits accepted.change accepted.given receipt.steps new
     → receipt.number ≡ length new.journal → receipt.ids.items ≡ accepted.ids.items → EditsAll old edits receipt new
-EditsAll-moved old edits accepted receipt new for moves number_is ids_are = record {
+EditsAll-moved old edits accepted receipt new ids for moves number_is ids_are = record {
   sized = for.sized;
   made =
       subst (λ ids. MakesAll old.register edits ids new.register) (sym ids_are)
@@ -40,10 +43,8 @@ EditsAll-moved old edits accepted receipt new for moves number_is ids_are = reco
   journaled = moves.journaled;
   refits = moves.refits;
   number_is = number_is;
-  refolds = record {
-    accepted = accepted;
-    comes_to = for;
-    leaves = moves.register_is;
-    few = λ count is. let few = moves.few count is in omega (arith, few);
-  };
+  few =
+      subst (λ (register : Register). AreFewForAll old.register.stream register.stream receipt.steps) (sym moves.register_is)
+      (few_everywhere accepted.change old.register.stream receipt.steps for.inside moves.few for.front for.rest ids.once
+      (HasIds-all old.register edits accepted.ids.items (after accepted.change accepted.given old.register.stream) ids for.makes).once);
 }

@@ -1,5 +1,6 @@
 pub mod Streams
 pub mod Machines
+pub mod MeetingPoints
 pub mod Grouping
 pub mod Moves
 pub mod Stretches

@@ -1,7 +1,6 @@
 -- The run of a script's commands by a seat of a desk, and what it writes (docs/OUTPUT.md). Each step is one of the seat's
 -- calls, whose session no clause can name.
 use Rattle.std.specs.Prelude.{◌≡◌, ℕ, ◌-◌, ◌≤◌, ◌++◌, Bool, List, [], ◌∷◌, length, Result, Ok, Err, Option, IfSome, ◌⊎◌}
-use Rattle.std.specs.Io.KnownBytes.{Appends}
 use Rattle.annexb.specs.ByteStream.{joined}
 use Rattle.access_unit.specs.Rooms.{IsStream, IsStreamRefused, most_units}
 use Rattle.access_unit.specs.declared.room.Refusal.{Refusal}
@@ -27,6 +26,7 @@ use Rattle.script_run.specs.Answers.{edit_line, refused_line, loaded_line}
 use Rattle.script_run.specs.GroupLines.{group_answer_line}
 use Rattle.script_run.specs.JobLines.{settled_line}
 use Rattle.script_run.specs.Running.{place_after}
+use Rattle.script_run.specs.Sequences.{AreAnswered, AreWritten}
 use Rattle.script_run.specs.ShownLines.{shown_line}
 
 -- a desk's only seat, which has noted nothing
@@ -87,15 +87,11 @@ Answers files hex old (seat.Show number) lines new = ShowsLine hex old number li
 
 -- the commands are answered one after the other, by these lines in all
 abbrev pub Runs : Files → Bool → Seat → List SeatCommand → List ℕ → Seat → Type 0
-Runs files hex from [] lines to = (lines ≡ []) × (to ≡ from)
-Runs files hex from (command ∷ commands) lines to =
-    (front : List ℕ) × (rest : List ℕ) × (next : Seat) × Answers files hex from command front next
-    × Runs files hex next commands rest to × (lines ≡ front ++ rest)
+Runs files hex from commands lines to = AreAnswered (Answers files hex) from commands lines to
 
 -- the lines that answer the commands were written
 abbrev pub WritesRun : Files → Bool → Seat → List SeatCommand → Seat → Option (List ℕ) → Option (List ℕ) → Type 0
-WritesRun files hex from commands to old new =
-    (lines : List ℕ) × Runs files hex from commands lines to × Appends old new lines
+WritesRun files hex from commands to old new = AreWritten (Answers files hex) from commands to old new
 
 -- the text is a script of a seat, and what answers its commands was written: they were run by a desk's only seat, from
 -- its first call on, and pictures have their digits or not

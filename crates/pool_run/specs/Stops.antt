@@ -1,17 +1,17 @@
 -- How the run of a seat's script ends before the script does (docs/OUTPUT.md).
-use Rattle.std.specs.Prelude.{◌≡◌, ℕ, ◌++◌, Bool, List, ◌∷◌, Option, ◌⊎◌}
+use Rattle.std.specs.Prelude.{◌≡◌, ℕ, Bool, List, Option, ◌⊎◌}
 use Rattle.std.specs.Borrow.{Bor}
-use Rattle.std.specs.Io.KnownBytes.{Appends, Keeps}
-use Rattle.console_io.specs.Chunks.{AppendsFront}
+use Rattle.std.specs.Io.KnownBytes.{Keeps}
 use Rattle.console_io.specs.Inputs.{Files}
 use Rattle.decode_pool.specs.declared.seat.Seat.{Seat}
 use Rattle.edit_script.specs.SeatScripts.{HasFirstWrongForSeat, IsSeatScript}
 use Rattle.edit_script.specs.declared.seat_commands.SeatCommand.{SeatCommand}
 use Rattle.edit_script.specs.declared.seat_commands.SeatCommand.TheVariants as seat
 use Rattle.script_run.specs.RunFaults.{IsLoadFault}
+use Rattle.script_run.specs.Sequences.{StopsAmong}
 use Rattle.script_run.specs.declared.run_fault.RunFault.{RunFault}
-use Rattle.script_run.specs.declared.run_fault.RunFault.TheVariants.{Unread, Script, Memory, Unwritten}
-use Rattle.pool_run.specs.Running.{Answers, IsNew, Runs}
+use Rattle.script_run.specs.declared.run_fault.RunFault.TheVariants.{Unread, Script, Memory}
+use Rattle.pool_run.specs.Running.{Answers, IsNew}
 
 -- why a command isn't answered; that no worker is left while pictures are due is told as want of memory is
 abbrev pub IsCommandFault : SeatCommand → RunFault → Type 0
@@ -21,24 +21,10 @@ IsCommandFault (seat.Load path) fault = IsLoadFault path fault
 IsCommandFault seat.Settle fault = fault ≡ Memory
 IsCommandFault (seat.Show number) fault = fault ≡ Memory
 
--- a command isn't answered by this fault, and nothing more was written; or its answer is these lines, of which the
--- writer took a front and then refused
-abbrev pub StopsIn : Files → Bool → Seat → SeatCommand → List ℕ → RunFault → Type 0 → Option (List ℕ) → Option (List ℕ) → Type 0
-StopsIn files hex from command before fault refused old new =
-    (IsCommandFault command fault × Appends old new before)
-    ⊎ ((fault ≡ Unwritten) × refused × ((lines : List ℕ) × (to : Seat) × Answers files hex from command lines to
-    × AppendsFront old new (before ++ lines)))
-
 -- the commands stop at one of them: those before it were answered, and that was written
-pub record StopsAt (files : Files) (hex : Bool) (from : Seat) (commands : List SeatCommand) (fault : RunFault) (refused : Type 0) (old new : Option (List ℕ)) : Type 0 where
-  pub before : List SeatCommand
-  pub command : SeatCommand
-  pub after : List SeatCommand
-  pub are : commands ≡ before ++ command ∷ after
-  pub between : Seat
-  pub lines : List ℕ
-  pub ran : Runs files hex from before lines between
-  pub stops : StopsIn files hex between command lines fault refused old new
+abbrev pub StopsAt : Files → Bool → Seat → List SeatCommand → RunFault → Type 0 → Option (List ℕ) → Option (List ℕ) → Type 0
+StopsAt files hex from commands fault refused old new =
+    StopsAmong (Answers files hex) IsCommandFault from commands fault refused old new
 
 -- the commands aren't run to their end: a thread can't be started, which is told as want of memory is, or they stop
 abbrev pub StopsRun : Files → Bool → Seat → List SeatCommand → RunFault → Type 0 → Option (List ℕ) → Option (List ℕ) → Type 0

@@ -1,2 +1,3 @@
+pub mod Sequenced
 pub mod Ran
 pub mod Told

@@ -4,6 +4,7 @@ pub mod GroupLines
 pub mod ShownLines
 pub mod Settling
 pub mod RunFaults
+pub mod Sequences
 pub mod Running
 pub mod Stops
 pub mod Messages

@@ -1,6 +1,5 @@
 -- The run of a script's commands on a session, and what it writes (docs/OUTPUT.md).
 use Rattle.std.specs.Prelude.{◌≡◌, ℕ, ◌-◌, ◌≤◌, ◌++◌, Bool, List, [], ◌∷◌, length, Ok, Err, Option, Some, None, IfSome, ◌⊎◌}
-use Rattle.std.specs.Io.KnownBytes.{Appends}
 use Rattle.annexb.specs.ByteStream.{joined}
 use Rattle.stream_edits.specs.declared.edits.Edit.TheVariants.{Insert}
 use Rattle.stream_edits.specs.declared.edits.Place.{Place}
@@ -18,6 +17,7 @@ use Rattle.edit_engine.specs.Runs.{Answers as Replies}
 use Rattle.stream_edits.specs.Streams.{Stream}
 use Rattle.script_run.specs.Answers.{refused_line, loaded_line, reply_lines}
 use Rattle.script_run.specs.JobLines.{settled_line}
+use Rattle.script_run.specs.Sequences.{AreAnswered, AreWritten}
 use Rattle.script_run.specs.Settling.{Settles}
 use Rattle.console_io.specs.Inputs.{Files}
 use Rattle.access_unit.specs.Rooms.{IsStream, IsStreamRefused, most_units}
@@ -83,15 +83,11 @@ Answers files hex old (command.Show number) lines new = Follows hex old (told.Sh
 
 -- the commands are answered one after the other, by these lines in all
 abbrev pub Runs : Files → Bool → Machine → List Command → List ℕ → Machine → Type 0
-Runs files hex from [] lines to = (lines ≡ []) × (to ≡ from)
-Runs files hex from (command ∷ commands) lines to =
-    (front : List ℕ) × (rest : List ℕ) × (next : Machine) × Answers files hex from command front next
-    × Runs files hex next commands rest to × (lines ≡ front ++ rest)
+Runs files hex from commands lines to = AreAnswered (Answers files hex) from commands lines to
 
 -- the lines that answer the commands were written
 abbrev pub WritesRun : Files → Bool → Machine → List Command → Machine → Option (List ℕ) → Option (List ℕ) → Type 0
-WritesRun files hex from commands to old new =
-    (lines : List ℕ) × Runs files hex from commands lines to × Appends old new lines
+WritesRun files hex from commands to old new = AreWritten (Answers files hex) from commands to old new
 
 -- the text is a script, and what answers its commands was written: they were run from the empty stream, for a cache
 -- of this room, and pictures have their digits or not

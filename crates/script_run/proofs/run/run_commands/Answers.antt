@@ -1,7 +1,9 @@
 use Rattle.std.proofs.Common.{◌∙◌, ◌∷◌, [], ap, append_assoc, string_bytes}
 use Rattle.std.specs.Vec.Iter.{into_iter_items}
-use Rattle.script_run.specs.RunFaults.{fault_of_print}
-use Rattle.script_run.proofs.Ran.{Answers-same, WritesRun-push, stops-within}
+use Rattle.script_run.specs.RunFaults.{IsCommandFault, fault_of_print}
+use Rattle.script_run.specs.Running.{Answers}
+use Rattle.script_run.proofs.Ran.{Answers-same}
+use Rattle.script_run.proofs.Sequenced.{written-push, stops-within}
 use Rattle.script_run.proofs.Told.{err-all}
 use Rattle.script_run.proofs.run.run_commands.Goals as goal
 
@@ -19,7 +21,7 @@ loop-command-preserved g c =
     let written = rw c.as_bytes.ensures.value at c.in_ok-write_bytes.ensures.ok in
     let next = into_iter_items c.next.new.self in
     record {
-      ran = WritesRun-push files c.args.hex c.args.runner.now before.yielded before.runner _ _ _ ran command lines later answers
+      ran = written-push (Answers files c.args.hex) c.args.runner.now before.yielded before.runner _ _ _ ran command lines later answers
           written;
       kept = λ name. c.in_ok-lines.ensures.kept name ∙ kept name;
       left = rw (append_assoc before.yielded (command ∷ []) next, ← c.in-Some.ensures.steps.0) before.invariant.left;
@@ -37,6 +39,6 @@ returns-in_err-write_bytes-clause-stops g c =
     let got = rw c.as_bytes.ensures.value at c.in_err-write_bytes.ensures.unwritten in
     let left = rw c.in-Some.ensures.steps.0 at before.invariant.left in
     err-all c.from_residual-in_err-write_bytes.result _ c.from_residual-in_err-write_bytes.ensures.1
-    (λ fault is. stops-within files c.args.hex c.args.runner.now before.yielded before.runner _ _ _ before.invariant.ran _ command
+    (λ fault is. stops-within (Answers files c.args.hex) IsCommandFault c.args.runner.now before.yielded before.runner _ _ before.invariant.ran _ _ command
     _ left lines later answers got fault (is ∙ ap fault_of_print c.in_err-write_bytes.ensures.fault) _
     c.in_err-write_bytes.ensures.refused)

@@ -12,9 +12,8 @@ mod sessions;
 mod starved;
 mod streams;
 
-use bytes::Bytes;
-use edit_engine::{Config, ConfigFault, Edit, Place, Runner, Session};
-use pictures::AuId;
+use edit_engine::{Config, ConfigFault, Runner, Session};
+use session_builders::Told;
 use std::alloc::Global;
 use std::process::Abort;
 
@@ -60,27 +59,6 @@ fn empty_runner(rt: &(impl Abort + AllocGlobal)) -> Runner
             Ok(runner) => runner,
             Err(_) => panic!(rt; "no runner is made"),
         },
-    }
-}
-
-/// An edit as a row has it.
-#[derive(Clone, Copy)]
-enum Told {
-    First(&'static [u8]),
-    After(u32, &'static [u8]),
-    Delete(u32),
-    Replace(u32, &'static [u8]),
-}
-
-/// The edit of a row.
-fn edit_of(told: Told) -> Edit {
-    match told {
-        Told::First(text) => Edit::Insert(Place::First, Bytes::from_static(text)),
-        Told::After(id, text) => {
-            Edit::Insert(Place::After(AuId::new(id)), Bytes::from_static(text))
-        }
-        Told::Delete(id) => Edit::Delete(AuId::new(id)),
-        Told::Replace(id, text) => Edit::Replace(AuId::new(id), Bytes::from_static(text)),
     }
 }
 

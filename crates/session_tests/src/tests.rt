@@ -12,10 +12,10 @@ mod running;
 mod stretches;
 mod texts;
 
-use bytes::Bytes;
-use edit_engine::{Config, Edit, EditRefused, NoSuchUnit, Place, Receipt, Runner, Session};
+use edit_engine::{Config, EditRefused, NoSuchUnit, Receipt, Runner, Session};
 use outcomes::{Outcome, ValidityFault};
 use pictures::AuId;
+use session_builders::{Told, edit_of};
 use std::process::Abort;
 
 /// Sets and an IDR picture, of one macroblock, count type 2 and one reference frame.
@@ -55,27 +55,6 @@ fn runner_of(rt: &(impl Abort + AllocGlobal), cache: u16) -> Runner
     match Runner::new(rt.alloc(), Config { cache }) {
         Ok(runner) => runner,
         Err(_) => panic!(rt; "no runner is made"),
-    }
-}
-
-/// An edit as a row has it.
-#[derive(Clone, Copy)]
-enum Told {
-    First(&'static [u8]),
-    After(u32, &'static [u8]),
-    Delete(u32),
-    Replace(u32, &'static [u8]),
-}
-
-/// The edit of a row.
-fn edit_of(told: Told) -> Edit {
-    match told {
-        Told::First(text) => Edit::Insert(Place::First, Bytes::from_static(text)),
-        Told::After(id, text) => {
-            Edit::Insert(Place::After(AuId::new(id)), Bytes::from_static(text))
-        }
-        Told::Delete(id) => Edit::Delete(AuId::new(id)),
-        Told::Replace(id, text) => Edit::Replace(AuId::new(id), Bytes::from_static(text)),
     }
 }
 

@@ -6,9 +6,8 @@ use access_unit::{Unit, read_unit};
 use bytes::Bytes;
 use edit_engine::{Edit, EditRefused, Job, Landing, Place, Session, Shown};
 use outcomes::Outcome;
-use output_order::positions;
 use pictures::AuId;
-use request_core::scratch;
+use session_builders::tells_each;
 use stand_in_device::{Device, Undone};
 use std::alloc::{AllocError, Global};
 use std::process::Abort;
@@ -67,37 +66,6 @@ fn inserts(
         (Err(refused), Err(EditRefused::Unit(told))) => Ok(refused == told),
         _ => Ok(false),
     }
-}
-
-/// The session says this of the unit.
-fn tells(
-    alloc: Global,
-    session: &Session,
-    id: AuId,
-    outcome: &Outcome,
-    position: Option<usize>,
-) -> Result<bool, Fail> {
-    let Ok(kept) = session.outcome(id) else {
-        return Ok(false);
-    };
-    let kept = format!(in alloc; "{kept:?}")?;
-    let plain = format!(in alloc; "{outcome:?}")?;
-    Ok(kept.as_str() == plain.as_str() && session.position(id) == Ok(position))
-}
-
-/// The session says of each of the units what the plain fold says.
-fn tells_each(alloc: Global, session: &Session, units: &[(AuId, Unit)]) -> Result<bool, Fail> {
-    let outcomes = scratch(alloc, units)?;
-    let places = positions(alloc, &outcomes)?;
-    for (at, unit) in units.iter().enumerate() {
-        let (Some(outcome), Some(place)) = (outcomes.get(at), places.get(at)) else {
-            return Ok(false);
-        };
-        if !tells(alloc, session, unit.0, outcome, *place)? {
-            return Ok(false);
-        }
-    }
-    Ok(true)
 }
 
 /// Decodes a job, and takes its result; a job for which there is no memory is given back.

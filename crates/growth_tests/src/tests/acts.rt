@@ -5,7 +5,7 @@ use super::streams::{
     A, B, IDR, OTHER_SPS, P, P1, P2, PICTURE_OF_A, PICTURE_OF_B, PICTURE_OF_IDR, PICTURE_OF_P,
     PICTURE_OF_P1, PICTURE_OF_P2, PICTURE_OF_SLICES, Planned, SLICES, SPS, TIED_B, planned,
 };
-use super::{Told, edit_of, empty_runner, row_holds};
+use super::{empty_runner, row_holds};
 use Shown::{NoSuchUnit, Pending, Ready};
 use Told::{After, Delete, First, Replace};
 use edit_engine::{
@@ -14,6 +14,7 @@ use edit_engine::{
 };
 use outcomes::{Outcome, ValidityFault};
 use pictures::AuId;
+use session_builders::{Told, edit_of};
 use std::alloc::{AllocError, AllocGlobal};
 use std::process::Abort;
 

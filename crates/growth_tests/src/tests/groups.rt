@@ -1,9 +1,10 @@
 //! Groups of edits. Where memory is wanted nothing is changed and no id is spent, and the call is made again.
 
 use super::seen::seen;
-use super::{Told, edit_of, empty_session, row_holds};
+use super::{empty_session, row_holds};
 use Told::{After, Delete, First, Replace};
 use edit_engine::{Edit, GroupReceipt, GroupRefused, Session};
+use session_builders::{Told, edits_of};
 use std::alloc::{AllocError, AllocGlobal, Global};
 use std::process::Abort;
 use std::test::Fail;
@@ -29,15 +30,6 @@ const GROUPS: [(&[Told], Result<&[u32], usize>); 4] = [
     (&[Delete(2), After(1, P1), After(4, SPS)], Ok(&[2, 4, 5])),
     (&[Replace(4, P2), Replace(4, P1)], Ok(&[4, 4])),
 ];
-
-/// The edits of a row.
-fn edits_of(alloc: Global, told: &[Told]) -> Result<Vec<Edit>, AllocError> {
-    let mut edits = Vec::with_capacity(alloc, told.len())?;
-    for told in told {
-        edits.push(edit_of(*told))?;
-    }
-    Ok(edits)
-}
 
 /// The edits of a row, made again where memory is wanted.
 fn edits_again(alloc: Global, told: &[Told]) -> Result<Vec<Edit>, AllocError> {

@@ -2,9 +2,10 @@
 
 use super::sessions::{edit, is_insertion};
 use super::streams::{A, P1};
-use super::{Told, appended, empty_session, row_holds};
+use super::{appended, empty_session, row_holds};
 use edit_engine::{EditRefused, Receipt};
 use pictures::AuId;
+use session_builders::Told;
 
 /// How many IDR pictures the stream has.
 const UNITS: u32 = 100;

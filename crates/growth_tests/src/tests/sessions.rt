@@ -2,11 +2,12 @@
 
 use super::seen::seen;
 use super::streams::{STREAMS, Stream};
-use super::{Told, appended, edit_of, empty_session, row_holds};
+use super::{appended, empty_session, row_holds};
 use edit_engine::{
     EditRefused, Finished, Job, Landing, Picture, Receipt, Returning, Session, Shown, TakeRefused,
 };
 use pictures::AuId;
+use session_builders::{Told, edit_of};
 use stand_in_device::{Device, Undone};
 use std::alloc::AllocGlobal;
 use std::process::Abort;

@@ -8,6 +8,7 @@ use decode_pool::{Desk, Seat, Settled, Worked, finish, worker};
 use edit_engine::{Edit, EditRefused, GroupReceipt, GroupRefused, Session, Shown};
 use pictures::AuId;
 use seat_books::{AuditFault, NotedGroup, SeatBook, SeatReceipt, audit};
+use session_builders::are_ids;
 use stand_in_device::Device;
 use std::alloc::{AllocError, AllocGlobal, Global};
 use std::process::Abort;
@@ -22,15 +23,6 @@ fn pair(alloc: Global, one: Edit, other: Edit) -> Result<Vec<Edit>, AllocError> 
     pair.push(one)?;
     pair.push(other)?;
     Ok(pair)
-}
-
-/// Whether the ids have these numbers.
-fn are_ids(ids: &[AuId], wanted: &[u32]) -> bool {
-    ids.len() == wanted.len()
-        && ids
-            .iter()
-            .zip(wanted)
-            .all(|(id, wanted)| id.number() == *wanted)
 }
 
 /// The group is accepted under this number, with these ids.

@@ -1,6 +1,6 @@
 //! Edits of a session, and what becomes of its units.
 
-use super::{A, I, P1, P2, Shown, Step, Told, empty_session, holds, row_holds};
+use super::{A, I, P1, P2, Shown, Step, empty_session, holds, row_holds};
 use Shown::{At, Empty, Fault, Gone};
 use Step::Unit;
 use Told::{After, Delete, First, Replace};
@@ -8,6 +8,7 @@ use edit_engine::{Config, ConfigFault, Last, Session};
 use h264_controls::Request;
 use outcomes::{Outcome, Plan, ValidityFault};
 use pictures::AuId;
+use session_builders::Told;
 
 /// A sequence parameter set alone.
 const SPS: &[u8] = &[0, 0, 1, 0x67, 0x42, 0x00, 0x0A, 0xDA, 0x79];

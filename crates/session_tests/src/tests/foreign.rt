@@ -1,11 +1,12 @@
 //! Results and jobs that a session didn't give: they change nothing.
 
 use super::jobs::A1;
-use super::{A, Told, edit_of, empty_session, row_holds};
+use super::{A, empty_session, row_holds};
 use Brought::{Gives, Lands};
 use Whose::{Other, Own};
 use edit_engine::{Job, Landing, Returning, Session, Shown};
 use pictures::AuId;
+use session_builders::{Told, edit_of};
 use stand_in_device::{Device, Input, Undone};
 use std::alloc::{AllocError, AllocGlobal, Global};
 use std::process::Abort;

@@ -1,38 +1,21 @@
 //! Groups of edits, each of which is one step.
 
-use super::{A, I, P1, P2, Told, edit_of, empty_session, row_holds, runner_of};
+use super::{A, I, P1, P2, empty_session, row_holds, runner_of};
 use Told::{After, Delete, First, Replace};
 use edit_engine::{
     Command, Edit, GroupReceipt, GroupRefused, Reply, Runner, Session, Shown, TakenJob,
 };
 use pictures::AuId;
+use session_builders::{Told, are_ids, edit_of, edits_of};
 use std::alloc::{AllocError, Global};
 use std::test::Fail;
 
 /// A unit that is none: its parameter set is cut.
 const CUT: &[u8] = &[0, 0, 1, 0x67];
 
-/// The edits of a row.
-fn edits_of(alloc: Global, told: &[Told]) -> Result<Vec<Edit>, AllocError> {
-    let mut edits = Vec::with_capacity(alloc, told.len())?;
-    for told in told {
-        edits.push(edit_of(*told))?;
-    }
-    Ok(edits)
-}
-
 /// A receipt's number and ids, and how many steps it makes at most. Or a refusal: the index of an edit, if it names one, and
 /// the number.
 type Answer = Result<(u64, &'static [u32], u64), (Option<usize>, u8)>;
-
-/// Whether the ids have these numbers.
-fn are_ids(ids: &[AuId], wanted: &[u32]) -> bool {
-    ids.len() == wanted.len()
-        && ids
-            .iter()
-            .zip(wanted)
-            .all(|(id, wanted)| id.number() == *wanted)
-}
 
 /// The index of the edit that a refusal names.
 fn index_of(refused: GroupRefused) -> Option<usize> {

@@ -1,10 +1,11 @@
 //! Jobs, results and pictures, through a runner.
 
-use super::{A, I, P1, P2, Told, edit_of, row_holds, runner_of};
+use super::{A, I, P1, P2, row_holds, runner_of};
 use edit_engine::{
     Command, Config, Landing, NotOut, Picture, Reply, Returning, Runner, Shown, run,
 };
 use pictures::AuId;
+use session_builders::{Told, edit_of};
 use std::alloc::{AllocError, Global};
 use std::test::Fail;
 

@@ -1,10 +1,11 @@
 //! Many units that refer to two before them, and many edits while a job is out.
 
 use super::jobs::{Act, holds};
-use super::{A, Told, runner_of};
+use super::{A, runner_of};
 use bytes::Bytes;
 use edit_engine::{Command, Edit, Landing, Reply, Runner};
 use pictures::AuId;
+use session_builders::Told;
 use std::alloc::{AllocError, Global};
 use std::test::Fail;
 

@@ -2,13 +2,12 @@
 
 ghost use Rattle.std.specs.Prelude.{◌<◌, ◌≤◌, length, vec_len, IfSome};
 
-use super::{A, I, P1, P2, Told, edit_of, empty_session, row_holds};
+use super::{A, I, P1, P2, empty_session, row_holds};
 use access_unit::{Unit, read_unit};
 use edit_engine::{Last, Receipt, Session};
 use outcomes::Outcome;
-use output_order::positions;
 use pictures::AuId;
-use request_core::scratch;
+use session_builders::{Told, edit_of, tells_each};
 use std::alloc::{AllocError, Global};
 use std::test::Fail;
 use test_builders::Draws;
@@ -119,39 +118,6 @@ fn units(alloc: Global, mirror: &[Kept]) -> Result<Option<Vec<(AuId, Unit)>>, Al
         }
     }
     Ok(Some(units))
-}
-
-/// The session says this of the unit.
-fn tells(
-    alloc: Global,
-    session: &Session,
-    id: AuId,
-    outcome: &Outcome,
-    position: Option<usize>,
-) -> Result<bool, Fail> {
-    let Ok(kept) = session.outcome(id) else {
-        return Ok(false);
-    };
-    let (kept, plain) = (
-        format!(in alloc; "{kept:?}")?,
-        format!(in alloc; "{outcome:?}")?,
-    );
-    Ok(kept.as_str() == plain.as_str() && session.position(id) == Ok(position))
-}
-
-/// The session says of each of the units what the plain fold says.
-fn tells_each(alloc: Global, session: &Session, units: &[(AuId, Unit)]) -> Result<bool, Fail> {
-    let outcomes = scratch(alloc, units)?;
-    let places = positions(alloc, &outcomes)?;
-    for (at, unit) in units.iter().enumerate() {
-        let (Some(outcome), Some(place)) = (outcomes.get(at), places.get(at)) else {
-            return Ok(false);
-        };
-        if !tells(alloc, session, unit.0, outcome, *place)? {
-            return Ok(false);
-        }
-    }
-    Ok(true)
 }
 
 /// The session has the mirror's units, and says of each what the plain fold says.

@@ -1,12 +1,13 @@
 //! Commands followed one after the other, and runs of many.
 
-use super::{A, Answer, P1, Shown, Step, Told, edit_of, is_answer, row_holds, runner_of, shows};
+use super::{A, Answer, P1, Shown, Step, is_answer, row_holds, runner_of, shows};
 use Shown::{At, Fault, Gone};
 use Step::Unit;
 use Told::{After, Delete, First};
 use edit_engine::{Command, Config, NoSuchUnit, Reply, Runner, UnitReport, run};
 use outcomes::{Outcome, ValidityFault};
 use pictures::AuId;
+use session_builders::{Told, edit_of};
 use std::alloc::{AllocError, Global};
 use std::test::Fail;
 

@@ -1,7 +1,8 @@
 //! How many steps of the fold an edit makes.
 
-use super::{A, P1, Told, edit_of, empty_session, is_answer, row_holds};
+use super::{A, P1, empty_session, is_answer, row_holds};
 use Told::{After, First, Replace};
+use session_builders::{Told, edit_of};
 
 /// How many IDR pictures the stream has.
 const UNITS: u32 = 200;

@@ -1,6 +1,7 @@
 //! Edits and ids as tables of tests have them.
 
-ghost use Rattle.std.specs.Prelude.{◌≡◌, ℕ};
+ghost use Rattle.std.specs.Prelude.{◌≡◌, IfOk, map, true};
+ghost use Rattle.session_builders.specs.Edits.{edit_told};
 
 use bytes::Bytes;
 use edit_engine::{Edit, Place};
@@ -20,7 +21,7 @@ pub enum Told {
 
 /// The edit of a row.
 pub fn edit_of(told: Told) -> Edit
-    ensures { (id : ℕ) → told ≡ Told.Delete id → result ≡ Edit.Delete id }
+    ensures { result ≡ edit_told told }
 {
     match told {
         Told::First(text) => Edit::Insert(Place::First, Bytes::from_static(text)),
@@ -33,7 +34,9 @@ pub fn edit_of(told: Told) -> Edit
 }
 
 /// The edits of a row, in its order.
-pub fn edits_of(alloc: Global, told: &[Told]) -> Result<Vec<Edit>, AllocError> {
+pub fn edits_of(alloc: Global, told: &[Told]) -> Result<Vec<Edit>, AllocError>
+    ensures { IfOk result (λ edits. edits.items ≡ map edit_told told.now) }
+{
     let mut edits = Vec::with_capacity(alloc, told.len())?;
     for told in told {
         edits.push(edit_of(*told))?;
@@ -42,7 +45,10 @@ pub fn edits_of(alloc: Global, told: &[Told]) -> Result<Vec<Edit>, AllocError> {
 }
 
 /// Whether the ids have these numbers.
-pub fn are_ids(ids: &[AuId], wanted: &[u32]) -> bool {
+pub fn are_ids(ids: &[AuId], wanted: &[u32]) -> bool
+    ensures same { result ≡ true → ids.now ≡ wanted.now }
+    ensures other { ids.now ≡ wanted.now → result ≡ true }
+{
     ids.len() == wanted.len()
         && ids
             .iter()

@@ -30,9 +30,8 @@ def chained(units, size):
 
 @functools.cache
 def program():
-    """The built program, without the script that builds it where it has to."""
-    subprocess.run([TOP / "bin" / "preview", "--help"], stdout=subprocess.DEVNULL, check=True)
-    return str(TOP / "crates" / "preview" / "out" / "preview")
+    """The program that bin/preview runs, without that script."""
+    return subprocess.run([TOP / "tools" / "program"], stdout=subprocess.PIPE, text=True, check=True).stdout.rstrip("\n")
 
 
 def once(command, output, log):

@@ -24,9 +24,8 @@ def arguments(doc, needs=None):
 
 
 def program():
-    """The built program's command, without the script that builds it where it has to."""
-    subprocess.run([TOP / "bin" / "preview", "--help"], stdout=subprocess.DEVNULL, check=True)
-    return [str(TOP / "crates" / "preview" / "out" / "preview")]
+    """The command of the program that bin/preview runs, without that script."""
+    return [subprocess.run([TOP / "tools" / "program"], stdout=subprocess.PIPE, text=True, check=True).stdout.rstrip("\n")]
 
 
 def output(command, file):

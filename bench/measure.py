@@ -30,7 +30,9 @@ def chained(units, size):
 
 @functools.cache
 def program():
-    """The built program, without the script that builds it where it has to."""
+    """The program that PREVIEW names; without it the built one, without the script that builds it where it has to."""
+    if named := os.environ.get("PREVIEW"):
+        return named
     subprocess.run([TOP / "bin" / "preview", "--help"], stdout=subprocess.DEVNULL, check=True)
     return str(TOP / "crates" / "preview" / "out" / "preview")
 

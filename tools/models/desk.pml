@@ -154,20 +154,17 @@ inline give_back() {
     has[_pid]--
 }
 
-/* A worker that has taken jobs wakes another. */
+/* A worker that has taken jobs wakes another; at a desk that counts it may leave that where none is left. */
 inline tell_on() {
 #ifdef COUNTED
-#if LOST_WAKEUP == 11
-    if      /* it took what it could: it is refused more, or none is left */
-    :: has[_pid] < JOBS -> worker[_pid] = busy
-    :: true -> told_on()
-    fi
-#else
     if
-    :: DUE -> told_on()
+    :: tell_one()
+#if LOST_WAKEUP == 11
+    :: has[_pid] < JOBS -> worker[_pid] = busy      /* also where it is refused more */
+#else
     :: !DUE -> worker[_pid] = busy
-    fi
 #endif
+    fi
 #else
 #if LOST_WAKEUP != 3
     job_due_notify_one();
@@ -176,7 +173,7 @@ inline tell_on() {
 #endif
 }
 
-inline told_on() {
+inline tell_one() {
     if
     :: told_workers < SLEEPING_WORKERS -> told_workers++; worker[_pid] = tells_on
     :: told_workers >= SLEEPING_WORKERS -> worker[_pid] = busy
@@ -187,9 +184,13 @@ inline told_on() {
 inline tell_settled() {
 #if LOST_WAKEUP != 4
 #ifdef COUNTED
-    told_seats = SLEEPING_SEATS;
-#endif
+    if
+    :: told_seats < SLEEPING_SEATS -> told_seats = SLEEPING_SEATS; settled_notify_all()
+    :: else
+    fi
+#else
     settled_notify_all()
+#endif
 #else
     skip
 #endif
@@ -287,6 +288,19 @@ inline edit(stretch) {
     fi
 }
 
+/* Desk::close: who is to be woken then. */
+inline close(place, after) {
+    closed = true;
+#ifdef COUNTED
+    if
+    :: told_workers < SLEEPING_WORKERS -> told_workers = SLEEPING_WORKERS; place = closes
+    :: else -> place = after
+    fi
+#else
+    place = closes
+#endif
+}
+
 /* seat.rt: what a seat calls of a desk; show and last take the lock and wake nobody. */
 active [SEATS] proctype Seat() {
     do
@@ -342,17 +356,7 @@ active [SEATS] proctype Seat() {
 #if LOST_WAKEUP == 8
     :: atomic { SEAT == unlocked -> SEAT = sleeps }
 #endif
-    :: atomic { SEAT == free && !closed ->       /* Desk::close */
-        closed = true;
-#ifdef COUNTED
-        if
-        :: told_workers < SLEEPING_WORKERS -> told_workers = SLEEPING_WORKERS; SEAT = closes
-        :: else
-        fi
-#else
-        SEAT = closes
-#endif
-        }
+    :: atomic { SEAT == free && !closed -> close(SEAT, free) }
     :: atomic { SEAT == closes ->
 #if LOST_WAKEUP != 7
         job_due_notify_all();
@@ -365,17 +369,16 @@ end: false
 
 /* Who opened the desk closes it once all seats are gone. */
 active proctype Owner() {
-    atomic { owner == free && seat[0] == gone && seat[1] == gone ->
-        closed = true;
-#ifdef COUNTED
-        told_workers = SLEEPING_WORKERS;
-#endif
-        owner = closes };
-    atomic { owner == closes ->
+    atomic { owner == free && seat[0] == gone && seat[1] == gone -> close(owner, gone) };
+    atomic {
+        if
+        :: owner == closes ->
 #if LOST_WAKEUP != 7
-        job_due_notify_all();
+            job_due_notify_all();
 #endif
-        owner = gone };
+            owner = gone
+        :: owner == gone
+        fi };
 end: false
 }
 

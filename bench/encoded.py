@@ -36,7 +36,7 @@ def encoded(name, folder):
 
 
 def units_of(file):
-    """The access units of a stream by x264, each a text of NAL units: it begins before a first slice, or sets in front of one."""
+    """The access units of a stream by x264, each a text of NAL units, from what stands in front of its first slice on."""
     text, units, begin, has_slice = file.read_bytes(), [], 0, False
     at = text.find(b"\0\0\1")
     while at >= 0:

@@ -13,7 +13,7 @@
  * Told by -D:
  *   JOBS         how many jobs a worker takes at most under one taking of the lock, and lands together; 1 where not told
  *   COUNTED      a desk that counts who sleeps and whom it told to wake up, so that it wakes only where one sleeps who wasn't
- *                told; its workers land and take again in one critical section, and wake one more only where a job is left
+ *                told; its workers land and take again in one critical section, and take one job while another has none
  *   CHAIN        each picture refers to the one before it; else 1 and 2 refer to 0, 3 to 1 and 2, and 4 to none
  *   CHANCES      how many waits may end by themselves; 1 where not told
  *   CLAIM        the claim at the end, for a search for acceptance cycles, in place of what is watched in each state
@@ -154,16 +154,20 @@ inline give_back() {
     has[_pid]--
 }
 
-/* A worker that has taken jobs wakes another; at a desk that counts it may leave that where none is left. */
+/* A worker takes more than one where all others have some or have ended, at a desk that counts. */
+#define MAY_TAKE_MORE ((has[0] > 0) + (has[1] > 0) + (has[2] > 0) + ended_workers >= WORKERS)
+#if defined(COUNTED) && LOST_WAKEUP != 11
+#define HAS_ROOM (!has[_pid] || has[_pid] < JOBS && MAY_TAKE_MORE)
+#else
+#define HAS_ROOM (has[_pid] < JOBS)
+#endif
+
+/* A worker that has taken jobs wakes another: not where it took fewer than it may, since none is left or it is refused more. */
 inline tell_on() {
 #ifdef COUNTED
     if
     :: tell_one()
-#if LOST_WAKEUP == 11
-    :: has[_pid] < JOBS -> worker[_pid] = busy      /* also where it is refused more */
-#else
-    :: !DUE -> worker[_pid] = busy
-#endif
+    :: has[_pid] < JOBS && HAS_ROOM -> worker[_pid] = busy
     fi
 #else
 #if LOST_WAKEUP != 3
@@ -203,7 +207,7 @@ inline next_job(is_first_look) {
     :: !closed && DUE -> worker[_pid] = counts      /* take refuses */
     :: !closed && DUE ->
         do
-        :: DUE && has[_pid] < JOBS -> take()
+        :: DUE && HAS_ROOM -> take()
         :: has[_pid] -> break
         od;
         tell_on()

@@ -30,8 +30,11 @@ def chained(units, size):
 
 @functools.cache
 def program():
-    """The program that bin/preview runs, without that script."""
-    return subprocess.run([TOP / "tools" / "program"], stdout=subprocess.PIPE, text=True, check=True).stdout.rstrip("\n")
+    """The program that PREVIEW names; without it the one that bin/preview runs, without that script."""
+    if named := os.environ.get("PREVIEW"):
+        return named
+    return subprocess.run([TOP / "tools" / "program"], stdout=subprocess.PIPE, text=True, check=True).stdout.rstrip("
+")
 
 
 def once(command, output, log):

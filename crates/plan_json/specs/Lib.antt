@@ -1,0 +1,3 @@
+pub mod StreamLines
+pub mod Said
+pub mod Ends

@@ -1,0 +1,13 @@
+-- Lines that a writer got as texts.
+use Rattle.std.specs.Prelude.{◌≡◌, ℕ, List, [], ◌∷◌, Option}
+use Rattle.std.specs.Io.KnownBytes.{Appends}
+use Rattle.unit_json.specs.declared.json_line.JsonLine.{JsonLine}
+
+-- a text that says the line was written
+abbrev pub Said : (JsonLine → List ℕ → Type 0) → JsonLine → Option (List ℕ) → Option (List ℕ) → Type 0
+Said says line old new = (text : List ℕ) × says line text × Appends old new text
+
+-- a text for each of the lines, in order
+abbrev pub AreSaid : (JsonLine → List ℕ → Type 0) → List JsonLine → Option (List ℕ) → Option (List ℕ) → Type 0
+AreSaid says [] old new = old ≡ new
+AreSaid says (line ∷ lines) old new = (mid : Option (List ℕ)) × Said says line old mid × AreSaid says lines mid new

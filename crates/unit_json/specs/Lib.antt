@@ -1,0 +1,2 @@
+pub mod RequestsJson
+pub mod JsonLines

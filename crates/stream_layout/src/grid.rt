@@ -64,7 +64,8 @@ impl Grid {
     /// The box at a place of the second row.
     pub fn output_box(self, place: usize) -> Rect
         requires { place < self.units }
-        ensures { result ≡ output_box self place }
+        ensures value { result ≡ output_box self place }
+        ensures small { IsSmall result }
     {
         Rect {
             x: self.left_of(place),

@@ -21,11 +21,11 @@ abbrev pub IsHarmless : ℕ → Type 0
 IsHarmless byte = (byte ≢ 34) × (byte ≢ 39) × (byte ≢ 60) × (byte ≢ 62)
 
 -- these bytes of a document are read as this text: references as what they stand for, others that aren't & as themselves
-data pub ReadsAs : List ℕ → List ℕ → Type 0 where
-  pub nothing : ReadsAs [] []
-  pub quot : (marks text : List ℕ) → ReadsAs marks text → ReadsAs (codes "&quot;" ++ marks) (34 ∷ text)
-  pub amp : (marks text : List ℕ) → ReadsAs marks text → ReadsAs (codes "&amp;" ++ marks) (38 ∷ text)
-  pub apos : (marks text : List ℕ) → ReadsAs marks text → ReadsAs (codes "&#39;" ++ marks) (39 ∷ text)
-  pub lt : (marks text : List ℕ) → ReadsAs marks text → ReadsAs (codes "&lt;" ++ marks) (60 ∷ text)
-  pub gt : (marks text : List ℕ) → ReadsAs marks text → ReadsAs (codes "&gt;" ++ marks) (62 ∷ text)
-  pub other : (byte : ℕ) (marks text : List ℕ) → byte ≢ 38 → ReadsAs marks text → ReadsAs (byte ∷ marks) (byte ∷ text)
+pub data ReadsAs : List ℕ → List ℕ → Type 0 where
+  nothing : ReadsAs [] []
+  quot : (marks text : List ℕ) → ReadsAs marks text → ReadsAs (codes "&quot;" ++ marks) (34 ∷ text)
+  amp : (marks text : List ℕ) → ReadsAs marks text → ReadsAs (codes "&amp;" ++ marks) (38 ∷ text)
+  apos : (marks text : List ℕ) → ReadsAs marks text → ReadsAs (codes "&#39;" ++ marks) (39 ∷ text)
+  lt : (marks text : List ℕ) → ReadsAs marks text → ReadsAs (codes "&lt;" ++ marks) (60 ∷ text)
+  gt : (marks text : List ℕ) → ReadsAs marks text → ReadsAs (codes "&gt;" ++ marks) (62 ∷ text)
+  other : (byte : ℕ) (marks text : List ℕ) → byte ≢ 38 → ReadsAs marks text → ReadsAs (byte ∷ marks) (byte ∷ text)

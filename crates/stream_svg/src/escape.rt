@@ -34,5 +34,4 @@ fn push_mark(bytes: &mut Vec<u8>, byte: u8) -> Result<(), AllocError>
 pub fn escapes_are_read_back()
     ensures read { (text : List ℕ) → ReadsAs (escaped text) text }
     ensures harmless { (text : List ℕ) → All IsHarmless (escaped text) }
-{
-}
+{}

@@ -13,18 +13,22 @@ const I: Letter = Letter {
     class: "i",
     letter: "I",
 };
+
 const P: Letter = Letter {
     class: "p",
     letter: "P",
 };
+
 const B: Letter = Letter {
     class: "b",
     letter: "B",
 };
+
 const FAULT: Letter = Letter {
     class: "f",
     letter: "!",
 };
+
 const NONE: Letter = Letter {
     class: "n",
     letter: "-",

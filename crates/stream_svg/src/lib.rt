@@ -7,13 +7,13 @@
 
 mod boxes;
 mod caption;
-mod document;
 mod escape;
 mod letters;
 mod lines;
 mod page;
 mod style;
+mod writing;
 
 pub use caption::{Caption, EditMark, PictureState};
-pub use document::document;
 pub use escape::{escapes_are_read_back, push_escaped};
+pub use writing::document;

@@ -12,5 +12,6 @@ mod plan;
 mod printing;
 mod shown;
 
-pub use fault::PlanFault;
-pub use plan::plan_on;
+pub use fault::{PlanFault, say_plan_fault};
+pub use plan::{plan_on, print_refusal};
+pub use shown::shown_of;

@@ -7,7 +7,7 @@ use outcomes::{Outcome, Plan, Requests};
 use std::alloc::Global;
 
 /// What becomes of the unit, without its requests.
-pub(crate) fn shown_of(alloc: Global, outcome: &Outcome) -> Outcome
+pub fn shown_of(alloc: Global, outcome: &Outcome) -> Outcome
     ensures { result ≡ shown_of outcome.now }
 {
     match outcome {

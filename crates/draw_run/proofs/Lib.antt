@@ -1,0 +1,3 @@
+pub mod FoldSteps
+pub mod Gathers
+pub mod Windows

@@ -1,0 +1,21 @@
+use Rattle.std.proofs.Common.{◌≡◌, ◌+◌, ◌∙◌, ◌++◌, ◌∷◌, [], length, ap, arith}
+use Rattle.outcomes.specs.declared.outcome.Outcome.{Outcome}
+use Rattle.request_core.specs.States.{FoldState}
+use Rattle.plan_stream.specs.Shown.{shown_of}
+use Rattle.draw_run.proofs.FoldSteps.{count_is, outcomes_more, state_more}
+use Rattle.draw_run.proofs.folded.Folded.add.Goals as goal
+
+pub returns : goal.returns
+returns c = λ done is.
+    let old = c.args.self.now in
+    let unit = c.args.unit.now in
+    let id = c.new-id.result in
+    let id_is : id ≡ 1 + length done = omega (arith, c.new-id.ensures, c.len.ensures, old.outcomes.ok.0, count_is done old is) in
+    let pair = c.in_ok-state.ensures.value in
+    record {
+      state_is = ap (λ (p : FoldState × Outcome). p.0) pair ∙ state_more done old is unit id id_is;
+      outcomes_are =
+          c.in_ok-push.ensures.items
+          ∙ ap (λ (o : Outcome). old.outcomes.items ++ o ∷ []) (c.shown_of.ensures ∙ ap (λ (p : FoldState × Outcome). shown_of p.1) pair)
+          ∙ outcomes_more done old is unit id id_is;
+    }

@@ -1,0 +1,5 @@
+use Rattle.draw_run.proofs.Windows.{Goes}
+use Rattle.draw_run.proofs.gathered.gather.Given as goal
+
+abbrev pub invariant-units : goal.invariant-units
+invariant-units g l = Goes (g.R.Read.remaining l.fn.reader) l.window (g.R.Read.remaining l.reader) l.gathered

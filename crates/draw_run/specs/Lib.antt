@@ -1,0 +1,4 @@
+pub mod Folds
+pub mod Gathering
+pub mod RefusalWith
+pub mod Drawings

@@ -1,0 +1,107 @@
+//! `preview draw`: a stream read, planned and drawn.
+
+ghost use Rattle.std.specs.Prelude.{◌≡◌, ◌≢◌, ℕ, List, [], IfErr, IfSome, OnOk};
+ghost use Rattle.std.specs.Io.KnownBytes.{Keeps};
+ghost use Rattle.console_io.specs.Messages.{Tells};
+ghost use Rattle.plan_stream.specs.Faults.{plan_fault_text};
+ghost use Rattle.plan_stream.specs.declared.fault.PlanFault.{PlanFault};
+ghost use Rattle.draw_run.specs.Drawings.{EndsBy, WritesDrawing};
+ghost use Rattle.draw_run.specs.Gathering.{IsGathered};
+
+use crate::choice::Choice;
+use crate::drawn::{captions_of, drawn_units};
+use crate::folded::Folded;
+use crate::gathered::{Gathered, gather};
+use console_io::{Ended, Sink, Status, write_bytes};
+use plan_stream::{PlanFault, print_refusal, say_plan_fault};
+use std::alloc::{AllocError, Global};
+use std::io::Read;
+use stream_layout::lay_out;
+use stream_svg::document;
+
+/// Draws the chosen units of the stream that the reader gives, or prints the stream's refusal. Where the reader fails or
+/// memory is wanted, `errors` is told; the reader has this name there.
+pub fn draw_on<R: Read, W: Sink, E: Sink>(
+    alloc: Global,
+    name: &str,
+    choice: Choice,
+    reader: &mut R,
+    writer: &mut W,
+    errors: &mut E,
+) -> Ended
+    ensures done { result.status ≡ Status.Success
+        → Keeps (E.contents errors.old) (E.contents errors.new) }
+    // At success the text that was read is a stream, and one document is written.
+    ensures drawn { result.status ≡ Status.Success → IfSome (R.remaining reader.old) (λ text.
+        WritesDrawing text (W.contents writer.old) (W.contents writer.new)) }
+    // At a failure it is what the fault that is told leaves of it.
+    ensures ends { result.status ≡ Status.Failure → (fault : PlanFault)
+        × IfSome (R.remaining reader.old) (λ text.
+        EndsBy text fault (W.refuses writer.new) (W.contents writer.old) (W.contents writer.new))
+        × Tells result.told (E.refuses errors.new) (E.contents errors.old) (E.contents errors.new)
+        (plan_fault_text name.now fault) }
+    ensures usage { result.status ≢ Status.Usage }
+{
+    match draw(alloc, choice, reader, writer) {
+        Ok(()) => Ended::done(),
+        Err(fault) => Ended::failed(say_plan_fault(fault, name, errors)),
+    }
+}
+
+/// Draws the chosen units of the stream that the reader gives, or prints its refusal.
+fn draw<R: Read, W: Sink>(
+    alloc: Global,
+    choice: Choice,
+    reader: &mut R,
+    writer: &mut W,
+) -> Result<(), PlanFault>
+    ensures drawn { OnOk result (IfSome (R.remaining reader.old) (λ text.
+        WritesDrawing text (W.contents writer.old) (W.contents writer.new))) }
+    ensures ends { IfErr result (λ fault. IfSome (R.remaining reader.old) (λ text.
+        EndsBy text fault (W.refuses writer.new) (W.contents writer.old) (W.contents writer.new))) }
+{
+    let gathered = gather(alloc, choice, reader)?;
+    print_gathered(alloc, gathered, writer)
+}
+
+/// Writes what the stream came to.
+fn print_gathered<W: Sink>(
+    alloc: Global,
+    gathered: Gathered,
+    writer: &mut W,
+) -> Result<(), PlanFault>
+    ensures drawn { (text : List ℕ) → IsGathered text [] gathered
+        → OnOk result (WritesDrawing text (W.contents writer.old) (W.contents writer.new)) }
+    ensures ends { (text : List ℕ) → IsGathered text [] gathered → IfErr result (λ fault.
+        EndsBy text fault (W.refuses writer.new) (W.contents writer.old) (W.contents writer.new)) }
+{
+    match gathered.finish() {
+        Ok(folded) => match document_of(alloc, &folded) {
+            Ok(document) => match write_bytes(writer, document.as_slice()) {
+                Ok(()) => Ok(()),
+                Err(fault) => Err(PlanFault::from(fault)),
+            },
+            Err(_) => Err(PlanFault::Memory),
+        },
+        Err(refusal) => match print_refusal(alloc, refusal, writer) {
+            Ok(()) => Err(PlanFault::Refused(refusal)),
+            Err(fault) => Err(PlanFault::from(fault)),
+        },
+    }
+}
+
+/// The document of what is kept of a stream.
+fn document_of(alloc: Global, folded: &Folded) -> Result<Vec<u8>, AllocError> {
+    let positions = output_order::positions(alloc, &folded.outcomes)?;
+    let units = drawn_units(alloc, &folded.kept, &positions)?;
+    let captions = captions_of(alloc, &folded.kept, &positions)?;
+    let layout = lay_out(alloc, &units)?;
+    document(
+        alloc,
+        &layout,
+        &units,
+        &captions,
+        folded.outcomes.len(),
+        false,
+    )
+}

@@ -12,10 +12,9 @@ ghost use Rattle.ordered_fold.specs.Prepared.{IsPrepared};
 
 use crate::prepared_change::PreparedChange;
 use crate::showing::shown_of_each;
-use access_unit::Unit;
 use base_types::Shared;
+use hashed_units::{HashedOutcome, HashedUnit};
 use checkpoints::Checkpoints;
-use outcomes::Outcome;
 use period_counts::{Comparisons, Periods};
 use pictures::AuId;
 use request_core::State;
@@ -62,14 +61,14 @@ impl OrderedFold {
     }
 
     /// The units in decoding order, each with its id.
-    pub fn units(&self) -> &[(AuId, Shared<Unit>)]
+    pub fn units(&self) -> &[(AuId, Shared<HashedUnit>)]
         ensures { result.now ≡ self.now.folded.stream }
     {
         self.folded.units()
     }
 
     /// What becomes of each unit, in the same order.
-    pub fn outcomes(&self) -> &[Shared<Outcome>]
+    pub fn outcomes(&self) -> &[Shared<HashedOutcome>]
         ensures { result.now ≡ outcomes_of self.now.folded.stream }
     {
         self.folded.outcomes()

@@ -16,9 +16,9 @@ ghost use Rattle.picture_store.specs.Stretches.{IsStretch};
 use crate::job_out::JobOut;
 use crate::stretch::Stretch;
 use base_types::Shared;
+use hashed_units::HashedOutcome;
 use checkpoints::Checkpoints;
 use dep_keys::{Fingerprint, KeyId, Keys};
-use outcomes::Outcome;
 use picture_cache::PictureCache;
 use picture_keys::{KeyNumbers, UnitKeys, Works};
 use pictures::{AuId, Frame};
@@ -31,7 +31,7 @@ pub fn numbers_of<F: Fingerprint<Works>>(
     alloc: Global,
     keys: &mut Keys<Works, F>,
     ids: &[AuId],
-    outcomes: &[Shared<Outcome>],
+    outcomes: &[Shared<HashedOutcome>],
 ) -> Result<Vec<Option<KeyId>>, AllocError>
     requires same { length ids.now ≡ length outcomes.now }
     ensures stay { Extends keys.old keys.new }
@@ -50,7 +50,7 @@ fn go_over<F: Fingerprint<Works>>(
     keys: &mut Keys<Works, F>,
     units: &mut UnitKeys<'_>,
     ids: &[AuId],
-    outcomes: &[Shared<Outcome>],
+    outcomes: &[Shared<HashedOutcome>],
 ) -> Result<(), AllocError>
     requires same { length ids.now ≡ length outcomes.now }
     requires some { AreNumberedSome keys.old units.old.numbers }
@@ -71,7 +71,7 @@ fn go_over<F: Fingerprint<Works>>(
 #[derive(Clone, Copy, Debug)]
 struct Columns<'a> {
     ids: &'a [AuId],
-    outcomes: &'a [Shared<Outcome>],
+    outcomes: &'a [Shared<HashedOutcome>],
     found: &'a [Option<KeyId>],
 }
 
@@ -93,7 +93,7 @@ pub(crate) fn keys_from<F: Fingerprint<Works>>(
     alloc: Global,
     keys: &mut Keys<Works, F>,
     ids: &[AuId],
-    outcomes: &[Shared<Outcome>],
+    outcomes: &[Shared<HashedOutcome>],
     found: &[Option<KeyId>],
     states: &Checkpoints<State>,
     stretch: &Stretch,
@@ -200,7 +200,7 @@ fn agree_on(
 /// Makes room for so many units more.
 pub(crate) fn make_room(
     ids: &mut Vec<AuId>,
-    outcomes: &mut Vec<Shared<Outcome>>,
+    outcomes: &mut Vec<Shared<HashedOutcome>>,
     count: usize,
 ) -> Result<(), AllocError>
     ensures ids { ids.new.items ≡ ids.old.items }

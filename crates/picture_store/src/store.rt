@@ -24,10 +24,10 @@ use crate::refitting::{keys_from, make_room, sweep};
 use crate::refusals::TakeRefused;
 use crate::stretch::Stretch;
 use base_types::Shared;
+use hashed_units::HashedOutcome;
 use checkpoints::Checkpoints;
 use dep_keys::{KeyId, Keys, Sha256Fingerprint};
 use key_places::Places;
-use outcomes::Outcome;
 use picture_cache::PictureCache;
 use picture_keys::Works;
 use pictures::AuId;
@@ -44,7 +44,7 @@ pub struct PictureStore {
     alloc: Global,
     keys: Keys<Works, Sha256Fingerprint>,
     ids: Vec<AuId>,
-    outcomes: Vec<Shared<Outcome>>,
+    outcomes: Vec<Shared<HashedOutcome>>,
     found: Vec<Option<KeyId>>,
     // How many keys there are where it is time to forget those that aren't needed.
     enough: usize,
@@ -135,7 +135,7 @@ impl PictureStore {
     }
 
     /// What becomes of each unit, in the order of the stream.
-    pub fn outcomes(&self) -> &[Shared<Outcome>]
+    pub fn outcomes(&self) -> &[Shared<HashedOutcome>]
         ensures { result.now ≡ self.now.outcomes }
     {
         self.outcomes.as_slice()

@@ -10,10 +10,9 @@ ghost use Rattle.stream_fold.specs.Meeting.{IsMeeting};
 use crate::changes::length_change;
 use crate::refold::Refold;
 use crate::storing::{keep_end, store_anew};
-use access_unit::Unit;
 use base_types::Shared;
+use hashed_units::{HashedOutcome, HashedUnit};
 use checkpoints::Checkpoints;
-use outcomes::Outcome;
 use pictures::AuId;
 use request_core::State;
 use std::alloc::{AllocError, Global};
@@ -24,8 +23,8 @@ use vec_ranges::replace_range;
 /// A stream of access units under their ids, with what becomes of each, and the states of the fold past some of its places.
 #[derive(Debug)]
 pub struct Folded {
-    units: Vec<(AuId, Shared<Unit>)>,
-    outcomes: Vec<Shared<Outcome>>,
+    units: Vec<(AuId, Shared<HashedUnit>)>,
+    outcomes: Vec<Shared<HashedOutcome>>,
     stored: Checkpoints<State>,
     end: State,
 }
@@ -96,7 +95,7 @@ impl Prepared {
     }
 
     /// What becomes of the units of the stretch after the change.
-    pub fn outcomes(&self) -> &[Shared<Outcome>]
+    pub fn outcomes(&self) -> &[Shared<HashedOutcome>]
         ensures { result.now ≡ outcomes_in self.now }
     {
         self.fold.outcomes.as_slice()
@@ -120,14 +119,14 @@ impl Folded {
     }
 
     /// The units in decoding order, each with its id.
-    pub fn units(&self) -> &[(AuId, Shared<Unit>)]
+    pub fn units(&self) -> &[(AuId, Shared<HashedUnit>)]
         ensures { result.now ≡ self.now.stream }
     {
         self.units.as_slice()
     }
 
     /// What becomes of each unit, in the same order.
-    pub fn outcomes(&self) -> &[Shared<Outcome>]
+    pub fn outcomes(&self) -> &[Shared<HashedOutcome>]
         ensures { result.now ≡ outcomes_of self.now.stream }
     {
         self.outcomes.as_slice()

@@ -3,9 +3,8 @@
 ghost use Rattle.std.specs.Prelude.{◌≡◌, ◌+◌, ◌-◌, ◌^◌, ◌<◌, ◌≤◌, ◌∷◌, ◌++◌, [], length, IfOk, OnOk};
 ghost use Rattle.request_core.specs.Agreement.{Stream};
 
-use access_unit::Unit;
 use base_types::Shared;
-use outcomes::Outcome;
+use hashed_units::{HashedOutcome, HashedUnit};
 use pictures::AuId;
 use request_core::{State, Steps, step};
 use std::alloc::{AllocError, Global};
@@ -28,7 +27,7 @@ pub(crate) struct Refold {
     /// The states to be stored, with their places.
     pub(crate) states: Vec<(usize, State)>,
     /// What becomes of the units from where it began.
-    pub(crate) outcomes: Vec<Shared<Outcome>>,
+    pub(crate) outcomes: Vec<Shared<HashedOutcome>>,
     pub(crate) steps: Steps,
     ghost near: { since ≤ 32 },
     ghost counted: { steps ≤ place },
@@ -64,7 +63,7 @@ impl Refold {
     pub(crate) fn go_over(
         &mut self,
         alloc: Global,
-        units: &[(AuId, Shared<Unit>)],
+        units: &[(AuId, Shared<HashedUnit>)],
     ) -> Result<(), AllocError>
         requires { self.old.place + length units.now < 2 ^ 64 }
         ensures { OnOk result (GoesOn self.old units.now self.new) }
@@ -76,7 +75,7 @@ impl Refold {
     }
 
     /// Goes on over one unit more.
-    pub(crate) fn go_on(&mut self, alloc: Global, id: AuId, unit: &Unit) -> Result<(), AllocError>
+    pub(crate) fn go_on(&mut self, alloc: Global, id: AuId, unit: &HashedUnit) -> Result<(), AllocError>
         requires { self.old.place + 1 < 2 ^ 64 }
         ensures { OnOk result (GoesOn self.old ((id, unit.now) ∷ []) self.new) }
     {
@@ -97,12 +96,13 @@ impl Refold {
     }
 
     /// Makes the step of one unit.
-    fn make_step(&mut self, alloc: Global, id: AuId, unit: &Unit) -> Result<(), AllocError>
+    fn make_step(&mut self, alloc: Global, id: AuId, unit: &HashedUnit) -> Result<(), AllocError>
         requires near { self.old.since < 32 }
         requires short { self.old.place + 1 < 2 ^ 64 }
         ensures { OnOk result (GoesOn self.old ((id, unit.now) ∷ []) self.new) }
     {
-        let (state, outcome) = step(alloc, &self.state, id, unit, &mut self.steps)?;
+        let (state, outcome) = step(alloc, &self.state, id, unit.unit(), &mut self.steps)?;
+        let outcome = HashedOutcome::new(outcome, unit.digest());
         self.state = state;
         self.place += 1;
         self.since += 1;

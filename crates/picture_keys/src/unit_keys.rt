@@ -119,10 +119,7 @@ fn number_of<F: Fingerprint<Works>>(
 {
     let digest = outcome.digest();
     match outcome.deref() {
-        Outcome::Plan(plan) => {
-            let key = intern(alloc, numbers, keys, id, &plan.requests, digest)?;
-            Ok(Some(key))
-        }
+        Outcome::Plan(plan) => Ok(Some(intern(alloc, numbers, keys, id, &plan.requests, digest)?)),
         Outcome::Fault(_) | Outcome::Empty => Ok(None),
     }
 }

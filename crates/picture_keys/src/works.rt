@@ -43,11 +43,7 @@ impl Model for Works {
 
 impl Works {
     /// The works of these requests, of whose slices this is the digest.
-    pub fn of(
-        alloc: Global,
-        requests: &Requests,
-        digest: SlicesDigest,
-    ) -> Result<Works, AllocError>
+    pub fn of(alloc: Global, requests: &Requests, digest: SlicesDigest) -> Result<Works, AllocError>
         requires { digest.bytes ≡ slices_digest (bytes_of requests.now) }
         ensures { IfOk result (λ works. works ≡ works_of requests.now) }
     {

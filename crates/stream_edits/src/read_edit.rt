@@ -11,8 +11,8 @@ use crate::edits::{Edit, Place};
 use crate::refusals::EditRefused;
 use access_unit::read_shared;
 use base_types::Shared;
-use hashed_units::HashedUnit;
 use bytes::Bytes;
+use hashed_units::HashedUnit;
 use std::alloc::{AllocError, Global};
 use std::marker::Model;
 
@@ -102,6 +102,6 @@ fn read_text(alloc: Global, text: &Bytes) -> Result<Shared<HashedUnit>, EditRefu
     ensures ok { IfOk result (IsAccepted text.now) }
     ensures err { IfErr result (IsRefusedText text.now) }
 {
-    let unit = HashedUnit::of(read_shared(alloc, text)?);
-    Ok(Shared::new(alloc, unit)?)
+    let unit = read_shared(alloc, text)?;
+    Ok(Shared::new(alloc, HashedUnit::of(unit))?)
 }

@@ -3,10 +3,11 @@
 ghost use Rattle.std.specs.Prelude.{◌≡◌, ◌+◌, ◌-◌, ◌^◌, ◌<◌, ◌≤◌, ◌∷◌, ◌++◌, [], length, IfOk, OnOk};
 ghost use Rattle.request_core.specs.Agreement.{Stream};
 
+use crate::hashed_step::hashed_step;
 use base_types::Shared;
 use hashed_units::{HashedOutcome, HashedUnit};
 use pictures::AuId;
-use request_core::{State, Steps, step};
+use request_core::{State, Steps};
 use std::alloc::{AllocError, Global};
 
 /// How far stored states stand apart at most, in units.
@@ -75,7 +76,12 @@ impl Refold {
     }
 
     /// Goes on over one unit more.
-    pub(crate) fn go_on(&mut self, alloc: Global, id: AuId, unit: &HashedUnit) -> Result<(), AllocError>
+    pub(crate) fn go_on(
+        &mut self,
+        alloc: Global,
+        id: AuId,
+        unit: &HashedUnit,
+    ) -> Result<(), AllocError>
         requires { self.old.place + 1 < 2 ^ 64 }
         ensures { OnOk result (GoesOn self.old ((id, unit.now) ∷ []) self.new) }
     {
@@ -101,8 +107,7 @@ impl Refold {
         requires short { self.old.place + 1 < 2 ^ 64 }
         ensures { OnOk result (GoesOn self.old ((id, unit.now) ∷ []) self.new) }
     {
-        let (state, outcome) = step(alloc, &self.state, id, unit.unit(), &mut self.steps)?;
-        let outcome = HashedOutcome::new(outcome, unit.digest());
+        let (state, outcome) = hashed_step(alloc, &self.state, id, unit, &mut self.steps)?;
         self.state = state;
         self.place += 1;
         self.since += 1;

@@ -5,7 +5,7 @@ ghost use Rattle.request_core.specs.Fold.{outcomes_of};
 ghost use Rattle.checkpoints.specs.Stored.{IsStoredAt};
 ghost use Rattle.stream_edits.specs.Changes.{IsInside, at_of, rest_from, stream_after, units_of};
 ghost use Rattle.stream_fold.specs.Kept.{ArePast};
-ghost use Rattle.stream_fold.specs.Meeting.{IsMeeting};
+ghost use Rattle.stream_fold.specs.Meeting.{IsCounted, IsMeeting};
 
 use crate::changes::length_change;
 use crate::refold::Refold;
@@ -151,6 +151,8 @@ impl Folded {
         ensures few { IfOk result (λ prepared. (count : ℕ)
             → IsMeeting change self.old.stream count
             → steps_in prepared ≤ length (units_of change) + count + 63) }
+        ensures counted { IfOk result
+            (λ prepared. IsCounted change self.old.stream (steps_in prepared)) }
     {
         let (fold, met) = self.refold(alloc, &change)?;
         self.units.reserve(change.units().len())?;

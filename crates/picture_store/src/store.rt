@@ -5,7 +5,7 @@ ghost use Rattle.std.specs.List.{zip};
 ghost use Rattle.std.specs.Prelude.{[]};
 ghost use Rattle.picture_cache.specs.Bounded.{most_room};
 ghost use Rattle.picture_keys.specs.Decodable.{AllCanDecode};
-ghost use Rattle.picture_store.specs.Stores.{empty, AreOneToOne};
+ghost use Rattle.picture_store.specs.Stores.{empty, AreOneToOne, IsNumberInUse};
 ghost use Rattle.picture_store.specs.Changes.{Refits};
 ghost use Rattle.picture_store.specs.Jobs.{AnswersGiveBack, AnswersLand, TellsTake};
 ghost use Rattle.key_places.specs.Places.{uses_at};
@@ -20,7 +20,7 @@ use crate::inputs::input_of;
 use crate::job_out::{JobOut, place_of};
 use crate::naming::references_of;
 use crate::recounting::{make_ready, recount};
-use crate::refitting::{keys_from, make_room, sweep};
+use crate::refitting::{keys_from, make_room, sweep_at};
 use crate::refusals::TakeRefused;
 use crate::stretch::Stretch;
 use base_types::Shared;
@@ -194,17 +194,15 @@ impl PictureStore {
     fn sweep(&mut self) -> Result<(), AllocError>
         ensures { self.new ≡ self.old }
     {
-        if self.keys.len() < self.enough {
-            return Ok(());
-        }
-        sweep(
+        let enough = sweep_at(
             self.alloc,
+            self.enough,
             &mut self.keys,
             &self.found,
             &self.cache,
             &self.out,
         )?;
-        self.enough = self.keys.len().saturating_mul(2).saturating_add(64);
+        self.enough = enough;
         Ok(())
     }
 
@@ -228,7 +226,8 @@ impl PictureStore {
 
     /// Whether a number is that of a key in use: of one that some unit of the stream has.
     pub fn in_use(&self, key: KeyId) -> bool
-        ensures value { IsTrue result ↔ Contains self.now.numbers (Some key) }
+        ensures value { IsTrue result ↔ IsNumberInUse self.now key }
+        ensures listed { IsTrue result ↔ Contains self.now.numbers (Some key) }
         ensures one { AreOneToOne self.now self.now }
     {
         self.places.get(key).is_some()

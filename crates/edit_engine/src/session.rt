@@ -20,6 +20,7 @@ use crate::preparing::prepare;
 use crate::refusals::NoSuchUnit;
 use crate::showing::Shown;
 use base_types::Shared;
+use hashed_units::HashedOutcome;
 use dep_keys::KeyId;
 use ordered_fold::OrderedFold;
 use outcomes::Outcome;
@@ -305,7 +306,7 @@ impl Session {
     }
 
     /// What becomes of each unit, in decoding order.
-    pub fn outcomes(&self) -> &[Shared<Outcome>]
+    pub fn outcomes(&self) -> &[Shared<HashedOutcome>]
         ensures { result.now ≡ outcomes_of self.now.register.stream }
     {
         self.store.outcomes()

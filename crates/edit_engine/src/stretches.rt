@@ -7,10 +7,9 @@ ghost use Rattle.stream_edits.specs.Streams.{ids_of};
 ghost use Rattle.stream_fold.specs.Prepared.{IsAnew, change_in};
 ghost use Rattle.edit_engine.specs.Stretches.{IsStretchOf, ids_between};
 
-use access_unit::Unit;
 use base_types::Shared;
+use hashed_units::{HashedOutcome, HashedUnit};
 use ordered_fold::{OrderedFold, PreparedChange};
-use outcomes::Outcome;
 use picture_store::Stretch;
 use pictures::AuId;
 use std::alloc::{AllocError, Global};
@@ -40,7 +39,7 @@ pub(crate) fn stretch_of(
 /// The ids of the units after a change, from a place in front of it up to one that is behind it.
 fn ids_anew(
     alloc: Global,
-    units: &[(AuId, Shared<Unit>)],
+    units: &[(AuId, Shared<HashedUnit>)],
     change: &Change,
     from: usize,
     to: usize,
@@ -59,7 +58,7 @@ fn ids_anew(
 }
 
 /// Adds the ids of units.
-fn add_ids(ids: &mut Vec<AuId>, units: &[(AuId, Shared<Unit>)]) -> Result<(), AllocError>
+fn add_ids(ids: &mut Vec<AuId>, units: &[(AuId, Shared<HashedUnit>)]) -> Result<(), AllocError>
     ensures { OnOk result (ids.new.items ≡ ids.old.items ++ ids_of units.now) }
 {
     for unit in units {
@@ -71,8 +70,8 @@ fn add_ids(ids: &mut Vec<AuId>, units: &[(AuId, Shared<Unit>)]) -> Result<(), Al
 /// The outcomes, with one owner more of each.
 fn shares_of(
     alloc: Global,
-    outcomes: &[Shared<Outcome>],
-) -> Result<Vec<Shared<Outcome>>, AllocError>
+    outcomes: &[Shared<HashedOutcome>],
+) -> Result<Vec<Shared<HashedOutcome>>, AllocError>
     ensures { IfOk result (λ shares. shares.items ≡ outcomes.now) }
 {
     let mut shares = Vec::with_capacity(alloc, outcomes.len())?;

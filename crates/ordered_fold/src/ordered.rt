@@ -1,21 +1,20 @@
 //! A stream with what becomes of each unit, and where it is shown.
 
-ghost use Rattle.std.specs.Prelude.{◌≡◌, ℕ, ◌+◌, ◌^◌, ◌<◌, ◌≤◌, [], length, slice_get, Some, IfOk, IfNone};
+ghost use Rattle.std.specs.Prelude.{◌≡◌, ℕ, ◌+◌, ◌^◌, ◌<◌, ◌≤◌, [], length, slice_get, Some, IfOk, IfNone, IfSome};
 ghost use Rattle.request_core.specs.Fold.{outcomes_of};
 ghost use Rattle.output_order.specs.OutputOrder.{positions_of};
-ghost use Rattle.period_counts.specs.Bounds.{period_size};
+ghost use Rattle.period_counts.specs.Bounds.{IsSearched, period_size};
 ghost use Rattle.stream_edits.specs.Changes.{IsInside, stream_after, units_of};
 ghost use Rattle.stream_fold.specs.Kept.{ArePast};
-ghost use Rattle.stream_fold.specs.Meeting.{IsMeeting};
+ghost use Rattle.stream_fold.specs.Meeting.{IsCounted, IsMeeting};
 ghost use Rattle.stream_fold.specs.Prepared.{IsAnew, change_in, end_in, steps_in};
 ghost use Rattle.ordered_fold.specs.Prepared.{IsPrepared};
 
 use crate::prepared_change::PreparedChange;
 use crate::showing::shown_of_each;
-use access_unit::Unit;
 use base_types::Shared;
+use hashed_units::{HashedOutcome, HashedUnit};
 use checkpoints::Checkpoints;
-use outcomes::Outcome;
 use period_counts::{Comparisons, Periods};
 use pictures::AuId;
 use request_core::State;
@@ -62,14 +61,14 @@ impl OrderedFold {
     }
 
     /// The units in decoding order, each with its id.
-    pub fn units(&self) -> &[(AuId, Shared<Unit>)]
+    pub fn units(&self) -> &[(AuId, Shared<HashedUnit>)]
         ensures { result.now ≡ self.now.folded.stream }
     {
         self.folded.units()
     }
 
     /// What becomes of each unit, in the same order.
-    pub fn outcomes(&self) -> &[Shared<Outcome>]
+    pub fn outcomes(&self) -> &[Shared<HashedOutcome>]
         ensures { result.now ≡ outcomes_of self.now.folded.stream }
     {
         self.folded.outcomes()
@@ -92,6 +91,9 @@ impl OrderedFold {
             ≡ Some result }
         ensures few { comparisons.new
             ≤ comparisons.old + period_size (outcomes_of self.now.folded.stream) place }
+        ensures searched { IfSome result
+            (λ _. IsSearched (period_size (outcomes_of self.now.folded.stream) place)
+            comparisons.old comparisons.new) }
         ensures none { IfNone result (comparisons.new ≡ comparisons.old) }
     {
         self.periods.position_in(place, comparisons)
@@ -117,6 +119,8 @@ impl OrderedFold {
         ensures few { IfOk result (λ prepared. (count : ℕ)
             → IsMeeting change self.old.folded.stream count
             → steps_in prepared.refolded ≤ length (units_of change) + count + 63) }
+        ensures counted { IfOk result
+            (λ prepared. IsCounted change self.old.folded.stream (steps_in prepared.refolded)) }
     {
         let refolded = self.folded.prepare(alloc, change)?;
         let shown = shown_of_each(alloc, refolded.outcomes())?;

@@ -4,14 +4,14 @@ ghost use Rattle.std.specs.Prelude.{◌≡◌, map, IfOk};
 ghost use Rattle.period_counts.specs.Shown.{shown_of};
 
 use base_types::Shared;
-use outcomes::Outcome;
+use hashed_units::HashedOutcome;
 use period_counts::Shown;
 use std::alloc::{AllocError, Global};
 
 /// What is shown of units with these outcomes.
 pub(crate) fn shown_of_each(
     alloc: Global,
-    outcomes: &[Shared<Outcome>],
+    outcomes: &[Shared<HashedOutcome>],
 ) -> Result<Vec<Option<Shown>>, AllocError>
     ensures { IfOk result (λ shown. shown.items ≡ map shown_of outcomes.now) }
 {

@@ -97,6 +97,6 @@ module _ (periods : List (List (Option Shown))) (are : ArePeriods periods) (outc
       ∙ position_is outcomes front mid back split (are.each at d found.inside) begins_mid begins_back (place - length front) offset_within unit at_is
 
   -- the valid units of its period
-  pub size_found : valid_in mid ≤ period_size outcomes place
+  pub size_found : valid_in mid ≡ period_size outcomes place
   size_found = let size = size_is outcomes front mid back split (are.each at d found.inside) begins_mid begins_back (place - length front) offset_within in
       rw place_is at size

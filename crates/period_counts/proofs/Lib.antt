@@ -3,6 +3,7 @@ pub mod Cuts
 pub mod Finds
 pub mod Halves
 pub mod OrderedKeys
+pub mod Logarithms
 pub mod Positions
 pub mod Starts
 pub mod StreamKeys

@@ -155,10 +155,17 @@ module _ (outcomes : List Outcome) (front mid back : List (Option Shown)) (is : 
         ap (option_map (λ key. count_by (λ other. order.is_earlier other key) (order.keys outcomes))) (key_is (Some shown) at)
         ∙ ap Some (count_is (record { order = shown.order; offset = offset }))
 
-    pub size_is : valid_in mid ≤ period_size outcomes place
+    pub size_is : valid_in mid ≡ period_size outcomes place
     size_is =
         let p : Key → Bool = λ key. key.period == order.period_at outcomes place in
         let here : count_by p keys_within ≡ valid_in mid =
         count_through p (λ _. true) (placed number start) (λ key. eq-eqb number (order.period_at outcomes place) (sym period_is)) (order_keys mid)
         ∙ count_all (λ _. true) (order_keys mid) (λ k d below. refl) ∙ length-order_keys 0 mid in
-        omega (arith, count_parts p, here)
+        let before : count_by p keys_before ≡ 0 = count_none p keys_before
+        (All-weaker (λ key. key.period < number) (λ key. p key ≡ false)
+        (λ key less. ne_eqb key.period (order.period_at outcomes place) (λ same. omega (arith, same, period_is, less))) keys_before
+        (periods_before front mid period begins_mid)) in
+        let after : count_by p keys_after ≡ 0 = count_none p keys_after
+        (All-weaker (λ key. number < key.period) (λ key. p key ≡ false)
+        (λ key more. ne_eqb key.period (order.period_at outcomes place) (λ same. omega (arith, same, period_is, more))) keys_after periods_behind) in
+        omega (arith, count_parts p, here, before, after)

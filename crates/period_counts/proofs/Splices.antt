@@ -60,9 +60,29 @@ module _ (periods : List (List (Option Shown))) (counts : List Count) (counted :
       (λ all. omega (arith, ap (λ front. length (units_of front)) (take_all past periods (omega (arith, counted.as_many)))))
       (cases_lt past (length counts))
 
+  -- the period after the first begins at the first place or past it
+  next_low : AllWithin (λ count. low ≤ count.start) counts started (length counts) → first + 1 < length periods
+      → low ≤ length (units_of (take (first + 1) periods))
+  next_low started_after inside = ⊎_elim
+      (λ zero.
+      let one : first + 1 ≡ 1 = omega arith in
+      let begins = started_after 1 none (omega arith) (omega (arith, inside, counted.as_many)) in
+      omega (arith, begins, start_at 1 (omega (arith, inside)), ap (λ n. length (units_of (take n periods))) one))
+      (λ some.
+      let same : first + 1 ≡ started = omega arith in
+      let begins = started_after started none (omega arith) (omega (arith, inside, counted.as_many, some)) in
+      omega (arith, begins, start_at started (omega (arith, inside, some)), ap (λ n. length (units_of (take n periods))) same))
+      (cases_lt started 1)
+
+  -- the last one begins before the second place
+  last_low : 1 < past → length (units_of (take (past - 1) periods)) < high
+  last_low more =
+      omega (arith, ended_before (past - 1) none (omega arith) (omega arith), start_at (past - 1) (omega (arith, counted.as_many)))
+
   pub touched_is : (start : ℕ) → start ≡ unwrap_or (option_map (λ count. count.start) (slice_get counts first)) 0
+      → AllWithin (λ count. low ≤ count.start) counts started (length counts)
       → IsTouched periods low high (record { first = first; past = past; start = start })
-  touched_is start is =
+  touched_is start is started_after =
       let start_is = start_read start is in
       record {
         ordered = omega (arith, in_order);
@@ -72,6 +92,8 @@ module _ (periods : List (List (Option Shown))) (counts : List Count) (counted :
         upto = high_upto;
         some = λ some. omega (arith, counted.as_many);
         inner = λ some. omega (arith, start_is, started_below (omega arith));
+        next = next_low started_after;
+        last = last_low;
       }
 
 -- with periods in the place of others, each begins but the first

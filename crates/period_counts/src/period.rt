@@ -1,6 +1,7 @@
 //! One period of output order.
 
 ghost use Rattle.std.specs.Prelude.{◌≡◌, ◌+◌, ◌<◌, ◌≤◌, ◌^◌, None, length, count_by, slice_index_or, IfOk};
+ghost use Rattle.period_counts.specs.Bounds.{IsSearched};
 ghost use Rattle.period_counts.specs.OrderKeys.{order_keys, is_first};
 ghost use Rattle.period_counts.specs.Periods.{valid_in};
 
@@ -70,6 +71,7 @@ impl Period {
         requires { comparisons.old + valid_in self.now < 2 ^ 64 }
         ensures rank { result ≡ count_by (λ other. is_first other key) (order_keys self.now) }
         ensures few { comparisons.new ≤ comparisons.old + valid_in self.now }
+        ensures searched { IsSearched (valid_in self.now) comparisons.old comparisons.new }
     {
         rank(&self.sorted, key, comparisons)
     }

@@ -1,12 +1,12 @@
 //! The periods of a stream under changes.
 
-ghost use Rattle.std.specs.Prelude.{◌≡◌, ◌+◌, ◌-◌, ◌<◌, ◌≤◌, ◌^◌, List, [], length, map, max, IfOk, IfNone, OnOk, OnErr, IsOk};
+ghost use Rattle.std.specs.Prelude.{◌≡◌, ◌+◌, ◌-◌, ◌<◌, ◌≤◌, ◌^◌, List, [], length, map, max, IfOk, IfNone, IfSome, OnOk, OnErr, IsOk};
 ghost use Rattle.outcomes.specs.declared.outcome.Outcome.{Outcome};
 ghost use Rattle.output_order.specs.OutputOrder.{position_at};
 ghost use Rattle.period_counts.specs.Shown.{shown_of};
 ghost use Rattle.period_counts.specs.Periods.{units_of, spliced};
 ghost use Rattle.period_counts.specs.Kept.{changed, IsChange, IsSplice};
-ghost use Rattle.period_counts.specs.Bounds.{period_size};
+ghost use Rattle.period_counts.specs.Bounds.{IsSearched, period_size};
 ghost use Rattle.period_counts.specs.Places.{IsFound, IsTouched};
 
 use crate::comparisons::Comparisons;
@@ -86,6 +86,10 @@ impl Periods {
         ensures few { (outcomes : List Outcome)
             → map shown_of outcomes ≡ units_of self.now.periods
             → comparisons.new ≤ comparisons.old + period_size outcomes place }
+        ensures searched { (outcomes : List Outcome)
+            → map shown_of outcomes ≡ units_of self.now.periods
+            → IfSome result
+            (λ _. IsSearched (period_size outcomes place) comparisons.old comparisons.new) }
         ensures none { IfNone result (comparisons.new ≡ comparisons.old) }
     {
         let at = self.period_at(place);

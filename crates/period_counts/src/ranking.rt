@@ -2,6 +2,7 @@
 
 ghost use Rattle.std.specs.Prelude.{◌≡◌, ◌+◌, ◌<◌, ◌≤◌, ◌^◌, length, count_by};
 ghost use Rattle.std.specs.List.Sorted.{IsSortedBy};
+ghost use Rattle.period_counts.specs.Bounds.{IsSearched};
 ghost use Rattle.period_counts.specs.OrderKeys.{is_first};
 
 use crate::comparisons::Comparisons;
@@ -23,6 +24,7 @@ pub(crate) fn rank(sorted: &[OrderKey], key: OrderKey, comparisons: &mut Compari
     requires room { comparisons.old + length sorted.now < 2 ^ 64 }
     ensures rank { result ≡ count_by (λ other. is_first other key) sorted.now }
     ensures few { comparisons.new ≤ comparisons.old + length sorted.now }
+    ensures searched { IsSearched (length sorted.now) comparisons.old comparisons.new }
 {
     let mut low = 0;
     let mut high = sorted.len();

@@ -1,6 +1,8 @@
 //! The node of a unit's key.
 
 ghost use Rattle.std.specs.Prelude.{◌≡◌, IfOk};
+ghost use Rattle.hashed_units.specs.Digests.{bytes_of};
+ghost use Rattle.hashed_units.specs.SliceBytes.{slices_digest};
 ghost use Rattle.picture_keys.specs.Keys.{works_of};
 ghost use Rattle.picture_keys.specs.Numbered.{number_named, numbers_named};
 
@@ -9,21 +11,25 @@ use crate::numbers::KeyNumbers;
 use crate::works::Works;
 use dep_keys::{KeyId, Node};
 use h264_controls::Request;
+use hashed_units::SlicesDigest;
 use outcomes::Requests;
 use pictures::AuId;
 use std::alloc::{AllocError, Global};
 
-/// The node of the key of these requests, with the numbers of the keys of earlier units.
+/// The node of the key of these requests, of whose slices this is the digest, with the numbers of the keys of earlier
+/// units.
 pub fn node_of(
     alloc: Global,
     numbers: &mut KeyNumbers<'_>,
     requests: &Requests,
+    digest: SlicesDigest,
 ) -> Result<Node<Works>, AllocError>
+    requires { digest.bytes ≡ slices_digest (bytes_of requests.now) }
     ensures ok { IfOk result (λ node. node
         ≡ record { work = works_of requests.now; entries = numbers_named numbers.old requests.now }) }
     ensures same { numbers.new ≡ numbers.old }
 {
-    let works = Works::of(alloc, requests)?;
+    let works = Works::of(alloc, requests, digest)?;
     let entries = entries_of(alloc, numbers, requests.as_slice())?;
     Ok(Node::new(works, entries))
 }

@@ -4,6 +4,8 @@ ghost use Rattle.std.specs.Prelude.{◌≡◌, ℕ, ◌==◌, List, [], ◌∷�
 ghost use Rattle.h264_controls.specs.declared.work.Work.{Work};
 ghost use Rattle.outcomes.specs.declared.outcome.Outcome.{Outcome as Becomes};
 ghost use Rattle.dep_keys.specs.KeyMaps.{AreLive, Extends, IsKeyMap, KeyMap, tree_at, tree_of};
+ghost use Rattle.hashed_units.specs.Digests.{bytes_of};
+ghost use Rattle.hashed_units.specs.SliceBytes.{slices_digest};
 ghost use Rattle.picture_keys.specs.Known.{Known};
 ghost use Rattle.picture_keys.specs.Numbered.{AreNumbered, number_at, numbers_named};
 ghost use Rattle.picture_keys.specs.Following.{AreNumberedSome, Follow, HasNumber};
@@ -13,10 +15,12 @@ use crate::nodes::node_of;
 use crate::numbers::KeyNumbers;
 use crate::works::Works;
 use dep_keys::{Fingerprint, KeyId, Keys};
+use hashed_units::{HashedOutcome, SlicesDigest};
 use outcomes::{Outcome, Requests};
 use pictures::AuId;
 use std::alloc::{AllocError, Global};
 use std::marker::Model;
+use std::ops::Deref;
 
 /// The numbers of the keys of a stream's units, so far as these were gone over.
 #[derive(Debug)]
@@ -61,7 +65,7 @@ impl<'a> UnitKeys<'a> {
         alloc: Global,
         keys: &mut Keys<Works, F>,
         id: AuId,
-        outcome: &Outcome,
+        outcome: &HashedOutcome,
     ) -> Result<(), AllocError>
         requires { AreNumberedSome keys.old self.old.numbers }
         ensures stay { Extends keys.old keys.new }
@@ -103,7 +107,7 @@ fn number_of<F: Fingerprint<Works>>(
     numbers: &mut KeyNumbers<'_>,
     keys: &mut Keys<Works, F>,
     id: AuId,
-    outcome: &Outcome,
+    outcome: &HashedOutcome,
 ) -> Result<Option<KeyId>, AllocError>
     requires { AreNumberedSome keys.old numbers.old }
     ensures stay { Extends keys.old keys.new }
@@ -113,8 +117,9 @@ fn number_of<F: Fingerprint<Works>>(
         → HasNumber keys.new numbers.new known id outcome.now number) }
     ensures err { OnErr result (numbers.new ≡ numbers.old) }
 {
-    match outcome {
-        Outcome::Plan(plan) => Ok(Some(intern(alloc, numbers, keys, id, &plan.requests)?)),
+    let digest = outcome.digest();
+    match outcome.deref() {
+        Outcome::Plan(plan) => Ok(Some(intern(alloc, numbers, keys, id, &plan.requests, digest)?)),
         Outcome::Fault(_) | Outcome::Empty => Ok(None),
     }
 }
@@ -126,8 +131,10 @@ fn intern<F: Fingerprint<Works>>(
     keys: &mut Keys<Works, F>,
     id: AuId,
     requests: &Requests,
+    digest: SlicesDigest,
 ) -> Result<KeyId, AllocError>
-    requires { AreLive keys.old (numbers_named numbers.old requests.now) }
+    requires hashed { digest.bytes ≡ slices_digest (bytes_of requests.now) }
+    requires live { AreLive keys.old (numbers_named numbers.old requests.now) }
     ensures stay { Extends keys.old keys.new }
     ensures one { IsKeyMap keys.old → IsKeyMap keys.new }
     ensures few { AddsAtMostKey keys.old (tree_of keys.old
@@ -138,7 +145,7 @@ fn intern<F: Fingerprint<Works>>(
         ≡ (if id == other then Some key else number_at numbers.old other)) }
     ensures err { OnErr result (numbers.new ≡ numbers.old) }
 {
-    let node = node_of(alloc, numbers, requests)?;
+    let node = node_of(alloc, numbers, requests, digest)?;
     let key = keys.intern(node)?;
     numbers.put(id, key)?;
     Ok(key)

@@ -5,20 +5,26 @@ ghost use Rattle.std.specs.Bool.{Decides};
 ghost use Rattle.sha2.specs.Hashers.{Holds256};
 ghost use Rattle.set_controls.specs.Words.{s32};
 ghost use Rattle.picture_keys.specs.Keys.{works_of};
-ghost use Rattle.picture_keys.specs.Messages.{work_bytes, works_bytes};
+ghost use Rattle.std.specs.List.{flat_map};
+ghost use Rattle.hashed_units.specs.Digests.{bytes_of};
+ghost use Rattle.hashed_units.specs.SliceBytes.{slices_digest};
+ghost use Rattle.picture_keys.specs.Messages.{order_bytes, works_bytes};
 
 use base_types::Shared;
 use dep_keys::Work as KeyWork;
 use h264_controls::Work;
+use hashed_units::SlicesDigest;
 use outcomes::Requests;
 use sha2::{Digest, Sha256};
 use std::alloc::{AllocError, Global};
 use std::marker::Model;
 
-/// The works of a unit's slices, in order, shared with its requests: the controls without timestamps, and the bytes.
+/// The works of a unit's slices, in order, shared with its requests: the controls without timestamps, and the bytes, of
+/// which it has the digest.
 #[derive(Debug, Drop)]
 pub struct Works {
     slices: Vec<Shared<Work>>,
+    digest: SlicesDigest,
 }
 
 impl Model for Works {
@@ -28,11 +34,17 @@ impl Model for Works {
     ghost Value = { List Work };
 
     ghost view = { λ works. works.slices.items };
+
+    ghost use Rattle.std.specs.Prelude.{◌≡◌, map};
+    ghost use Rattle.hashed_units.specs.SliceBytes.{slices_digest};
+
+    ghost invariant = { λ works. works.digest.bytes ≡ slices_digest (map (λ work. work.bytes) works.slices.items) };
 }
 
 impl Works {
-    /// The works of these requests.
-    pub fn of(alloc: Global, requests: &Requests) -> Result<Works, AllocError>
+    /// The works of these requests, of whose slices this is the digest.
+    pub fn of(alloc: Global, requests: &Requests, digest: SlicesDigest) -> Result<Works, AllocError>
+        requires { digest.bytes ≡ slices_digest (bytes_of requests.now) }
         ensures { IfOk result (λ works. works ≡ works_of requests.now) }
     {
         let requests = requests.as_slice();
@@ -40,7 +52,7 @@ impl Works {
         for request in requests {
             slices.push(request.work.clone()?)?;
         }
-        Ok(Works { slices })
+        Ok(Works { slices, digest })
     }
 }
 
@@ -48,11 +60,12 @@ impl KeyWork for Works {
     ghost bytes = { works_bytes };
 
     fn is_same(&self, other: &Works) -> bool {
-        are_same(&self.slices, &other.slices)
+        self.digest.is_same(&other.digest) && are_same(&self.slices, &other.slices)
     }
 
     fn feed(&self, hasher: &mut Sha256) {
-        feed_all(hasher, &self.slices);
+        feed_orders(hasher, &self.slices);
+        hasher.update(self.digest.bytes());
     }
 }
 
@@ -69,25 +82,14 @@ fn are_same(works: &[Shared<Work>], others: &[Shared<Work>]) -> bool
     }
 }
 
-/// Adds the bytes of works to a hasher.
-fn feed_all(hasher: &mut Sha256, works: &[Shared<Work>])
+/// Adds the picture order counts of works to a hasher.
+fn feed_orders(hasher: &mut Sha256, works: &[Shared<Work>])
     ensures { (message : List ℕ) → Holds256 hasher.old message
-        → Holds256 hasher.new (message ++ works_bytes works.now) }
+        → Holds256 hasher.new (message ++ flat_map order_bytes works.now) }
 {
     for work in works {
-        feed(hasher, work);
+        feed_order(hasher, work.controls.decode_params.top_field_order_cnt);
     }
-}
-
-/// Adds the bytes of a slice's work to a hasher.
-#[tactic(auto, unfolding(crate::specs::Messages::work_bytes))]
-fn feed(hasher: &mut Sha256, work: &Work)
-    ensures { (message : List ℕ) → Holds256 hasher.old message
-        → Holds256 hasher.new (message ++ work_bytes work.now) }
-{
-    feed_order(hasher, work.controls.decode_params.top_field_order_cnt);
-    hasher.update((work.bytes.len() as u64).to_le_bytes());
-    hasher.update(work.bytes.as_slice());
 }
 
 /// Adds a picture order count to a hasher.

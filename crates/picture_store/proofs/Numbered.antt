@@ -1,10 +1,11 @@
 -- The numbers of units' keys.
-use Rattle.std.proofs.Common.{◌≡◌, refl, ap, sym, subst, ◌∙◌, ℕ, zero, suc, List, [], ◌∷◌, Option, None, Some, ◌↔◌}
-use Rattle.std.specs.Prelude.{slice_get}
+use Rattle.std.proofs.Common.{◌≡◌, refl, ap, sym, subst, ◌∙◌, ℕ, zero, suc, List, [], ◌∷◌, length, Option, None, Some, ◌↔◌}
+use Rattle.std.specs.Prelude.{slice_get, Contains}
+use Rattle.std.proofs.lemmas.Option.{slice_get_read, slice_get_within, get_or_from_slice_get}
 use Rattle.dep_keys.specs.KeyMaps.{tree_at, IsKeyMap}
 use Rattle.picture_keys.specs.Keys.{Key}
 use Rattle.picture_keys.specs.Numbered.{StandsFor, AllStandFor}
-use Rattle.picture_store.specs.Stores.{StoreValue, unit_keys}
+use Rattle.picture_store.specs.Stores.{IsNumberInUse, StoreValue, unit_keys}
 use Rattle.picture_store.specs.Showing.{IsNumberAt}
 use Rattle.picture_store.specs.Kept.{Trees}
 
@@ -67,9 +68,23 @@ pub number_seen : (keys : Trees) (store : StoreValue) → AllStandFor keys store
 number_seen keys store all at None is =
     let stands : (tree : Option Key) × (slice_get (unit_keys store) at ≡ Some tree) × StandsFor keys None tree =
     stands_at keys store.numbers (unit_keys store) all at None is in
-    stands.1 ∙ ap (λ (tree : Option Key). Some tree) stands.2
+    (stands.1 ∙ ap (λ (tree : Option Key). Some tree) stands.2, is)
 number_seen keys store all at (Some number) is =
     let stands : (tree : Option Key) × (slice_get (unit_keys store) at ≡ Some tree) × StandsFor keys (Some number) tree =
     stands_at keys store.numbers (unit_keys store) all at (Some number) is in
     let some : (key : Key) × (stands.0 ≡ Some key) = some_key keys number stands.0 stands.2 in
     (some.0, stands.1 ∙ ap (λ (tree : Option Key). Some tree) some.1, is)
+
+-- a number that stands at some unit is that of a key in use
+pub in_use_listed : (keys : Trees) (store : StoreValue) → AllStandFor keys store.numbers (unit_keys store)
+    → (number : ℕ) → Contains store.numbers (Some number) → IsNumberInUse store number
+in_use_listed keys store all number (at, within, is) =
+    let read : slice_get store.numbers at ≡ Some (Some number) =
+    slice_get_read store.numbers (length store.numbers) at (Some number) refl within (sym is) in
+    let seen = number_seen keys store all at (Some number) read in
+    (seen.0, (at, seen.1, seen.2))
+
+-- and no other is
+pub listed_in_use : (store : StoreValue) (number : ℕ) → IsNumberInUse store number → Contains store.numbers (Some number)
+listed_in_use store number (key, (at, has, is)) =
+    (at, slice_get_within store.numbers at (Some number) is, get_or_from_slice_get store.numbers at (Some number) (Some number) is)

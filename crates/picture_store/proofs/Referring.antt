@@ -1,8 +1,10 @@
 -- The pictures of references, by their timestamps.
-use Rattle.std.proofs.Common.{◌≡◌, refl, sym, ap, subst, ◌∙◌, ℕ, Bool, true, false, cond, ◌==◌, ◌||◌, List, [], ◌∷◌, ◌++◌, Option, Some, None, IsSome, is_some, find, IfSome, All, slice_get, get_or, length, ◌<◌, inl, inr, arith}
+use Rattle.std.proofs.Common.{◌≡◌, refl, sym, ap, subst, ◌∙◌, ℕ, Bool, true, false, cond, ◌==◌, ◌||◌, List, [], ◌∷◌, ◌++◌, Option, Some, None, IsSome, is_some, find, IfSome, All, slice_get, get_or, length, count_by, ◌+◌, ◌<◌, ◌≤◌, inl, inr, arith}
 use Rattle.std.specs.Option.{option_map}
 use Rattle.std.specs.List.{list_any}
 use Rattle.std.proofs.lemmas.List.Folds.{list_any-append}
+use Rattle.std.proofs.lemmas.List.Sums.{sum_by-cons, sum_by_push}
+use Rattle.std.proofs.lemmas.Bool.{eqb-true}
 use Rattle.std.proofs.lemmas.Bool.Decides.{nat_tests}
 use Rattle.std.proofs.lemmas.List.Elements.{All-same, All-push}
 use Rattle.std.proofs.lemmas.Option.{none-some, same_Some, slice_get_read}
@@ -11,7 +13,7 @@ use Rattle.stand_in_device.specs.declared.input.Reference.{Reference}
 use Rattle.stand_in_device.specs.declared.picture.Picture.{Picture}
 use Rattle.stand_in_device.specs.Inputs.{picture_at}
 use Rattle.picture_store.specs.Places.{PlacesValue}
-use Rattle.picture_store.specs.Naming.{AddsAtMostEntry, AreCovered, AreShown, IsShown, picture_in}
+use Rattle.picture_store.specs.Naming.{AddsAtMostEntry, AreCovered, AreOnce, AreShown, IsShown, picture_in}
 
 found_step : {X Y : Type 0} (f : X → Y) (test : X → Bool) (x : X) (xs : List X) (b : Bool)
     → list_any test xs ≡ is_some (option_map f (find test xs))
@@ -81,7 +83,7 @@ covered_at places units entries covered at (Some named) entry in_units in_entrie
 pub still_there : (old new : List Reference) (places : PlacesValue) (unit entry : Option ℕ) → AddsAtMostEntry old places unit entry new
     → (time : ℕ) → IsSome (picture_at old time) → IsSome (picture_at new time)
 still_there old new places unit entry (inl same) time there = subst (λ xs. IsSome (picture_at xs time)) (sym same) there
-still_there old new places unit entry (inr (named, picture, named_is, picture_is, new_is)) time there =
+still_there old new places unit entry (inr (named, picture, named_is, picture_is, absent, new_is)) time there =
     let one : Reference = record { timestamp = timestamp named; picture = picture } in
     subst (λ xs. IsSome (picture_at xs time)) (sym new_is) (picture_kept old (one ∷ []) time there)
 
@@ -103,10 +105,45 @@ pub shown_more : (shown : ℕ → Option Picture) (places : PlacesValue) (units 
     → All (IsShown shown) old → All (IsShown shown) new
 shown_more shown places units entries are at unit entry in_units in_entries unit_is entry_is old new (inl same) before =
     All-same (IsShown shown) new old same before
-shown_more shown places units entries are at unit entry in_units in_entries unit_is entry_is old new (inr (named, picture, named_is, picture_is, new_is)) before =
+shown_more shown places units entries are at unit entry in_units in_entries unit_is entry_is old new (inr (named, picture, named_is, picture_is, absent, new_is)) before =
     let one : Reference = record { timestamp = timestamp named; picture = picture } in
     let unit_at : slice_get units at ≡ Some (Some named) =
     slice_get_read units (length units) at unit refl in_units unit_is ∙ ap (λ u. Some u) named_is in
     let entry_at : slice_get entries at ≡ Some entry = slice_get_read entries (length entries) at entry refl in_entries entry_is in
     let right : shown named ≡ Some picture = are named entry (at, unit_at, entry_at) ∙ picture_is in
     All-same (IsShown shown) new (old ++ one ∷ []) new_is (All-push (IsShown shown) old one before (named, refl, right))
+
+neither : (a b : Bool) → (a || b) ≡ false → (a ≡ false) × (b ≡ false)
+neither true b is = absurd cc
+neither false b is = (refl, is)
+
+none_counted : {X : Type 0} (p : X → Bool) (xs : List X) → list_any p xs ≡ false → count_by p xs ≡ 0
+none_counted p [] is = refl
+none_counted p (x ∷ xs) is =
+    let both = neither (p x) (list_any p xs) is in
+    let first : ◌≡◌ {A = ℕ} (cond (p x) 1 0) 0 = ap (λ (b : Bool). cond b 1 0) both.0 in
+    let sum : count_by p (x ∷ xs) ≡ cond (p x) 1 0 + count_by p xs = sum_by-cons (λ x. cond (p x) 1 0) x xs in
+    let rest : count_by p xs ≡ 0 = none_counted p xs both.1 in
+    omega (arith, sum, first, rest)
+
+one_more : (b : Bool) (count : ℕ) → (b ≡ true → count ≡ 0) → count ≤ 1 → count + cond b 1 0 ≤ 1
+one_more true count none few = omega (arith, none refl)
+one_more false count none few = omega (arith, few)
+
+-- with the one that is added, no timestamp stands twice
+pub once_more : (old new : List Reference) (places : PlacesValue) (unit entry : Option ℕ) → AddsAtMostEntry old places unit entry new
+    → AreOnce old → AreOnce new
+once_more old new places unit entry (inl same) once = subst AreOnce (sym same) once
+once_more old new places unit entry (inr (named, picture, named_is, picture_is, absent, new_is)) once = λ time.
+    let p : Reference → Bool = λ reference. reference.timestamp == time in
+    let one : Reference = record { timestamp = timestamp named; picture = picture } in
+    let sum : count_by p new ≡ count_by p old + cond (p one) 1 0 =
+    ap (count_by p) new_is ∙ sum_by_push (λ reference. cond (p reference) 1 0) old one in
+    let none : (timestamp named == time) ≡ true → count_by p old ≡ 0 = λ same.
+    let there : timestamp named ≡ time = eqb-true (timestamp named) time same in
+    none_counted p old (picture_found old time ∙ ap is_some (subst (λ t. picture_at old t ≡ None) there absent)) in
+    subst (λ n. n ≤ 1) (sym sum) (one_more (timestamp named == time) (count_by p old) none (once time))
+
+pub none_there : {X : Type 0} (o : Option X) → is_some o ≡ false → o ≡ None
+none_there None is = refl
+none_there (Some x) is = absurd cc

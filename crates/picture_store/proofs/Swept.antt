@@ -1,10 +1,17 @@
 -- What a sweep leaves of the keys that are stored.
-use Rattle.std.proofs.Common.{◌≡◌, refl, ap, ◌∙◌, ℕ, List, Contains, Result, Ok, Err, OnOk, OnErr, Some, inl}
+use Rattle.std.proofs.Common.{◌≡◌, refl, ap, subst, ◌∙◌, ℕ, ◌+◌, ◌<◌, Bool, true, false, ◌==◌, ◌⊎◌, List, [], ◌∷◌, Contains, Option, ◌↔◌, Result, Ok, Err, OnOk, OnErr, Some, inl, inr, if◌then◌else◌, arith}
+use Rattle.std.proofs.lemmas.Bool.{cases_lt, eqb-true}
+use Rattle.std.proofs.lemmas.List.Sums.{sum_by-cons}
 use Rattle.std.specs.declared.alloc.AllocError.{AllocError}
 use Rattle.dep_keys.specs.KeyMaps.{tree_at}
 use Rattle.dep_keys.specs.Sweeping.{IsSwept, IsNeeded}
 use Rattle.picture_keys.specs.Keys.{Key}
-use Rattle.picture_store.specs.Kept.{Trees}
+use Rattle.key_places.specs.Counting.{once_if, times, times_in}
+use Rattle.key_places.proofs.Counts.{counted_in, some_counted}
+use Rattle.key_places.proofs.Members.{here, there}
+use Rattle.stand_in_device.specs.declared.picture.Picture.{Picture}
+use Rattle.picture_store.specs.declared.job_out.JobOut.{JobOut}
+use Rattle.picture_store.specs.Kept.{AreSwept, IsStored, Trees}
 
 pub root_stays : (r : Result (Unit {0}) AllocError) (old new : Trees) (roots : List ℕ) → OnOk r (IsSwept old roots new)
     → OnErr r (new ≡ old) → (number : ℕ) (key : Key) → Contains roots number → tree_at old number ≡ Some key
@@ -14,3 +21,37 @@ root_stays (Ok x) old new roots ok err number key among there =
     record { root = number; among = among; top = key; rooted = there; within = inl refl } in
     ok.kept number key there needed
 root_stays (Err e) old new roots ok err number key among there = ap (λ (keys : Trees). tree_at keys number) err ∙ there
+
+once_at : (b : Bool) (number key : ℕ) → b ≡ (key == number) → (◌≡◌ {A = ℕ} (if b then 1 else 0) 0) ⊎ (key ≡ number)
+once_at true number key is = inr (eqb-true key number (sym' is))
+  where
+    sym' : true ≡ (key == number) → (key == number) ≡ true
+    sym' same = cc
+once_at false number key is = inl refl
+
+-- what is counted among keys stands there
+some_in : (number : ℕ) (keys : List ℕ) → 0 < times_in number keys → Contains keys number
+some_in number [] is = absurd (omega (arith, is))
+some_in number (key ∷ keys) is =
+    elim (once_at (key == number) number key refl) [
+      | inl none ↦
+          there key number keys (some_in number keys (omega (arith, is, sum_by-cons (once_if number) key keys, none)))
+      | inr same ↦ subst (λ k. Contains (key ∷ keys) k) same (here key keys)
+    ]
+
+-- a key that was added is that of a unit
+pub only_added : (old new : List ℕ) (found : List (Option ℕ)) (number : ℕ)
+    → times_in number new ≡ times_in number old + times number found → Contains new number
+    → Contains old number ⊎ Contains found (Some number)
+only_added old new found number counted among =
+    let some : 0 < times_in number new = counted_in number new among in
+    elim (cases_lt 0 (times number found)) [
+      | inl unit ↦ inr (some_counted number found unit)
+      | inr none ↦ inl (some_in number old (omega (arith, some, counted, none)))
+    ]
+
+pub swept_all : (r : Result (Unit {0}) AllocError) (found : List (Option ℕ)) (cached : List (ℕ × Picture)) (out : List JobOut)
+    (old new : Trees) (roots : List ℕ) → ((number : ℕ) → Contains roots number ↔ IsStored found cached out number)
+    → OnOk r (IsSwept old roots new) → OnOk r (AreSwept found cached out old new)
+swept_all (Ok x) found cached out old new roots are swept = record { roots = roots; are = are; swept = swept }
+swept_all (Err e) found cached out old new roots are swept = swept

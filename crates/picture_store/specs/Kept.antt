@@ -6,6 +6,7 @@ use Rattle.std.specs.Map.{keys_of as numbers_of}
 use Rattle.h264_controls.specs.declared.work.Work.{Work}
 use Rattle.outcomes.specs.declared.outcome.Outcome.{Outcome}
 use Rattle.dep_keys.specs.KeyMaps.{KeyMap, IsKeyMap, tree_at}
+use Rattle.dep_keys.specs.Sweeping.{IsSwept}
 use Rattle.dep_keys.specs.Trees.Tree.{Bare}
 use Rattle.stand_in_device.specs.declared.picture.Picture.{Picture}
 use Rattle.stand_in_device.specs.Pictures.{picture_of}
@@ -74,3 +75,9 @@ abbrev pub KeepsStored : List (Option ℕ) → List (ℕ × Picture) → List Jo
 KeepsStored found cached out old new =
     (number : ℕ) (key : Key) → IsStored found cached out number → tree_at old number ≡ Some key
     → tree_at new number ≡ Some key
+
+-- the keys that are stored and those below them are left, and no others
+pub record AreSwept (found : List (Option ℕ)) (cached : List (ℕ × Picture)) (out : List JobOut) (old new : Trees) : Type 0 where
+  pub roots : List ℕ
+  pub are : (number : ℕ) → Contains roots number ↔ IsStored found cached out number
+  pub swept : IsSwept old roots new

@@ -1,5 +1,5 @@
 -- The pictures of the units that requests name.
-use Rattle.std.specs.Prelude.{◌≡◌, ℕ, List, [], ◌∷◌, ◌++◌, ◌⊎◌, Option, Some, IsSome, slice_get}
+use Rattle.std.specs.Prelude.{◌≡◌, ℕ, ◌≤◌, ◌==◌, List, [], ◌∷◌, ◌++◌, ◌⊎◌, Option, None, Some, IsSome, count_by, slice_get}
 use Rattle.std.specs.Option.{option_and_then}
 use Rattle.h264_controls.specs.References.{timestamp}
 use Rattle.stand_in_device.specs.declared.picture.Picture.{Picture}
@@ -37,8 +37,12 @@ abbrev pub AreThere : List Reference → List (Option ℕ) → Type 0
 AreThere references units =
     (i unit : ℕ) → slice_get units i ≡ Some (Some unit) → IsSome (picture_at references (timestamp unit))
 
--- nothing is added, or the picture of the entry for the unit that is named there
+-- no timestamp stands twice
+abbrev pub AreOnce : List Reference → Type 0
+AreOnce references = (time : ℕ) → count_by (λ reference. reference.timestamp == time) references ≤ 1
+
+-- nothing is added, or the picture of the entry for the unit that is named there, whose timestamp has none
 abbrev pub AddsAtMostEntry : List Reference → PlacesValue → Option ℕ → Option ℕ → List Reference → Type 0
 AddsAtMostEntry old places unit entry new =
     (new ≡ old) ⊎ ((named : ℕ) × (picture : Picture) × (unit ≡ Some named) × (picture_in places entry ≡ Some picture)
-    × (new ≡ old ++ (record { timestamp = timestamp named; picture = picture }) ∷ []))
+    × (picture_at old (timestamp named) ≡ None) × (new ≡ old ++ (record { timestamp = timestamp named; picture = picture }) ∷ []))

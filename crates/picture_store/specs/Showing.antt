@@ -19,4 +19,4 @@ IsPictureAt store at None = (key : Key) → HasKey store at key → Contains sto
 abbrev pub IsNumberAt : StoreValue → ℕ → Option ℕ → Type 0
 IsNumberAt store at (Some number) =
     (key : Key) × HasKey store at key × (slice_get store.numbers at ≡ Some (Some number))
-IsNumberAt store at None = slice_get (unit_keys store) at ≡ Some None
+IsNumberAt store at None = (slice_get (unit_keys store) at ≡ Some None) × (slice_get store.numbers at ≡ Some None)

@@ -47,6 +47,10 @@ abbrev pub IsNumberOf : StoreValue → Key → ℕ → Type 0
 IsNumberOf store key number =
     (at : ℕ) × (slice_get (unit_keys store) at ≡ Some (Some key)) × (slice_get store.numbers at ≡ Some (Some number))
 
+-- the number is that of a key in use
+abbrev pub IsNumberInUse : StoreValue → ℕ → Type 0
+IsNumberInUse store number = (key : Key) × IsNumberOf store key number
+
 -- numbers of keys in use before and after are equal exactly where the keys are: one that stays in use keeps its number,
 -- and no other has that
 abbrev pub AreOneToOne : StoreValue → StoreValue → Type 0

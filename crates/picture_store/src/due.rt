@@ -32,7 +32,7 @@ pub(crate) fn first_to_do(
 
 /// Whether a unit has no key, or one whose picture is held or that of a job that is out.
 fn needs_none(places: &Places<Picture>, out: &[JobOut], key: Option<KeyId>) -> bool
-    ensures { IsTrue result → NeedsNone places.now out.now key }
+    ensures { IsTrue result ↔ NeedsNone places.now out.now key }
 {
     match key {
         Some(key) => is_held(places, key) || is_out(out, key),

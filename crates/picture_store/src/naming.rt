@@ -1,10 +1,10 @@
 //! The pictures of the units that requests name.
 
-ghost use Rattle.std.specs.Prelude.{◌≡◌, ℕ, [], ◌∷◌, ◌++◌, ◌⊎◌, All, Option, IsSome, IfSome, is_some, ◌==◌, ◌≤◌, length, IfOk, OnOk};
+ghost use Rattle.std.specs.Prelude.{◌≡◌, ℕ, [], ◌∷◌, ◌++◌, ◌⊎◌, All, Option, None, IsSome, IfSome, is_some, ◌==◌, ◌≤◌, length, IfOk, OnOk};
 ghost use Rattle.h264_controls.specs.References.{timestamp};
 ghost use Rattle.stand_in_device.specs.declared.picture.Picture.{Picture as Shown};
 ghost use Rattle.stand_in_device.specs.Inputs.{picture_at};
-ghost use Rattle.picture_store.specs.Naming.{AddsAtMostEntry, AreCovered, AreShown, AreThere, IsShown, picture_in};
+ghost use Rattle.picture_store.specs.Naming.{AddsAtMostEntry, AreCovered, AreOnce, AreShown, AreThere, IsShown, picture_in};
 
 use dep_keys::KeyId;
 use key_places::Places;
@@ -24,6 +24,7 @@ pub(crate) fn references_of(
     ensures shown { IfOk result (λ references. (shown : ℕ → Option Shown)
         → AreShown places.now shown units.now entries.now → All (IsShown shown) references.items) }
     ensures there { IfOk result (λ references. AreThere references.items units.now) }
+    ensures once { IfOk result (λ references. AreOnce references.items) }
 {
     let mut references = Vec::new(alloc);
     for at in 0..units.len() {
@@ -65,9 +66,9 @@ fn picture_in(places: &Places<Picture>, entry: Option<KeyId>) -> Option<Picture>
 fn add(references: &mut Vec<Reference>, unit: AuId, picture: Picture) -> Result<(), AllocError>
     ensures there { OnOk result (IsSome (picture_at references.new.items (timestamp unit))) }
     ensures items { OnOk result ((references.new.items ≡ references.old.items)
-        ⊎ (references.new.items
+        ⊎ ((picture_at references.old.items (timestamp unit) ≡ None) × (references.new.items
         ≡ references.old.items ++
-        (record { timestamp = timestamp unit; picture = picture }) ∷ [])) }
+        (record { timestamp = timestamp unit; picture = picture }) ∷ []))) }
 {
     let timestamp = unit.timestamp();
     if !has_picture(references, timestamp) {

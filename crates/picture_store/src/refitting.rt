@@ -1,6 +1,6 @@
 //! The keys of a changed stream.
 
-ghost use Rattle.std.specs.Prelude.{◌≡◌, ℕ, ◌+◌, ◌≤◌, List, [], ◌++◌, ◌⊎◌, All, drop, length, take, vec_len, IfOk, OnOk, IsTrue, Contains, Some};
+ghost use Rattle.std.specs.Prelude.{◌≡◌, ◌↔◌, ℕ, ◌+◌, ◌*◌, ◌<◌, ◌≤◌, List, [], ◌++◌, ◌⊎◌, All, drop, length, take, vec_len, IfOk, OnOk, IsTrue, Contains, Some};
 ghost use Rattle.std.specs.Vec.{vec_capacity};
 ghost use Rattle.std.specs.List.{zip};
 ghost use Rattle.dep_keys.specs.KeyMaps.{Extends, IsKeyMap};
@@ -9,7 +9,7 @@ ghost use Rattle.picture_keys.specs.Known.{Known, keys_after, keys_of, known_aft
 ghost use Rattle.picture_keys.specs.Numbered.{AllStandFor, number_at, numbers_over};
 ghost use Rattle.picture_keys.specs.Following.{AreNumberedSome, Follow};
 ghost use Rattle.key_places.specs.Counting.{times, times_in};
-ghost use Rattle.picture_store.specs.Kept.{numbers_out, IsStored, KeepsStored};
+ghost use Rattle.picture_store.specs.Kept.{AreSwept, numbers_out, IsStored, KeepsStored};
 ghost use Rattle.picture_store.specs.Needs.{AgreeAt, TellNeeds, between};
 ghost use Rattle.picture_store.specs.Stretches.{IsStretch};
 
@@ -18,7 +18,7 @@ use crate::stretch::Stretch;
 use base_types::Shared;
 use checkpoints::Checkpoints;
 use dep_keys::{Fingerprint, KeyId, Keys};
-use outcomes::Outcome;
+use hashed_units::HashedOutcome;
 use picture_cache::PictureCache;
 use picture_keys::{KeyNumbers, UnitKeys, Works};
 use pictures::{AuId, Frame};
@@ -31,7 +31,7 @@ pub fn numbers_of<F: Fingerprint<Works>>(
     alloc: Global,
     keys: &mut Keys<Works, F>,
     ids: &[AuId],
-    outcomes: &[Shared<Outcome>],
+    outcomes: &[Shared<HashedOutcome>],
 ) -> Result<Vec<Option<KeyId>>, AllocError>
     requires same { length ids.now ≡ length outcomes.now }
     ensures stay { Extends keys.old keys.new }
@@ -50,7 +50,7 @@ fn go_over<F: Fingerprint<Works>>(
     keys: &mut Keys<Works, F>,
     units: &mut UnitKeys<'_>,
     ids: &[AuId],
-    outcomes: &[Shared<Outcome>],
+    outcomes: &[Shared<HashedOutcome>],
 ) -> Result<(), AllocError>
     requires same { length ids.now ≡ length outcomes.now }
     requires some { AreNumberedSome keys.old units.old.numbers }
@@ -71,7 +71,7 @@ fn go_over<F: Fingerprint<Works>>(
 #[derive(Clone, Copy, Debug)]
 struct Columns<'a> {
     ids: &'a [AuId],
-    outcomes: &'a [Shared<Outcome>],
+    outcomes: &'a [Shared<HashedOutcome>],
     found: &'a [Option<KeyId>],
 }
 
@@ -93,7 +93,7 @@ pub(crate) fn keys_from<F: Fingerprint<Works>>(
     alloc: Global,
     keys: &mut Keys<Works, F>,
     ids: &[AuId],
-    outcomes: &[Shared<Outcome>],
+    outcomes: &[Shared<HashedOutcome>],
     found: &[Option<KeyId>],
     states: &Checkpoints<State>,
     stretch: &Stretch,
@@ -167,7 +167,7 @@ fn agree_at(
     after: &mut UnitKeys<'_>,
 ) -> Result<bool, AllocError>
     ensures ok { IfOk result (λ agree. IsTrue agree
-        → AgreeAt states.now.states at before.old after.old.numbers) }
+        ↔ AgreeAt states.now.states at before.old after.old.numbers) }
     ensures before { before.new ≡ before.old }
     ensures after { after.new ≡ after.old }
 {
@@ -184,7 +184,7 @@ fn agree_on(
     after: &mut UnitKeys<'_>,
 ) -> Result<bool, AllocError>
     ensures ok { IfOk result (λ agree. IsTrue agree
-        → All (λ frame. number_at before.old frame.id ≡ number_at after.old.numbers frame.id)
+        ↔ All (λ frame. number_at before.old frame.id ≡ number_at after.old.numbers frame.id)
         frames.now) }
     ensures before { before.new ≡ before.old }
     ensures after { after.new ≡ after.old }
@@ -200,7 +200,7 @@ fn agree_on(
 /// Makes room for so many units more.
 pub(crate) fn make_room(
     ids: &mut Vec<AuId>,
-    outcomes: &mut Vec<Shared<Outcome>>,
+    outcomes: &mut Vec<Shared<HashedOutcome>>,
     count: usize,
 ) -> Result<(), AllocError>
     ensures ids { ids.new.items ≡ ids.old.items }
@@ -222,9 +222,34 @@ pub(crate) fn sweep<F: Fingerprint<Works>>(
 ) -> Result<(), AllocError>
     ensures stay { KeepsStored found.now cache.now.pairs out.now keys.old keys.new }
     ensures one { IsKeyMap keys.old → IsKeyMap keys.new }
+    ensures swept { OnOk result
+        (AreSwept found.now cache.now.pairs out.now keys.old keys.new) }
 {
     let roots = roots(alloc, found, cache, out)?;
     keys.sweep(&roots)
+}
+
+/// Forgets those keys, where there are so many that it is time to, and says how many will be enough the next time: twice as
+/// many as are left, and some more.
+pub(crate) fn sweep_at<F: Fingerprint<Works>>(
+    alloc: Global,
+    enough: usize,
+    keys: &mut Keys<Works, F>,
+    found: &[Option<KeyId>],
+    cache: &PictureCache<KeyId, Picture>,
+    out: &[JobOut],
+) -> Result<usize, AllocError>
+    ensures stay { KeepsStored found.now cache.now.pairs out.now keys.old keys.new }
+    ensures one { IsKeyMap keys.old → IsKeyMap keys.new }
+    ensures few { IfOk result (λ next. (length keys.new < enough)
+        ⊎ AreSwept found.now cache.now.pairs out.now keys.old keys.new) }
+    ensures next { IfOk result (λ next. (next ≡ enough) ⊎ (next ≤ 2 * length keys.new + 64)) }
+{
+    if keys.len() < enough {
+        return Ok(enough);
+    }
+    sweep(alloc, keys, found, cache, out)?;
+    Ok(keys.len().saturating_mul(2).saturating_add(64))
 }
 
 /// The keys that are stored.
@@ -234,8 +259,8 @@ fn roots(
     cache: &PictureCache<KeyId, Picture>,
     out: &[JobOut],
 ) -> Result<Vec<KeyId>, AllocError>
-    ensures { IfOk result (λ roots. (number : ℕ) → IsStored found.now cache.now.pairs out.now number
-        → Contains roots.items number) }
+    ensures { IfOk result (λ roots. (number : ℕ)
+        → Contains roots.items number ↔ IsStored found.now cache.now.pairs out.now number) }
 {
     let mut roots = cache.keys(alloc)?;
     add_found(&mut roots, found)?;

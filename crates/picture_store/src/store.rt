@@ -5,7 +5,7 @@ ghost use Rattle.std.specs.List.{zip};
 ghost use Rattle.std.specs.Prelude.{[]};
 ghost use Rattle.picture_cache.specs.Bounded.{most_room};
 ghost use Rattle.picture_keys.specs.Decodable.{AllCanDecode};
-ghost use Rattle.picture_store.specs.Stores.{empty, AreOneToOne};
+ghost use Rattle.picture_store.specs.Stores.{empty, AreOneToOne, IsNumberInUse};
 ghost use Rattle.picture_store.specs.Changes.{Refits};
 ghost use Rattle.picture_store.specs.Jobs.{AnswersGiveBack, AnswersLand, TellsTake};
 ghost use Rattle.key_places.specs.Places.{uses_at};
@@ -20,14 +20,14 @@ use crate::inputs::input_of;
 use crate::job_out::{JobOut, place_of};
 use crate::naming::references_of;
 use crate::recounting::{make_ready, recount};
-use crate::refitting::{keys_from, make_room, sweep};
+use crate::refitting::{keys_from, make_room, sweep_at};
 use crate::refusals::TakeRefused;
 use crate::stretch::Stretch;
 use base_types::Shared;
 use checkpoints::Checkpoints;
 use dep_keys::{KeyId, Keys, Sha256Fingerprint};
+use hashed_units::HashedOutcome;
 use key_places::Places;
-use outcomes::Outcome;
 use picture_cache::PictureCache;
 use picture_keys::Works;
 use pictures::AuId;
@@ -44,7 +44,7 @@ pub struct PictureStore {
     alloc: Global,
     keys: Keys<Works, Sha256Fingerprint>,
     ids: Vec<AuId>,
-    outcomes: Vec<Shared<Outcome>>,
+    outcomes: Vec<Shared<HashedOutcome>>,
     found: Vec<Option<KeyId>>,
     // How many keys there are where it is time to forget those that aren't needed.
     enough: usize,
@@ -135,7 +135,7 @@ impl PictureStore {
     }
 
     /// What becomes of each unit, in the order of the stream.
-    pub fn outcomes(&self) -> &[Shared<Outcome>]
+    pub fn outcomes(&self) -> &[Shared<HashedOutcome>]
         ensures { result.now ≡ self.now.outcomes }
     {
         self.outcomes.as_slice()
@@ -194,17 +194,15 @@ impl PictureStore {
     fn sweep(&mut self) -> Result<(), AllocError>
         ensures { self.new ≡ self.old }
     {
-        if self.keys.len() < self.enough {
-            return Ok(());
-        }
-        sweep(
+        let enough = sweep_at(
             self.alloc,
+            self.enough,
             &mut self.keys,
             &self.found,
             &self.cache,
             &self.out,
         )?;
-        self.enough = self.keys.len().saturating_mul(2).saturating_add(64);
+        self.enough = enough;
         Ok(())
     }
 
@@ -228,7 +226,8 @@ impl PictureStore {
 
     /// Whether a number is that of a key in use: of one that some unit of the stream has.
     pub fn in_use(&self, key: KeyId) -> bool
-        ensures value { IsTrue result ↔ Contains self.now.numbers (Some key) }
+        ensures value { IsTrue result ↔ IsNumberInUse self.now key }
+        ensures listed { IsTrue result ↔ Contains self.now.numbers (Some key) }
         ensures one { AreOneToOne self.now self.now }
     {
         self.places.get(key).is_some()

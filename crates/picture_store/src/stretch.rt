@@ -1,7 +1,7 @@
 //! A stretch of units in the place of another.
 
 use base_types::Shared;
-use outcomes::Outcome;
+use hashed_units::HashedOutcome;
 use pictures::AuId;
 
 /// Units that stand in the place of those from one place of a stream on and below another: their ids, and what becomes of
@@ -11,5 +11,5 @@ pub struct Stretch {
     pub from: usize,
     pub to: usize,
     pub ids: Vec<AuId>,
-    pub outcomes: Vec<Shared<Outcome>>,
+    pub outcomes: Vec<Shared<HashedOutcome>>,
 }

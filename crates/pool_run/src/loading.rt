@@ -6,11 +6,12 @@ ghost use Rattle.decode_pool.specs.Seats.{IsLastOfOne};
 ghost use Rattle.script_run.specs.Running.{place_after};
 ghost use Rattle.pool_run.specs.Running.{InsertsAll, InsertsLast, Loads};
 
-use access_unit::{MOST_UNITS, ReadFault, Unit, read_units};
+use access_unit::{MOST_UNITS, ReadFault, read_units};
 use console_io::Source;
 use decode_pool::{Desk, Seat};
 use edit_engine::{EditRefused, Last, Place, ReadEdit, Receipt};
 use script_run::{LoadedLine, RefusedLine, RunFault, shared_file};
+use hashed_units::{HashedUnit, hash_units};
 use std::alloc::{AllocError, Global};
 use std::sync::Wait;
 use std::thread::Threads;
@@ -35,7 +36,10 @@ pub(crate) fn load<'a, R: Threads + Wait + Sync, S: Source>(
     let text = shared_file(alloc, path, source)?;
     let room = MOST_UNITS.saturating_sub(seat.last(rt, desk).units);
     match read_units(rt, alloc, &text, room) {
-        Ok(units) => Ok(insert_all(rt, alloc, desk, seat, units)?),
+        Ok(units) => {
+            let units = hash_units(rt, alloc, units)?;
+            Ok(insert_all(rt, alloc, desk, seat, units)?)
+        },
         Err(ReadFault::Refused(refusal)) => Ok(RefusalLine(refusal).to_string(alloc)?),
         Err(ReadFault::Memory) => Err(RunFault::Memory),
     }
@@ -47,7 +51,7 @@ fn insert_all<R: Wait>(
     alloc: Global,
     desk: &Desk,
     seat: &mut Seat,
-    units: Vec<Unit>,
+    units: Vec<HashedUnit>,
 ) -> Result<String, AllocError>
     ensures { IfOk result (λ lines.
         InsertsAll (length units.items) seat.old units.items (string_bytes lines) seat.new) }
@@ -67,7 +71,7 @@ fn insert_last<R: Wait>(
     alloc: Global,
     desk: &Desk,
     seat: &mut Seat,
-    unit: Unit,
+    unit: HashedUnit,
 ) -> Result<Receipt, EditRefused>
     ensures { InsertsLast seat.old unit result seat.new }
 {

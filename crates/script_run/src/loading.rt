@@ -11,10 +11,11 @@ ghost use Rattle.script_run.specs.Running.{end_of, InsertsAll, Loads};
 
 use crate::answers::{LoadedLine, RefusedLine};
 use crate::run_fault::RunFault;
-use access_unit::{MOST_UNITS, ReadFault, Unit, read_units};
+use access_unit::{MOST_UNITS, ReadFault, read_units};
 use bytes::Bytes;
 use console_io::Source;
 use edit_engine::{EditRefused, Place, ReadEdit, Receipt, Runner, Session};
+use hashed_units::{HashedUnit, hash_units};
 use std::alloc::{AllocError, Global};
 use std::thread::Threads;
 use unit_lines::RefusalLine;
@@ -37,7 +38,7 @@ pub fn load<'a, S: Source>(
     let text = shared_file(alloc, path, source)?;
     let room = MOST_UNITS.saturating_sub(runner.session().last().units);
     match read_units(threads, alloc, &text, room) {
-        Ok(units) => Ok(insert_all(alloc, units, runner)?),
+        Ok(units) => Ok(insert_all(alloc, hash_units(threads, alloc, units)?, runner)?),
         Err(ReadFault::Refused(refusal)) => Ok(RefusalLine(refusal).to_string(alloc)?),
         Err(ReadFault::Memory) => Err(RunFault::Memory),
     }
@@ -60,7 +61,7 @@ pub fn shared_file<'a, S: Source>(
 }
 
 /// Inserts the units after the last one, and gives the line that says how many, or why one is refused.
-fn insert_all(alloc: Global, units: Vec<Unit>, runner: &mut Runner) -> Result<String, AllocError>
+fn insert_all(alloc: Global, units: Vec<HashedUnit>, runner: &mut Runner) -> Result<String, AllocError>
     ensures { IfOk result (λ lines.
         InsertsAll (length units.items) runner.old units.items (string_bytes lines) runner.new) }
 {
@@ -74,7 +75,7 @@ fn insert_all(alloc: Global, units: Vec<Unit>, runner: &mut Runner) -> Result<St
 }
 
 /// Inserts a unit after the last one.
-fn insert_last(alloc: Global, unit: Unit, runner: &mut Runner) -> Result<Receipt, EditRefused>
+fn insert_last(alloc: Global, unit: HashedUnit, runner: &mut Runner) -> Result<Receipt, EditRefused>
     ensures { Replies runner.old (told.Edit
         (Insert (end_of runner.old.register.stream) (joined unit)))
         (replies.Edit result) runner.new }

@@ -14,8 +14,9 @@ use crate::edits::{Edit, Place};
 use crate::places::{place_of, start_of};
 use crate::read_edit::ReadEdit;
 use crate::refusals::EditRefused;
-use access_unit::{MOST_UNITS, Unit};
+use access_unit::MOST_UNITS;
 use base_types::Shared;
+use hashed_units::HashedUnit;
 use pictures::AuId;
 use std::alloc::{AllocError, Global};
 
@@ -27,7 +28,7 @@ use std::alloc::{AllocError, Global};
 /// split, and a deletion of a unit that isn't there, are never answered Memory.
 pub fn change_of(
     alloc: Global,
-    units: &[(AuId, Shared<Unit>)],
+    units: &[(AuId, Shared<HashedUnit>)],
     ids: &[AuId],
     given: u32,
     read: &ReadEdit,
@@ -48,11 +49,11 @@ pub fn change_of(
 /// The insertion of the unit of a text, under the next id.
 fn insertion(
     alloc: Global,
-    units: &[(AuId, Shared<Unit>)],
+    units: &[(AuId, Shared<HashedUnit>)],
     ids: &[AuId],
     given: u32,
     place: Place,
-    unit: &Shared<Unit>,
+    unit: &Shared<HashedUnit>,
 ) -> Result<AcceptedEdit, EditRefused>
     requires ids { ids.now ≡ ids_of units.now }
     requires different { AreDifferent ids.now }
@@ -85,7 +86,7 @@ fn insertion(
 /// The deletion of the unit of an id.
 fn deletion(
     alloc: Global,
-    units: &[(AuId, Shared<Unit>)],
+    units: &[(AuId, Shared<HashedUnit>)],
     ids: &[AuId],
     given: u32,
     id: AuId,
@@ -111,11 +112,11 @@ fn deletion(
 /// The replacement of the unit of an id by that of a text.
 fn replacement(
     alloc: Global,
-    units: &[(AuId, Shared<Unit>)],
+    units: &[(AuId, Shared<HashedUnit>)],
     ids: &[AuId],
     given: u32,
     id: AuId,
-    unit: &Shared<Unit>,
+    unit: &Shared<HashedUnit>,
 ) -> Result<AcceptedEdit, EditRefused>
     requires ids { ids.now ≡ ids_of units.now }
     requires different { AreDifferent ids.now }
@@ -139,8 +140,8 @@ fn replacement(
 fn one_unit(
     alloc: Global,
     id: AuId,
-    unit: &Shared<Unit>,
-) -> Result<Vec<(AuId, Shared<Unit>)>, AllocError>
+    unit: &Shared<HashedUnit>,
+) -> Result<Vec<(AuId, Shared<HashedUnit>)>, AllocError>
     ensures { IfOk result (λ units. units.items ≡ (id, unit.now) ∷ []) }
 {
     let mut units = Vec::with_capacity(alloc, 1)?;

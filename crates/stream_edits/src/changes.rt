@@ -4,8 +4,8 @@ ghost use Rattle.std.specs.Prelude.{◌≡◌, ◌+◌, ◌≤◌, length, vec_l
 ghost use Rattle.std.specs.Vec.{vec_capacity};
 ghost use Rattle.stream_edits.specs.Changes.{IsInside, at_of, rest_from, stream_after, units_of};
 
-use access_unit::Unit;
 use base_types::Shared;
+use hashed_units::HashedUnit;
 use pictures::AuId;
 use vec_ranges::replace_range;
 
@@ -15,7 +15,7 @@ use vec_ranges::replace_range;
 pub struct Change {
     pub(crate) at: usize,
     pub(crate) rest: usize,
-    pub(crate) units: Vec<(AuId, Shared<Unit>)>,
+    pub(crate) units: Vec<(AuId, Shared<HashedUnit>)>,
 }
 
 // By hand, so that whoever drops one is proved over one call.
@@ -31,7 +31,7 @@ impl Drop for Change {
 
 impl Change {
     /// The change that puts these units in place of those from `at` on and below `rest`.
-    pub fn new(at: usize, rest: usize, units: Vec<(AuId, Shared<Unit>)>) -> Change
+    pub fn new(at: usize, rest: usize, units: Vec<(AuId, Shared<HashedUnit>)>) -> Change
         ensures at { at_of result ≡ at }
         ensures rest { rest_from result ≡ rest }
         ensures units { units_of result ≡ units.items }
@@ -54,14 +54,14 @@ impl Change {
     }
 
     /// The units that it brings.
-    pub fn units(&self) -> &[(AuId, Shared<Unit>)]
+    pub fn units(&self) -> &[(AuId, Shared<HashedUnit>)]
         ensures { result.now ≡ units_of self.now }
     {
         self.units.as_slice()
     }
 
     /// Makes the change, for which there is room. Takes no memory.
-    pub fn make(self, units: &mut Vec<(AuId, Shared<Unit>)>)
+    pub fn make(self, units: &mut Vec<(AuId, Shared<HashedUnit>)>)
         requires inside { IsInside self units.old.items }
         requires room { vec_len units.old + length (units_of self) ≤ vec_capacity units.old }
         ensures { units.new.items ≡ stream_after self units.old.items }

@@ -17,8 +17,8 @@ use crate::changes::Change;
 use crate::narrowing::{common_front, common_rest};
 use crate::read_edit::ReadEdit;
 use crate::refusals::EditRefused;
-use access_unit::Unit;
 use base_types::Shared;
+use hashed_units::HashedUnit;
 use pictures::AuId;
 use std::alloc::{AllocError, Global};
 use vec_ranges::replace_range;
@@ -26,7 +26,7 @@ use vec_ranges::replace_range;
 /// A stream beside the one that is kept, on which the edits of a group are made one after the other.
 #[derive(Debug)]
 pub(crate) struct Draft {
-    pub(crate) units: Vec<(AuId, Shared<Unit>)>,
+    pub(crate) units: Vec<(AuId, Shared<HashedUnit>)>,
     pub(crate) ids: Vec<AuId>,
     pub(crate) given: u32,
     /// The id that each edit was about.
@@ -54,7 +54,7 @@ impl Draft {
     /// The stream as it is, before any edit. Its units are shared.
     pub(crate) fn new(
         alloc: Global,
-        units: &[(AuId, Shared<Unit>)],
+        units: &[(AuId, Shared<HashedUnit>)],
         ids: &[AuId],
         given: u32,
     ) -> Result<Draft, AllocError>
@@ -106,7 +106,7 @@ impl Draft {
     }
 
     /// The change from the stream as it was to this one.
-    pub(crate) fn into_change(self, units: &[(AuId, Shared<Unit>)]) -> AcceptedGroup
+    pub(crate) fn into_change(self, units: &[(AuId, Shared<HashedUnit>)]) -> AcceptedGroup
         requires front { IsFront units.now self.units.items self.front }
         requires rest { IsRest units.now self.units.items self.rest }
         ensures { (given : ℕ) (edits : List EditValue)
@@ -139,10 +139,10 @@ impl Draft {
 
 /// The units from a place on and below another.
 fn between(
-    mut units: Vec<(AuId, Shared<Unit>)>,
+    mut units: Vec<(AuId, Shared<HashedUnit>)>,
     from: usize,
     to: usize,
-) -> Vec<(AuId, Shared<Unit>)>
+) -> Vec<(AuId, Shared<HashedUnit>)>
     requires ordered { from ≤ to }
     requires inside { to ≤ length units.items }
     ensures { result.items ≡ drop from (take to units.items) }
@@ -155,8 +155,8 @@ fn between(
 /// The units, with one owner more of each.
 fn shares_of(
     alloc: Global,
-    units: &[(AuId, Shared<Unit>)],
-) -> Result<Vec<(AuId, Shared<Unit>)>, AllocError>
+    units: &[(AuId, Shared<HashedUnit>)],
+) -> Result<Vec<(AuId, Shared<HashedUnit>)>, AllocError>
     ensures { IfOk result (λ shares. shares.items ≡ units.now) }
 {
     let mut shares = Vec::with_capacity(alloc, units.len())?;
@@ -167,7 +167,7 @@ fn shares_of(
 }
 
 /// The ids of units.
-fn ids_in(alloc: Global, units: &[(AuId, Shared<Unit>)]) -> Result<Vec<AuId>, AllocError>
+fn ids_in(alloc: Global, units: &[(AuId, Shared<HashedUnit>)]) -> Result<Vec<AuId>, AllocError>
     ensures { IfOk result (λ ids. ids.items ≡ ids_of units.now) }
 {
     let mut ids = Vec::with_capacity(alloc, units.len())?;

@@ -12,8 +12,8 @@ use crate::draft::Draft;
 use crate::group_refused::GroupRefused;
 use crate::read_edit::ReadEdit;
 use crate::read_group::ReadGroup;
-use access_unit::Unit;
 use base_types::Shared;
+use hashed_units::HashedUnit;
 use pictures::AuId;
 use std::alloc::Global;
 
@@ -23,7 +23,7 @@ use std::alloc::Global;
 /// refused, the whole group is, and so are no ids given.
 pub fn change_of_group(
     alloc: Global,
-    units: &[(AuId, Shared<Unit>)],
+    units: &[(AuId, Shared<HashedUnit>)],
     ids: &[AuId],
     given: u32,
     group: &ReadGroup,
@@ -45,7 +45,7 @@ pub fn change_of_group(
 /// The stream under these edits, made on it one after the other, or the refusal of the first that is refused.
 fn draft_of(
     alloc: Global,
-    units: &[(AuId, Shared<Unit>)],
+    units: &[(AuId, Shared<HashedUnit>)],
     ids: &[AuId],
     given: u32,
     read: &[ReadEdit],

@@ -3,14 +3,14 @@
 ghost use Rattle.std.specs.Prelude.{◌≡◌, ◌↔◌, ◌≤◌, length, IsTrue};
 ghost use Rattle.stream_edits.specs.Common.{IsFront, IsLongestFront, IsLongestRest, IsRest};
 
-use access_unit::Unit;
 use base_types::Shared;
+use hashed_units::HashedUnit;
 use pictures::AuId;
 
 /// How many units at the front of both are the same, where so many are known to be.
 pub(crate) fn common_front(
-    old: &[(AuId, Shared<Unit>)],
-    new: &[(AuId, Shared<Unit>)],
+    old: &[(AuId, Shared<HashedUnit>)],
+    new: &[(AuId, Shared<HashedUnit>)],
     known: usize,
 ) -> usize
     requires { IsFront old.now new.now known }
@@ -27,8 +27,8 @@ pub(crate) fn common_front(
 
 /// How many units at the end of both are the same, behind so many at the front, where so many are known to be.
 pub(crate) fn common_rest(
-    old: &[(AuId, Shared<Unit>)],
-    new: &[(AuId, Shared<Unit>)],
+    old: &[(AuId, Shared<HashedUnit>)],
+    new: &[(AuId, Shared<HashedUnit>)],
     front: usize,
     known: usize,
 ) -> usize
@@ -47,17 +47,17 @@ pub(crate) fn common_rest(
 }
 
 /// Whether both are the same unit under the same id.
-fn is_same(a: &(AuId, Shared<Unit>), b: &(AuId, Shared<Unit>)) -> bool
+fn is_same(a: &(AuId, Shared<HashedUnit>), b: &(AuId, Shared<HashedUnit>)) -> bool
     ensures { IsTrue result ↔ (a.now ≡ b.now) }
 {
     a.0 == b.0 && same_nals(&a.1, &b.1)
 }
 
 /// Whether both have the same NAL units.
-fn same_nals(a: &Unit, b: &Unit) -> bool
+fn same_nals(a: &HashedUnit, b: &HashedUnit) -> bool
     ensures { IsTrue result ↔ (a.now ≡ b.now) }
 {
-    let (a, b) = (a.nals(), b.nals());
+    let (a, b) = (a.unit().nals(), b.unit().nals());
     if a.len() != b.len() {
         return false;
     }

@@ -9,9 +9,10 @@ ghost use Rattle.stream_edits.specs.Refusals.{IsRefused, IsRefusedText};
 
 use crate::edits::{Edit, Place};
 use crate::refusals::EditRefused;
-use access_unit::{Unit, read_shared};
+use access_unit::read_shared;
 use base_types::Shared;
 use bytes::Bytes;
+use hashed_units::HashedUnit;
 use std::alloc::{AllocError, Global};
 use std::marker::Model;
 
@@ -19,7 +20,7 @@ use std::marker::Model;
 #[derive(Debug)]
 pub struct ReadEdit {
     pub(crate) edit: Edit,
-    pub(crate) unit: Option<Shared<Unit>>,
+    pub(crate) unit: Option<Shared<HashedUnit>>,
 }
 
 // By hand, so that whoever drops one is proved over one call.
@@ -43,11 +44,11 @@ impl Model for ReadEdit {
 impl ReadEdit {
     /// The insertion of a unit, whose text is that of its NAL units joined. No byte of a lone one is copied, and nothing is
     /// read.
-    pub fn insertion(alloc: Global, place: Place, unit: Unit) -> Result<ReadEdit, AllocError>
+    pub fn insertion(alloc: Global, place: Place, unit: HashedUnit) -> Result<ReadEdit, AllocError>
         ensures ok { IfOk result (λ read. read ≡ Insert place (joined unit)) }
         ensures accepted { IsAccepted (joined unit) unit }
     {
-        let text = unit.text(alloc)?;
+        let text = unit.unit().text(alloc)?;
         Ok(ReadEdit {
             edit: Edit::Insert(place, text),
             unit: Some(Shared::new(alloc, unit)?),
@@ -96,11 +97,11 @@ impl Edit {
     }
 }
 
-/// The unit of the text of an edit.
-fn read_text(alloc: Global, text: &Bytes) -> Result<Shared<Unit>, EditRefused>
+/// The unit of the text of an edit. Its slices' bytes are hashed here, once.
+fn read_text(alloc: Global, text: &Bytes) -> Result<Shared<HashedUnit>, EditRefused>
     ensures ok { IfOk result (IsAccepted text.now) }
     ensures err { IfErr result (IsRefusedText text.now) }
 {
     let unit = read_shared(alloc, text)?;
-    Ok(Shared::new(alloc, unit)?)
+    Ok(Shared::new(alloc, HashedUnit::of(unit))?)
 }

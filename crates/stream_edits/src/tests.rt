@@ -6,9 +6,10 @@ ghost use Rattle.stream_edits.specs.Ids.{AreDifferent, HasIds};
 ghost use Rattle.stream_edits.specs.Streams.{ids_of};
 
 use crate::{Edit, EditRefused, Place, change_of};
-use access_unit::{Unit, read_shared};
+use access_unit::read_shared;
 use base_types::Shared;
 use bytes::Bytes;
+use hashed_units::HashedUnit;
 use pictures::AuId;
 use std::alloc::{AllocError, Global};
 use std::process::Abort;
@@ -18,10 +19,10 @@ use std::test::Fail;
 static I: [u8; 7] = [0, 0, 1, 0x65, 0x88, 0x84, 0x80];
 
 /// Units, and their ids.
-type Units = (Vec<(AuId, Shared<Unit>)>, Vec<AuId>);
+type Units = (Vec<(AuId, Shared<HashedUnit>)>, Vec<AuId>);
 
 /// Adds a unit under the id after those that were given.
-fn add(units: &mut Units, given: u32, unit: Shared<Unit>) -> Result<(), AllocError>
+fn add(units: &mut Units, given: u32, unit: Shared<HashedUnit>) -> Result<(), AllocError>
     requires below { given + 1 < 2 ^ 32 }
     requires different { HasIds (record { given = given; stream = units.old.0.items }) }
     requires same { units.old.1.items ≡ ids_of units.old.0.items }
@@ -44,7 +45,7 @@ fn equal_units(rt: &impl Abort, alloc: Global, count: u32) -> Result<Units, Allo
     let Ok(unit) = read_shared(alloc, &Bytes::from_static(&I)) else {
         panic!(rt; "the text is no unit");
     };
-    let unit = Shared::new(alloc, unit)?;
+    let unit = Shared::new(alloc, HashedUnit::of(unit))?;
     let mut units = (Vec::new(alloc), Vec::new(alloc));
     for given in 0..count {
         add(&mut units, given, unit.clone()?)?;

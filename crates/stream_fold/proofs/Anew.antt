@@ -1,5 +1,5 @@
 -- What a change changes is folded anew: how it begins, where it ends, and how many steps it makes.
-use Rattle.std.proofs.Common.{◌≡◌, ℕ, ◌+◌, ◌-◌, ◌<◌, ◌≤◌, Bool, true, false, List, ◌++◌, length, take, drop, Contains, Option, None, Some, IfSome, Result, Ok, Err, IfOk, refl, ap, sym, ◌∙◌, subst, arith, inl, inr, append_assoc, length-take, length-drop, eqb}
+use Rattle.std.proofs.Common.{◌≡◌, ◌⊎◌, ℕ, ◌+◌, ◌-◌, ◌<◌, ◌≤◌, Bool, true, false, List, ◌++◌, length, take, drop, Contains, Option, None, Some, IfSome, Result, Ok, Err, IfOk, refl, ap, sym, ◌∙◌, subst, arith, inl, inr, append_assoc, length-take, length-drop, eqb}
 use Rattle.std.specs.Prelude.{nat_eq, IsSome}
 use Rattle.std.specs.Map.{keys_of, lookup}
 use Rattle.std.specs.Cmp.{nat_eq_equiv}
@@ -17,7 +17,7 @@ use Rattle.stream_fold.specs.declared.refold.Refold.{Refold}
 use Rattle.stream_fold.specs.Streams.{state_past}
 use Rattle.stream_edits.specs.Changes.{IsInside, at_of, units_of, rest_from, stream_after}
 use Rattle.stream_fold.specs.Changes.{place_after}
-use Rattle.stream_fold.specs.Meeting.{AgreeAt, IsMeeting}
+use Rattle.stream_fold.specs.Meeting.{AgreeAt, IsCounted, IsMeeting}
 use Rattle.stream_fold.specs.Kept.{IsFolded, spacing}
 use Rattle.stream_fold.specs.Refolding.{Begins, IsRefolded, GoesOn, IsStart, CatchesUp, HasCaughtUp, IsMadeAnew, end_of}
 use Rattle.stream_fold.proofs.Fronts.{take_more_of}
@@ -267,6 +267,30 @@ module _ (change : Change) (stream : Stream) (outcomes : List Outcome) (states :
     | inr all ↦ omega (arith, steps_are, all, start.close, start.before, bounds.0, bounds.1)
   ]
 
+  -- where it ends the folds agree, or it ends with the stream
+  meets_at : (found : Option ℕ) → IfSome found (λ to. (rest_from change < to) × (to ≤ length stream) × IsStoredAt states to fold.state)
+      → IsRefolded (take (place_after change (end_of stream found)) (stream_after change stream)) fold
+      → AgreeAt change stream (end_of stream found) ⊎ (end_of stream found ≡ length stream)
+  meets_at None is done = inr refl
+  meets_at (Some to) is done = inl (sym (folded.past to fold.state is.2).is ∙ done.state_is)
+
+  -- its steps are those of the units from where it begins up to there
+  counted : IsCounted change stream fold.steps
+  counted =
+      let sum : to ≡ rest_from change + (to - rest_from change) = omega (arith, bounds.0) in
+      record {
+        front = at_of change - first.from;
+        count = to - rest_from change;
+        before = omega arith;
+        close = omega (arith, start.close, start.before);
+        meets = record {
+          inside = omega (arith, bounds.0, bounds.1);
+          meet =
+              subst (λ (n : ℕ). AgreeAt change stream n ⊎ (n ≡ length stream)) sum (meets_at met behind.met_at refolded);
+        };
+        exact = omega (arith, steps_are, start.before);
+      }
+
   pub made_anew : IsMadeAnew change stream states fold met
   made_anew = record {
     before = omega (arith, from_is, start.before);
@@ -275,4 +299,5 @@ module _ (change : Change) (stream : Stream) (outcomes : List Outcome) (states :
     refolded = refolded;
     met_at = behind.met_at;
     few = few;
+    counted = counted;
   }

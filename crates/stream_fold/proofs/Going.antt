@@ -1,5 +1,5 @@
 -- A fold that goes on from a stored state.
-use Rattle.std.proofs.Common.{◌≡◌, ℕ, ◌+◌, ◌<◌, ◌≤◌, List, [], ◌∷◌, ◌++◌, length, take, Contains, refl, ap, sym, ◌∙◌, subst, arith, append_assoc, length-append, inl, inr}
+use Rattle.std.proofs.Common.{◌≡◌, ℕ, ◌+◌, ◌-◌, ◌<◌, ◌≤◌, List, [], ◌∷◌, ◌++◌, length, take, Contains, refl, ap, sym, ◌∙◌, subst, arith, append_assoc, length-append, inl, inr}
 use Rattle.std.proofs.Math.Seq.{take-length}
 use Rattle.std.proofs.lemmas.Bool.{cases_lt}
 use Rattle.std.proofs.lemmas.List.{append-nil, map-append, take-append-le, length-take-le}
@@ -15,7 +15,7 @@ use Rattle.checkpoints.proofs.Shifts.{Contains_head}
 use Rattle.stream_fold.specs.declared.refold.Refold.{Refold}
 use Rattle.stream_fold.specs.Streams.{state_past}
 use Rattle.stream_fold.specs.Kept.{spacing}
-use Rattle.stream_fold.specs.Refolding.{Begins, IsNew, IsRefolded, GoesOn}
+use Rattle.stream_fold.specs.Refolding.{AreApart, Begins, IsNew, IsRefolded, GoesOn}
 use Rattle.stream_fold.proofs.Folds.{length-outcomes_from}
 
 -- what is so far is the whole front
@@ -42,6 +42,7 @@ begins stream from kept fold is le within =
       counted = omega (arith, is.from_is, is.no_steps, long);
       states_are = rw is.no_states (All-nil (IsNew (take from stream) fold.kept));
       gap = omega (arith, is.kept_is, is.since_is, long);
+      apart = λ end ends. rw is.no_states (omega (arith, ends, is.since_is, is.kept_is, long));
       near = λ k low below. (fold.kept, Contains_head fold.kept (keys_of fold.states.items), low, omega (arith, is.kept_is, is.since_is, long, below));
     }
 
@@ -65,6 +66,12 @@ GoesOn-append old between new units others first second = record {
       subst (λ (stream : Stream). IsRefolded stream new) (append_assoc front units others)
       (second.refolded (front ++ units) (first.refolded front is));
 }
+
+-- places that are apart, and one more
+apart_push : (from : ℕ) (places : List ℕ) (end place : ℕ) → AreApart from places end → end + spacing ≤ place
+    → AreApart from (places ++ place ∷ []) place
+apart_push from [] end place are more = (omega (arith, are, more), omega arith)
+apart_push from (first ∷ places) end place are more = (are.0, apart_push first places end place are.1 more)
 
 -- one more place is near where it was
 near_push : (kept : ℕ) (states : List (ℕ × FoldState)) (e : ℕ × FoldState) (k : ℕ) → HasNear spacing (kept ∷ keys_of states) k
@@ -109,6 +116,13 @@ module _ (old new : Refold) (from_is : new.from ≡ old.from) (kept_is : new.kep
         counted = omega (arith, from_is, steps_are, is.counted);
         states_are = rw (kept_is, states_are) (All-push (IsNew front old.kept) old.states.items e is.states_are added);
         gap = omega (arith, kept_is, empty, is.gap);
+        apart = λ end ends.
+            let places = keys_of old.states.items in
+            let more : AreApart old.kept (places ++ old.place ∷ []) old.place =
+            apart_push old.kept places (length front - spacing) old.place
+            (is.apart (length front - spacing) (omega (arith, full, is.gap))) (omega (arith, full, is.gap, is.place_is)) in
+            rw (kept_is, states_are, map-append (λ (e : ℕ × FoldState). e.0) old.states.items (e ∷ []))
+            (subst (λ (n : ℕ). AreApart old.kept (places ++ old.place ∷ []) n) (omega (arith, ends, empty, is.place_is)) more);
         near = λ k low below. rw (kept_is, states_are) (elim (cases_lt k old.place) [
           | inl before ↦ near_push old.kept old.states.items e k (is.near k (omega (arith, low, kept_is)) (omega (arith, before, full, is.place_is)))
           | inr past ↦ near_new old.kept old.states.items e k past (omega (arith, below, empty, is.place_is))
@@ -169,6 +183,7 @@ module _ (old new : Refold) (id : ℕ) (unit : List (List ℕ)) (from_is : new.f
         counted = omega (arith, from_is, steps_are, is.counted, long);
         states_are = rw (kept_is, states_are) (All-weaker (IsNew front old.kept) (IsNew (front ++ more) old.kept) (still_new front) old.states.items is.states_are);
         gap = omega (arith, kept_is, since_is, is.gap, long);
+        apart = λ end ends. rw (kept_is, states_are) (is.apart end (omega (arith, ends, since_is, long)));
         near = λ k low below. rw (kept_is, states_are) (is.near k (omega (arith, low, kept_is)) (omega (arith, below, since_is, long)));
       }
 

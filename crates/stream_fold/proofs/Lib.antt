@@ -6,3 +6,4 @@ mod Storage
 mod Anew
 mod Committed
 mod Stretch
+mod Digests

@@ -11,7 +11,7 @@ use Rattle.stream_edits.specs.declared.changes.Change.{Change}
 use Rattle.stream_fold.specs.declared.refold.Refold.{Refold}
 use Rattle.stream_edits.specs.Changes.{at_of, stream_after, rest_from, units_of}
 use Rattle.stream_fold.specs.Changes.{place_after}
-use Rattle.stream_fold.specs.Meeting.{IsMeeting}
+use Rattle.stream_fold.specs.Meeting.{IsCounted, IsMeeting}
 use Rattle.stream_fold.specs.Kept.{IsPast, spacing}
 
 -- it begins at a place in this state
@@ -30,6 +30,11 @@ pub record IsNew (front : Stream) (kept : ℕ) (e : ℕ × FoldState) : Type 0 w
   pub above : kept < e.0
   pub past : IsPast front e.0 e.1
 
+-- the places rise, each by the spacing at least from the one before it, the first from this one, and none is past an end
+abbrev pub AreApart : ℕ → List ℕ → ℕ → Type 0
+AreApart from [] end = from ≤ end
+AreApart from (place ∷ places) end = (from + spacing ≤ place) × AreApart place places end
+
 -- it has come past the front of a stream
 pub record IsRefolded (front : Stream) (fold : Refold) : Type 0 where
   pub place_is : fold.place ≡ length front
@@ -39,6 +44,7 @@ pub record IsRefolded (front : Stream) (fold : Refold) : Type 0 where
   pub counted : fold.steps + fold.from ≡ length front
   pub states_are : All (IsNew front fold.kept) fold.states.items
   pub gap : fold.kept + fold.since ≤ length front
+  pub apart : (end : ℕ) → end + fold.since ≡ length front → AreApart fold.kept (keys_of fold.states.items) end
   pub near : (k : ℕ) → fold.kept ≤ k → k + fold.since < length front + spacing
       → HasNear spacing (fold.kept ∷ keys_of fold.states.items) k
 
@@ -85,3 +91,4 @@ pub record IsMadeAnew (change : Change) (stream : Stream) (states : List (ℕ ×
   pub refolded : IsRefolded (take (place_after change (end_of stream met)) (stream_after change stream)) fold
   pub met_at : IfSome met (λ to. (rest_from change < to) × (to ≤ length stream) × IsStoredAt states to fold.state)
   pub few : (count : ℕ) → IsMeeting change stream count → fold.steps ≤ length (units_of change) + count + 63
+  pub counted : IsCounted change stream fold.steps

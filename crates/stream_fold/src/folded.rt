@@ -5,15 +5,14 @@ ghost use Rattle.request_core.specs.Fold.{outcomes_of};
 ghost use Rattle.checkpoints.specs.Stored.{IsStoredAt};
 ghost use Rattle.stream_edits.specs.Changes.{IsInside, at_of, rest_from, stream_after, units_of};
 ghost use Rattle.stream_fold.specs.Kept.{ArePast};
-ghost use Rattle.stream_fold.specs.Meeting.{IsMeeting};
+ghost use Rattle.stream_fold.specs.Meeting.{IsCounted, IsMeeting};
 
 use crate::changes::length_change;
 use crate::refold::Refold;
 use crate::storing::{keep_end, store_anew};
-use access_unit::Unit;
 use base_types::Shared;
 use checkpoints::Checkpoints;
-use outcomes::Outcome;
+use hashed_units::{HashedOutcome, HashedUnit};
 use pictures::AuId;
 use request_core::State;
 use std::alloc::{AllocError, Global};
@@ -24,8 +23,8 @@ use vec_ranges::replace_range;
 /// A stream of access units under their ids, with what becomes of each, and the states of the fold past some of its places.
 #[derive(Debug)]
 pub struct Folded {
-    units: Vec<(AuId, Shared<Unit>)>,
-    outcomes: Vec<Shared<Outcome>>,
+    units: Vec<(AuId, Shared<HashedUnit>)>,
+    outcomes: Vec<Shared<HashedOutcome>>,
     stored: Checkpoints<State>,
     end: State,
 }
@@ -96,7 +95,7 @@ impl Prepared {
     }
 
     /// What becomes of the units of the stretch after the change.
-    pub fn outcomes(&self) -> &[Shared<Outcome>]
+    pub fn outcomes(&self) -> &[Shared<HashedOutcome>]
         ensures { result.now ≡ outcomes_in self.now }
     {
         self.fold.outcomes.as_slice()
@@ -120,14 +119,14 @@ impl Folded {
     }
 
     /// The units in decoding order, each with its id.
-    pub fn units(&self) -> &[(AuId, Shared<Unit>)]
+    pub fn units(&self) -> &[(AuId, Shared<HashedUnit>)]
         ensures { result.now ≡ self.now.stream }
     {
         self.units.as_slice()
     }
 
     /// What becomes of each unit, in the same order.
-    pub fn outcomes(&self) -> &[Shared<Outcome>]
+    pub fn outcomes(&self) -> &[Shared<HashedOutcome>]
         ensures { result.now ≡ outcomes_of self.now.stream }
     {
         self.outcomes.as_slice()
@@ -152,6 +151,8 @@ impl Folded {
         ensures few { IfOk result (λ prepared. (count : ℕ)
             → IsMeeting change self.old.stream count
             → steps_in prepared ≤ length (units_of change) + count + 63) }
+        ensures counted { IfOk result
+            (λ prepared. IsCounted change self.old.stream (steps_in prepared)) }
     {
         let (fold, met) = self.refold(alloc, &change)?;
         self.units.reserve(change.units().len())?;

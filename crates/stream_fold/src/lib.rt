@@ -7,6 +7,7 @@
 
 mod changes;
 mod folded;
+mod hashed_step;
 mod refold;
 mod storing;
 

@@ -3,11 +3,11 @@
 ghost use Rattle.std.specs.Prelude.{◌≡◌, ◌+◌, ◌-◌, ◌^◌, ◌<◌, ◌≤◌, ◌∷◌, ◌++◌, [], length, IfOk, OnOk};
 ghost use Rattle.request_core.specs.Agreement.{Stream};
 
-use access_unit::Unit;
+use crate::hashed_step::hashed_step;
 use base_types::Shared;
-use outcomes::Outcome;
+use hashed_units::{HashedOutcome, HashedUnit};
 use pictures::AuId;
-use request_core::{State, Steps, step};
+use request_core::{State, Steps};
 use std::alloc::{AllocError, Global};
 
 /// How far stored states stand apart at most, in units.
@@ -28,7 +28,7 @@ pub(crate) struct Refold {
     /// The states to be stored, with their places.
     pub(crate) states: Vec<(usize, State)>,
     /// What becomes of the units from where it began.
-    pub(crate) outcomes: Vec<Shared<Outcome>>,
+    pub(crate) outcomes: Vec<Shared<HashedOutcome>>,
     pub(crate) steps: Steps,
     ghost near: { since ≤ 32 },
     ghost counted: { steps ≤ place },
@@ -64,7 +64,7 @@ impl Refold {
     pub(crate) fn go_over(
         &mut self,
         alloc: Global,
-        units: &[(AuId, Shared<Unit>)],
+        units: &[(AuId, Shared<HashedUnit>)],
     ) -> Result<(), AllocError>
         requires { self.old.place + length units.now < 2 ^ 64 }
         ensures { OnOk result (GoesOn self.old units.now self.new) }
@@ -76,7 +76,12 @@ impl Refold {
     }
 
     /// Goes on over one unit more.
-    pub(crate) fn go_on(&mut self, alloc: Global, id: AuId, unit: &Unit) -> Result<(), AllocError>
+    pub(crate) fn go_on(
+        &mut self,
+        alloc: Global,
+        id: AuId,
+        unit: &HashedUnit,
+    ) -> Result<(), AllocError>
         requires { self.old.place + 1 < 2 ^ 64 }
         ensures { OnOk result (GoesOn self.old ((id, unit.now) ∷ []) self.new) }
     {
@@ -97,12 +102,12 @@ impl Refold {
     }
 
     /// Makes the step of one unit.
-    fn make_step(&mut self, alloc: Global, id: AuId, unit: &Unit) -> Result<(), AllocError>
+    fn make_step(&mut self, alloc: Global, id: AuId, unit: &HashedUnit) -> Result<(), AllocError>
         requires near { self.old.since < 32 }
         requires short { self.old.place + 1 < 2 ^ 64 }
         ensures { OnOk result (GoesOn self.old ((id, unit.now) ∷ []) self.new) }
     {
-        let (state, outcome) = step(alloc, &self.state, id, unit, &mut self.steps)?;
+        let (state, outcome) = hashed_step(alloc, &self.state, id, unit, &mut self.steps)?;
         self.state = state;
         self.place += 1;
         self.since += 1;

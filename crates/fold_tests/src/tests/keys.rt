@@ -5,6 +5,7 @@ ghost use Rattle.std.specs.Prelude.{replicate};
 use access_unit::Unit;
 use dep_keys::{Fingerprint, KeyId, Keys, Node, Sha256Fingerprint};
 use outcomes::Outcome;
+use hashed_units::SlicesDigest;
 use picture_keys::{KeyNumbers, Works, node_of};
 use pictures::AuId;
 use request_core::scratch;
@@ -83,7 +84,8 @@ fn key_of<F: Fingerprint<Works>>(
     let Outcome::Plan(plan) = outcome else {
         return Ok(None);
     };
-    let node = node_of(rt.alloc(), numbers, &plan.requests)?;
+    let digest = SlicesDigest::of_requests(plan.requests.as_slice());
+    let node = node_of(rt.alloc(), numbers, &plan.requests, digest)?;
     assert!(rt; keys.are_live(node.entries()));
     let key = keys.intern(node)?;
     numbers.put(id, key)?;

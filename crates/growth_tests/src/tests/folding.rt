@@ -6,6 +6,7 @@ use super::streams::{Planned, STREAMS, Stream, planned};
 use access_unit::{Unit, read_unit};
 use dep_keys::{KeyId, Keys, Sha256Fingerprint};
 use outcomes::{Outcome, Requests};
+use hashed_units::SlicesDigest;
 use picture_keys::{KeyNumbers, Works, node_of};
 use pictures::AuId;
 use request_core::{State, Steps, step};
@@ -32,7 +33,8 @@ fn intern(
     numbers: &mut KeyNumbers<'_>,
     requests: &Requests,
 ) -> Result<KeyId, AllocError> {
-    let node = node_of(alloc, numbers, requests)?;
+    let digest = SlicesDigest::of_requests(requests.as_slice());
+    let node = node_of(alloc, numbers, requests, digest)?;
     if keys.are_live(node.entries()) {
         keys.intern(node)
     } else {

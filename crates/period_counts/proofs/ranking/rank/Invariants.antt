@@ -1,11 +1,13 @@
 use Rattle.std.proofs.Common.{◌+◌, ◌-◌, ◌≤◌, length}
 use Rattle.period_counts.proofs.Halves.{IsNarrowed}
+use Rattle.period_counts.proofs.Logarithms.{IsOnWay}
 use Rattle.period_counts.proofs.ranking.rank.Given as goal
 
 abbrev pub invariant-loop-low : goal.invariant-loop-low
 invariant-loop-low l = record {
   narrowed : IsNarrowed l.sorted l.key l.low l.high;
   few : l.comparisons + l.high ≤ l.initial.comparisons + length l.sorted + l.low;
+  way : IsOnWay (length l.sorted) (l.high - l.low) l.initial.comparisons l.comparisons;
 }
 
 abbrev pub decreases-loop-low : goal.decreases-loop-low

@@ -11,7 +11,7 @@ loop-at-preserved c =
     let yes : IsTrue c.needs_none.result = cc in (
       omega (arith, c.loop-at-test.true),
       All-more needs found c.loop-at.at c.index-found-at.result c.loop-at-test.true c.loop-at.invariant.1
-          (subst needs c.index-found-at.is (c.needs_none.ensures yes)),
+          (subst needs c.index-found-at.is (c.needs_none.ensures.0 yes)),
     )
 
 pub returns : goal.returns

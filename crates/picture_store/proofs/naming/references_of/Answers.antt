@@ -2,7 +2,7 @@ use Rattle.std.proofs.Common.{◌≡◌, ◌<◌, Some, IsSome, slice_get, lengt
 use Rattle.std.proofs.lemmas.Option.{slice_get_within}
 use Rattle.h264_controls.specs.References.{timestamp}
 use Rattle.stand_in_device.specs.Inputs.{picture_at}
-use Rattle.picture_store.proofs.Referring.{covered_at, still_there, now_there, shown_more}
+use Rattle.picture_store.proofs.Referring.{covered_at, once_more, still_there, now_there, shown_more}
 use Rattle.picture_store.proofs.naming.references_of.Goals as goal
 
 pub add_named-requires : goal.add_named-requires
@@ -28,6 +28,7 @@ loop-at-preserved c =
       shown = λ shown are.
           shown_more shown places units c.args.entries.now are at unit entry c.loop-at-test.true (omega arith) c.index-units-at.is
           c.index-entries-at.is old new c.in_ok-add_named.ensures.items (c.loop-at.invariant.shown shown are);
+      once = once_more old new places unit entry c.in_ok-add_named.ensures.items c.loop-at.invariant.once;
     }
 
 pub returns-clause-there : goal.returns-clause-there

@@ -1,4 +1,4 @@
-use Rattle.std.proofs.Common.{◌≡◌, ◌∙◌, ◌++◌, ◌∷◌, [], All, ap, sym, subst, take, arith}
+use Rattle.std.proofs.Common.{refl, ◌≡◌, ◌∙◌, ◌++◌, ◌∷◌, [], All, ap, sym, subst, take, arith}
 use Rattle.std.proofs.lemmas.Grind.{common_steps}
 use Rattle.std.proofs.lemmas.List.{take_all, take_more}
 use Rattle.std.proofs.lemmas.List.Elements.{All-push}
@@ -29,6 +29,26 @@ loop-frame-preserved c =
     }
 
 pub returns-clause-ok : goal.returns-clause-ok
-returns-clause-ok c = λ yes.
-    subst (All (λ (frame : Frame). number_at c.args.before.now frame.id ≡ number_at c.args.after.now.numbers frame.id))
-    (take_all c.loop-frame.frame-index c.args.frames.now c.loop-frame-test.false) c.loop-frame.invariant.agree
+returns-clause-ok c = (
+  λ yes.
+      subst (All (λ (frame : Frame). number_at c.args.before.now frame.id ≡ number_at c.args.after.now.numbers frame.id))
+      (take_all c.loop-frame.frame-index c.args.frames.now c.loop-frame-test.false) c.loop-frame.invariant.agree,
+  λ all. refl,
+)
+
+pub returns-then-ne-clause-ok : goal.returns-then-ne-clause-ok
+returns-then-ne-clause-ok c =
+    let frame = c.frame-item.result in
+    let differ : All (λ (frame : Frame). number_at c.args.before.now frame.id ≡ number_at c.args.after.now.numbers frame.id) c.args.frames.now → ⊥ =
+    λ all.
+    let here : number_at c.args.before.now frame.id ≡ number_at c.args.after.now.numbers frame.id =
+    subst (λ (frame : Frame). number_at c.args.before.now frame.id ≡ number_at c.args.after.now.numbers frame.id)
+    (sym c.frame-item.is) (all c.loop-frame.frame-index frame c.loop-frame-test.true) in
+    let same : c.in_ok-get.field-0 ≡ c.in_ok-number_at.field-0 =
+    c.in_ok-get.ensures.ok
+    ∙ (ap (λ numbers. number_at numbers frame.id) c.loop-frame.invariant.before
+    ∙ (here
+    ∙ (ap (λ (units : UnitNumbers). number_at units.numbers frame.id) (sym c.loop-frame.invariant.after)
+    ∙ sym c.in_ok-number_at.ensures.ok))) in
+    grind (arith, common_steps, c.ne.ensures, c.if-ne.true, same) in
+    (λ no. absurd cc, λ all. absurd (differ all))

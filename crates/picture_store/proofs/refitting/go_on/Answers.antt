@@ -27,7 +27,7 @@ returns-then-branch-clause-agree g c =
     (numbers_over [] (take at c.args.units.now.ids.now) (take at c.args.units.now.found.now)) c.agree_at.new.after.numbers
     c.loop-at.invariant.was
     (subst (λ (units : UnitNumbers). AgreeAt states at c.loop-at.before units.numbers) (sym c.agree_at.ensures.after)
-    (c.in_ok-agree_at.ensures.ok c.if-branch.true)))
+    (c.in_ok-agree_at.ensures.ok.0 c.if-branch.true)))
 
 pub loop-at-preserved : goal.loop-at-preserved
 loop-at-preserved g c = record {

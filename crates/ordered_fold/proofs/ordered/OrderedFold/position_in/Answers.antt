@@ -24,3 +24,6 @@ returns-clause-position c =
 
 pub returns-clause-few : goal.returns-clause-few
 returns-clause-few c = rw (← c.self.view_is) (c.position_in.ensures.few (outcomes_of c.self.inside.folded.stream) c.self.invariant)
+
+pub returns-clause-searched : goal.returns-clause-searched
+returns-clause-searched c = rw (← c.self.view_is) (c.position_in.ensures.searched (outcomes_of c.self.inside.folded.stream) c.self.invariant)

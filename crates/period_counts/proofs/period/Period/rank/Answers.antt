@@ -25,3 +25,10 @@ returns-clause-few c =
     let long : length c.deref.result.now ≡ valid_in c.args.self.now = ap length c.deref.ensures.value
     ∙ length_permutation _ _ c.self.invariant.permutation ∙ length-order_keys 0 period.units.items ∙ ap valid_in c.self.view_is in
     omega (arith, long, c.rank.ensures.few)
+
+pub returns-clause-searched : goal.returns-clause-searched
+returns-clause-searched c =
+    let period = c.self.inside in
+    let long : length c.deref.result.now ≡ valid_in c.args.self.now = ap length c.deref.ensures.value
+    ∙ length_permutation _ _ c.self.invariant.permutation ∙ length-order_keys 0 period.units.items ∙ ap valid_in c.self.view_is in
+    rw long at c.rank.ensures.searched

@@ -6,6 +6,7 @@ use mir.Syntax.{w32}
 use Rattle.period_counts.specs.declared.order_key.OrderKey.{OrderKey}
 use Rattle.period_counts.specs.OrderKeys.{is_first, order_keys}
 use Rattle.period_counts.specs.Periods.{units_of, valid_in}
+use Rattle.period_counts.specs.Bounds.{period_size}
 use Rattle.period_counts.specs.Kept.{count_at}
 use Rattle.period_counts.proofs.OrderedKeys.{length-order_keys}
 use Rattle.period_counts.proofs.Starts.{period_fits}
@@ -92,3 +93,14 @@ returns-clause-position c =
     ∙ ap (λ one. Some (one.earlier + count_by (λ other. is_first other (key (place - one.start))) (order_keys d))) count
     ∙ ap (λ period. Some (valid_in front + count_by (λ other. is_first other (key (place - length front))) (order_keys period))) c.index-period.ensures
     ∙ sym (position_found periods c.self.invariant.periods_are outcomes (is ∙ ap (λ kept. units_of kept.periods) (sym c.self.view_is)) place at found d (Some shown) read)
+
+pub returns-clause-searched : goal.returns-clause-searched
+returns-clause-searched c =
+    λ outcomes is.
+    let periods = c.self.inside.periods.items in
+    let at = c.period_at-at.result in
+    let found = rw (← c.self.view_is) at c.period_at-at.ensures in
+    let d = c.index-period.result.now in
+    let size = size_found periods c.self.invariant.periods_are outcomes (is ∙ ap (λ kept. units_of kept.periods) (sym c.self.view_is)) c.args.place at found d in
+    let same : valid_in d ≡ period_size outcomes c.args.place = ap valid_in c.index-period.ensures ∙ size in
+    rw same at c.rank.ensures.searched

@@ -21,4 +21,5 @@ returns c =
     (rw c.deref.ensures.value at c.started_before.ensures.bound) (rw c.deref.ensures.value at c.started_before.ensures.before)
     (rw c.deref-2.ensures.value at c.started_before-2.ensures.before) (rw c.deref-2.ensures.value at c.started_before-2.ensures.after) in
     rw (← c.self.view_is, c.saturating_sub-first.ensures, past)
-    (touched c.start_of.result (rw (c.deref-3.ensures.value, c.saturating_sub-first.ensures) at c.start_of.ensures))
+    (touched c.start_of.result (rw (c.deref-3.ensures.value, c.saturating_sub-first.ensures) at c.start_of.ensures)
+    (rw c.deref.ensures.value at c.started_before.ensures.after))

@@ -4,32 +4,32 @@ use Rattle.picture_store.proofs.store.PictureStore.sweep.Goals as goal
 pub invariant_of-self : goal.invariant_of-self
 invariant_of-self c =
     let s = c.self.inside in
-    let stay = rw (c.deref.ensures.value, c.deref-2.ensures.value) at c.sweep.ensures.stay in
+    let stay = rw (c.deref.ensures.value, c.deref-2.ensures.value) at c.sweep_at.ensures.stay in
     record {
       kept =
-          kept_stays s.keys c.sweep.new.keys s.ids.items s.outcomes.items s.found.items s.places s.cache.pairs s.out.items
-          c.self.invariant.kept stay (c.sweep.ensures.one c.self.invariant.kept.right.one);
+          kept_stays s.keys c.sweep_at.new.keys s.ids.items s.outcomes.items s.found.items s.places s.cache.pairs s.out.items
+          c.self.invariant.kept stay (c.sweep_at.ensures.one c.self.invariant.kept.right.one);
       counted = c.self.invariant.counted;
       apart = c.self.invariant.apart;
       settled = c.self.invariant.settled;
     }
 
-pub returns-in_err-sweep : goal.returns-in_err-sweep
-returns-in_err-sweep c =
+pub returns-in_err-enough : goal.returns-in_err-enough
+returns-in_err-enough c =
     let s = c.self.inside in
-    let stay = rw (c.deref.ensures.value, c.deref-2.ensures.value) at c.sweep.ensures.stay in
+    let stay = rw (c.deref.ensures.value, c.deref-2.ensures.value) at c.sweep_at.ensures.stay in
     rw (← c.self.view_is)
-    (viewed_stays s.keys c.sweep.new.keys s.ids.items s.outcomes.items s.found.items s.places s.cache.pairs s.out.items
+    (viewed_stays s.keys c.sweep_at.new.keys s.ids.items s.outcomes.items s.found.items s.places s.cache.pairs s.out.items
     c.self.invariant.kept stay s.cache.capacity s.given)
 
 pub invariant_of-self-2 : goal.invariant_of-self-2
 invariant_of-self-2 c =
     let s = c.self.inside in
-    let stay = rw (c.deref.ensures.value, c.deref-2.ensures.value) at c.sweep.ensures.stay in
+    let stay = rw (c.deref.ensures.value, c.deref-2.ensures.value) at c.sweep_at.ensures.stay in
     record {
       kept =
-          kept_stays s.keys c.sweep.new.keys s.ids.items s.outcomes.items s.found.items s.places s.cache.pairs s.out.items
-          c.self.invariant.kept stay (c.sweep.ensures.one c.self.invariant.kept.right.one);
+          kept_stays s.keys c.sweep_at.new.keys s.ids.items s.outcomes.items s.found.items s.places s.cache.pairs s.out.items
+          c.self.invariant.kept stay (c.sweep_at.ensures.one c.self.invariant.kept.right.one);
       counted = c.self.invariant.counted;
       apart = c.self.invariant.apart;
       settled = c.self.invariant.settled;
@@ -38,7 +38,7 @@ invariant_of-self-2 c =
 pub returns : goal.returns
 returns c =
     let s = c.self.inside in
-    let stay = rw (c.deref.ensures.value, c.deref-2.ensures.value) at c.sweep.ensures.stay in
+    let stay = rw (c.deref.ensures.value, c.deref-2.ensures.value) at c.sweep_at.ensures.stay in
     rw (← c.self.view_is)
-    (viewed_stays s.keys c.sweep.new.keys s.ids.items s.outcomes.items s.found.items s.places s.cache.pairs s.out.items
+    (viewed_stays s.keys c.sweep_at.new.keys s.ids.items s.outcomes.items s.found.items s.places s.cache.pairs s.out.items
     c.self.invariant.kept stay s.cache.capacity s.given)

@@ -55,7 +55,7 @@ input_of-requires-clause-known c =
     subst (λ o. IfSome o (IsDueNumber s.keys s.places s.out.items)) (sym is) (first.1 (Some key)) in
     let same = outcome_same s.keys s.ids.items s.outcomes.items s.found.items s.places s.cache.pairs s.cache.capacity s.out.items s.given
     c.self.invariant.kept c.in-Some.at first.0 key is due c.index-outcome.result.now c.index-outcome.ensures in
-    rw (c.deref-5.ensures) (
+    rw (c.deref-6.ensures, c.deref-5.ensures) (
       known s.keys s.ids.items s.outcomes.items s.found.items s.places s.cache.pairs s.cache.capacity s.out.items s.given
           c.self.invariant.kept c.in-Some.at first.0 key is due,
       has_known s.keys s.ids.items s.outcomes.items s.found.items s.places s.cache.pairs s.cache.capacity s.out.items s.given
@@ -120,7 +120,7 @@ new-job-requires c =
     subst (λ o. IfSome o (IsDueNumber s.keys s.places s.out.items)) (sym is) (first.1 (Some key)) in
     let same = outcome_same s.keys s.ids.items s.outcomes.items s.found.items s.places s.cache.pairs s.cache.capacity s.out.items s.given
     c.self.invariant.kept c.in-Some.at first.0 key is due c.index-outcome.result.now c.index-outcome.ensures in
-    let input = rw (c.deref-5.ensures) at c.in_ok-input.ensures in
+    let input = rw (c.deref-6.ensures, c.deref-5.ensures) at c.in_ok-input.ensures in
     let made = input (known s.keys s.ids.items s.outcomes.items s.found.items s.places s.cache.pairs s.cache.capacity s.out.items s.given
     c.self.invariant.kept c.in-Some.at first.0 key is due) (has_known s.keys s.ids.items s.outcomes.items s.found.items s.places s.cache.pairs s.cache.capacity s.out.items s.given
     c.self.invariant.kept c.in-Some.at first.0 key is due c.index-outcome.result.now same) in
@@ -137,7 +137,7 @@ invariant_of-self-2 c =
     subst (λ o. IfSome o (IsDueNumber s.keys s.places s.out.items)) (sym is) (first.1 (Some key)) in
     let same = outcome_same s.keys s.ids.items s.outcomes.items s.found.items s.places s.cache.pairs s.cache.capacity s.out.items s.given
     c.self.invariant.kept c.in-Some.at first.0 key is due c.index-outcome.result.now c.index-outcome.ensures in
-    let input = rw (c.deref-5.ensures) at c.in_ok-input.ensures in
+    let input = rw (c.deref-6.ensures, c.deref-5.ensures) at c.in_ok-input.ensures in
     let made = input (known s.keys s.ids.items s.outcomes.items s.found.items s.places s.cache.pairs s.cache.capacity s.out.items s.given
     c.self.invariant.kept c.in-Some.at first.0 key is due) (has_known s.keys s.ids.items s.outcomes.items s.found.items s.places s.cache.pairs s.cache.capacity s.out.items s.given
     c.self.invariant.kept c.in-Some.at first.0 key is due c.index-outcome.result.now same) in
@@ -168,7 +168,7 @@ returns c =
     subst (λ o. IfSome o (IsDueNumber s.keys s.places s.out.items)) (sym is) (first.1 (Some key)) in
     let same = outcome_same s.keys s.ids.items s.outcomes.items s.found.items s.places s.cache.pairs s.cache.capacity s.out.items s.given
     c.self.invariant.kept c.in-Some.at first.0 key is due c.index-outcome.result.now c.index-outcome.ensures in
-    let input = rw (c.deref-5.ensures) at c.in_ok-input.ensures in
+    let input = rw (c.deref-6.ensures, c.deref-5.ensures) at c.in_ok-input.ensures in
     let made = input (known s.keys s.ids.items s.outcomes.items s.found.items s.places s.cache.pairs s.cache.capacity s.out.items s.given
     c.self.invariant.kept c.in-Some.at first.0 key is due) (has_known s.keys s.ids.items s.outcomes.items s.found.items s.places s.cache.pairs s.cache.capacity s.out.items s.given
     c.self.invariant.kept c.in-Some.at first.0 key is due c.index-outcome.result.now same) in

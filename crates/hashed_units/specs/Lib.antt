@@ -1,0 +1,2 @@
+pub mod SliceBytes
+pub mod Digests

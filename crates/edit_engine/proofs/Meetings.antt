@@ -11,10 +11,10 @@ use Rattle.stream_edits.specs.Ids.{units_with}
 use Rattle.stream_edits.specs.Streams.{Stream, has_id}
 use Rattle.stream_edits.proofs.Fronts.{front_less, front_whole}
 use Rattle.stream_fold.specs.Changes.{place_after}
-use Rattle.stream_fold.specs.Meeting.{IsMeeting}
+use Rattle.stream_fold.specs.Meeting.{IsCounted, IsMeeting}
 use Rattle.stream_fold.specs.Streams.{state_past}
 use Rattle.stream_fold.proofs.Changed.{length_after, place_is}
-use Rattle.edit_engine.specs.Grouping.{AreFewForAll}
+use Rattle.edit_engine.specs.Grouping.{AreCounted, AreFewForAll}
 use Rattle.edit_engine.specs.MeetingPoints.{IsMeetingPoint}
 use Rattle.edit_engine.specs.Moves.{MakesFew}
 
@@ -119,6 +119,39 @@ module _ (change : Change) (old : Stream) (steps : ℕ) (inside : IsInside chang
       } in
       let taken = few 0 meeting in
       omega (arith, taken, new_is, all, inside.ordered, inside.within, le, same)
+
+  -- and the steps that are counted are those of the change
+  pub counted_among : IsLongestFront old new (at_of change) → IsLongestRest (at_of change) old new (length old - rest_from change)
+      → IsCounted change old steps → AreCounted old new steps
+  counted_among longest_front longest_rest counted =
+      let rest : ℕ = length old - rest_from change in
+      let place : ℕ = rest_from change + counted.count in
+      let old_place : length old - rest + counted.count ≡ place = omega (arith, inside.within) in
+      let new_place : length new - rest + counted.count ≡ place_after change place =
+      omega (arith, new_is, place_is change place (omega arith), inside.within) in
+      record {
+        front = at_of change;
+        rest = rest;
+        longest_front = longest_front;
+        longest_rest = longest_rest;
+        ahead = counted.front;
+        count = counted.count;
+        before = counted.before;
+        close = counted.close;
+        meets = record {
+          in_front = longest_front.is;
+          at_end = longest_rest.is;
+          behind_old = longest_rest.behind_old;
+          behind_new = longest_rest.behind_new;
+          inside = omega (arith, counted.meets.inside);
+          meet = elim counted.meets.meet [
+            | inl agree ↦
+                inl (ap (λ (n : ℕ). state_past old n) old_place ∙ (agree ∙ ap (λ (n : ℕ). state_past new n) (sym new_place)))
+            | inr all ↦ inr (omega (arith, all))
+          ];
+        };
+        exact = omega (arith, counted.exact, new_is, inside.within);
+      }
 
   module _ (longest_front : IsLongestFront old new (at_of change))
       (longest_rest : IsLongestRest (at_of change) old new (length old - rest_from change))

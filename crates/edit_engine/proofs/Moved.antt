@@ -10,9 +10,9 @@ use Rattle.stream_edits.specs.Groups.{IsForAll, MakesAll}
 use Rattle.stream_edits.specs.Ids.{HasIds}
 use Rattle.stream_edits.proofs.Grouped.{HasIds-all}
 use Rattle.edit_engine.specs.Machines.{Machine, Edits}
-use Rattle.edit_engine.specs.Grouping.{AreFewForAll, EditsAll}
+use Rattle.edit_engine.specs.Grouping.{AreCounted, AreFewForAll, EditsAll}
 use Rattle.edit_engine.specs.Moves.{Moves}
-use Rattle.edit_engine.proofs.Meetings.{few_everywhere}
+use Rattle.edit_engine.proofs.Meetings.{counted_among, few_everywhere}
 
 -- an edit by itself
 pub Edits-moved : (old : Machine) (edit : Edit) (accepted : AcceptedEdit) (steps number : ℕ) (new : Machine)
@@ -28,6 +28,7 @@ Edits-moved old edit accepted steps number new for moves number_is = record {
     comes_to = for;
     leaves = moves.register_is;
     few = λ count is. let few = moves.few count is in let one = for.brings_one in omega (arith, few, one);
+    counted = moves.counted;
   };
 }
 
@@ -47,4 +48,7 @@ EditsAll-moved old edits accepted receipt new ids for moves number_is ids_are = 
       subst (λ (register : Register). AreFewForAll old.register.stream register.stream receipt.steps) (sym moves.register_is)
       (few_everywhere accepted.change old.register.stream receipt.steps for.inside moves.few for.front for.rest ids.once
       (HasIds-all old.register edits accepted.ids.items (after accepted.change accepted.given old.register.stream) ids for.makes).once);
+  counted =
+      subst (λ (register : Register). AreCounted old.register.stream register.stream receipt.steps) (sym moves.register_is)
+      (counted_among accepted.change old.register.stream receipt.steps for.inside moves.few for.front for.rest moves.counted);
 }

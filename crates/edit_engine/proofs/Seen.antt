@@ -81,7 +81,9 @@ module _ (journal : List (List Edit)) (register : Register) (store : StoreValue)
     key_found is stands at.0 at.1,
     ap (option_and_then (slice_get store.numbers)) stands ∙ at.2,
   )
-  number_found is stands None at =
-      ap (option_and_then (slice_get (keys_in register.stream))) stands
-      ∙ (ap (λ (ids : List ℕ). slice_get (keys_of (zip ids (outcomes_of register.stream))) place) (sym is.identified)
-      ∙ (ap (λ (outcomes : List Outcome). slice_get (keys_of (zip store.ids outcomes)) place) (sym is.folded) ∙ at))
+  number_found is stands None at = (
+    ap (option_and_then (slice_get (keys_in register.stream))) stands
+        ∙ (ap (λ (ids : List ℕ). slice_get (keys_of (zip ids (outcomes_of register.stream))) place) (sym is.identified)
+        ∙ (ap (λ (outcomes : List Outcome). slice_get (keys_of (zip store.ids outcomes)) place) (sym is.folded) ∙ at.0)),
+    ap (option_and_then (slice_get store.numbers)) stands ∙ at.1,
+  )

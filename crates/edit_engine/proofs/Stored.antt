@@ -93,4 +93,5 @@ module _ (journal : List (List Edit)) (old : Register) (store : StoreValue) (edi
           (outcomes_with prepared.stretch store.outcomes) refit (IsOf-kept journal old store kept) ids-prepared outcomes-prepared
           refits;
       few = is.few;
+      counted = is.counted;
     }

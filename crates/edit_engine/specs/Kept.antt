@@ -5,6 +5,7 @@ use Rattle.stream_edits.specs.declared.edits.Edit.{Edit}
 use Rattle.edit_engine.specs.declared.preparing.Prepared.{Prepared}
 use Rattle.stream_edits.specs.declared.changes.Change.{Change}
 use Rattle.stream_edits.specs.Journals.{edits_of}
+use Rattle.stream_fold.specs.Meeting.{IsCounted}
 use Rattle.stream_fold.specs.Prepared.{change_in, steps_in}
 use Rattle.ordered_fold.specs.Kept.{OrderedValue}
 use Rattle.ordered_fold.specs.Prepared as ordering
@@ -36,9 +37,10 @@ pub record IsKept (journal : List (List Edit)) (register : Register) (store : St
   pub bounded : length register.stream ≤ most_units
   pub replayed : Replays no_units (edits_of journal) register
 
--- what is prepared is the change, in few steps, and the stretch that this makes anew
+-- what is prepared is the change, in few steps, each of them counted, and the stretch that this makes anew
 pub record IsPrepared (change : Change) (stream : Stream) (ordered : OrderedValue) (prepared : Prepared) : Type 0 where
   pub change_is : change_in prepared.change.refolded ≡ change
   pub ready : ordering.IsPrepared ordered prepared.change
   pub stretch_is : IsStretchOf change stream prepared.stretch
   pub few : MakesFew change stream (steps_in prepared.change.refolded)
+  pub counted : IsCounted change stream (steps_in prepared.change.refolded)

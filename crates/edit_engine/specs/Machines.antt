@@ -12,7 +12,7 @@ use Rattle.stream_edits.specs.Streams.{Stream, ids_of}
 use Rattle.stream_edits.specs.Edits.{Register, no_units, Makes}
 use Rattle.stream_edits.specs.declared.changes.Change.{Change}
 use Rattle.stream_edits.specs.Changes.{IsFor, after}
-use Rattle.stream_fold.specs.Meeting.{IsMeeting}
+use Rattle.stream_fold.specs.Meeting.{IsCounted, IsMeeting}
 use Rattle.stream_edits.specs.Refusals.{IsRefused}
 
 -- the room of the cache; the accepted edits in order, those of a group as one entry, and what they leave; the number of
@@ -55,12 +55,13 @@ RefitsTo old stream new = Refits old (ids_of stream) (outcomes_of stream) new
 abbrev pub AreFew : Change → Stream → ℕ → Type 0
 AreFew change stream steps = (count : ℕ) → IsMeeting change stream count → steps ≤ count + 64
 
--- the edit comes to a change that leaves this, and takes few steps of the fold
+-- the edit comes to a change that leaves this, and takes few steps of the fold, each of them counted
 pub record Refolds (old : Register) (edit : Edit) (steps : ℕ) (new : Register) : Type 0 where
   pub accepted : AcceptedEdit
   pub comes_to : IsFor old edit accepted
   pub leaves : new ≡ after accepted.change accepted.given old.stream
   pub few : AreFew accepted.change old.stream steps
+  pub counted : IsCounted accepted.change old.stream steps
 
 -- the edit is accepted with the receipt
 pub record Edits (old : Machine) (edit : Edit) (receipt : Receipt) (new : Machine) : Type 0 where

@@ -6,7 +6,7 @@ use Rattle.stream_edits.specs.Changes.{after, units_of}
 use Rattle.stream_edits.specs.Edits.{Register}
 use Rattle.stream_edits.specs.Groups.{MakesAll}
 use Rattle.stream_edits.specs.Streams.{Stream}
-use Rattle.stream_fold.specs.Meeting.{IsMeeting}
+use Rattle.stream_fold.specs.Meeting.{IsCounted, IsMeeting}
 use Rattle.edit_engine.specs.Machines.{Machine, RefitsTo, store_of}
 
 -- the edits come to the change, with so many ids given then
@@ -23,3 +23,4 @@ pub record Moves (old : Machine) (edits : List Edit) (change : Change) (given st
   pub journaled : new.journal ≡ old.journal ++ edits ∷ []
   pub refits : RefitsTo (store_of old) new.register.stream (store_of new)
   pub few : MakesFew change old.register.stream steps
+  pub counted : IsCounted change old.register.stream steps

@@ -37,4 +37,5 @@ HasNumber machine id (Some number) =
     (key : Key) × HasKey machine.register.stream id key
     × (option_and_then (slice_get machine.numbers) (place_of machine.register.stream id) ≡ Some (Some number))
 HasNumber machine id None =
-    option_and_then (slice_get (keys_in machine.register.stream)) (place_of machine.register.stream id) ≡ Some None
+    (option_and_then (slice_get (keys_in machine.register.stream)) (place_of machine.register.stream id) ≡ Some None)
+    × (option_and_then (slice_get machine.numbers) (place_of machine.register.stream id) ≡ Some None)

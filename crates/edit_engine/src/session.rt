@@ -3,7 +3,7 @@
 ghost use Rattle.std.specs.Prelude.{◌≡◌, ◌<◌, ◌≤◌, ◌↔◌, length, Contains, Some, None, IsTrue, IfOk, IfSome, IsErrOf, MatchResult, OnErr};
 ghost use Rattle.request_core.specs.Fold.{outcomes_of};
 ghost use Rattle.picture_cache.specs.Bounded.{most_room};
-ghost use Rattle.picture_store.specs.Stores.{AreOneToOne};
+ghost use Rattle.picture_store.specs.Stores.{AreOneToOne, IsNumberInUse};
 ghost use Rattle.stream_edits.specs.Changes.{IsInside};
 ghost use Rattle.stream_edits.specs.Journals.{edits_of};
 ghost use Rattle.stream_edits.specs.Streams.{ids_of, last_of, place_of};
@@ -277,7 +277,8 @@ impl Session {
 
     /// Whether a number is that of a key in use: of one that some unit of the stream has. It takes no memory.
     pub fn in_use(&self, key: KeyId) -> bool
-        ensures value { IsTrue result ↔ Contains self.now.numbers (Some key) }
+        ensures value { IsTrue result ↔ IsNumberInUse (store_of self.now) key }
+        ensures listed { IsTrue result ↔ Contains self.now.numbers (Some key) }
         ensures one { AreOneToOne (store_of self.now) (store_of self.now) }
     {
         self.store.in_use(key)

@@ -58,17 +58,15 @@ fn runner_of(rt: &(impl Abort + AllocGlobal), cache: u16) -> Runner
     }
 }
 
-/// A receipt's number and id, and after how many units behind the changed one the folds before and after the edit agree, or
-/// there are no more: it makes at most 64 steps more. Or a refusal's number.
+/// A receipt's number, its id and its steps; or a refusal's number. States are stored every 32 units: in a shorter stream an
+/// edit at the end makes a step for each new unit, and any other one for each unit of the new stream.
 type Answer = Result<(u64, u32, u64), u8>;
 
 /// What an edit is answered is this.
 fn is_answer(answer: Result<Receipt, EditRefused>, wanted: Answer) -> bool {
     match (answer, wanted) {
         (Ok(receipt), Ok(wanted)) => {
-            let (number, id, meeting) = wanted;
-            (receipt.number, receipt.id.number()) == (number, id)
-                && receipt.steps <= meeting.saturating_add(64)
+            (receipt.number, receipt.id.number(), receipt.steps) == wanted
         }
         (Err(refused), Err(number)) => refused.number() == number,
         _ => false,

@@ -35,6 +35,22 @@ const P2: &[u8] = &[0, 0, 1, 0x41, 0x9A, 0x43];
 
 const P1X: &[u8] = &[0, 0, 1, 0x41, 0x9A, 0x23, 0x80];
 
+/// Sets and an IDR picture, of count type 0 and two reference frames; the same with other slice data; a P picture; and a B
+/// picture that is shown between them.
+const IDR: &[u8] = &[
+    0, 0, 1, 0x67, 0x4D, 0x00, 0x0A, 0xF6, 0xF2, 0, 0, 1, 0x68, 0xCE, 0x38, 0x80, 0, 0, 1, 0x65,
+    0x88, 0x84, 0x0C,
+];
+
+const IDR_X: &[u8] = &[
+    0, 0, 1, 0x67, 0x4D, 0x00, 0x0A, 0xF6, 0xF2, 0, 0, 1, 0x68, 0xCE, 0x38, 0x80, 0, 0, 1, 0x65,
+    0x88, 0x84, 0x0D,
+];
+
+const P: &[u8] = &[0, 0, 1, 0x41, 0x9A, 0x28, 0x30];
+
+const B: &[u8] = &[0, 0, 1, 0x01, 0x9E, 0x45, 0x18];
+
 /// A P picture with frame_num 1 that is no reference.
 const N1: &[u8] = &[0, 0, 1, 0x01, 0x9A, 0x27];
 
@@ -42,7 +58,7 @@ const N1: &[u8] = &[0, 0, 1, 0x01, 0x9A, 0x27];
 /// other ones. Ids, and pictures that aren't referred to, are no part of a key; parameter sets and references are.
 type Row = &'static [(u32, &'static [u8], Option<usize>)];
 
-const ROWS: [Row; 7] = [
+const ROWS: [Row; 10] = [
     &[(1, A, Some(0)), (2, P1, Some(1)), (3, P2, Some(2))],
     &[(1, A, Some(0)), (4, P1, Some(1)), (3, P2, Some(2))],
     &[(1, A, Some(0)), (2, P1X, Some(3)), (3, P2, Some(4))],
@@ -50,6 +66,9 @@ const ROWS: [Row; 7] = [
     &[(1, A, Some(0)), (3, P2, None)],
     &[(1, A, Some(0)), (2, N1, Some(5)), (3, P1, Some(1))],
     &[(1, A_11, Some(6)), (2, P1, Some(7))],
+    &[(1, IDR, Some(8)), (2, P, Some(9)), (3, B, Some(10))],
+    &[(5, IDR, Some(8)), (4, P, Some(9)), (7, B, Some(10))],
+    &[(1, IDR_X, Some(11)), (2, P, Some(12)), (3, B, Some(13))],
 ];
 
 /// A fingerprint that is the same for each node.
@@ -95,7 +114,7 @@ fn key_of<F: Fingerprint<Works>>(
 /// The number that was given first for each class.
 #[derive(Drop)]
 struct Classes {
-    first: [Option<KeyId>; 8],
+    first: [Option<KeyId>; 14],
 }
 
 impl Classes {
@@ -143,12 +162,12 @@ fn rows_fit<F: Fingerprint<Works> + Drop>(
     fingerprint: F,
 ) -> Result<bool, AllocError> {
     let mut keys = Keys::with(rt.alloc(), fingerprint);
-    let mut classes = Classes { first: [None; 8] };
+    let mut classes = Classes { first: [None; 14] };
     let mut fit = true;
     for row in ROWS {
         fit = row_fits(rt, &mut keys, &mut classes, row)? && fit;
     }
-    Ok(fit && keys.len() == 8)
+    Ok(fit && keys.len() == 14)
 }
 
 #[test]

@@ -55,7 +55,7 @@ const REFUSED: [Step; 8] = [
     Step::Edit(Delete(9), Err(16)),
     Step::Edit(Replace(9, &[]), Err(1)),
     Step::Edit(Replace(9, A), Err(16)),
-    Step::Edit(First(A), Ok((1, 1, 0))),
+    Step::Edit(First(A), Ok((1, 1, 1))),
 ];
 
 #[test]
@@ -69,29 +69,29 @@ fn refuses_by_number(rt: HostRuntime) {
 
 /// An IDR picture and two P pictures, of which the first is deleted and inserted again.
 const REPAIRED: [Step; 10] = [
-    Step::Edit(First(A), Ok((1, 1, 0))),
-    Step::Edit(After(1, P1), Ok((2, 2, 0))),
-    Step::Edit(After(2, P2), Ok((3, 3, 0))),
+    Step::Edit(First(A), Ok((1, 1, 1))),
+    Step::Edit(After(1, P1), Ok((2, 2, 1))),
+    Step::Edit(After(2, P2), Ok((3, 3, 1))),
     Unit(3, At(2)),
-    Step::Edit(Delete(2), Ok((4, 2, 1))),
+    Step::Edit(Delete(2), Ok((4, 2, 2))),
     Unit(2, Gone),
     Unit(3, Fault(ValidityFault::FrameNumGap)),
-    Step::Edit(After(1, P1), Ok((5, 4, 1))),
+    Step::Edit(After(1, P1), Ok((5, 4, 3))),
     Unit(4, At(1)),
     Unit(3, At(2)),
 ];
 
 /// A unit without a slice sends another set, and then the first one's once more; it has no position, and spends one id.
 const EMPTY: [Step; 11] = [
-    Step::Edit(First(A), Ok((1, 1, 0))),
-    Step::Edit(After(1, OTHER_SPS), Ok((2, 2, 0))),
+    Step::Edit(First(A), Ok((1, 1, 1))),
+    Step::Edit(After(1, OTHER_SPS), Ok((2, 2, 1))),
     Unit(2, Empty),
-    Step::Edit(After(2, P1), Ok((3, 3, 0))),
+    Step::Edit(After(2, P1), Ok((3, 3, 1))),
     Unit(3, Fault(ValidityFault::SpsChange)),
-    Step::Edit(Replace(2, SPS), Ok((4, 2, 1))),
+    Step::Edit(Replace(2, SPS), Ok((4, 2, 3))),
     Unit(2, Empty),
     Unit(3, At(1)),
-    Step::Edit(First(SPS), Ok((5, 4, 1))),
+    Step::Edit(First(SPS), Ok((5, 4, 4))),
     Unit(4, Empty),
     Unit(3, At(1)),
 ];
@@ -144,13 +144,13 @@ fn deletes_and_repairs(rt: HostRuntime) {
 
 /// A P picture is replaced by one with the frame_num after it; and a picture is inserted before its sets.
 const REPLACED: [Step; 9] = [
-    Step::Edit(First(A), Ok((1, 1, 0))),
-    Step::Edit(After(1, P1), Ok((2, 2, 0))),
-    Step::Edit(After(2, P2), Ok((3, 3, 0))),
-    Step::Edit(Replace(2, P2), Ok((4, 2, 1))),
+    Step::Edit(First(A), Ok((1, 1, 1))),
+    Step::Edit(After(1, P1), Ok((2, 2, 1))),
+    Step::Edit(After(2, P2), Ok((3, 3, 1))),
+    Step::Edit(Replace(2, P2), Ok((4, 2, 3))),
     Unit(2, Fault(ValidityFault::FrameNumGap)),
     Unit(3, Fault(ValidityFault::FrameNumGap)),
-    Step::Edit(First(I), Ok((5, 4, 3))),
+    Step::Edit(First(I), Ok((5, 4, 4))),
     Unit(4, Fault(ValidityFault::MissingPps)),
     Unit(1, At(0)),
 ];

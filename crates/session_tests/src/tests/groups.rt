@@ -13,8 +13,7 @@ use std::test::Fail;
 /// A unit that is none: its parameter set is cut.
 const CUT: &[u8] = &[0, 0, 1, 0x67];
 
-/// A receipt's number and ids, and how many steps it makes at most. Or a refusal: the index of an edit, if it names one, and
-/// the number.
+/// A receipt's number, its ids and its steps. Or a refusal: the index of an edit, if it names one, and the number.
 type Answer = Result<(u64, &'static [u32], u64), (Option<usize>, u8)>;
 
 /// The index of the edit that a refusal names.
@@ -29,7 +28,7 @@ fn index_of(refused: GroupRefused) -> Option<usize> {
 fn is_answer(answer: &Result<GroupReceipt, GroupRefused>, wanted: Answer) -> bool {
     match (answer, wanted) {
         (Ok(receipt), Ok((number, ids, steps))) => {
-            receipt.number == number && are_ids(&receipt.ids, ids) && receipt.steps <= steps
+            receipt.number == number && are_ids(&receipt.ids, ids) && receipt.steps == steps
         }
         (Err(refused), Err((index, number))) => {
             index_of(*refused) == index && refused.number() == number
@@ -38,26 +37,28 @@ fn is_answer(answer: &Result<GroupReceipt, GroupRefused>, wanted: Answer) -> boo
     }
 }
 
-/// Groups on one session after the other, and what each is answered.
-const GROUPS: [(&[Told], Answer); 13] = [
+/// Groups on one session after the other, and what each is answered. The stream is short, so that a group at its end makes a
+/// step for each new unit, any other for each unit of the new stream, and one that changes nothing none.
+const GROUPS: [(&[Told], Answer); 14] = [
     (&[], Err((None, 20))),
-    (&[First(A)], Ok((1, &[1], 65))),
+    (&[First(A)], Ok((1, &[1], 1))),
     // What an edit before it inserted may be named.
-    (&[After(1, P1), After(2, P2)], Ok((2, &[2, 3], 66))),
+    (&[After(1, P1), After(2, P2)], Ok((2, &[2, 3], 2))),
     (&[After(3, I), Delete(9)], Err((Some(1), 16))),
     (&[Delete(9), After(3, CUT)], Err((Some(0), 16))),
     (&[After(3, CUT), Delete(9)], Err((Some(0), 4))),
+    (&[After(3, I), After(4, CUT)], Err((Some(1), 4))),
     (&[Delete(3), Delete(3)], Err((Some(1), 16))),
     // The ids of refused groups weren't given.
-    (&[Delete(2), After(1, P1)], Ok((3, &[2, 4], 66))),
-    (&[Replace(4, P1), Replace(4, P2)], Ok((4, &[4, 4], 66))),
-    (&[Replace(4, P1)], Ok((5, &[4], 66))),
+    (&[Delete(2), After(1, P1)], Ok((3, &[2, 4], 3))),
+    (&[Replace(4, P1), Replace(4, P2)], Ok((4, &[4, 4], 3))),
+    (&[Replace(4, P1)], Ok((5, &[4], 3))),
     // What is inserted and deleted again changes nothing.
-    (&[First(I), Delete(5)], Ok((6, &[5, 5], 64))),
-    (&[After(3, I), First(I), Delete(7)], Ok((7, &[6, 7, 7], 65))),
+    (&[First(I), Delete(5)], Ok((6, &[5, 5], 0))),
+    (&[After(3, I), First(I), Delete(7)], Ok((7, &[6, 7, 7], 1))),
     (
         &[Delete(1), Delete(4), Delete(3), Delete(6)],
-        Ok((8, &[1, 4, 3, 6], 64)),
+        Ok((8, &[1, 4, 3, 6], 0)),
     ),
 ];
 

@@ -25,7 +25,7 @@ fn answers_text(
 }
 
 /// How many bytes a text has, and what its insertion is answered.
-const LENGTHS: [(usize, Answer); 2] = [(4_194_305, Err(14)), (4_194_304, Ok((1, 1, 0)))];
+const LENGTHS: [(usize, Answer); 2] = [(4_194_305, Err(14)), (4_194_304, Ok((1, 1, 1)))];
 
 #[test]
 fn a_text_has_4_194_304_bytes_at_most(rt: HostRuntime) -> Result<(), Fail> {

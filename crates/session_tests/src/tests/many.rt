@@ -92,6 +92,14 @@ fn is_replaced(alloc: Global, runner: &mut Runner, count: u32) -> Result<bool, A
     Ok(true)
 }
 
+/// Whether the number of the first unit's key is small: those of keys that aren't needed any more are given again.
+fn has_small_number(runner: &Runner) -> bool {
+    match runner.session().key(AuId::new(1)) {
+        Ok(Some(key)) => key.number() < 200,
+        _ => false,
+    }
+}
+
 /// What comes before the replacements, and after them.
 const BEFORE: [Act; 2] = [Act::Edit(Told::First(A)), Act::Take(1, 1)];
 
@@ -118,6 +126,7 @@ fn a_result_is_taken_after_10_000_other_texts(rt: HostRuntime) -> Result<(), Fai
     let mut runner = runner_of(&rt, 1);
     assert!(rt; all_hold(&mut runner, &BEFORE)?);
     assert!(rt; is_replaced(rt.alloc(), &mut runner, 10_000)?);
+    assert!(rt; has_small_number(&runner));
     assert!(rt; all_hold(&mut runner, &AFTER)?);
     Ok(())
 }

@@ -53,8 +53,8 @@ fn replies(runner: &mut Runner, step: &Step) -> Result<bool, AllocError> {
 const STEPS: [Step; 8] = [
     Step::Edit(Delete(1), Err(16)),
     Unit(1, Gone),
-    Step::Edit(First(A), Ok((1, 1, 0))),
-    Step::Edit(After(1, P1), Ok((2, 2, 0))),
+    Step::Edit(First(A), Ok((1, 1, 1))),
+    Step::Edit(After(1, P1), Ok((2, 2, 1))),
     Unit(2, At(1)),
     Step::Edit(Delete(1), Ok((3, 1, 1))),
     Unit(2, Fault(ValidityFault::MissingPps)),
@@ -110,7 +110,7 @@ fn many_commands(alloc: Global, count: u32) -> Result<Vec<Command>, AllocError> 
 fn is_reply_at(reply: &Reply, place: u32) -> bool {
     let (round, id) = (u64::from(place / 4), place / 4 + 1);
     let (inserted, deleted): (Answer, Answer) = (
-        Ok((2 * round + 1, id, 0)),
+        Ok((2 * round + 1, id, 1)),
         Ok((2 * round + 2, id, 0)),
     );
     match (reply, place % 4) {

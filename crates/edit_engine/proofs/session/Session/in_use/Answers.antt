@@ -1,9 +1,20 @@
-use Rattle.picture_store.specs.Stores.{StoreValue, AreOneToOne}
+use Rattle.std.proofs.Common.{◌↔◌}
+use Rattle.std.specs.Prelude.{IsTrue}
+use Rattle.picture_store.specs.Stores.{StoreValue, AreOneToOne, IsNumberInUse}
 use Rattle.edit_engine.proofs.Pictured.{IsOf, IsOf-kept, one_seen}
 use Rattle.edit_engine.proofs.session.Session.in_use.Goals as goal
 
 pub returns-clause-value : goal.returns-clause-value
-returns-clause-value c = rw (← c.self.view_is) c.in_use.ensures.value
+returns-clause-value c =
+    let s = c.self.inside in
+    let is : IsOf s.ordered.folded.stream s.store =
+    IsOf-kept s.journal.items (record { given = s.given; stream = s.ordered.folded.stream }) s.store c.self.invariant in
+    rw (← c.self.view_is)
+    (one_seen (λ (store : StoreValue). IsTrue c.in_use.result ↔ IsNumberInUse store c.args.key) s.journal.items
+    (record { given = s.given; stream = s.ordered.folded.stream }) s.store is c.in_use.ensures.value)
+
+pub returns-clause-listed : goal.returns-clause-listed
+returns-clause-listed c = rw (← c.self.view_is) c.in_use.ensures.listed
 
 pub returns-clause-one : goal.returns-clause-one
 returns-clause-one c =

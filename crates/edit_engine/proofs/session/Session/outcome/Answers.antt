@@ -23,6 +23,6 @@ returns-in-Some c =
       ap length c.self.invariant.folded,
       length-outcomes_of c.self.inside.ordered.folded.stream,
     ) in
-    rw (c.deref-outcome.ensures, ← c.self.view_is)
+    rw (c.deref-outcome.ensures, c.deref.ensures, ← c.self.view_is)
     (outcome_found c.self.inside.ordered.folded.stream c.args.id c.in-Some.place c.outcomes.result.now c.index-outcomes-place.result stands
     (c.outcomes.ensures ∙ c.self.invariant.folded) within c.index-outcomes-place.is)

@@ -34,7 +34,7 @@ returns-in-Fault c =
     slice_get_read c.outcomes.result.now (length c.outcomes.result.now) c.in-Some.place c.index-outcomes-place.result refl within
     c.index-outcomes-place.is in
     let outcome : slice_get c.self.inside.store.outcomes c.in-Some.place ≡ Some (Fault c.in-Fault.fault) =
-    rw (← c.outcomes.ensures) (read ∙ ap (λ (other : Outcome). Some other) (sym c.deref-outcome.ensures ∙ c.in-Fault.is)) in
+    rw (← c.outcomes.ensures) (read ∙ ap (λ (other : Outcome). Some other) (sym (c.deref-outcome.ensures ∙ c.deref.ensures) ∙ c.in-Fault.is)) in
     rw (← c.self.view_is)
     (shows_fault c.self.inside.journal.items (record { given = c.self.inside.given; stream = c.self.inside.ordered.folded.stream }) c.self.inside.store c.args.id c.in-Some.place
     is stands c.in-Fault.fault outcome)
@@ -55,7 +55,7 @@ returns-in-Empty c =
     slice_get_read c.outcomes.result.now (length c.outcomes.result.now) c.in-Some.place c.index-outcomes-place.result refl within
     c.index-outcomes-place.is in
     let outcome : slice_get c.self.inside.store.outcomes c.in-Some.place ≡ Some Empty =
-    rw (← c.outcomes.ensures) (read ∙ ap (λ (other : Outcome). Some other) (sym c.deref-outcome.ensures ∙ c.in-Empty.is)) in
+    rw (← c.outcomes.ensures) (read ∙ ap (λ (other : Outcome). Some other) (sym (c.deref-outcome.ensures ∙ c.deref.ensures) ∙ c.in-Empty.is)) in
     rw (← c.self.view_is)
     (shows_empty c.self.inside.journal.items (record { given = c.self.inside.given; stream = c.self.inside.ordered.folded.stream }) c.self.inside.store c.args.id c.in-Some.place
     is stands outcome)
@@ -76,7 +76,7 @@ returns-in-None c =
     slice_get_read c.outcomes.result.now (length c.outcomes.result.now) c.in-Some.place c.index-outcomes-place.result refl within
     c.index-outcomes-place.is in
     let outcome : slice_get c.self.inside.store.outcomes c.in-Some.place ≡ Some (Plan c.in-Plan.field-0) =
-    rw (← c.outcomes.ensures) (read ∙ ap (λ (other : Outcome). Some other) (sym c.deref-outcome.ensures ∙ c.in-Plan.is)) in
+    rw (← c.outcomes.ensures) (read ∙ ap (λ (other : Outcome). Some other) (sym (c.deref-outcome.ensures ∙ c.deref.ensures) ∙ c.in-Plan.is)) in
     rw (← c.self.view_is)
     (shows_pending c.self.inside.journal.items (record { given = c.self.inside.given; stream = c.self.inside.ordered.folded.stream }) c.self.inside.store c.args.id c.in-Some.place
     is stands c.in-Plan.field-0 outcome c.in-None.ensures)

@@ -11,9 +11,20 @@ use Rattle.clap.proofs.ValueTestLemmas.{Accepts-accepts, accepts-Accepts}
 use Rattle.clap.proofs.WalkLemmas.{first_value-rows, one_text-rows}
 use Rattle.command_line.specs.CommandLine.{Wanted, audit, audit_in, cache_in, has_flag, is_true, number_in, number_of, plan, plan_in, run, run_in, several, workers_in}
 
--- the value of FILE is what is planned
-pub plan-read : (f : Found) (name : Option Text) → name ≡ first_value f (codes "FILE") → option_map plan name ≡ plan_in (rows_of f)
-plan-read f name is = ap (option_map plan) (is ∙ first_value-rows f (codes "FILE"))
+-- the plan of a name, as JSON or not
+abbrev plan_with : Bool → Text → Wanted
+plan_with json name = plan name json
+
+-- the value of FILE is what is planned, and as JSON where `--json` was given
+pub plan-read : (f : Found) (name : Option Text) (json : Bool) → name ≡ first_value f (codes "FILE")
+    → json ≡ has_flag (codes "json") (rows_of f) → option_map (plan_with json) name ≡ plan_in (rows_of f)
+plan-read f name json is given =
+    ap (λ (j : Bool). option_map (plan_with j) name) given
+    ∙ ap (option_map (plan_with (has_flag (codes "json") (rows_of f)))) (is ∙ first_value-rows f (codes "FILE"))
+
+-- with no value of FILE nothing is planned
+pub no-file : (f : Found) → None ≡ first_value f (codes "FILE") → None ≡ plan_in (rows_of f)
+no-file f none = ap (option_map (plan_with (has_flag (codes "json") (rows_of f)))) (none ∙ first_value-rows f (codes "FILE"))
 
 -- whether `--hex` was given
 abbrev hex_of : Found → Bool

@@ -35,9 +35,9 @@ option_rule name parser usual = record (new_rule name) {
 abbrev pub flag_rule : Text → Rule
 flag_rule name = record (new_rule name) { long = Some name; action = Some SetTrue }
 
--- `plan FILE`
+-- `plan FILE [--json]`
 abbrev pub plan_app : App
-plan_app = with_rule (new_app (codes "plan")) (needed_rule (codes "FILE"))
+plan_app = with_rule (with_rule (new_app (codes "plan")) (needed_rule (codes "FILE"))) (flag_rule (codes "json"))
 
 -- `--workers N` of `run`, from 0 to 64, and 0 where it isn't given
 abbrev pub workers_rule : Rule
@@ -67,16 +67,16 @@ preview_app = with_subcommand (with_subcommand (with_subcommand
     (on_top (λ s. record s { has_version = true; subcommand_required = true }) (new_app (codes "preview")))
     plan_app.top) run_app.top) audit_app.top
 
--- what is asked for: the plan of a file; a run of a script, in one thread or beside so many workers, with so much room,
+-- what is asked for: the plan of a file, as JSON or not; a run of a script, in one thread or beside so many workers, with so much room,
 -- and with the hashes of pictures or without; or its audit, beside so many workers and with so much room
 pub data Wanted : Type 0 where
-  plan : Text → Wanted
+  plan : Text → Bool → Wanted
   run : Text → Option ℕ → ℕ → Bool → Wanted
   audit : Text → ℕ → ℕ → Wanted
 
 -- the same, of the program's own type
 abbrev pub wanted_of : Asked → Wanted
-wanted_of (Plan file) = plan file.now
+wanted_of (Plan file json) = plan file.now json
 wanted_of (Run options workers) =
     run options.name.now (option_map (λ several. several.count) workers) options.cache options.hex
 wanted_of (Audit options workers) = audit options.name.now workers.count options.cache
@@ -113,7 +113,7 @@ has_flag name rows = is_true (first_of name rows)
 
 -- what the words after `plan` ask for
 abbrev pub plan_in : List Row → Option Wanted
-plan_in rows = option_map plan (first_of (codes "FILE") rows)
+plan_in rows = option_map (λ file. plan file (has_flag (codes "json") rows)) (first_of (codes "FILE") rows)
 
 -- what the words after `run` ask for
 abbrev pub run_in : List Row → Option Wanted

@@ -11,9 +11,10 @@ pub const MOST_WORKERS: usize = 64;
 /// What the command line asks for.
 #[derive(Clone, Copy, Debug)]
 pub enum Asked<'a> {
-    /// The plan of the stream in this file, `-` being the standard input.
+    /// The plan of the stream in this file, `-` being the standard input: in lines of text, or as JSON.
     Plan {
         file: &'a str,
+        json: bool,
     },
     /// A run of the script that the options name, `-` being the standard input: in one thread, or beside workers.
     Run {

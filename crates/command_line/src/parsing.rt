@@ -57,7 +57,8 @@ fn read_plan<'a>(plan: &ArgMatches<'a>) -> Option<Asked<'a>>
     ensures { option_map wanted_of result ≡ plan_in (rows_of (found_of plan.now)) }
 {
     let file = plan.get_str("FILE")?;
-    Some(Asked::Plan { file })
+    let json = has_flag(plan, "json");
+    Some(Asked::Plan { file, json })
 }
 
 /// What the matches of `run` ask for.
@@ -158,9 +159,11 @@ fn plan_command<'a>(alloc: Global) -> Result<Command<'a>, AllocError>
         "FILE",
         "An H.264 byte stream; - is the standard input",
     );
+    let json = flag(alloc, "json", "Prints a JSON object a unit, with all controls");
     Command::new(alloc, "plan")
         .about("Prints what a stateless decoder is asked for, unit by unit")
-        .arg(file)
+        .arg(file)?
+        .arg(json)
 }
 
 /// The subcommand `run`.

@@ -1,5 +1,5 @@
 -- What is told where no file is opened for a name.
-use Rattle.std.proofs.Common.{ℕ, Bool, List, Option, Some, None, IfSome, inl, inr}
+use Rattle.std.proofs.Common.{ℕ, Bool, true, false, List, Option, Some, None, IfSome, inl, inr}
 use Rattle.std.proofs.KnownBytes.{Keeps-refl}
 use Rattle.std.specs.Borrow.{Bor}
 use Rattle.std.specs.Prelude.{Result}
@@ -14,7 +14,8 @@ use Rattle.script_run.proofs.Told.{stops-unread}
 use Rattle.script_run.specs.Messages.{run_fault_text}
 use Rattle.pool_run.proofs.Told.{ends-unread, stops-unread as seat-stops-unread}
 use Rattle.command_line.specs.CommandLine.{audit, plan, run}
-use Rattle.program.specs.Programs.{FailsAt, StopsScript}
+use Rattle.plan_json.proofs.Ends.{ends-unread as ends-unread-json}
+use Rattle.program.specs.Programs.{FailsAt, StopsScript, says_json}
 
 -- what holds of each holds of the one that is there
 some-all : {T : Type 0} (known : Option T) {P : T → Type 0} → ((value : T) → P value) → IfSome known P
@@ -31,11 +32,17 @@ told-so told mute had has name input.Memory tells = tells
 module _ {T : Type 0} (files : Files) (standard : Option (List ℕ)) (told : Result T PrintFault) (refused mute : Type 0) (old had has : Option (List ℕ)) where
   -- of a plan
   pub plan-unopened : (name : List ℕ) (it : InputFault) → Tells told mute had has (input_fault_text name it)
-      → FailsAt files standard (plan name) told refused old old mute had has
+      → FailsAt files standard (plan name false) told refused old old mute had has
   plan-unopened name input.Unread tells =
       (fault.Unread, some-all (text_named files standard name) (λ text. Keeps-refl old), tells)
   plan-unopened name input.Memory tells =
       (fault.Memory, some-all (text_named files standard name) (λ text. inl (Keeps-refl old)), tells)
+
+  -- of one as JSON
+  pub plan_json-unopened : (name : List ℕ) (it : InputFault) → Tells told mute had has (input_fault_text name it)
+      → FailsAt files standard (plan name true) told refused old old mute had has
+  plan_json-unopened name it tells =
+      ends-unread-json says_json (text_named files standard name) name told refused old mute had has it tells
 
   -- of a run
   pub run-unopened : (name : Bor (List ℕ)) (workers : Option ℕ) (room : ℕ) (hex : Bool) (it : InputFault)

@@ -1,11 +1,12 @@
 -- What the program does with the words of a command line, on files and a standard input (docs/OUTPUT.md).
-use Rattle.std.specs.Prelude.{◌≡◌, ◌⊎◌, ℕ, Bool, List, [], Option, None, Some, IfSome, Result}
+use Rattle.std.specs.Prelude.{◌≡◌, ◌⊎◌, ℕ, Bool, true, false, List, [], Option, None, Some, IfSome, Result, ⊤}
 use Rattle.std.specs.Io.KnownBytes.{Appends, Keeps}
 use Rattle.clap.specs.Words.{Text}
 use Rattle.console_io.specs.Chunks.{AppendsFront}
 use Rattle.console_io.specs.Inputs.{Files, text_named}
 use Rattle.console_io.specs.Messages.{Tells, out_of_memory}
 use Rattle.console_io.specs.declared.chunks.PrintFault.{PrintFault}
+use Rattle.plan_json.specs.Ends.{FailsJson, WritesJson}
 use Rattle.plan_stream.specs.Faults.{plan_fault_text}
 use Rattle.plan_stream.specs.Plans.{EndsBy, WritesPlan}
 use Rattle.plan_stream.specs.declared.fault.PlanFault.{PlanFault}
@@ -16,7 +17,12 @@ use Rattle.script_run.specs.Messages.{run_fault_text}
 use Rattle.script_run.specs.Running.{WritesScript}
 use Rattle.script_run.specs.Stops.{StopsBy}
 use Rattle.script_run.specs.declared.run_fault.RunFault.{RunFault}
+use Rattle.unit_json.specs.declared.json_line.JsonLine.{JsonLine}
 use Rattle.command_line.specs.CommandLine.{HasOne, IsRequest, Wanted, audit, faults_of, plan, run, wanted_in}
+
+-- nothing is known of the text that says a line as JSON
+abbrev pub says_json : JsonLine → List ℕ → Type 0
+says_json line text = ⊤
 
 -- a script was run: by a session in one thread, or by a desk's only seat beside workers
 abbrev pub RunsScript : Option ℕ → Files → List ℕ → ℕ → Bool → Option (List ℕ) → Option (List ℕ) → Type 0
@@ -33,8 +39,10 @@ StopsScript (Some workers) files name text room hex fault refused old new =
 
 -- what is asked for was done, of what its name stands for
 abbrev pub IsDone : Files → Option (List ℕ) → Wanted → Option (List ℕ) → Option (List ℕ) → Type 0
-IsDone files standard (plan name) old new =
+IsDone files standard (plan name false) old new =
     IfSome (text_named files standard name) (λ text. WritesPlan text old new)
+IsDone files standard (plan name true) old new =
+    IfSome (text_named files standard name) (λ text. WritesJson says_json text old new)
 IsDone files standard (run name workers room hex) old new =
     IfSome (text_named files standard name) (λ text. RunsScript workers files text room hex old new)
 IsDone files standard (audit name workers room) old new =
@@ -43,7 +51,9 @@ IsDone files standard (audit name workers room) old new =
 -- it ended by a fault, which was told; of the two outputs it is said whether each refused, and what it had and has
 abbrev pub FailsAt : {T : Type 0} → Files → Option (List ℕ) → Wanted → Result T PrintFault
     → Type 0 → Option (List ℕ) → Option (List ℕ) → Type 0 → Option (List ℕ) → Option (List ℕ) → Type 0
-FailsAt files standard (plan name) told refused old new mute had has =
+FailsAt files standard (plan name true) told refused old new mute had has =
+    FailsJson says_json (text_named files standard name) name told refused old new mute had has
+FailsAt files standard (plan name false) told refused old new mute had has =
     (fault : PlanFault) × IfSome (text_named files standard name) (λ text. EndsBy text fault refused old new)
     × Tells told mute had has (plan_fault_text name fault)
 FailsAt files standard (run name workers room hex) told refused old new mute had has =

@@ -1,6 +1,6 @@
 //! What the program does with a command line, on files, a standard input and two outputs.
 
-ghost use Rattle.std.specs.Prelude.{◌≡◌, ◌≢◌, ◌⊎◌, ℕ, List, IfErr, IsOkAnd, MatchResult, map, option_map, string_bytes};
+ghost use Rattle.std.specs.Prelude.{◌≡◌, ◌≢◌, ◌⊎◌, ℕ, List, IfErr, IsOkAnd, MatchResult, false, map, option_map, string_bytes, true};
 ghost use Rattle.std.specs.IoError.{error_kind};
 ghost use Rattle.std.specs.declared.io.ErrorKind.TheVariants.{OutOfMemory};
 ghost use Rattle.std.specs.Io.KnownBytes.{Appends, Keeps};
@@ -16,6 +16,7 @@ use console_io::{
     Directory, Ended, Files, Sink, Status, open_input, say_input_fault, say_not_text,
     say_out_of_memory, write_bytes,
 };
+use plan_json::plan_json_on;
 use plan_stream::plan_on;
 use pool_run::{audit_with_workers, script_with_workers};
 use script_run::{Options, script_on};
@@ -25,6 +26,7 @@ use std::io;
 use std::io::Read;
 use std::sync::Wait;
 use std::thread::Threads;
+use unit_json::Json;
 
 /// Does what the process's words ask for, with these threads. Words that can't be read are a wrong command line.
 pub fn run<D: Directory, I: Read + Drop, W: Sink, E: Sink>(
@@ -103,7 +105,9 @@ pub fn run_on<T: AsStr, D: Directory, I: Read + Drop, W: Sink, E: Sink>(
         (E.contents errors.new) text }
 {
     match parse(alloc, words) {
-        Ok(Asked::Plan { file }) => plan_named(alloc, file, directory, standard, output, errors),
+        Ok(Asked::Plan { file, json }) => plan_as(
+            threads, alloc, file, json, directory, standard, output, errors,
+        ),
         Ok(Asked::Run { options, workers }) => run_named(
             threads, alloc, options, workers, directory, standard, output, errors,
         ),
@@ -114,7 +118,65 @@ pub fn run_on<T: AsStr, D: Directory, I: Read + Drop, W: Sink, E: Sink>(
     }
 }
 
-/// Prints the plan of the stream that the name stands for.
+/// Prints the plan of the stream that the name stands for, as JSON or in lines of text.
+fn plan_as<D: Directory, I: Read + Drop, W: Sink, E: Sink>(
+    threads: &(impl Threads + Sync),
+    alloc: Global,
+    name: &str,
+    json: bool,
+    directory: &D,
+    standard: I,
+    output: &mut W,
+    errors: &mut E,
+) -> Ended
+    ensures done { result.status ≡ Status.Success
+        → Keeps (E.contents errors.old) (E.contents errors.new) }
+    ensures right { result.status ≡ Status.Success
+        → IsDone (D.bytes directory.now) (I.remaining standard)
+        (plan name.now json) (W.contents output.old) (W.contents output.new) }
+    ensures fails { result.status ≡ Status.Failure
+        → FailsAt (D.bytes directory.now) (I.remaining standard)
+        (plan name.now json) result.told (W.refuses output.new) (W.contents output.old)
+        (W.contents output.new)
+        (E.refuses errors.new) (E.contents errors.old) (E.contents errors.new) }
+    ensures usage { result.status ≢ Status.Usage }
+{
+    if json {
+        plan_json_named(threads, alloc, name, directory, standard, output, errors)
+    } else {
+        plan_named(alloc, name, directory, standard, output, errors)
+    }
+}
+
+/// Prints the plan of the stream that the name stands for, as JSON.
+fn plan_json_named<D: Directory, I: Read + Drop, W: Sink, E: Sink>(
+    threads: &(impl Threads + Sync),
+    alloc: Global,
+    name: &str,
+    directory: &D,
+    standard: I,
+    output: &mut W,
+    errors: &mut E,
+) -> Ended
+    ensures done { result.status ≡ Status.Success
+        → Keeps (E.contents errors.old) (E.contents errors.new) }
+    ensures right { result.status ≡ Status.Success
+        → IsDone (D.bytes directory.now) (I.remaining standard)
+        (plan name.now true) (W.contents output.old) (W.contents output.new) }
+    ensures fails { result.status ≡ Status.Failure
+        → FailsAt (D.bytes directory.now) (I.remaining standard)
+        (plan name.now true) result.told (W.refuses output.new) (W.contents output.old)
+        (W.contents output.new)
+        (E.refuses errors.new) (E.contents errors.old) (E.contents errors.new) }
+    ensures usage { result.status ≢ Status.Usage }
+{
+    match open_input(directory, standard, name) {
+        Ok(mut input) => plan_json_on(threads, alloc, &Json, name, &mut input, output, errors),
+        Err(fault) => Ended::failed(say_input_fault(fault, name, errors)),
+    }
+}
+
+/// Prints the plan of the stream that the name stands for, in lines of text.
 fn plan_named<D: Directory, I: Read + Drop, W: Sink, E: Sink>(
     alloc: Global,
     name: &str,
@@ -127,10 +189,10 @@ fn plan_named<D: Directory, I: Read + Drop, W: Sink, E: Sink>(
         → Keeps (E.contents errors.old) (E.contents errors.new) }
     ensures right { result.status ≡ Status.Success
         → IsDone (D.bytes directory.now) (I.remaining standard)
-        (plan name.now) (W.contents output.old) (W.contents output.new) }
+        (plan name.now false) (W.contents output.old) (W.contents output.new) }
     ensures fails { result.status ≡ Status.Failure
         → FailsAt (D.bytes directory.now) (I.remaining standard)
-        (plan name.now) result.told (W.refuses output.new) (W.contents output.old)
+        (plan name.now false) result.told (W.refuses output.new) (W.contents output.old)
         (W.contents output.new)
         (E.refuses errors.new) (E.contents errors.old) (E.contents errors.new) }
     ensures usage { result.status ≢ Status.Usage }

@@ -1,5 +1,5 @@
 -- What is found of the seats and of their books at the end.
-use Rattle.std.proofs.Common.{◌≡◌, ℕ, ◌+◌, ◌<◌, Bool, true, false, List, length, Option, Some, sym, subst, inl, inr}
+use Rattle.std.proofs.Common.{◌≡◌, ℕ, ◌+◌, ◌<◌, Bool, true, false, List, length, Option, Some, sym, subst}
 use Rattle.std.specs.Prelude.{Contains, Result, Ok, Err, IfErr, IfOk}
 use Rattle.std.specs.Bool.{Decides}
 use Rattle.std.specs.declared.alloc.AllocError.{AllocError}
@@ -13,7 +13,7 @@ use Rattle.decode_pool.specs.declared.faults.FinishFault.{FinishFault}
 use Rattle.decode_pool.specs.declared.faults.FinishFault.TheVariants as faults
 use Rattle.decode_pool.specs.declared.finishing.Refusal.{Refusal}
 use Rattle.decode_pool.specs.declared.seat.Seat.{Seat}
-use Rattle.decode_pool.specs.Finishing.{AreBooksOf, AreEachOnce, AreNumbered, AreWithin, IsBookOf, IsFault, IsFinished, IsRefusal, IsWant, Tells, TellsAudit, journal_in}
+use Rattle.decode_pool.specs.Finishing.{AreBooksOf, AreEachOnce, AreNumbered, AreWithin, IsBookOf, IsFault, IsFinished, IsRefusal, IsWant, Tells, TellsAudit, copied, journal_in}
 use Rattle.decode_pool.proofs.Agreed.{as_many, each_once}
 
 -- the seats' numbers
@@ -52,34 +52,40 @@ pub want_err : {T : Type 0} (opened : ℕ) (seats : List Seat) (answer : Result 
 want_err {T} opened seats answer refusal is want =
     subst (λ (it : Result T Refusal). IfErr it (IsRefusal opened seats)) (sym is) (wanted opened seats refusal want)
 
--- this cause, of the journal
-told : (opened : ℕ) (seats : List Seat) (cause : FinishFault) (journal : List (List Edit)) (refusal : Refusal)
-    → Tells cause journal refusal → IsFault opened seats cause (Some journal) → IsRefusal opened seats refusal
-told opened seats cause journal refusal (inl tells) fault =
+-- this cause, of the journal that was copied
+told : {V W : Type 0} (opened : ℕ) (seats : List Seat) (cause : FinishFault) (journal : List (List Edit))
+    (items : V → List (List Edit)) (copy : Result V W) (refusal : Refusal)
+    → IfOk copy (λ it. items it ≡ journal) → Tells cause (copied items copy) refusal
+    → IsFault opened seats cause (Some journal) → IsRefusal opened seats refusal
+told {V} {W} opened seats cause journal items (Ok copy) refusal same tells fault =
     subst (λ (it : FinishFault). IsFault opened seats it (journal_in refusal)) (sym tells.0)
-    (subst (λ (it : Option (List (List Edit))). IsFault opened seats cause it) (sym tells.1) fault)
-told opened seats cause journal refusal (inr want) fault = wanted opened seats refusal want
+    (subst (λ (it : Option (List (List Edit))). IsFault opened seats cause it) (sym tells.1)
+    (subst (λ (it : List (List Edit)). IsFault opened seats cause (Some it)) (sym same) fault))
+told {V} {W} opened seats cause journal items (Err wanted_it) refusal same tells fault =
+    wanted opened seats refusal tells
 
 -- the fault of the audit
-pub audited : (opened : ℕ) (seats : List Seat) (journal : List (List Edit)) (books : List SeatBook) (fault : AuditFault)
-    (refusal : Refusal) → AreNumbered opened seats → AreBooksOf opened seats books → TellsAudit fault journal refusal
-    → IsFaultOf journal books fault → IsRefusal opened seats refusal
-audited opened seats journal books (audits.SeatDisagrees seat number) refusal numbered theirs tells fault =
-    told opened seats (faults.SeatDisagrees seat number) journal refusal tells
+pub audited : {V W : Type 0} (opened : ℕ) (seats : List Seat) (journal : List (List Edit)) (books : List SeatBook)
+    (fault : AuditFault) (items : V → List (List Edit)) (copy : Result V W) (refusal : Refusal)
+    → AreNumbered opened seats → AreBooksOf opened seats books → IfOk copy (λ it. items it ≡ journal)
+    → TellsAudit fault (copied items copy) refusal → IsFaultOf journal books fault → IsRefusal opened seats refusal
+audited {V} {W} opened seats journal books (audits.SeatDisagrees seat number) items copy refusal numbered theirs same tells fault =
+    told opened seats (faults.SeatDisagrees seat number) journal items copy refusal same tells
     (record { numbered = numbered; books = books; theirs = theirs; disagrees = fault })
-audited opened seats journal books audits.Memory refusal numbered theirs tells fault =
+audited {V} {W} opened seats journal books audits.Memory items copy refusal numbered theirs same tells fault =
     wanted opened seats refusal tells
 
 -- an entry of no book
 abbrev pub Lacks : List (List Edit) → List SeatBook → Type 0
 Lacks journal books = (at : ℕ) × (at < length journal) × (is_noted books (at + 1) ≡ false)
 
-pub missed : (opened : ℕ) (seats : List Seat) (journal : List (List Edit)) (books : List SeatBook) (refusal : Refusal)
+pub missed : {V W : Type 0} (opened : ℕ) (seats : List Seat) (journal : List (List Edit)) (books : List SeatBook)
+    (items : V → List (List Edit)) (copy : Result V W) (refusal : Refusal)
     → AreNumbered opened seats → AreBooksOf opened seats books → BooksAgree journal books
-    → Tells faults.SeatMissing journal refusal
+    → IfOk copy (λ it. items it ≡ journal) → Tells faults.SeatMissing (copied items copy) refusal
     → Lacks journal books → IsRefusal opened seats refusal
-missed opened seats journal books refusal numbered theirs agree tells lacks =
-    told opened seats faults.SeatMissing journal refusal tells
+missed {V} {W} opened seats journal books items copy refusal numbered theirs agree same tells lacks =
+    told opened seats faults.SeatMissing journal items copy refusal same tells
     (record {
       numbered = numbered;
       books = books;

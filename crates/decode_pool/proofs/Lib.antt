@@ -5,3 +5,4 @@ pub mod Outs
 pub mod Gathered
 pub mod Ended
 pub mod Noted
+pub mod Batched

@@ -1,5 +1,5 @@
 -- Jobs that are out stay different, whatever a session does.
-use Rattle.std.proofs.Common.{◌≡◌, ◌⊎◌, ℕ, ◌+◌, ◌<◌, ◌≤◌, List, [], ◌∷◌, ◌++◌, length, map, Option, None, Some, ◌∙◌, ap, subst, inl, inr, arith}
+use Rattle.std.proofs.Common.{Bool, true, false, ◌≡◌, ◌⊎◌, ℕ, ◌+◌, ◌<◌, ◌≤◌, List, [], ◌∷◌, ◌++◌, length, map, Option, None, Some, ◌∙◌, ap, subst, inl, inr, arith}
 use Rattle.std.specs.Prelude.{slice_get, option_map, remove, Contains, Result, Ok, Err}
 use Rattle.std.proofs.lemmas.Bool.{cases_lt}
 use Rattle.std.proofs.lemmas.Option.{slice_get_within, slice_get-map}
@@ -23,6 +23,8 @@ use Rattle.edit_engine.specs.Grouping.{AnswersGroup}
 use Rattle.edit_engine.specs.Machines.{Machine, AnswersEdit, empty, store_of}
 use Rattle.edit_engine.specs.Jobs.{AnswersTake, AnswersLand, AnswersGiveBack}
 use Rattle.decode_pool.specs.Jobs.{JobsDiffer}
+use Rattle.decode_pool.specs.declared.tally.Tally.{Tally}
+use Rattle.decode_pool.specs.Counts.{TakesIn}
 use Rattle.decode_pool.specs.Seats.{AnswersEditIn}
 use Rattle.decode_pool.proofs.Lists.{StoodAt, among, get_push, get_remove_above, get_remove_below}
 
@@ -153,6 +155,18 @@ taken_differ old new (Err take.JobsSpent) answers apart =
 taken_differ old new (Err take.Memory) answers apart =
     same_differ old new (ap (λ (store : StoreValue). store.out) answers.0.2)
     (ap (λ (store : StoreValue). store.given) answers.0.2) apart
+
+-- after a worker asks for one more in hand
+pub took_differ : (old new : Machine) (before : Tally) (answer : Result Bool TakeRefused) (after : Tally)
+    → TakesIn old before answer new after → JobsDiffer old → JobsDiffer new
+took_differ old new before (Ok true) after takes apart = taken_differ old new (Ok (Some takes.0)) takes.1 apart
+took_differ old new before (Ok false) after takes apart = taken_differ old new (Ok None) takes.0 apart
+took_differ old new before (Err refused) after takes apart =
+    elim takes.0 [
+      | inl answers ↦ taken_differ old new (Err refused) answers apart
+      | inr stays ↦ same_differ old new (ap (λ (machine : Machine). machine.out) stays.1)
+          (ap (λ (machine : Machine). machine.jobs) stays.1) apart
+    ]
 
 -- after a worker brings a result
 pub landed_differ : (old new : Machine) (job : JobValue) (landing : Landing) → AnswersLand old job landing new

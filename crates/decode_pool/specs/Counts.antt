@@ -1,19 +1,64 @@
--- What a worker counts.
-use Rattle.std.specs.Prelude.{◌≡◌, ℕ, ◌+◌, Option, None, Some, Result, Ok, Err}
+-- What a worker has in hand and counts.
+use Rattle.std.specs.Prelude.{◌≡◌, ◌⊎◌, ◌+◌, [], ◌∷◌, ◌++◌, Bool, true, false, None, Some, Result, Ok, Err}
 use Rattle.stand_in_device.specs.Jobs.{JobValue}
+use Rattle.picture_store.specs.declared.answers.Landing.{Landing}
+use Rattle.picture_store.specs.declared.answers.Landing.TheVariants as landings
+use Rattle.picture_store.specs.declared.answers.Returning.{Returning}
+use Rattle.picture_store.specs.declared.answers.Returning.TheVariants as returnings
 use Rattle.picture_store.specs.declared.refusals.TakeRefused.{TakeRefused}
+use Rattle.picture_store.specs.declared.refusals.TakeRefused.TheVariants as refusals
+use Rattle.edit_engine.specs.Machines.{Machine}
+use Rattle.edit_engine.specs.Jobs.{AnswersGiveBack, AnswersLand, AnswersTake}
+use Rattle.decode_pool.specs.declared.tally.Counts.{Counts}
 use Rattle.decode_pool.specs.declared.tally.Tally.{Tally}
 
--- how many jobs were brought: landed or given back
-abbrev pub brought : Tally → ℕ
-brought tally = tally.taken + tally.stale + tally.foreign + tally.returned
+-- before the first job
+abbrev pub none_brought : Counts
+none_brought = record { taken = 0; stale = 0; foreign = 0; returned = 0 }
 
--- a job that is taken is counted
-abbrev pub Takes : Tally → Result (Option JobValue) TakeRefused → Tally → Type 0
-Takes old (Ok (Some job)) new = (new.jobs ≡ old.jobs + 1) × (brought new ≡ brought old)
-Takes old (Ok None) new = new ≡ old
-Takes old (Err refused) new = new ≡ old
+-- a result is counted by what becomes of it
+abbrev pub with_landing : Landing → Counts → Counts
+with_landing landings.Taken counts = record counts { taken = counts.taken + 1 }
+with_landing landings.Stale counts = record counts { stale = counts.stale + 1 }
+with_landing landings.Foreign counts = record counts { foreign = counts.foreign + 1 }
 
--- a job that is brought is counted
-abbrev pub Brings : Tally → Tally → Type 0
-Brings old new = (new.jobs ≡ old.jobs) × (brought new ≡ brought old + 1)
+-- a job that is given back is counted by what becomes of it
+abbrev pub with_returning : Returning → Counts → Counts
+with_returning returnings.Returned counts = record counts { returned = counts.returned + 1 }
+with_returning returnings.Foreign counts = record counts { foreign = counts.foreign + 1 }
+
+-- the same is in hand, and the same was counted
+pub record IsSame (old new : Tally) : Type 0 where
+  pub jobs : new.jobs.items ≡ old.jobs.items
+  pub results : new.results.items ≡ old.results.items
+  pub counts : new.counts ≡ old.counts
+
+-- a job is in hand behind the others
+pub record HasMore (old : Tally) (job : JobValue) (new : Tally) : Type 0 where
+  pub jobs : new.jobs.items ≡ old.jobs.items ++ job ∷ []
+  pub results : new.results.items ≡ old.results.items
+  pub counts : new.counts ≡ old.counts
+
+-- a worker asks a session for a job, and has the one that it is given in hand; or there is none, or the session refuses,
+-- or there is no room in hand and the session isn't asked, and nothing changes in hand
+abbrev pub TakesIn : Machine → Tally → Result Bool TakeRefused → Machine → Tally → Type 0
+TakesIn from old (Ok true) to new = (job : JobValue) × AnswersTake from (Ok (Some job)) to × HasMore old job new
+TakesIn from old (Ok false) to new = AnswersTake from (Ok None) to × IsSame old new
+TakesIn from old (Err refused) to new =
+    (AnswersTake from (Err refused) to ⊎ ((refused ≡ refusals.Memory) × (to ≡ from))) × IsSame old new
+
+-- the first result in hand lands in a session, and is counted
+pub record LandsIn (from : Machine) (old : Tally) (landing : Landing) (to : Machine) (new : Tally) : Type 0 where
+  pub job : JobValue
+  pub first : old.results.items ≡ job ∷ new.results.items
+  pub lands : AnswersLand from job landing to
+  pub counted : new.counts ≡ with_landing landing old.counts
+  pub jobs : new.jobs.items ≡ old.jobs.items
+
+-- the first job in hand is given back to a session, and is counted
+pub record GivesBackIn (from : Machine) (old : Tally) (returning : Returning) (to : Machine) (new : Tally) : Type 0 where
+  pub job : JobValue
+  pub first : old.jobs.items ≡ job ∷ new.jobs.items
+  pub returns : AnswersGiveBack from job returning to
+  pub counted : new.counts ≡ with_returning returning old.counts
+  pub results : new.results.items ≡ old.results.items

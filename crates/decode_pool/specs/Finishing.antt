@@ -1,5 +1,5 @@
 -- When a desk is finished, and why it isn't.
-use Rattle.std.specs.Prelude.{◌≡◌, ◌⊎◌, ℕ, ◌+◌, ◌<◌, ◌≤◌, ◌==◌, Bool, true, false, List, length, slice_get, option_map, count_by, sum_by, All, Contains, Option, None, Some}
+use Rattle.std.specs.Prelude.{◌≡◌, ℕ, ◌+◌, ◌<◌, ◌≤◌, ◌==◌, Bool, true, false, List, length, slice_get, option_map, count_by, sum_by, All, Contains, Option, None, Some, Result, Ok, Err}
 use Rattle.stream_edits.specs.declared.edits.Edit.{Edit}
 use Rattle.seat_books.specs.declared.book.SeatBook.{SeatBook}
 use Rattle.seat_books.specs.declared.receipts.SeatReceipt.{SeatReceipt}
@@ -107,13 +107,18 @@ IsRefusal opened seats refusal =
 abbrev pub IsWant : Refusal → Type 0
 IsWant refusal = refusal.cause ≡ faults.Memory
 
--- a refusal tells this cause with a copy of the journal; or, where that finds no memory, that memory is wanted
-abbrev pub Tells : FinishFault → List (List Edit) → Refusal → Type 0
-Tells cause journal refusal =
-    ((refusal.cause ≡ cause) × (journal_in refusal ≡ Some journal)) ⊎ IsWant refusal
+-- what was copied of a journal, if there was memory for it
+abbrev pub copied : {V W : Type 0} → (V → List (List Edit)) → Result V W → Option (List (List Edit))
+copied items (Ok copy) = Some (items copy)
+copied items (Err wanted) = None
+
+-- a refusal tells this cause with the copy of the journal; where there was no memory for one, and there alone, that memory
+-- is wanted
+abbrev pub Tells : FinishFault → Option (List (List Edit)) → Refusal → Type 0
+Tells cause (Some journal) refusal = (refusal.cause ≡ cause) × (journal_in refusal ≡ Some journal)
+Tells cause None refusal = IsWant refusal
 
 -- a refusal tells the fault of an audit
-abbrev pub TellsAudit : AuditFault → List (List Edit) → Refusal → Type 0
-TellsAudit (audits.SeatDisagrees seat number) journal refusal =
-    Tells (faults.SeatDisagrees seat number) journal refusal
-TellsAudit audits.Memory journal refusal = IsWant refusal
+abbrev pub TellsAudit : AuditFault → Option (List (List Edit)) → Refusal → Type 0
+TellsAudit (audits.SeatDisagrees seat number) copy refusal = Tells (faults.SeatDisagrees seat number) copy refusal
+TellsAudit audits.Memory copy refusal = IsWant refusal

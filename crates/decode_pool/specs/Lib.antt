@@ -1,5 +1,6 @@
 pub mod Numbers
 pub mod Jobs
 pub mod Counts
+pub mod Batches
 pub mod Seats
 pub mod Finishing

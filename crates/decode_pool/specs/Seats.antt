@@ -1,5 +1,5 @@
 -- What seats are answered and note.
-use Rattle.std.specs.Prelude.{◌≡◌, ◌⊎◌, ℕ, ◌+◌, ◌≤◌, List, [], ◌∷◌, ◌++◌, length, slice_get, Some, IfOk, Result, Ok, Err}
+use Rattle.std.specs.Prelude.{◌≡◌, ◌⊎◌, ℕ, ◌+◌, ◌<◌, ◌≤◌, List, [], ◌∷◌, ◌++◌, length, slice_get, Some, IfOk, Result, Ok, Err}
 use Rattle.std.specs.declared.alloc.AllocError.{AllocError}
 use Rattle.stream_edits.specs.declared.edits.Edit.{Edit}
 use Rattle.stream_edits.specs.declared.group_refused.GroupRefused.{GroupRefused}
@@ -19,8 +19,8 @@ use Rattle.edit_engine.specs.Showing.{Shows}
 use Rattle.seat_books.specs.declared.receipts.SeatReceipt.{SeatReceipt}
 use Rattle.seat_books.specs.declared.receipts.SeatReceipt.TheVariants as receipts
 use Rattle.decode_pool.specs.declared.seat.Seat.{Seat}
-use Rattle.decode_pool.specs.declared.settling.Settled.{Settled}
-use Rattle.decode_pool.specs.declared.settling.Settled.TheVariants as settled
+use Rattle.decode_pool.specs.declared.state.settling.Settled.{Settled}
+use Rattle.decode_pool.specs.declared.state.settling.Settled.TheVariants as settled
 
 -- seats with the numbers from 1 on, so many, that have noted nothing
 abbrev pub AreNew : ℕ → List Seat → Type 0
@@ -104,3 +104,10 @@ IsPendingAt machine at =
 abbrev pub WaitsForOne : Settled → Type 0
 WaitsForOne settled.Done = (machine : Machine) × IsReached machine × AreSettledFrom machine 0
 WaitsForOne settled.Idle = (machine : Machine) × IsReached machine × (at : ℕ) × IsPendingAt machine at
+
+-- how a wait for the pictures of a session ends, of which so many workers of so many have ended: no unit is pending, or one
+-- is and no worker is left; it goes on while one is and one is left
+abbrev pub IsSettledBy : Machine → ℕ → ℕ → Result Settled ℕ → Type 0
+IsSettledBy machine ended workers (Ok settled.Done) = AreSettledFrom machine 0
+IsSettledBy machine ended workers (Ok settled.Idle) = ((at : ℕ) × IsPendingAt machine at) × (workers ≤ ended)
+IsSettledBy machine ended workers (Err at) = IsPendingAt machine at × (ended < workers)

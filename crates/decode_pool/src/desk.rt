@@ -1,14 +1,14 @@
 //! A desk: a session under a lock.
 
-ghost use Rattle.std.specs.Prelude.{◌≡◌, ◌≤◌, IfOk};
+ghost use Rattle.std.specs.Prelude.{◌≡◌, ◌≤◌, [], IfOk};
 ghost use Rattle.decode_pool.specs.Seats.{AreNew, WaitsForOne};
 
 use crate::seat::Seat;
-use crate::settling::Settled;
-use crate::state::State;
-use edit_engine::{Config, Session};
+use crate::state::{Settled, State};
+use crate::tally::Tally;
+use edit_engine::Config;
 use std::alloc::{AllocError, Global};
-use std::sync::{Condvar, Mutex, Wait};
+use std::sync::{Condvar, Mutex, MutexGuard, Wait};
 
 /// A session that threads share: seats edit it and ask, workers decode. One lock is round all of it, which is held for a
 /// call of the session and no longer.
@@ -19,6 +19,7 @@ pub struct Desk {
     pub(crate) job_due: Condvar,
     /// Told where no unit may be pending any more, or a worker has ended.
     pub(crate) settled: Condvar,
+    pub(crate) room: u16,
     pub(crate) workers: usize,
     pub(crate) seats: usize,
 }
@@ -34,27 +35,31 @@ impl Desk {
         requires cache { (1 ≤ config.cache) × (config.cache ≤ 4096) }
         requires workers { (1 ≤ workers) × (workers ≤ 64) }
         requires seats { (1 ≤ seats) × (seats ≤ 64) }
+        ensures room { IfOk result (λ opened. opened.0.room ≡ config.cache) }
         ensures workers { IfOk result (λ opened. opened.0.workers ≡ workers) }
         ensures seats { IfOk result (λ opened. opened.0.seats ≡ seats) }
         ensures books { IfOk result (λ opened. AreNew seats opened.1.items) }
     {
-        let Ok(session) = Session::new(alloc, config) else {
-            return Err(AllocError);
-        };
         let desk = Desk {
-            state: Mutex::new(State::new(session)),
+            state: Mutex::new(State::open(alloc, config)?),
             job_due: Condvar::new(),
             settled: Condvar::new(),
+            room: config.cache,
             workers,
             seats,
         };
         Ok((desk, new_seats(alloc, seats)?))
     }
 
-    /// Closes the desk: each worker brings the job that it has, if it has one, and ends. Seats may go on.
+    /// Closes the desk: each worker brings the jobs that it has, if it has some, and ends. Seats may go on.
     pub fn close<R: Wait>(&self, rt: &R) {
-        self.state.lock(rt).closed = true;
-        self.job_due.notify_all();
+        let mut state = self.state.lock(rt);
+        state.status.closed = true;
+        let wakes = state.status.workers.tell_all();
+        drop(state);
+        if wakes {
+            self.job_due.notify_all();
+        }
     }
 
     /// Waits until no unit is pending, or until no worker is left though one is. Units are looked at from the first one
@@ -65,32 +70,44 @@ impl Desk {
         let mut from = 0;
         let mut state = self.state.lock(rt);
         for _ in rt.forever() {
-            match state.first_pending(from) {
-                None if from == 0 => return Settled::Done,
-                None => from = 0,
-                Some(_) if state.ended >= self.workers => return Settled::Idle,
-                Some(at) => {
+            match state.settled(from, self.workers) {
+                Ok(settled) => return settled,
+                Err(at) => {
                     from = at;
+                    state.status.seats.fall_asleep();
                     state = self.settled.wait(rt, state);
+                    state.status.seats.awake();
                 }
             }
         }
         unreachable!()
     }
 
-    /// Tells of an edit: a job may be due, or no unit may be pending any more.
-    pub(crate) fn tell_edit(&self) {
-        self.job_due.notify_one();
-        self.settled.notify_all();
+    /// Wakes whom an edit or the end of a worker may concern: a worker that sleeps, as a job may be due, and each seat that
+    /// waits, as no unit may be pending any more. It lets the lock go first.
+    pub(crate) fn tell(&self, state: MutexGuard<'_, State>) {
+        let mut state = state;
+        let wakes_worker = state.status.workers.tell_one();
+        let wakes_seats = state.status.seats.tell_all();
+        drop(state);
+        if wakes_worker {
+            self.job_due.notify_one();
+        }
+        if wakes_seats {
+            self.settled.notify_all();
+        }
     }
 
-    /// Counts a worker that has ended. A job that it left may be due.
-    pub(crate) fn end_worker<R: Wait>(&self, rt: &R) {
+    /// A worker ends: it brings the results that it has in hand, gives back the jobs, and is counted.
+    pub(crate) fn end_worker<R: Wait>(&self, rt: &R, tally: &mut Tally)
+        ensures jobs { tally.new.jobs.items ≡ [] }
+        ensures results { tally.new.results.items ≡ [] }
+    {
         let mut state = self.state.lock(rt);
-        state.ended = state.ended.saturating_add(1);
-        drop(state);
-        self.job_due.notify_one();
-        self.settled.notify_all();
+        state.come_back(tally);
+        state.give_back_all(tally);
+        state.status.ended = state.status.ended.saturating_add(1);
+        self.tell(state);
     }
 }
 

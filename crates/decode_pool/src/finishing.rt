@@ -2,7 +2,7 @@
 
 ghost use Rattle.std.specs.Prelude.{◌≡◌, IfErr, IfOk, OnOk, option_map};
 ghost use Rattle.decode_pool.specs.Jobs.{JobsDiffer};
-ghost use Rattle.decode_pool.specs.Finishing.{IsFault, IsFinished, IsRefusal, Tells, TellsAudit};
+ghost use Rattle.decode_pool.specs.Finishing.{IsFault, IsFinished, IsRefusal, Tells, TellsAudit, copied};
 ghost use Rattle.decode_pool.specs.declared.faults.FinishFault.TheVariants.{Memory};
 
 use crate::desk::Desk;
@@ -42,23 +42,25 @@ pub fn finish(alloc: Global, desk: Desk, seats: Vec<Seat>) -> Result<Session, Un
     ensures err { IfErr result (λ unfinished. IsFault desk.seats seats.items unfinished.cause (option_map (λ copy. copy.items) unfinished.journal)) }
     ensures seats { IfErr result (λ unfinished. unfinished.seats ≡ seats) }
     ensures desk { IfErr result (λ unfinished. (unfinished.desk.seats ≡ desk.seats)
-        × (unfinished.desk.workers ≡ desk.workers)) }
+        × (unfinished.desk.workers ≡ desk.workers) × (unfinished.desk.room ≡ desk.room)) }
 {
     let Desk {
         state,
         job_due,
         settled,
+        room,
         workers,
         seats: opened,
     } = desk;
     let state = state.into_inner();
-    match look_through(alloc, opened, &seats, &state.session) {
-        Ok(()) => Ok(state.session),
+    match look_through(alloc, opened, &seats, state.session()) {
+        Ok(()) => Ok(state.into_session()),
         Err(refusal) => Err(Unfinished {
             desk: Desk {
                 state: Mutex::new(state),
                 job_due,
                 settled,
+                room,
                 workers,
                 seats: opened,
             },
@@ -88,31 +90,31 @@ fn look_through(
     let books = books_of(alloc, seats, opened)?;
     let journal = session.journal();
     if let Err(fault) = audit(alloc, journal, &books) {
-        return Err(refusal_of(alloc, fault, journal));
+        return Err(refusal_of(fault, copy_of(alloc, journal)));
     }
     if !are_all_noted(journal, &books) {
-        return Err(with_journal(alloc, FinishFault::SeatMissing, journal));
+        return Err(with_journal(FinishFault::SeatMissing, copy_of(alloc, journal)));
     }
     Ok(())
 }
 
-/// Why a desk isn't finished whose books don't pass their audit.
-fn refusal_of(alloc: Global, fault: AuditFault, journal: &[JournalEntry]) -> Refusal
-    ensures { TellsAudit fault journal.now result }
+/// Why a desk isn't finished whose books don't pass their audit, with this copy of the journal of which that is said.
+fn refusal_of(fault: AuditFault, copy: Result<Vec<JournalEntry>, AllocError>) -> Refusal
+    ensures { TellsAudit fault (copied (λ it. it.items) copy) result }
 {
     match fault {
         AuditFault::SeatDisagrees { seat, number } => {
-            with_journal(alloc, FinishFault::SeatDisagrees { seat, number }, journal)
+            with_journal(FinishFault::SeatDisagrees { seat, number }, copy)
         }
         AuditFault::Memory => Refusal::from(AllocError),
     }
 }
 
-/// Why a desk isn't finished, with a copy of the journal of which that is said.
-fn with_journal(alloc: Global, cause: FinishFault, journal: &[JournalEntry]) -> Refusal
-    ensures { Tells cause journal.now result }
+/// Why a desk isn't finished, with this copy of the journal of which that is said; or that there was no memory for it.
+fn with_journal(cause: FinishFault, copy: Result<Vec<JournalEntry>, AllocError>) -> Refusal
+    ensures { Tells cause (copied (λ it. it.items) copy) result }
 {
-    match copy_of(alloc, journal) {
+    match copy {
         Ok(journal) => Refusal {
             cause,
             journal: Some(journal),

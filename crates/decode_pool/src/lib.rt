@@ -16,8 +16,8 @@ mod gate;
 mod gathering;
 mod group_note;
 mod seat;
-mod settling;
 mod state;
+mod status;
 mod tally;
 mod working;
 
@@ -26,6 +26,6 @@ pub use faults::{FinishFault, Unfinished};
 pub use finishing::finish;
 pub use gate::Gate;
 pub use seat::Seat;
-pub use settling::Settled;
+pub use state::Settled;
 pub use tally::Worked;
 pub use working::worker;

@@ -9,7 +9,7 @@ ghost use Rattle.decode_pool.specs.Seats.{AnswersEditIn, EditsGroupOne, EditsOne
 
 use crate::desk::Desk;
 use crate::group_note::GroupNote;
-use crate::settling::Settled;
+use crate::state::Settled;
 use edit_engine::{
     Edit, EditRefused, GroupReceipt, GroupRefused, Last, ReadEdit, ReadGroup, Receipt, Session,
     Shown,
@@ -158,8 +158,9 @@ impl Seat {
     ) -> Result<Receipt, EditRefused>
         ensures { EditsOne self.old read result self.new }
     {
-        let answer = desk.state.lock(rt).edit_read(self, read);
-        desk.tell_edit();
+        let mut state = desk.state.lock(rt);
+        let answer = state.edit_read(self, read);
+        desk.tell(state);
         answer
     }
 
@@ -188,8 +189,9 @@ impl Seat {
         ensures { EditsGroupOne self.old group result self.new }
     {
         let note = GroupNote::of(self.alloc, group.edits())?;
-        let answer = desk.state.lock(rt).edit_group(self, group, note);
-        desk.tell_edit();
+        let mut state = desk.state.lock(rt);
+        let answer = state.edit_group(self, group, note);
+        desk.tell(state);
         answer
     }
 

@@ -1,46 +1,72 @@
 //! What lies under the lock of a desk.
 
-ghost use Rattle.std.specs.Prelude.{◌≡◌, ◌<◌, ◌^◌, length, IfOk};
+ghost use Rattle.std.specs.Prelude.{◌≡◌, ◌≢◌, ◌<◌, ◌≤◌, ◌^◌, [], false, length, IfOk};
 ghost use Rattle.stream_edits.specs.Groups.{IsSized};
 ghost use Rattle.stream_edits.specs.Streams.{last_of};
 ghost use Rattle.edit_engine.specs.Grouping.{AnswersGroup};
 ghost use Rattle.edit_engine.specs.Machines.{empty};
-ghost use Rattle.stream_edits.specs.Edits.{no_units, Replays};
 ghost use Rattle.edit_engine.specs.Showing.{Shows};
 ghost use Rattle.decode_pool.specs.Jobs.{JobsDiffer};
-ghost use Rattle.decode_pool.specs.Counts.{Brings, Takes, brought};
+ghost use Rattle.decode_pool.specs.Counts.{GivesBackIn, LandsIn, TakesIn};
 ghost use Rattle.decode_pool.specs.Seats.{AnswersEditIn, IsReached, NotesEdit, NotesGroup, NotesShow};
+
+mod bringing;
+mod settling;
 
 use crate::group_note::GroupNote;
 use crate::seat::Seat;
+use crate::status::Status;
 use crate::tally::Tally;
+pub(crate) use bringing::Next;
 use edit_engine::{
-    EditRefused, Finished, GroupReceipt, GroupRefused, Job, Last, ReadEdit, ReadGroup, Receipt,
-    Session, Shown, TakeRefused,
+    Config, EditRefused, GroupReceipt, GroupRefused, Landing, Last, ReadEdit, ReadGroup, Receipt,
+    Returning, Session, Shown, TakeRefused,
 };
 use pictures::AuId;
-use std::alloc::AllocError;
+pub use settling::Settled;
+use std::alloc::{AllocError, Global};
 
-/// What lies under the lock of a desk: the session, whether the desk is closed, and how many workers have ended. Jobs that
-/// are out have different numbers and keys.
+/// What lies under the lock of a desk: the session, and what its threads do. Jobs that are out have different numbers and
+/// keys. The session is this module's alone: what a thread does with it is one of the calls below, each of which is one of
+/// the session's own.
 #[derive(Debug, Drop)]
 pub(crate) struct State {
-    pub(crate) session: Session,
-    pub(crate) closed: bool,
-    pub(crate) ended: usize,
+    session: Session,
+    pub(crate) status: Status,
     ghost jobs: { JobsDiffer session },
 }
 
 impl State {
-    /// An open desk's, before the first edit.
-    pub(crate) fn new(session: Session) -> State
-        requires { JobsDiffer session }
+    /// An open desk's, before the first edit: its session has an empty stream, and no worker has ended.
+    pub(crate) fn open(alloc: Global, config: Config) -> Result<State, AllocError>
+        requires { (1 ≤ config.cache) × (config.cache ≤ 4096) }
+        ensures session { IfOk result (λ state. state.session ≡ empty config.cache) }
+        ensures open { IfOk result (λ state. state.status.closed ≡ false) }
+        ensures ended { IfOk result (λ state. state.status.ended ≡ 0) }
     {
-        State {
-            session,
-            closed: false,
-            ended: 0,
+        match Session::new(alloc, config) {
+            Ok(session) => Ok(State {
+                session,
+                status: Status::new(),
+            }),
+            Err(_) => Err(AllocError),
         }
+    }
+
+    /// The session.
+    pub(crate) fn session(&self) -> &Session
+        ensures session { result.now ≡ self.now.session }
+        ensures jobs { JobsDiffer result.now }
+    {
+        &self.session
+    }
+
+    /// The session, at the end.
+    pub(crate) fn into_session(self) -> Session
+        ensures session { result ≡ self.session }
+        ensures jobs { JobsDiffer result }
+    {
+        self.session
     }
 
     /// A seat edits the session by an edit whose text is read.
@@ -52,6 +78,7 @@ impl State {
         ensures reached { IsReached self.old.session }
         ensures session { AnswersEditIn self.old.session read result self.new.session }
         ensures book { NotesEdit seat.old read result (length self.new.session.journal) seat.new }
+        ensures status { self.new.status ≡ self.old.status }
     {
         let _ = self.session.journal();
         seat.edit_read_in(&mut self.session, read)
@@ -69,6 +96,7 @@ impl State {
         ensures reached { IsReached self.old.session }
         ensures session { AnswersGroup self.old.session group result self.new.session }
         ensures book { NotesGroup seat.old group result (length self.new.session.journal) seat.new }
+        ensures status { self.new.status ≡ self.old.status }
     {
         let _ = self.session.journal();
         seat.edit_noted_group_in(&mut self.session, group, note)
@@ -93,27 +121,32 @@ impl State {
         self.session.last()
     }
 
-    /// A worker takes a job.
-    pub(crate) fn take(&mut self, tally: &mut Tally) -> Result<Option<Job>, TakeRefused>
-        requires { tally.old.jobs < 2 ^ 63 }
-        ensures { Takes tally.old result tally.new }
+    /// A worker takes a job, if one is due: whether it has one more in hand.
+    pub(crate) fn take(&mut self, tally: &mut Tally) -> Result<bool, TakeRefused>
+        requires { tally.old.count < 2 ^ 63 }
+        ensures session { TakesIn self.old.session tally.old result self.new.session tally.new }
+        ensures status { self.new.status ≡ self.old.status }
     {
         tally.take_in(&mut self.session)
     }
 
-    /// A worker brings a result.
-    pub(crate) fn land(&mut self, tally: &mut Tally, finished: Finished)
-        requires { brought tally.old < 2 ^ 63 }
-        ensures { Brings tally.old tally.new }
+    /// A worker brings the first result that it has in hand.
+    pub(crate) fn land(&mut self, tally: &mut Tally) -> Landing
+        requires { tally.old.results.items ≢ [] }
+        ensures session { LandsIn self.old.session tally.old result self.new.session tally.new }
+        ensures count { tally.new.count ≡ tally.old.count }
+        ensures status { self.new.status ≡ self.old.status }
     {
-        let _ = tally.land_in(&mut self.session, finished);
+        tally.land_in(&mut self.session)
     }
 
-    /// A worker gives a job back.
-    pub(crate) fn give_back(&mut self, tally: &mut Tally, job: Job)
-        requires { brought tally.old < 2 ^ 63 }
-        ensures { Brings tally.old tally.new }
+    /// A worker gives the first job back that it has in hand.
+    pub(crate) fn give_back(&mut self, tally: &mut Tally) -> Returning
+        requires { tally.old.jobs.items ≢ [] }
+        ensures session { GivesBackIn self.old.session tally.old result self.new.session tally.new }
+        ensures count { tally.new.count ≡ tally.old.count }
+        ensures status { self.new.status ≡ self.old.status }
     {
-        let _ = tally.give_back_in(&mut self.session, job);
+        tally.give_back_in(&mut self.session)
     }
 }

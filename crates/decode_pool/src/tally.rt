@@ -1,10 +1,12 @@
-//! What a worker counts.
+//! What a worker has in hand, and what it counts.
 
-ghost use Rattle.std.specs.Prelude.{◌≡◌, ◌+◌, ◌<◌, ◌^◌};
-ghost use Rattle.edit_engine.specs.Jobs.{AnswersGiveBack, AnswersLand, AnswersTake};
-ghost use Rattle.decode_pool.specs.Counts.{Brings, Takes, brought};
+ghost use Rattle.std.specs.Prelude.{◌≡◌, ◌≢◌, ◌+◌, ◌<◌, ◌++◌, ◌^◌, [], length, true};
 
+use crate::gate::Gate;
 use edit_engine::{Finished, Job, Landing, Returning, Session, TakeRefused};
+use stand_in_device::Undone;
+use std::alloc::Global;
+use std::collections::VecDeque;
 
 /// What became of the jobs that a worker took. Each of them is counted here once: there was none that was neither brought
 /// nor given back.
@@ -31,83 +33,187 @@ impl Worked {
     }
 }
 
-/// How many jobs a worker took so far, and what became of those that it brought.
+/// What became of the jobs that a worker brought so far.
 #[derive(Clone, Copy, Debug)]
-pub(crate) struct Tally {
-    jobs: u64,
+pub(crate) struct Counts {
     taken: u64,
     stale: u64,
     foreign: u64,
     returned: u64,
 }
 
+/// The jobs that a worker has in hand and the results that it has of others, both in the order in which it took them, and
+/// what became of those that it brought. Nothing gets out of it but into a session, and it isn't let go: it ends by
+/// `worked`, once nothing is in hand. So no job is lost on the way.
+pub(crate) struct Tally {
+    jobs: VecDeque<Job>,
+    results: VecDeque<Finished>,
+    counts: Counts,
+    count: u64,
+    ghost counted: { count ≡ counts.taken + counts.stale + counts.foreign + counts.returned
+        + length jobs.items + length results.items },
+}
+
 impl Tally {
+    ghost use Rattle.decode_pool.specs.Counts.{GivesBackIn, LandsIn, TakesIn, none_brought};
+
     /// Before the first job.
-    pub(crate) fn new() -> Tally
-        ensures none { result.jobs ≡ 0 }
-        ensures brought { brought result ≡ 0 }
+    pub(crate) fn new(alloc: Global) -> Tally
+        ensures count { result.count ≡ 0 }
+        ensures counts { result.counts ≡ none_brought }
+        ensures jobs { result.jobs.items ≡ [] }
+        ensures results { result.results.items ≡ [] }
     {
         Tally {
-            jobs: 0,
-            taken: 0,
-            stale: 0,
-            foreign: 0,
-            returned: 0,
+            jobs: VecDeque::new(alloc),
+            results: VecDeque::new(alloc),
+            counts: Counts {
+                taken: 0,
+                stale: 0,
+                foreign: 0,
+                returned: 0,
+            },
+            count: 0,
         }
     }
 
-    /// Takes a job of a session, and counts it.
-    pub(crate) fn take_in(&mut self, session: &mut Session) -> Result<Option<Job>, TakeRefused>
-        requires { self.old.jobs < 2 ^ 63 }
-        ensures session { AnswersTake session.old result session.new }
-        ensures counts { Takes self.old result self.new }
+    /// How many jobs were taken.
+    pub(crate) fn count(&self) -> u64
+        ensures { result ≡ self.now.count }
     {
-        let answer = session.take();
-        if let Ok(Some(_)) = &answer {
-            self.jobs += 1;
-        }
-        answer
+        self.count
     }
 
-    /// Brings a result to a session, and counts what becomes of it.
-    pub(crate) fn land_in(&mut self, session: &mut Session, finished: Finished) -> Landing
-        requires { brought self.old < 2 ^ 63 }
-        ensures session { AnswersLand session.old finished result session.new }
-        ensures counts { Brings self.old self.new }
+    /// How many jobs are in hand that aren't decoded.
+    pub(crate) fn jobs(&self) -> usize
+        ensures { result ≡ length self.now.jobs.items }
     {
+        self.jobs.len()
+    }
+
+    /// How many results are in hand.
+    pub(crate) fn results(&self) -> usize
+        ensures { result ≡ length self.now.results.items }
+    {
+        self.results.len()
+    }
+
+    /// Takes a job of a session; whether there was one.
+    pub(crate) fn take_in(&mut self, session: &mut Session) -> Result<bool, TakeRefused>
+        requires { self.old.count < 2 ^ 63 }
+        ensures { TakesIn session.old self.old result session.new self.new }
+    {
+        self.jobs.reserve(1)?;
+        match session.take() {
+            Ok(Some(job)) => {
+                self.jobs.push_back_reserved(job);
+                self.count += 1;
+                Ok(true)
+            }
+            Ok(None) => Ok(false),
+            Err(refused) => Err(refused),
+        }
+    }
+
+    /// Decodes the jobs in hand by the gate, in their order; whether it gave a result for each. One that it hands back stays
+    /// in hand, and so do those behind it.
+    pub(crate) fn decode<D: Gate>(&mut self, alloc: Global, gate: &mut D) -> bool
+        ensures all { result ≡ true → self.new.jobs.items ≡ [] }
+        ensures order { self.new.results.items ++ self.new.jobs.items
+            ≡ self.old.results.items ++ self.old.jobs.items }
+        ensures count { self.new.count ≡ self.old.count }
+    {
+        for _at in 0..self.jobs.len() {
+            if !self.decode_next(alloc, gate) {
+                return false;
+            }
+        }
+        true
+    }
+
+    /// Decodes the first job in hand by the gate; whether it gave a result.
+    fn decode_next<D: Gate>(&mut self, alloc: Global, gate: &mut D) -> bool
+        ensures one { result ≡ true → length self.new.jobs.items + 1 ≡ length self.old.jobs.items }
+        ensures order { self.new.results.items ++ self.new.jobs.items
+            ≡ self.old.results.items ++ self.old.jobs.items }
+        ensures count { self.new.count ≡ self.old.count }
+    {
+        if self.results.reserve(1).is_err() || self.jobs.reserve(1).is_err() {
+            return false;
+        }
+        let Some(job) = self.jobs.pop_front() else {
+            return false;
+        };
+        match gate.decode(alloc, job) {
+            Ok(finished) => {
+                self.results.push_back_reserved(finished);
+                true
+            }
+            Err(Undone { job, cause: _ }) => {
+                self.jobs.push_front_reserved(job);
+                false
+            }
+        }
+    }
+
+    /// Brings the first result in hand to a session, and counts what becomes of it.
+    pub(crate) fn land_in(&mut self, session: &mut Session) -> Landing
+        requires { self.old.results.items ≢ [] }
+        ensures session { LandsIn session.old self.old result session.new self.new }
+        ensures count { self.new.count ≡ self.old.count }
+    {
+        let Some(finished) = self.results.pop_front() else {
+            unreachable!()
+        };
         let landing = session.land(finished);
         match landing {
-            Landing::Taken => self.taken += 1,
-            Landing::Stale => self.stale += 1,
-            Landing::Foreign => self.foreign += 1,
+            Landing::Taken => self.counts.taken += 1,
+            Landing::Stale => self.counts.stale += 1,
+            Landing::Foreign => self.counts.foreign += 1,
         }
         landing
     }
 
-    /// Gives a job back to a session, and counts it.
-    pub(crate) fn give_back_in(&mut self, session: &mut Session, job: Job) -> Returning
-        requires { brought self.old < 2 ^ 63 }
-        ensures session { AnswersGiveBack session.old job result session.new }
-        ensures counts { Brings self.old self.new }
+    /// Gives the first job in hand back to a session, and counts it.
+    pub(crate) fn give_back_in(&mut self, session: &mut Session) -> Returning
+        requires { self.old.jobs.items ≢ [] }
+        ensures session { GivesBackIn session.old self.old result session.new self.new }
+        ensures count { self.new.count ≡ self.old.count }
     {
+        let Some(job) = self.jobs.pop_front() else {
+            unreachable!()
+        };
         let returning = session.give_back(job);
         match returning {
-            Returning::Returned => self.returned += 1,
-            Returning::Foreign => self.foreign += 1,
+            Returning::Returned => self.counts.returned += 1,
+            Returning::Foreign => self.counts.foreign += 1,
         }
         returning
     }
 
-    /// What became of all jobs, where each was brought.
+    /// What became of all jobs, where none is in hand.
     pub(crate) fn worked(self) -> Worked
-        requires { self.jobs ≡ brought self }
+        requires jobs { self.jobs.items ≡ [] }
+        requires results { self.results.items ≡ [] }
+        ensures taken { result.taken ≡ self.counts.taken }
+        ensures stale { result.stale ≡ self.counts.stale }
+        ensures foreign { result.foreign ≡ self.counts.foreign }
+        ensures returned { result.returned ≡ self.counts.returned }
     {
+        let Tally {
+            jobs,
+            results,
+            counts,
+            count,
+        } = self;
+        jobs.destroy_empty();
+        results.destroy_empty();
         Worked {
-            taken: self.taken,
-            stale: self.stale,
-            foreign: self.foreign,
-            returned: self.returned,
-            jobs: self.jobs,
+            taken: counts.taken,
+            stale: counts.stale,
+            foreign: counts.foreign,
+            returned: counts.returned,
+            jobs: count,
         }
     }
 }

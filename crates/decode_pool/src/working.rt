@@ -1,83 +1,74 @@
 //! Workers.
 
-ghost use Rattle.std.specs.Prelude.{◌≡◌, ◌+◌, ◌<◌, ◌^◌, MatchOption};
-ghost use Rattle.decode_pool.specs.Counts.{Brings, brought};
+ghost use Rattle.std.specs.Prelude.{◌≡◌, ◌≢◌, ◌<◌, ◌≤◌, MatchBool, []};
 
 use crate::desk::Desk;
 use crate::gate::Gate;
+use crate::state::Next;
 use crate::tally::{Tally, Worked};
-use edit_engine::{Finished, Job};
-use stand_in_device::Undone;
 use std::alloc::Global;
 use std::sync::Wait;
 
-/// How many jobs a worker takes at most.
-const MOST_JOBS: u64 = 1 << 63;
+/// How often a worker goes to the desk at most: each time it takes a job or more, and never more than 2^63 in all.
+const MOST_ROUNDS: u64 = 1 << 63;
+
+/// How many jobs a worker takes at once at most.
+const MOST_AT_ONCE: usize = 8;
 
 /// Takes jobs of a desk, decodes them by the gate and brings what comes of them, until the desk is closed. It ends too
 /// where the gate hands a job back, which it then gives back, where a job is due and none can be taken, and after 2^63
 /// jobs. No one has the lock while it decodes.
+///
+/// It takes one job at a time while another worker has none, and else up to twice as many as the time before, at most
+/// eight; where it ends with jobs that it hasn't decoded, it gives them back.
 pub fn worker<D: Gate + Drop, R: Wait>(rt: &R, alloc: Global, desk: &Desk, gate: D) -> Worked {
     let mut gate = gate;
-    let mut tally = Tally::new();
-    for _round in 0..MOST_JOBS {
-        let Some(job) = next_job(rt, desk, &mut tally) else {
-            break;
-        };
-        if !bring(rt, desk, &mut tally, gate.decode(alloc, job)) {
+    let mut tally = Tally::new(alloc);
+    let mut most = 1;
+    for _round in 0..MOST_ROUNDS {
+        if !exchange(rt, desk, &mut tally, most) || !tally.decode(alloc, &mut gate) {
             break;
         }
+        most = (2 * most).min(MOST_AT_ONCE);
     }
-    desk.end_worker(rt);
+    desk.end_worker(rt, &mut tally);
     tally.worked()
 }
 
-/// Waits for a job. There is none where the desk is closed, and where one is due and can't be taken. One who takes a job
-/// wakes another worker, who may find one too. One who finds none at once may have brought the last picture, which those who
-/// wait for it are told.
-fn next_job<R: Wait>(rt: &R, desk: &Desk, tally: &mut Tally) -> Option<Job>
-    requires { tally.old.jobs < 2 ^ 63 }
-    ensures { MatchOption result
-        (tally.new ≡ tally.old)
-        (λ _. (tally.new.jobs ≡ tally.old.jobs + 1) × (brought tally.new ≡ brought tally.old)) }
+/// Brings the results that a worker has in hand and takes its next jobs, or sleeps until some are due; whether it has jobs
+/// then. While it has the lock it may so make several steps of the session, one after the other. One who may have left
+/// jobs that are due wakes another worker for them; one who finds none when it comes may have brought the last picture,
+/// which the seats that wait for it are told.
+fn exchange<R: Wait>(rt: &R, desk: &Desk, tally: &mut Tally, most: usize) -> bool
+    requires none { tally.old.jobs.items ≡ [] }
+    requires some { 0 < most }
+    ensures results { tally.new.results.items ≡ [] }
+    ensures jobs { MatchBool result (tally.new.jobs.items ≢ []) (tally.new.jobs.items ≡ []) }
 {
     let mut state = desk.state.lock(rt);
+    state.come_back(tally);
     let mut is_first_look = true;
     for _ in rt.forever() {
-        if state.closed {
-            return None;
-        }
-        match state.take(tally) {
-            Ok(Some(job)) => {
-                desk.job_due.notify_one();
-                return Some(job);
-            }
-            Ok(None) => {
-                if is_first_look {
+        match state.take_next(tally, most, desk.workers) {
+            Next::Ends => return false,
+            Next::Sleeps => {
+                if is_first_look && state.status.seats.tell_all() {
                     desk.settled.notify_all();
                 }
                 is_first_look = false;
+                state.status.workers.fall_asleep();
                 state = desk.job_due.wait(rt, state);
+                state.status.workers.awake();
             }
-            Err(_) => return None,
+            next => {
+                let wakes = next == Next::Decodes && state.status.workers.tell_one();
+                drop(state);
+                if wakes {
+                    desk.job_due.notify_one();
+                }
+                return true;
+            }
         }
     }
     unreachable!()
-}
-
-/// Brings a result, or gives the job back; whether it was a result.
-fn bring<R: Wait>(rt: &R, desk: &Desk, tally: &mut Tally, outcome: Result<Finished, Undone>) -> bool
-    requires { brought tally.old < 2 ^ 63 }
-    ensures { Brings tally.old tally.new }
-{
-    match outcome {
-        Ok(finished) => {
-            desk.state.lock(rt).land(tally, finished);
-            true
-        }
-        Err(Undone { job, cause: _ }) => {
-            desk.state.lock(rt).give_back(tally, job);
-            false
-        }
-    }
 }

@@ -1,5 +1,6 @@
 -- What was written of a text, by how its plan ended.
-use Rattle.std.proofs.Common.{◌⊎◌, inr, ℕ, List, Option, refl}
+use Rattle.std.proofs.Common.{inl, inr, ℕ, List, Option, refl}
+use Rattle.std.specs.Io.KnownBytes.{Keeps}
 use Rattle.std.specs.Prelude.{Err, IsErrOf}
 use Rattle.access_unit.specs.Rooms.{IsStreamRefused, most_units}
 use Rattle.access_unit.specs.declared.room.Refusal.{Refusal}
@@ -22,9 +23,16 @@ planned text folded is = record { parts = is.parts; stream = is.stream; bounded 
 pub refused : (text : List ℕ) (refusal : Refusal) → IsStreamRefused text most_units refusal → IsRefused text (refusal_text refusal)
 refused text refusal is = record { refusal = refusal; refused = is; lines_are = refl }
 
--- a front of them, where they aren't printed whole
+-- a front of the lines of its units, where they aren't printed whole
 pub ends-print : {T : Type 0} (text lines : List ℕ) (old new : Option (List ℕ)) (refuses : Type 0) (fault : PrintFault)
-    → (IsPlanned text lines ⊎ IsRefused text lines) → AppendsFront old new lines → (IsErrOf {T = T} (Err fault) print.Unwritten → refuses)
+    → IsPlanned text lines → AppendsFront old new lines → (IsErrOf {T = T} (Err fault) print.Unwritten → refuses)
     → EndsBy text (fault_of_print fault) refuses old new
-ends-print text lines old new refuses print.Memory are front told = inr (lines, are, front)
-ends-print text lines old new refuses print.Unwritten are front told = (told refl, inr (lines, are, front))
+ends-print text lines old new refuses print.Memory is front told = inr (lines, is, front)
+ends-print text lines old new refuses print.Unwritten is front told = (told refl, inr (lines, inl is, front))
+
+-- nothing of the line of its refusal where memory is wanted, or a front of it
+pub ends-refusal : {T : Type 0} (text lines : List ℕ) (old new : Option (List ℕ)) (refuses : Type 0) (fault : PrintFault)
+    → IsRefused text lines → AppendsFront old new lines → (IsErrOf {T = T} (Err fault) print.Unwritten → refuses)
+    → (IsErrOf {T = T} (Err fault) print.Memory → Keeps old new) → EndsBy text (fault_of_print fault) refuses old new
+ends-refusal text lines old new refuses print.Memory is front told kept = inl (kept refl)
+ends-refusal text lines old new refuses print.Unwritten is front told kept = (told refl, inr (lines, inr is, front))

@@ -88,6 +88,8 @@ pub fn print_refusal<W: Sink>(alloc: Global, refusal: Refusal, writer: &mut W) -
     ensures written { AppendsFront (W.contents writer.old) (W.contents writer.new)
         (refusal_text refusal) }
     ensures refused { IsErrOf result PrintFault.Unwritten → W.refuses writer.new }
+    ensures memory { IsErrOf result PrintFault.Memory
+        → Keeps (W.contents writer.old) (W.contents writer.new) }
 {
     let line = RefusalLine(refusal).to_string(alloc)?;
     write_bytes(writer, line.as_bytes())

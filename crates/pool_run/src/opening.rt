@@ -12,6 +12,8 @@ use std::alloc::{AllocError, Global};
 pub(crate) fn open(alloc: Global, cache: u16, workers: usize) -> Result<(Desk, Seat), AllocError>
     requires cache { (1 ≤ cache) × (cache ≤ 4096) }
     requires workers { (1 ≤ workers) × (workers ≤ 64) }
+    ensures room { IfOk result (λ opened. opened.0.room ≡ cache) }
+    ensures workers { IfOk result (λ opened. opened.0.workers ≡ workers) }
     ensures seats { IfOk result (λ opened. opened.0.seats ≡ 1) }
     ensures new { IfOk result (λ opened. IsNew opened.1) }
 {

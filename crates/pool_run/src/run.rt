@@ -120,6 +120,9 @@ where
     ensures ok { IfOk result (λ ended. WritesScriptTo (S.file source) text.now options.entry.hex
         ended.1 (W.contents writer.old) (W.contents writer.new)) }
     ensures seats { IfOk result (λ ended. (ended.0.seats ≡ 1) × (ended.1.number ≡ 1)) }
+    // The desk has the room that is asked for, and as many workers as there are gates.
+    ensures room { IfOk result (λ ended. ended.0.room ≡ options.entry.cache) }
+    ensures workers { IfOk result (λ ended. ended.0.workers ≡ length gates.items) }
     ensures stops { IfErr result (λ fault. StopsText
         (S.file source) text.now options.entry.hex fault
         (W.refuses writer.new) (W.contents writer.old) (W.contents writer.new)) }

@@ -40,7 +40,9 @@ where
     D: Gate + Send + Drop,
     S: Source + Drop,
     W: Sink,
-    ensures desk { result.desk.seats ≡ desk.seats }
+    ensures seats { result.desk.seats ≡ desk.seats }
+    ensures room { result.desk.room ≡ desk.room }
+    ensures workers { result.desk.workers ≡ desk.workers }
     ensures ok { OnOk result.result
         (WritesRun (S.file source) hex seat commands.entry.items result.seat
         (W.contents writer.old) (W.contents writer.new)) }

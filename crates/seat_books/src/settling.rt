@@ -1,6 +1,8 @@
 //! A session of which every picture is made.
 
-ghost use Rattle.std.specs.Prelude.{◌≡◌, OnOk};
+ghost use Rattle.std.specs.Prelude.{◌≡◌, false, true, IfOk, OnOk};
+ghost use Rattle.picture_store.specs.Jobs.{IsAnyDue};
+ghost use Rattle.edit_engine.specs.Machines.{store_of};
 
 use edit_engine::{Session, TakeRefused};
 use stand_in_device::{Device, Job, Undone};
@@ -10,6 +12,7 @@ use std::alloc::{AllocError, Global};
 pub(crate) fn settle(alloc: Global, session: &mut Session) -> Result<(), AllocError>
     ensures journal { OnOk result (session.new.journal ≡ session.old.journal) }
     ensures register { OnOk result (session.new.register ≡ session.old.register) }
+    ensures due { OnOk result (IsAnyDue (store_of session.new) → ⊥) }
 {
     let mut device = Device::new(alloc);
     for _ in 0..u64::MAX {
@@ -28,6 +31,7 @@ fn decode_next(
 ) -> Result<bool, AllocError>
     ensures journal { session.new.journal ≡ session.old.journal }
     ensures register { session.new.register ≡ session.old.register }
+    ensures due { IfOk result (λ was_due. was_due ≡ false → IsAnyDue (store_of session.new) → ⊥) }
 {
     match session.take() {
         Ok(Some(job)) => decode(alloc, session, device, job),
@@ -45,6 +49,7 @@ fn decode(
 ) -> Result<bool, AllocError>
     ensures journal { session.new.journal ≡ session.old.journal }
     ensures register { session.new.register ≡ session.old.register }
+    ensures due { IfOk result (λ was_due. was_due ≡ true) }
 {
     match device.decode(alloc, job) {
         Ok(finished) => {

@@ -1,6 +1,6 @@
 //! The window: bytes that were read and are still needed, and room for more.
 
-ghost use Rattle.std.specs.Prelude.{◌≡◌, ◌+◌, ◌<◌, ◌≤◌, ◌++◌, ℕ, List, [], false, length, slice_range, IfOk, OnOk, OnErr, vec_len};
+ghost use Rattle.std.specs.Prelude.{◌≡◌, ◌+◌, ◌<◌, ◌≤◌, ◌++◌, ℕ, List, [], false, true, length, slice_range, IfOk, OnOk, OnErr, vec_len};
 ghost use Rattle.std.specs.Io.KnownBytes.{Consumes, IsAtEnd, Keeps};
 
 use crate::front::front_len;
@@ -115,9 +115,10 @@ impl Window {
         self.end = end - start;
     }
 
-    /// Makes the buffer twice as long where it's full.
+    /// Makes the buffer twice as long where it's full, so that there is room.
     fn grow(&mut self) -> Result<(), AllocError>
         requires { self.old.start ≡ self.old.cut }
+        ensures room { OnOk result (self.new.end < vec_len self.new.buffer) }
         ensures none { self.new.start ≡ self.new.cut }
         ensures held { held_by self.new ≡ held_by self.old }
         ensures over { self.new.is_over ≡ self.old.is_over }
@@ -126,12 +127,17 @@ impl Window {
         if self.end < len {
             return Ok(());
         }
-        self.buffer.resize(len.saturating_mul(2), 0)
+        let Some(longer) = len.checked_mul(2) else {
+            return Err(AllocError);
+        };
+        self.buffer.resize(longer.max(SIZE), 0)
     }
 
     /// Reads until the buffer is full, or the reader has no more.
     fn fill<R: Read>(&mut self, reader: &mut R) -> Result<(), InputFault>
         requires { self.old.start ≡ self.old.cut }
+        ensures filled { OnOk result
+            (self.new.is_over ≡ false → self.new.end ≡ vec_len self.new.buffer) }
         ensures none { self.new.start ≡ self.new.cut }
         ensures left { (left : List ℕ) → HasLeft self.old (R.remaining reader.old) left
             → HasLeft self.new (R.remaining reader.new) left }
@@ -168,8 +174,10 @@ impl Window {
 
     /// Whether the buffer is full, or the reader has no more.
     fn is_filled(&self) -> bool
-        ensures { result ≡ false
+        ensures no { result ≡ false
             → (self.now.is_over ≡ false) × (self.now.end < vec_len self.now.buffer) }
+        ensures yes { result ≡ true
+            → self.now.is_over ≡ false → self.now.end ≡ vec_len self.now.buffer }
     {
         self.is_over || self.end >= self.buffer.len()
     }

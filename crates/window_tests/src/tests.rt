@@ -23,6 +23,14 @@ const SETS: [u8; 16] = [
 /// The picture after it, with frame_num 1.
 const P1: [u8; 6] = [0, 0, 1, 0x41, 0x9A, 0x23];
 
+/// The IDR picture of A alone.
+const I: [u8; 7] = [0, 0, 1, 0x65, 0x88, 0x84, 0x80];
+
+/// The same with the forbidden bit, and a slice of a type that isn't read.
+const FORBIDDEN: [u8; 7] = [0, 0, 1, 0xE5, 0x88, 0x84, 0x80];
+
+const PARTITION: [u8; 5] = [0, 0, 1, 0x62, 0x80];
+
 /// A unit of a type that isn't read.
 const WRONG: [u8; 6] = [0, 0, 1, 0x6E, 0x40, 0x80];
 
@@ -71,7 +79,7 @@ fn row_holds(rt: &impl Abort, row: usize, holds: bool) {
 /// Whether what the reader gives is planned with this status, just these lines are printed, and just this is told.
 fn is_planned(
     alloc: Global,
-    mut reader: Pieces<'_>,
+    mut reader: impl Read + Drop,
     status: Status,
     lines: &str,
     told: &str,
@@ -111,7 +119,7 @@ fn joined(alloc: Global, parts: &[&[u8]]) -> Result<Vec<u8>, AllocError> {
 /// The parts of a stream, how its plan ends, and the lines that are printed.
 type Plan = (&'static [&'static [u8]], Status, &'static str);
 
-const PLANS: [Plan; 11] = [
+const PLANS: [Plan; 12] = [
     (&[&A, &P1], Success, LINES_OF_BOTH),
     // Zeros before a start code, after a unit and at the end, and a unit with an emulation prevention byte.
     (
@@ -136,6 +144,11 @@ const PLANS: [Plan; 11] = [
         "refused 1 Split\n",
     ),
     (&[&A, &WRONG, &P1], Failure, "unit 1 refused 2 UnitType\n"),
+    (
+        &[&A, &FORBIDDEN, &I, &PARTITION],
+        Failure,
+        "unit 1 refused 3 ForbiddenBit\n",
+    ),
     // The first of two, and a text that doesn't split for all that is refused before.
     (
         &[&WRONG, &A, &WRONG, &P1],
@@ -169,6 +182,46 @@ fn plan_holds(alloc: Global, row: &Plan) -> Result<bool, AllocError> {
 fn plans_streams_in_pieces(rt: HostRuntime) -> Result<(), Fail> {
     for (row, plan) in PLANS.iter().enumerate() {
         row_holds(&rt, row, plan_holds(rt.alloc(), plan)?);
+    }
+    Ok(())
+}
+
+/// A reader that is interrupted before each read that gives something.
+#[derive(Drop)]
+struct Interrupted<'a> {
+    reader: Pieces<'a>,
+    is_next: bool,
+}
+
+impl<'a> Read for Interrupted<'a> {
+    fn read(&mut self, buf: &mut [u8]) -> io::Result<usize> {
+        self.is_next = !self.is_next;
+        if self.is_next {
+            return Err(io::Error::from(ErrorKind::Interrupted));
+        }
+        self.reader.read(buf)
+    }
+}
+
+/// An interrupted read is made again.
+#[test]
+fn plans_what_an_interrupted_reader_gives(rt: HostRuntime) -> Result<(), Fail> {
+    let text = joined(rt.alloc(), &[&A, &P1])?;
+    for at_a_time in &SIZES {
+        let reader = Pieces {
+            rest: &text,
+            at_a_time: *at_a_time,
+            end: None,
+        };
+        let interrupted = Interrupted {
+            reader,
+            is_next: false,
+        };
+        row_holds(
+            &rt,
+            *at_a_time,
+            is_planned(rt.alloc(), interrupted, Success, LINES_OF_BOTH, ""),
+        );
     }
     Ok(())
 }

@@ -6,6 +6,7 @@ use h264_controls::{Dpb, Request};
 use header_types::SliceType;
 use m2m_queues::{BufferState, QueueFault, Queues, RequestId, RequestState};
 use pictures::{AuId, List};
+use sha2::{Digest, Sha256};
 use stand_in_device::{Device, Finished, Input, Job, Picture, Reference, Undone};
 use std::alloc::{AllocError, Global};
 use std::test::Fail;
@@ -155,6 +156,87 @@ fn pictures_are_digests_of_their_records(rt: HostRuntime) -> Result<(), Fail> {
         let picture = decoded(rt.alloc(), input_of(rt.alloc(), *slices, true)?)?;
         row_holds(&rt, row, picture == Some((7, Picture { digest: *digest })));
     }
+    Ok(())
+}
+
+/// What stands at places of a digest form whose other bytes are 0: of the sets, of the IDR picture 65 88 84 80, and of the
+/// P picture 41 9A 23 after it. The offsets are those of the members, in the order and sizes of the form.
+type Members = &'static [(usize, &'static [u8])];
+
+const OF_SETS: Members = &[
+    // profile_idc to num_ref_frames_in_pic_order_cnt_cycle, and frame_mbs_only with direct_8x8_inference.
+    (0, &[0x42, 0, 0x0A, 0, 1, 0, 0, 0, 2, 0, 1, 0]),
+    (1044, &[0x50]),
+];
+
+const OF_IDR: Members = &[
+    // header_bit_size, slice_type, nal_ref_idc, dec_ref_pic_marking_bit_size, IDR_PIC.
+    (1541, &[25]),
+    (1549, &[2]),
+    (1996, &[3]),
+    (2024, &[2]),
+    (2036, &[1]),
+];
+
+const OF_P: Members = &[
+    // header_bit_size, the first entry of list 0, and the frame's fields and flags.
+    (1541, &[23]),
+    (1560, &[3]),
+    (1698, &[3]),
+    (1707, &[3]),
+    // nal_ref_idc, frame_num, both counts, dec_ref_pic_marking_bit_size.
+    (1996, &[2, 0, 1, 0, 2, 0, 0, 0, 2]),
+    (2024, &[1]),
+];
+
+/// The record of a slice without weights: its form of 2,040 bytes, in which all entries of the scaling lists are 16, the
+/// number of its bytes, these, and the pictures of its references.
+fn record_of(
+    alloc: Global,
+    members: Members,
+    bytes: &[u8],
+    pictures: &[u8],
+) -> Result<Vec<u8>, AllocError> {
+    let mut record = Vec::new(alloc);
+    record.resize(1060, 0)?;
+    record.resize(1540, 16)?;
+    record.resize(2040, 0)?;
+    for (at, member) in OF_SETS {
+        write_at(&mut record, *at, *member);
+    }
+    for (at, member) in members {
+        write_at(&mut record, *at, *member);
+    }
+    record.extend_from_slice(&[bytes.len() as u8, 0, 0, 0, 0, 0, 0, 0])?;
+    record.extend_from_slice(bytes)?;
+    record.extend_from_slice(pictures)?;
+    Ok(record)
+}
+
+/// Writes a member at its place.
+fn write_at(record: &mut Vec<u8>, at: usize, member: &[u8]) {
+    for (offset, byte) in member.iter().enumerate() {
+        if let Some(place) = record.get_mut(at.saturating_add(offset)) {
+            *place = *byte;
+        }
+    }
+}
+
+/// Whether the record is so long and its SHA-256 is this.
+fn hashes_to(record: &[u8], len: usize, digest: &[u8; 32]) -> bool {
+    let mut hasher = Sha256::new();
+    hasher.update(record);
+    record.len() == len && hasher.finalize() == *digest
+}
+
+/// The digests above are those of bytes that are put together here.
+#[test]
+fn digests_are_those_of_these_bytes(rt: HostRuntime) -> Result<(), Fail> {
+    let alloc = rt.alloc();
+    let idr = record_of(alloc, OF_IDR, &[0, 0, 1, 0x65, 0x88, 0x84, 0x80], &[])?;
+    assert!(rt; hashes_to(&idr, 2055, &ONE_IDR));
+    let p = record_of(alloc, OF_P, &[0, 0, 1, 0x41, 0x9A, 0x23], &ONE_IDR)?;
+    assert!(rt; hashes_to(&p, 2086, &IDR_AND_P));
     Ok(())
 }
 

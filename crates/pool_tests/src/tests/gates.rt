@@ -68,7 +68,7 @@ fn another_worker_does_what_one_hands_back(rt: HostRuntime) -> Result<(), Fail> 
 }
 
 /// A worker decodes as a device does until no unit is pending; what it did, where the wait ended so.
-fn settle_beside<R: AllocGlobal + Threads + Wait + Sync>(
+pub(super) fn settle_beside<R: AllocGlobal + Threads + Wait + Sync>(
     rt: &R,
     desk: &Desk,
     seat: &mut Seat,

@@ -304,7 +304,7 @@ fn does_what_the_words_name(rt: HostRuntime) -> Result<(), Fail> {
 /// standard error, where the other one is empty.
 type Answer = (&'static [&'static str], Status, &'static str);
 
-const ANSWERS: [Answer; 26] = [
+const ANSWERS: [Answer; 29] = [
     (&[], Usage, "Usage: preview <COMMAND>"),
     (&["plan"], Usage, "<FILE>"),
     (&["plan", "a", "b"], Usage, "'b'"),
@@ -350,6 +350,22 @@ const ANSWERS: [Answer; 26] = [
         "cannot read no/such\n",
     ),
     (&["run", "--hex", "no"], Failure, "cannot read no\n"),
+    // Each of many words is looked at.
+    (
+        &["run", "--cache", "5", "--workers", "2", "--hex", "no"],
+        Failure,
+        "cannot read no\n",
+    ),
+    (
+        &["run", "--cache", "5", "no", "--workers", "2", "--hexa"],
+        Usage,
+        "'--hexa'",
+    ),
+    (
+        &["audit", "--cache", "5", "no", "--workers", "65"],
+        Usage,
+        "'65'",
+    ),
     (
         &["run", "no", "--cache", "4096"],
         Failure,

@@ -9,7 +9,7 @@ use std::test::Fail;
 /// A unit that is deleted and inserted again, as one step.
 pub(super) const REPAIR: &str = "group\ndelete 2\ninsert after 1 000001419A23\nend\n";
 
-const GROUPS: [Script; 6] = [
+const GROUPS: [Script; 7] = [
     // An edit may name what one before it inserted.
     (
         &[
@@ -42,6 +42,19 @@ const GROUPS: [Script; 6] = [
     (
         &["group\ninsert first\ndelete 1\nend\n"],
         &["group refused at 0 1 Split\n"],
+    ),
+    // The second text is refused, and with it the group.
+    (
+        &[
+            INSERT_A,
+            "group\ninsert after 1 000001419A23\ninsert after 2 0000016E4080\nend\n",
+            "unit 2\ninsert after 1 000001419A23\n",
+        ],
+        &[
+            "edit 1 id 1\n",
+            "group refused at 1 2 UnitType\n",
+            "unit 2 none\nedit 2 id 2\n",
+        ],
     ),
     (&["group\nend\n"], &["group refused 20 EmptyGroup\n"]),
     // Empty lines and comments are skipped in a group too, and spaces part words as elsewhere.

@@ -5,7 +5,7 @@ use super::{A, LINES_OF_A, LINES_OF_P1, P1, P2, SETS, joined, repeated, row_hold
 use crate::sample::{CLOCK, CLOCK_LINES};
 use Status::{Failure, Success};
 use console_io::Status;
-use std::alloc::AllocError;
+use std::alloc::{AllocError, Global};
 use std::process::Abort;
 use std::test::Fail;
 use std::thread::Threads;
@@ -117,6 +117,48 @@ unit 9\nunit 10\nunit 11\nunit 12\n";
     assert!(rt; loads(&rt, script, &CLOCK, (Success, lines.as_bytes(), b"")));
     Ok(())
 }
+
+/// A, and so many IDR pictures after it, each with other slice data.
+fn with_pictures(alloc: Global, count: u16) -> Result<Vec<u8>, AllocError> {
+    let mut stream = Vec::from_slice(alloc, &A)?;
+    for number in 0..count {
+        let [low, high] = number.to_le_bytes();
+        stream.extend_from_slice(&[0, 0, 1, 0x65, 0x88, 0x84, 0x81, low, 0x80 | high, 0x80])?;
+    }
+    Ok(stream)
+}
+
+/// One `settle` decodes several hundred pictures.
+#[test]
+fn settles_several_hundred_pictures(rt: HostRuntime) -> Result<(), Fail> {
+    let stream = with_pictures(rt.alloc(), 400)?;
+    let script = b"load stream\nshow 401\nsettle\nshow 1\nshow 400\nshow 401\n";
+    let lines =
+        b"loaded 401\nshow 401 pending\nsettled\nshow 1 ready\nshow 400 ready\nshow 401 ready\n";
+    assert!(rt; loads(&rt, script, &stream, (Success, lines, b"")));
+    Ok(())
+}
+
+/// A unit far from both ends goes: those before it and after it stay, and positions after it are one less.
+#[test]
+fn deletes_the_unit_at_place_2_000(rt: HostRuntime) -> Result<(), Fail> {
+    let stream = with_pictures(rt.alloc(), 2_100)?;
+    let script = b"load stream\ndelete 2001\nunit 2000\nunit 2001\nunit 2002\nunit 2101\n";
+    let lines = texts(rt.alloc(), &FAR_LINES)?;
+    assert!(rt; loads(&rt, script, &stream, (Success, lines.as_bytes(), b"")));
+    Ok(())
+}
+
+const FAR_LINES: [&str; 5] = [
+    "loaded 2101\nedit 2102 id 2001\n",
+    "unit 2000 position 1999 counts 0 0 requests 1\n\
+request 2000.0 ts 2000000 bits 25 type 2 frame 0 dpb - l0 - l1 - hold 0\n",
+    "unit 2001 none\n",
+    "unit 2002 position 2000 counts 0 0 requests 1\n\
+request 2002.0 ts 2002000 bits 25 type 2 frame 0 dpb - l0 - l1 - hold 0\n",
+    "unit 2101 position 2099 counts 0 0 requests 1\n\
+request 2101.0 ts 2101000 bits 25 type 2 frame 0 dpb - l0 - l1 - hold 0\n",
+];
 
 /// 65,536 units after one that is there are too many.
 #[test]

@@ -119,7 +119,7 @@ pub(super) fn answers_with(
 /// The parts of a script, and the lines that it prints.
 pub(super) type Script = (&'static [&'static str], &'static [&'static str]);
 
-const SCRIPTS: [Script; 12] = [
+const SCRIPTS: [Script; 13] = [
     (
         &[
             "insert first 00 00 01 67 42 00 0A DA 79\n",
@@ -237,6 +237,30 @@ const SCRIPTS: [Script; 12] = [
             LINE_OF_2,
         ],
     ),
+    // A period more stands before the others, and then a picture leaves its period to go on with the one before.
+    (
+        &[
+            INSERT_A,
+            "insert after 1 000001419A23\ninsert after 2 00000165888480\n",
+            "insert after 3 000001419A23\ninsert after 1 00000165888480\n",
+            "unit 1\nunit 5\nunit 2\nunit 3\nunit 4\nreplace 3 000001419A43\nunit 3\nunit 4\n",
+        ],
+        &[
+            "edit 1 id 1\nedit 2 id 2\nedit 3 id 3\nedit 4 id 4\nedit 5 id 5\n",
+            LINES_OF_A,
+            "unit 5 position 1 counts 0 0 requests 1\n",
+            "request 5.0 ts 5000 bits 25 type 2 frame 0 dpb - l0 - l1 - hold 0\n",
+            "unit 2 position 2 counts 2 2 requests 1\n",
+            "request 2.0 ts 2000 bits 23 type 0 frame 1 dpb 5000:0:3 l0 0 l1 - hold 0\n",
+            "unit 3 position 3 counts 0 0 requests 1\n",
+            "request 3.0 ts 3000 bits 25 type 2 frame 0 dpb - l0 - l1 - hold 0\n",
+            "unit 4 position 4 counts 2 2 requests 1\n",
+            "request 4.0 ts 4000 bits 23 type 0 frame 1 dpb 3000:0:3 l0 0 l1 - hold 0\n",
+            "edit 6 id 3\nunit 3 position 3 counts 4 4 requests 1\n",
+            "request 3.0 ts 3000 bits 23 type 0 frame 2 dpb 2000:1:3 l0 0 l1 - hold 0\n",
+            "unit 4 fault 11 FrameNumGap\n",
+        ],
+    ),
     // Numbers are printed as values, and one that no id reaches is one of no unit.
     (
         &[
@@ -291,7 +315,7 @@ fn run_to(
     let mut errors = Vec::new(rt.alloc());
     let options = Options {
         name: "-",
-        cache: 1,
+        cache: 64,
         hex: false,
     };
     let files: [(&str, &[u8]); 1] = [("p", P1.as_slice())];
@@ -327,17 +351,17 @@ fn gets(
         && writer.got.as_slice() == lines.split_at(room.min(lines.len())).0
 }
 
-/// A script whose last command loads a file, and its lines.
+/// A unit is deleted and repaired, and the last command loads a file; and the lines of that.
 const LOADED_LAST: Script = (
     &[
         INSERT_THREE,
-        "delete 2\nunit 3\ninsert after 1 00 00 01 41 9A 23\nunit 3\nload p\n",
+        "settle\ndelete 2\nunit 3\ninsert after 1 00 00 01 41 9A 23\nunit 3\nshow 3\nshow 4\nload p\n",
     ],
     &[
         THREE,
-        "edit 4 id 2\nunit 3 fault 11 FrameNumGap\nedit 5 id 4\n",
+        "settled\nedit 4 id 2\nunit 3 fault 11 FrameNumGap\nedit 5 id 4\n",
         LINES_OF_3,
-        "loaded 1\n",
+        "show 3 ready\nshow 4 ready\nloaded 1\n",
     ],
 );
 

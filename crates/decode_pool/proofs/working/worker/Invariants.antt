@@ -1,6 +1,5 @@
-use Rattle.std.proofs.Common.{◌≡◌, ◌≤◌}
-use Rattle.decode_pool.specs.Counts.{brought}
+use Rattle.std.proofs.Common.{◌≡◌, ◌<◌, ◌≤◌, []}
 use Rattle.decode_pool.proofs.working.worker.Given as goal
 
 abbrev pub invariant-loop-round : goal.invariant-loop-round
-invariant-loop-round g l = (l.tally.jobs ≡ brought l.tally) × (l.tally.jobs ≤ l._round)
+invariant-loop-round g l = (l.tally.jobs.items ≡ []) × (0 < l.most) × (l.most ≤ 8)

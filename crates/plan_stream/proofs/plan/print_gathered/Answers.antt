@@ -1,5 +1,4 @@
-use Rattle.std.proofs.Common.{inr}
-use Rattle.plan_stream.proofs.PlanEnds.{ends-print, planned, refused}
+use Rattle.plan_stream.proofs.PlanEnds.{ends-refusal, planned, refused}
 use Rattle.plan_stream.specs.Streams.{numbered_from}
 use Rattle.plan_stream.specs.StreamText.{stream_text}
 use Rattle.unit_lines.specs.Refusals.{refusal_text}
@@ -14,4 +13,5 @@ pub returns-clause-ends : goal.returns-clause-ends
 returns-clause-ends g c = λ text is.
     let refusal = c.in-Err.refusal in
     rw c.from-in-Err-print_refusal.ensures
-    (ends-print text (refusal_text refusal) _ _ _ c.in-Err-print_refusal.fault (inr (refused text refusal (c.in-Err.ensures.err text is))) c.in-Err-print_refusal.ensures.written c.in-Err-print_refusal.ensures.refused)
+    (ends-refusal text (refusal_text refusal) _ _ _ c.in-Err-print_refusal.fault (refused text refusal (c.in-Err.ensures.err text is))
+    c.in-Err-print_refusal.ensures.written c.in-Err-print_refusal.ensures.refused c.in-Err-print_refusal.ensures.memory)

@@ -3,6 +3,6 @@ use Rattle.decode_pool.proofs.state.State.land.Goals as goal
 
 pub invariant_of-self : goal.invariant_of-self
 invariant_of-self c = record {
-  jobs = landed_differ c.args.self.now.session c.land_in.new.session c.args.finished c.land_in.result
-      c.land_in.ensures.session c.args.self.now.jobs;
+  jobs = landed_differ c.args.self.now.session c.land_in.new.session c.land_in.ensures.session.job c.land_in.result
+      c.land_in.ensures.session.lands c.args.self.now.jobs;
 }

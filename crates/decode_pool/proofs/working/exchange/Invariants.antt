@@ -1,0 +1,5 @@
+use Rattle.std.proofs.Common.{◌≡◌, []}
+use Rattle.decode_pool.proofs.working.exchange.Given as goal
+
+abbrev pub invariant-loop : goal.invariant-loop
+invariant-loop g l = (l.tally.jobs.items ≡ []) × (l.tally.results.items ≡ [])

@@ -1,0 +1,45 @@
+-- Several steps of a session, one after the other, while a worker has the lock.
+use Rattle.std.specs.Prelude.{◌≡◌, ◌≢◌, ◌⊎◌, List, [], ◌∷◌, None, Some, Ok, Err}
+use Rattle.stand_in_device.specs.Jobs.{JobValue}
+use Rattle.picture_store.specs.declared.answers.Landing.{Landing}
+use Rattle.picture_store.specs.declared.answers.Returning.{Returning}
+use Rattle.picture_store.specs.declared.refusals.TakeRefused.{TakeRefused}
+use Rattle.edit_engine.specs.Machines.{Machine}
+use Rattle.edit_engine.specs.Jobs.{AnswersGiveBack, AnswersLand, AnswersTake}
+use Rattle.decode_pool.specs.declared.tally.Counts.{Counts}
+use Rattle.decode_pool.specs.declared.state.bringing.Next.{Next}
+use Rattle.decode_pool.specs.declared.state.bringing.Next.TheVariants as next
+use Rattle.decode_pool.specs.Counts.{with_landing, with_returning}
+
+-- the jobs are taken one after the other
+abbrev pub TakesAll : Machine → List JobValue → Machine → Type 0
+TakesAll from [] to = to ≡ from
+TakesAll from (job ∷ jobs) to =
+    (then : Machine) × AnswersTake from (Ok (Some job)) then × TakesAll then jobs to
+
+-- the results of the jobs land one after the other, and are counted
+abbrev pub LandsAll : Machine → List JobValue → Counts → Machine → Counts → Type 0
+LandsAll from [] counts to final = (to ≡ from) × (final ≡ counts)
+LandsAll from (job ∷ jobs) counts to final =
+    (landing : Landing) × (then : Machine) × AnswersLand from job landing then
+    × LandsAll then jobs (with_landing landing counts) to final
+
+-- the jobs are given back one after the other, and are counted
+abbrev pub GivesBackAll : Machine → List JobValue → Counts → Machine → Counts → Type 0
+GivesBackAll from [] counts to final = (to ≡ from) × (final ≡ counts)
+GivesBackAll from (job ∷ jobs) counts to final =
+    (returning : Returning) × (then : Machine) × AnswersGiveBack from job returning then
+    × GivesBackAll then jobs (with_returning returning counts) to final
+
+-- no job is taken: one is due and can't be, or the session isn't asked
+abbrev pub TakesNone : Machine → Machine → Type 0
+TakesNone from to = ((refused : TakeRefused) × AnswersTake from (Err refused) to) ⊎ (to ≡ from)
+
+-- what a worker does next that took these jobs one after the other: it decodes them, as many as it may have or as there
+-- are; or none is due, and it sleeps; or it ends
+abbrev pub TakesNext : Machine → List JobValue → Next → Machine → Type 0
+TakesNext from jobs next.Decodes to = (jobs ≢ []) × TakesAll from jobs to
+TakesNext from jobs next.DecodesLast to = (jobs ≢ [])
+    × ((then : Machine) × TakesAll from jobs then × (AnswersTake then (Ok None) to ⊎ TakesNone then to))
+TakesNext from jobs next.Sleeps to = (jobs ≡ []) × AnswersTake from (Ok None) to
+TakesNext from jobs next.Ends to = (jobs ≡ []) × TakesNone from to

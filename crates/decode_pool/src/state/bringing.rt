@@ -1,0 +1,117 @@
+//! What a worker does with a session while it has the lock: several steps, one after the other.
+
+ghost use Rattle.std.specs.Prelude.{◌≡◌, ◌≢◌, ◌<◌, []};
+ghost use Rattle.decode_pool.specs.declared.state.bringing.Next.TheVariants.{DecodesLast};
+ghost use Rattle.decode_pool.specs.Batches.{GivesBackAll, LandsAll, TakesNext};
+
+use super::State;
+use crate::tally::Tally;
+
+/// How many jobs a worker takes at most before it ends.
+const MOST_JOBS: u64 = 1 << 63;
+
+/// What a worker does next.
+#[derive(Clone, Copy, Debug, PartialEq, Eq)]
+pub(crate) enum Next {
+    /// It has as many jobs in hand as it may take at once: more may be due.
+    Decodes,
+    /// It has all jobs in hand that it could take.
+    DecodesLast,
+    /// No job is due.
+    Sleeps,
+    /// The desk is closed, a job is due and can't be taken, or 2^63 jobs were taken.
+    Ends,
+}
+
+impl State {
+    /// A worker comes back, and brings all results that it has in hand.
+    pub(crate) fn come_back(&mut self, tally: &mut Tally)
+        ensures landed { LandsAll self.old.session tally.old.results.items tally.old.counts self.new.session tally.new.counts }
+        ensures results { tally.new.results.items ≡ [] }
+        ensures jobs { tally.new.jobs.items ≡ tally.old.jobs.items }
+    {
+        if tally.jobs() + tally.results() > 0 {
+            self.status.at_work = self.status.at_work.saturating_sub(1);
+        }
+        self.land_all(tally);
+    }
+
+    /// A worker that has no job in hand takes its next ones: one, where others of so many workers have none, else up to so
+    /// many.
+    pub(crate) fn take_next(&mut self, tally: &mut Tally, most: usize, workers: usize) -> Next
+        requires none { tally.old.jobs.items ≡ [] }
+        requires some { 0 < most }
+        ensures taken { TakesNext self.old.session tally.new.jobs.items result self.new.session }
+        ensures results { tally.new.results.items ≡ tally.old.results.items }
+        ensures counts { tally.new.counts ≡ tally.old.counts }
+    {
+        let are_busy = self.status.are_others_at_work(workers);
+        let next = self.take_some(tally, if are_busy { most } else { 1 });
+        if tally.jobs() > 0 {
+            self.status.at_work = self.status.at_work.saturating_add(1);
+        }
+        next
+    }
+
+    /// A worker that has no job in hand takes so many, or as many as are due, each by a step of the session.
+    pub(crate) fn take_some(&mut self, tally: &mut Tally, most: usize) -> Next
+        requires none { tally.old.jobs.items ≡ [] }
+        requires some { 0 < most }
+        ensures taken { TakesNext self.old.session tally.new.jobs.items result self.new.session }
+        ensures results { tally.new.results.items ≡ tally.old.results.items }
+        ensures counts { tally.new.counts ≡ tally.old.counts }
+        ensures status { self.new.status ≡ self.old.status }
+    {
+        if self.status.closed {
+            return Next::Ends;
+        }
+        for _at in 0..most {
+            if tally.count() >= MOST_JOBS {
+                return unless_in_hand(tally, Next::Ends);
+            }
+            match self.take(tally) {
+                Ok(true) => {}
+                Ok(false) => return unless_in_hand(tally, Next::Sleeps),
+                Err(_) => return unless_in_hand(tally, Next::Ends),
+            }
+        }
+        Next::Decodes
+    }
+
+    /// A worker brings all results that it has in hand, in the order in which it took their jobs, each by a step of the
+    /// session.
+    pub(crate) fn land_all(&mut self, tally: &mut Tally)
+        ensures landed { LandsAll self.old.session tally.old.results.items tally.old.counts self.new.session tally.new.counts }
+        ensures results { tally.new.results.items ≡ [] }
+        ensures jobs { tally.new.jobs.items ≡ tally.old.jobs.items }
+        ensures status { self.new.status ≡ self.old.status }
+    {
+        for _at in 0..tally.results() {
+            let _ = self.land(tally);
+        }
+    }
+
+    /// A worker gives all jobs back that it has in hand, in the order in which it took them, each by a step of the session.
+    pub(crate) fn give_back_all(&mut self, tally: &mut Tally)
+        ensures given { GivesBackAll self.old.session tally.old.jobs.items tally.old.counts self.new.session tally.new.counts }
+        ensures jobs { tally.new.jobs.items ≡ [] }
+        ensures results { tally.new.results.items ≡ tally.old.results.items }
+        ensures status { self.new.status ≡ self.old.status }
+    {
+        for _at in 0..tally.jobs() {
+            let _ = self.give_back(tally);
+        }
+    }
+}
+
+/// What a worker does next that took no more: this, or it decodes what it has in hand.
+fn unless_in_hand(tally: &Tally, next: Next) -> Next
+    ensures none { tally.now.jobs.items ≡ [] → result ≡ next }
+    ensures some { tally.now.jobs.items ≢ [] → result ≡ DecodesLast }
+{
+    if tally.jobs() == 0 {
+        next
+    } else {
+        Next::DecodesLast
+    }
+}

@@ -1,0 +1,100 @@
+//! What the threads of a desk do.
+
+ghost use Rattle.std.specs.Prelude.{◌≡◌, ◌+◌, ◌<◌, ◌≤◌, MatchBool, false, true};
+
+/// Threads that sleep, and how many of them were told to wake up and haven't yet. One that awakes without that counts as
+/// told, so that nobody who was told is counted when all are awake.
+#[derive(Clone, Copy, Debug, Drop)]
+pub(crate) struct Sleepers {
+    asleep: usize,
+    told: usize,
+    ghost told_ones: { told ≤ asleep },
+}
+
+impl Sleepers {
+    /// None sleeps.
+    pub(crate) fn none() -> Sleepers
+        ensures asleep { result.asleep ≡ 0 }
+        ensures told { result.told ≡ 0 }
+    {
+        Sleepers { asleep: 0, told: 0 }
+    }
+
+    /// One falls asleep.
+    pub(crate) fn fall_asleep(&mut self)
+        ensures asleep { self.old.asleep < 18446744073709551615 → self.new.asleep ≡ self.old.asleep + 1 }
+        ensures told { self.new.told ≡ self.old.told }
+    {
+        self.asleep = self.asleep.saturating_add(1);
+    }
+
+    /// One is awake.
+    pub(crate) fn awake(&mut self)
+        ensures asleep { 0 < self.old.asleep → self.new.asleep + 1 ≡ self.old.asleep }
+        ensures told { 0 < self.old.told → self.new.told + 1 ≡ self.old.told }
+        ensures none { self.old.told ≡ 0 → self.new.told ≡ 0 }
+    {
+        self.asleep = self.asleep.saturating_sub(1);
+        self.told = self.told.saturating_sub(1);
+    }
+
+    /// Whether one sleeps whom nobody told to wake up. It counts as told then.
+    pub(crate) fn tell_one(&mut self) -> bool
+        ensures told { MatchBool result
+            ((self.old.told < self.old.asleep) × (self.new.told ≡ self.old.told + 1))
+            ((self.old.told ≡ self.old.asleep) × (self.new.told ≡ self.old.told)) }
+        ensures asleep { self.new.asleep ≡ self.old.asleep }
+    {
+        let sleeps = self.told < self.asleep;
+        if sleeps {
+            self.told += 1;
+        }
+        sleeps
+    }
+
+    /// Whether some sleep whom nobody told to wake up. All count as told then.
+    pub(crate) fn tell_all(&mut self) -> bool
+        ensures some { MatchBool result (self.old.told < self.old.asleep) (self.old.told ≡ self.old.asleep) }
+        ensures told { self.new.told ≡ self.old.asleep }
+        ensures asleep { self.new.asleep ≡ self.old.asleep }
+    {
+        let sleep = self.told < self.asleep;
+        self.told = self.asleep;
+        sleep
+    }
+}
+
+/// What the threads of a desk do: whether the desk is closed, how many workers have ended, how many have jobs or results
+/// in hand, and who sleeps.
+#[derive(Clone, Copy, Debug, Drop)]
+pub(crate) struct Status {
+    pub(crate) closed: bool,
+    pub(crate) ended: usize,
+    pub(crate) at_work: usize,
+    /// The workers that sleep until a job is due.
+    pub(crate) workers: Sleepers,
+    /// The seats that sleep until no unit is pending.
+    pub(crate) seats: Sleepers,
+}
+
+impl Status {
+    /// The desk is open, and no worker has come yet.
+    pub(crate) fn new() -> Status
+        ensures open { result.closed ≡ false }
+        ensures ended { result.ended ≡ 0 }
+        ensures at_work { result.at_work ≡ 0 }
+    {
+        Status {
+            closed: false,
+            ended: 0,
+            at_work: 0,
+            workers: Sleepers::none(),
+            seats: Sleepers::none(),
+        }
+    }
+
+    /// Whether all others of so many workers have something in hand or have ended.
+    pub(crate) fn are_others_at_work(&self, workers: usize) -> bool {
+        workers <= self.ended.saturating_add(self.at_work).saturating_add(1)
+    }
+}

@@ -3,8 +3,9 @@ mod stored_states;
 
 ghost use Rattle.std.specs.Prelude.{◌<◌, ◌≤◌, length};
 
-use access_unit::{Refused, Unit, read_unit};
+use access_unit::{Refused, read_unit};
 use base_types::Shared;
+use hashed_units::HashedUnit;
 use ordered_fold::OrderedFold;
 use outcomes::Outcome;
 use period_counts::Comparisons;
@@ -56,9 +57,9 @@ fn other_p_text(frame_num: usize) -> [u8; 7] {
 }
 
 /// The access unit of a text that is one, unless memory is wanted.
-fn unit(rt: &(impl Abort + AllocGlobal), text: &[u8]) -> Result<Shared<Unit>, AllocError> {
+fn unit(rt: &(impl Abort + AllocGlobal), text: &[u8]) -> Result<Shared<HashedUnit>, AllocError> {
     match read_unit(rt.alloc(), text) {
-        Ok(unit) => Ok(Shared::new(rt.alloc(), unit)?),
+        Ok(unit) => Ok(Shared::new(rt.alloc(), HashedUnit::of(unit))?),
         Err(Refused::Memory) => Err(AllocError),
         Err(_) => panic!(rt; "the text is no unit"),
     }
@@ -71,7 +72,7 @@ fn changed(
     folded: &mut Folded,
     at: usize,
     rest: usize,
-    unit: Option<Shared<Unit>>,
+    unit: Option<Shared<HashedUnit>>,
 ) -> Result<u64, AllocError>
     requires ordered { at ≤ rest }
     requires inside { rest ≤ length folded.old.stream }
@@ -132,7 +133,7 @@ fn delete(
 /// Whether the unit at the place is valid.
 fn is_valid(folded: &Folded, at: usize) -> bool {
     match folded.outcomes().get(at) {
-        Some(outcome) => match &**outcome {
+        Some(outcome) => match &***outcome {
             Outcome::Plan(_) => true,
             Outcome::Fault(_) | Outcome::Empty => false,
         },

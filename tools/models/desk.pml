@@ -18,6 +18,11 @@
  *   CHANCES      how many waits may end by themselves; 1 where not told
  *   CLAIM        the claim at the end, for a search for acceptance cycles, in place of what is watched in each state
  *   LOST_WAKEUP  a planted error, by its number
+ *
+ * Explored whole, with no error, seconds of one processor: one job at a time, 4,340,652 states in 38 s; that with CHAIN,
+ * 4,372,723 in 27 s; two jobs, 10,963,139 in 115 s and 1.1 GB. The claim with CHANCES 0, of the model before it had the step
+ * after 2^63 jobs: one job, 3,956,191 states in 81 s; two, 9,987,838 in 254 s and 1.2 GB. COUNTED for one job, before its closing
+ * and its first look went by what it counts: 10,507,842 in 71 s. As it stands COUNTED hasn't been explored to its end yet.
  */
 #ifndef JOBS
 #define JOBS 1

@@ -1,5 +1,7 @@
 -- The jobs that a runner has taken.
-use Rattle.std.specs.Prelude.{◌≡◌, ℕ, ◌<◌, ◌≤◌, List, [], ◌∷◌, map}
+use Rattle.std.specs.Prelude.{◌≡◌, ℕ, ◌<◌, ◌≤◌, ◌==◌, List, [], ◌∷◌, Option, map, position, slice_get, option_and_then}
+use Rattle.std.specs.Option.{option_map}
+use Rattle.stand_in_device.specs.Inputs.{InputValue}
 use Rattle.stand_in_device.specs.Jobs.{JobValue}
 use Rattle.picture_store.specs.Stores.{OutValue}
 use Rattle.edit_engine.specs.Machines.{Machine}
@@ -11,6 +13,16 @@ as_taken job = record { number = job.number; input = job.input }
 -- the jobs that are out, as they were taken
 abbrev pub taken_of : Machine → List JobValue
 taken_of machine = map as_taken machine.out
+
+-- what the job of the number is made of, if it is among these
+abbrev pub input_among : List JobValue → ℕ → Option InputValue
+input_among jobs number =
+    option_map (λ job. job.input)
+    (option_and_then (slice_get jobs) (position (λ job. job.number == number) jobs))
+
+-- what the job of the number is made of, as it was taken, if it is out
+abbrev pub input_of : Machine → ℕ → Option InputValue
+input_of machine number = input_among (taken_of machine) number
 
 -- the numbers of jobs rise: the first is above one number, and the last isn't above another
 abbrev pub AreRising : ℕ → List JobValue → ℕ → Type 0

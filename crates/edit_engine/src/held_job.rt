@@ -1,6 +1,7 @@
 //! A job that a runner has taken.
 
-ghost use Rattle.std.specs.Prelude.{◌≡◌, IfOk};
+ghost use Rattle.std.specs.Prelude.{◌≡◌, IfOk, IsTrue};
+ghost use Rattle.stand_in_device.specs.Inputs.{is_whole};
 
 use stand_in_device::{Input, Job};
 use std::alloc::{AllocError, Global};
@@ -50,6 +51,14 @@ impl HeldJob {
         ensures { result ≡ self.now.number }
     {
         self.number
+    }
+
+    /// What it is made of.
+    pub(crate) fn input(&self) -> &Input
+        ensures value { result.now ≡ self.now.input }
+        ensures whole { IsTrue (is_whole result.now) }
+    {
+        &self.input
     }
 
     /// The job once more.

@@ -1,16 +1,17 @@
 //! Jobs that a runner takes, lands and gives back.
 
-ghost use Rattle.std.specs.Prelude.{◌≡◌, ◌<◌, length, All, IfOk, OnErr, MatchOption, slice_index_or};
+ghost use Rattle.std.specs.Prelude.{◌≡◌, ◌==◌, ◌<◌, length, position, All, None, Some, IfOk, IfSome, IsTrue, OnErr, MatchOption, slice_index_or};
+ghost use Rattle.stand_in_device.specs.Inputs.{is_whole};
 ghost use Rattle.stand_in_device.specs.Jobs.{JobValue};
 ghost use Rattle.edit_engine.specs.Runs.{GivesJobBack, LandsJob, TakesJob};
-ghost use Rattle.edit_engine.specs.Taken.{AreOut};
+ghost use Rattle.edit_engine.specs.Taken.{AreOut, input_among};
 
 use crate::held_job::HeldJob;
 use crate::refusals::NotOut;
 use crate::replies::TakenJob;
 use crate::session::Session;
 use picture_store::{Landing, Returning, TakeRefused};
-use stand_in_device::{Device, Finished, Job, Undone};
+use stand_in_device::{Device, Finished, Input, Job, Undone};
 use std::alloc::{AllocError, Global};
 
 /// Takes a job, and tells its number and its unit.
@@ -71,6 +72,31 @@ pub(crate) fn give_back(
         Some(at) => Ok(session.give_back(jobs.remove(at).into_job())),
         None => Err(NotOut),
     }
+}
+
+/// What the first job of this number is made of.
+pub(crate) fn input_among(jobs: &[HeldJob], number: u64) -> Option<&Input>
+    ensures value { MatchOption result
+        (input_among jobs.now number ≡ None)
+        (λ input. input_among jobs.now number ≡ Some input.now) }
+    ensures whole { IfSome result (λ input. IsTrue (is_whole input.now)) }
+{
+    match first_of(jobs, number) {
+        Some(at) => Some(jobs[at].input()),
+        None => None,
+    }
+}
+
+/// The place of the first job of this number, within the jobs.
+fn first_of(jobs: &[HeldJob], number: u64) -> Option<usize>
+    ensures value { result ≡ position (λ job. job.number == number) jobs.now }
+    ensures inside { IfSome result (λ at. at < length jobs.now) }
+{
+    jobs.iter().position(
+        |job: &HeldJob| -> bool
+            ensures { result ≡ (job.now.number == number) }
+        { job.number() == number },
+    )
 }
 
 /// The place of the first job of this number.

@@ -1,20 +1,22 @@
 //! Commands followed on a session.
 
-ghost use Rattle.std.specs.Prelude.{◌≡◌, ◌≤◌, ◌↔◌, IfOk, IsErrOf, OnErr};
+ghost use Rattle.std.specs.Prelude.{◌≡◌, ◌==◌, ◌≤◌, ◌↔◌, None, Some, IfOk, IfSome, IsErrOf, IsTrue, MatchOption, OnErr};
 ghost use Rattle.picture_cache.specs.Bounded.{most_room};
 ghost use Rattle.edit_engine.specs.Grouping.{AnswersGroup};
 ghost use Rattle.edit_engine.specs.Machines.{AnswersEdit, empty};
 ghost use Rattle.edit_engine.specs.Runs.{Answers, IsRun, Reports};
+ghost use Rattle.edit_engine.specs.Taken.{input_of};
+ghost use Rattle.stand_in_device.specs.Inputs.{is_whole};
 
 use crate::commands::Command;
 use crate::config::{Config, ConfigFault};
 use crate::held_job::HeldJob;
-use crate::jobs::{give_back, land, take};
+use crate::jobs::{give_back, input_among, land, take};
 use crate::refusals::NoSuchUnit;
 use crate::replies::{Reply, UnitReport};
 use crate::session::Session;
 use pictures::AuId;
-use stand_in_device::Device;
+use stand_in_device::{Device, Input};
 use std::alloc::{AllocError, Global};
 use std::marker::Model;
 use stream_edits::{EditRefused, GroupReceipt, GroupRefused, ReadEdit, ReadGroup, Receipt};
@@ -108,6 +110,16 @@ impl Runner {
         ensures { AnswersGroup self.old group result self.new }
     {
         self.session.edit_group_read(group)
+    }
+
+    /// What the job of this number is made of, as it was when the job was taken, if it is out. It takes no memory.
+    pub fn input(&self, number: u64) -> Option<&Input>
+        ensures value { MatchOption result
+            (input_of self.now number ≡ None)
+            (λ input. input_of self.now number ≡ Some input.now) }
+        ensures whole { IfSome result (λ input. IsTrue (is_whole input.now)) }
+    {
+        input_among(&self.jobs, number)
     }
 
     /// The session as it is, to be looked at without a copy.

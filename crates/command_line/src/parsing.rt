@@ -159,7 +159,11 @@ fn plan_command<'a>(alloc: Global) -> Result<Command<'a>, AllocError>
         "FILE",
         "An H.264 byte stream; - is the standard input",
     );
-    let json = flag(alloc, "json", "Prints a JSON object a unit, with all controls");
+    let json = flag(
+        alloc,
+        "json",
+        "Prints a JSON object a unit, with all controls",
+    );
     Command::new(alloc, "plan")
         .about("Prints what a stateless decoder is asked for, unit by unit")
         .arg(file)?

@@ -82,7 +82,11 @@ fn print_gathered<W: Sink>(
 }
 
 /// Prints why the stream is refused.
-pub fn print_refusal<W: Sink>(alloc: Global, refusal: Refusal, writer: &mut W) -> Result<(), PrintFault>
+pub fn print_refusal<W: Sink>(
+    alloc: Global,
+    refusal: Refusal,
+    writer: &mut W,
+) -> Result<(), PrintFault>
     ensures ok { OnOk result (Appends (W.contents writer.old) (W.contents writer.new)
         (refusal_text refusal)) }
     ensures written { AppendsFront (W.contents writer.old) (W.contents writer.new)

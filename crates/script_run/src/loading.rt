@@ -61,7 +61,11 @@ pub fn shared_file<'a, S: Source>(
 }
 
 /// Inserts the units after the last one, and gives the line that says how many, or why one is refused.
-fn insert_all(alloc: Global, units: Vec<HashedUnit>, runner: &mut Runner) -> Result<String, AllocError>
+fn insert_all(
+    alloc: Global,
+    units: Vec<HashedUnit>,
+    runner: &mut Runner,
+) -> Result<String, AllocError>
     ensures { IfOk result (λ lines.
         InsertsAll (length units.items) runner.old units.items (string_bytes lines) runner.new) }
 {

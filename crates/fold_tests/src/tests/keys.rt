@@ -4,8 +4,8 @@ ghost use Rattle.std.specs.Prelude.{replicate};
 
 use access_unit::Unit;
 use dep_keys::{Fingerprint, KeyId, Keys, Node, Sha256Fingerprint};
-use outcomes::Outcome;
 use hashed_units::SlicesDigest;
+use outcomes::Outcome;
 use picture_keys::{KeyNumbers, Works, node_of};
 use pictures::AuId;
 use request_core::scratch;

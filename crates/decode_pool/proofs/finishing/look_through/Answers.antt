@@ -19,7 +19,7 @@ returns-in-Err-clause-err c =
     subst (λ (books : List SeatBook). AreBooksOf c.args.opened c.args.seats.now books) (sym c.deref.ensures.value)
     c.in_ok-books.ensures in
     audited c.args.opened c.args.seats.now c.journal-journal.result.now c.deref.result.now c.in-Err.fault
-    c.refusal_of.result numbered theirs c.refusal_of.ensures c.in-Err.ensures.err
+    (λ it. it.items) c.copy_of.result c.refusal_of.result numbered theirs c.copy_of.ensures c.refusal_of.ensures c.in-Err.ensures.err
 
 pub returns-then-not-are_all_noted-clause-err : goal.returns-then-not-are_all_noted-clause-err
 returns-then-not-are_all_noted-clause-err c =
@@ -30,8 +30,9 @@ returns-then-not-are_all_noted-clause-err c =
     let lacks : Lacks c.journal-journal.result.now c.in_ok-books.books.items =
     subst (λ (books : List SeatBook). Lacks c.journal-journal.result.now books) c.deref-2.ensures.value
     c.if-not-are_all_noted.ensures in
-    missed c.args.opened c.args.seats.now c.journal-journal.result.now c.in_ok-books.books.items c.with_journal.result
-    numbered c.in_ok-books.ensures agree c.with_journal.ensures lacks
+    missed c.args.opened c.args.seats.now c.journal-journal.result.now c.in_ok-books.books.items (λ it. it.items)
+    c.copy_of-then-not-are_all_noted.result c.with_journal.result numbered c.in_ok-books.ensures agree
+    c.copy_of-then-not-are_all_noted.ensures c.with_journal.ensures lacks
 
 pub returns-clause-ok : goal.returns-clause-ok
 returns-clause-ok c =

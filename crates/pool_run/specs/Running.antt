@@ -15,7 +15,7 @@ use Rattle.stream_edits.specs.declared.refusals.EditRefused.TheVariants as refus
 use Rattle.edit_engine.specs.declared.showing.Shown.{Shown}
 use Rattle.decode_pool.specs.Seats.{EditsGroupOne, EditsOne, IsLastOfOne, ShowsOne, WaitsForOne}
 use Rattle.decode_pool.specs.declared.seat.Seat.{Seat}
-use Rattle.decode_pool.specs.declared.settling.Settled.TheVariants as settled
+use Rattle.decode_pool.specs.declared.state.settling.Settled.TheVariants as settled
 use Rattle.console_io.specs.Inputs.{Files}
 use Rattle.unit_lines.specs.Refusals.{refusal_text}
 use Rattle.edit_script.specs.SeatScripts.{IsSeatScript}

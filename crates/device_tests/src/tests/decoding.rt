@@ -207,7 +207,7 @@ fn record_of(
     for (at, member) in members {
         write_at(&mut record, *at, *member);
     }
-    record.extend_from_slice(&[bytes.len() as u8, 0, 0, 0, 0, 0, 0, 0])?;
+    record.extend_from_slice(&(bytes.len() as u64).to_le_bytes())?;
     record.extend_from_slice(bytes)?;
     record.extend_from_slice(pictures)?;
     Ok(record)

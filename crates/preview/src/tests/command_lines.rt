@@ -304,15 +304,23 @@ fn does_what_the_words_name(rt: HostRuntime) -> Result<(), Fail> {
 /// standard error, where the other one is empty.
 type Answer = (&'static [&'static str], Status, &'static str);
 
-const ANSWERS: [Answer; 29] = [
+const ANSWERS: [Answer; 30] = [
     (&[], Usage, "Usage: preview <COMMAND>"),
     (&["plan"], Usage, "<FILE>"),
     (&["plan", "a", "b"], Usage, "'b'"),
     (&["paint", "a"], Usage, "'paint'"),
     (&["plan", "--hex", "a"], Usage, "'--hex'"),
     (&["--help"], Success, "Usage: preview <COMMAND>"),
-    (&["plan", "--help"], Success, "Usage: preview plan <FILE>"),
-    (&["help", "plan"], Success, "Usage: preview plan <FILE>"),
+    (
+        &["plan", "--help"],
+        Success,
+        "Usage: preview plan [OPTIONS] <FILE>",
+    ),
+    (
+        &["help", "plan"],
+        Success,
+        "Usage: preview plan [OPTIONS] <FILE>",
+    ),
     (&["run"], Usage, "<SCRIPT>"),
     (&["run", "--hex", "a", "--hex"], Usage, "'--hex'"),
     (&["run", "--workers", "65", "a"], Usage, "'65'"),
@@ -350,6 +358,7 @@ const ANSWERS: [Answer; 29] = [
         "cannot read no/such\n",
     ),
     (&["run", "--hex", "no"], Failure, "cannot read no\n"),
+    (&["plan", "no", "--json"], Failure, "cannot read no\n"),
     // Each of many words is looked at.
     (
         &["run", "--cache", "5", "--workers", "2", "--hex", "no"],

@@ -1,5 +1,7 @@
 //! Several jobs out at once, and a desk that goes on after an end that failed.
 
+ghost use Rattle.std.specs.Prelude.{◌≤◌};
+
 use super::gates::settle_beside;
 use super::{A, I1, MOST_TURNS, Sign, after, edits, first, is_ready, opened, opened_for_one};
 use decode_pool::{Desk, FinishFault, Gate, Seat, Settled, Unfinished, finish, worker};

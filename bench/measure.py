@@ -17,6 +17,13 @@ START = b"\0\0\1"
 SPS, PPS, IDR = (START + bytes.fromhex(unit) for unit in ("67 42 00 0A DA 79", "68 CE 38 80", "65 88 84 80"))
 
 
+def aimed(what, ratio, least=None, most=None):
+    """Prints a measure beside what is aimed at."""
+    is_reached = (least is None or ratio >= least) and (most is None or ratio <= most)
+    bound = f"at least {least}" if most is None else f"at most {most}"
+    print(f"  -> {what}: {ratio:.2f}, aimed at {bound}: {'reached' if is_reached else 'NOT reached'}", flush=True)
+
+
 def following(frame_num, data):
     """A P picture: frame_num stands in the header's bits 7 to 10, then come flags of 0 and slice_qp_delta 0."""
     return START + bytes([0x41, 0x9A | frame_num >> 3, (frame_num & 7) << 5 | 3]) + data
@@ -33,8 +40,7 @@ def program():
     """The program that PREVIEW names; without it the one that bin/preview runs, without that script."""
     if named := os.environ.get("PREVIEW"):
         return named
-    return subprocess.run([TOP / "tools" / "program"], stdout=subprocess.PIPE, text=True, check=True).stdout.rstrip("
-")
+    return subprocess.run([TOP / "tools" / "program"], stdout=subprocess.PIPE, text=True, check=True).stdout.rstrip("\n")
 
 
 def once(command, output, log):

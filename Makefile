@@ -1,0 +1,54 @@
+# The C interface: the static library, its header and its pkg-config file.
+#     make                     builds the library into build/, proved, where it is missing or older than its sources
+#     make install PREFIX=..   puts library, header and pkg-config file below PREFIX (/usr/local)
+#     make check               builds and runs the tests in C and C++: under AddressSanitizer and UndefinedBehaviorSanitizer,
+#                              and under valgrind where it is there
+#     make examples            builds the examples
+PREFIX = /usr/local
+DESTDIR =
+CC = gcc
+CXX = g++
+CFLAGS = -O2 -g
+CXXFLAGS = -O2 -g
+WARNINGS = -Wall -Wextra -Wpedantic -Wconversion -Werror
+VERSION = 0.1.0
+
+library = build/libcupdaisy.a
+archive = crates/cupdaisy/out/libcupdaisy.a
+sources = crates.txt $(shell find crates/*/src crates/*/specs -type f)
+
+all: $(library) build/cupdaisy.pc
+
+# tools/build-library proves what it builds; heap.c is added to the archive.
+$(library): $(sources) c/heap.c
+	mkdir -p build
+	tools/build-library cupdaisy
+	$(CC) -std=c99 $(WARNINGS) -O2 -fPIC -c c/heap.c -o build/heap.o
+	cp $(archive) build/new.a
+	ar qcD build/new.a build/heap.o
+	ranlib -D build/new.a
+	mv build/new.a $@
+
+build/cupdaisy.pc: cupdaisy.pc.in
+	mkdir -p build
+	sed 's|@PREFIX@|$(PREFIX)|; s|@VERSION@|$(VERSION)|' cupdaisy.pc.in > $@
+
+install: $(library)
+	mkdir -p '$(DESTDIR)$(PREFIX)/lib/pkgconfig' '$(DESTDIR)$(PREFIX)/include'
+	cp $(library) '$(DESTDIR)$(PREFIX)/lib/libcupdaisy.a'
+	cp include/cupdaisy.h '$(DESTDIR)$(PREFIX)/include/cupdaisy.h'
+	sed 's|@PREFIX@|$(PREFIX)|; s|@VERSION@|$(VERSION)|' cupdaisy.pc.in > '$(DESTDIR)$(PREFIX)/lib/pkgconfig/cupdaisy.pc'
+
+check: $(library)
+	tools/check-header
+	tools/check-c
+
+examples: build/first build/play
+
+build/%: examples/%.c include/cupdaisy.h $(library)
+	$(CC) -std=c99 $(WARNINGS) $(CFLAGS) -Iinclude $< $(library) -o $@
+
+clean:
+	rm -rf build
+
+.PHONY: all install check examples clean

@@ -1,0 +1,26 @@
+-- Sessions that are opened and closed.
+use Rattle.std.specs.Prelude.{◌≡◌, ◌≤◌, ◌⊎◌, ℕ, Option, None, Some}
+use Rattle.picture_cache.specs.Bounded.{most_room}
+use Rattle.edit_engine.specs.Machines.{Machine, empty}
+use Rattle.session_calls.specs.Statuses.{cache_range, done, is_open, memory, no_session}
+
+-- a cache may have so much room
+abbrev pub IsRoom : ℕ → Type 0
+IsRoom cache = (1 ≤ cache) × (cache ≤ most_room)
+
+-- a session with an empty stream is there, or the room of its cache may not be, or memory was refused
+abbrev pub OpensNone : ℕ → ℕ → Option Machine → Type 0
+OpensNone cache status new =
+    (IsRoom cache × (status ≡ done) × (new ≡ Some (empty cache)))
+    ⊎ ((IsRoom cache → ⊥) × (status ≡ cache_range) × (new ≡ None))
+    ⊎ (IsRoom cache × (status ≡ memory) × (new ≡ None))
+
+-- a handle is opened; one that has a session keeps it
+abbrev pub Opens : Option Machine → ℕ → ℕ → Option Machine → Type 0
+Opens None cache status new = OpensNone cache status new
+Opens (Some machine) cache status new = (status ≡ is_open) × (new ≡ Some machine)
+
+-- a handle is closed, and has no session then
+abbrev pub Closes : Option Machine → ℕ → Option Machine → Type 0
+Closes None status new = (status ≡ no_session) × (new ≡ None)
+Closes (Some machine) status new = (status ≡ done) × (new ≡ None)

@@ -1,0 +1,121 @@
+//! Questions about the stream.
+
+ghost use Rattle.std.specs.Prelude.{◌≡◌, length};
+ghost use Rattle.session_calls.specs.Showing.{ShowsTo};
+ghost use Rattle.session_calls.specs.Asking.{id_at, outcome_told, place_told, position_told};
+ghost use Rattle.session_calls.specs.Statuses.{done};
+ghost use Rattle.session_calls.specs.Telling.{Tells};
+ghost use Rattle.cupdaisy.specs.Calls.{Asks};
+
+use session_calls::{NO_SESSION, UnitOutcome};
+use session_handle::Handle;
+use std::alloc::Global;
+
+/// How many units the stream has.
+#[unsafe(no_mangle)]
+pub extern "C" fn cupdaisy_units(alloc: Global, session: &mut Handle, units: &mut usize) -> u32
+    ensures { Asks session.old.held.state result units.old units.new session.new.held.state
+        (λ machine. (result ≡ done) × (units.new ≡ length machine.register.stream)) }
+{
+    let Some(runner) = session.take(alloc) else {
+        return NO_SESSION;
+    };
+    let status = session_calls::units(runner.session(), units);
+    session.put(runner);
+    status
+}
+
+/// The id of the unit at a place.
+#[unsafe(no_mangle)]
+pub extern "C" fn cupdaisy_id_at(
+    alloc: Global,
+    session: &mut Handle,
+    place: usize,
+    id: &mut u32,
+) -> u32
+    ensures { Asks session.old.held.state result id.old id.new session.new.held.state
+        (λ machine. Tells (id_at machine.register.stream place) result id.old id.new) }
+{
+    let Some(runner) = session.take(alloc) else {
+        return NO_SESSION;
+    };
+    let status = session_calls::id_at(runner.session(), place, id);
+    session.put(runner);
+    status
+}
+
+/// The place of the unit of the id, from 0 on in decoding order.
+#[unsafe(no_mangle)]
+pub extern "C" fn cupdaisy_place(
+    alloc: Global,
+    session: &mut Handle,
+    id: u32,
+    place: &mut usize,
+) -> u32
+    ensures { Asks session.old.held.state result place.old place.new session.new.held.state
+        (λ machine. Tells (place_told machine.register.stream id) result place.old place.new) }
+{
+    let Some(runner) = session.take(alloc) else {
+        return NO_SESSION;
+    };
+    let status = session_calls::place(runner.session(), id, place);
+    session.put(runner);
+    status
+}
+
+/// The position of the unit of the id in output order, from 0 on.
+#[unsafe(no_mangle)]
+pub extern "C" fn cupdaisy_position(
+    alloc: Global,
+    session: &mut Handle,
+    id: u32,
+    position: &mut usize,
+) -> u32
+    ensures { Asks session.old.held.state result position.old position.new session.new.held.state
+        (λ machine. Tells (position_told machine.register.stream id) result position.old position.new) }
+{
+    let Some(runner) = session.take(alloc) else {
+        return NO_SESSION;
+    };
+    let status = session_calls::position(runner.session(), id, position);
+    session.put(runner);
+    status
+}
+
+/// What becomes of the unit of the id.
+#[unsafe(no_mangle)]
+pub extern "C" fn cupdaisy_outcome_of(
+    alloc: Global,
+    session: &mut Handle,
+    id: u32,
+    outcome: &mut UnitOutcome,
+) -> u32
+    ensures { Asks session.old.held.state result outcome.old outcome.new session.new.held.state
+        (λ machine. Tells (outcome_told machine.register.stream id) result outcome.old outcome.new) }
+{
+    let Some(runner) = session.take(alloc) else {
+        return NO_SESSION;
+    };
+    let status = session_calls::outcome(runner.session(), id, outcome);
+    session.put(runner);
+    status
+}
+
+/// The picture of the unit of the id, by its name.
+#[unsafe(no_mangle)]
+pub extern "C" fn cupdaisy_show(
+    alloc: Global,
+    session: &mut Handle,
+    id: u32,
+    picture: &mut [u8; 32],
+) -> u32
+    ensures { Asks session.old.held.state result picture.old picture.new session.new.held.state
+        (λ machine. ShowsTo machine id result picture.old picture.new) }
+{
+    let Some(runner) = session.take(alloc) else {
+        return NO_SESSION;
+    };
+    let status = session_calls::show(runner.session(), id, picture);
+    session.put(runner);
+    status
+}

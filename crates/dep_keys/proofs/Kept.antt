@@ -1,10 +1,10 @@
 -- Look-ups by number in what is kept.
-use Rattle.std.proofs.Common.{◌≡◌, refl, ap, sym, ◌∙◌, ℕ, zero, suc, List, [], ◌∷◌, ◌++◌, length, get_or, Option, None, Some, arith, inl, inr, map}
-use Rattle.std.proofs.lemmas.List.{length-map}
+use Rattle.std.proofs.Common.{◌≡◌, refl, ap, sym, ◌∙◌, ℕ, zero, suc, List, [], ◌∷◌, ◌++◌, length, get_or, Option, None, Some, arith, rules, inl, inr, map, subst, Contains, IsSome, ◌<◌}
+use Rattle.std.proofs.lemmas.List.{length-map, get_or_default}
 use Rattle.dep_keys.specs.Trees.{Tree}
 use Rattle.dep_keys.specs.Nodes.{NodeOf}
-use Rattle.dep_keys.specs.KeyMaps.{tree_at, tree_of, AreLive, IsNew, IsOneToOne, IsNodeOf, IsKeyMap}
-use Rattle.dep_keys.specs.Placed.{IsPlace, IsUnused}
+use Rattle.dep_keys.specs.KeyMaps.{tree_at, tree_of, AreLive, AreLiveBelow, IsNew, IsOneToOne, IsNodeOf, IsKeyMap}
+use Rattle.dep_keys.specs.Placed.{IsLeastUnused, IsPlace, IsUnused}
 use Rattle.dep_keys.specs.Indexed.{at}
 use Rattle.dep_keys.specs.Interning.{IsInterned}
 use Rattle.dep_keys.specs.Built.{Slot, grown_by, IsNext, StandsAt, AreKept, IsNoneFrom, IsFound}
@@ -26,6 +26,11 @@ module _ {W : Type 0} where
   map-snoc : {A : Type 0} (f : Slot W → A) (slots : List (Slot W)) (slot : Slot W) → map f slots ++ f slot ∷ [] ≡ map f (slots ++ slot ∷ [])
   map-snoc f [] slot = refl
   map-snoc f (first ∷ slots) slot = ap (λ xs. f first ∷ xs) (map-snoc f slots slot)
+
+  slot_of : (slots : List (Slot W)) (place : ℕ) → place < length slots → (slot : Slot W) × (slot ≡ get_or slots place slot)
+  slot_of [] place lt = absurd (omega (arith, lt))
+  slot_of (slot ∷ slots) zero lt = (slot, refl)
+  slot_of (slot ∷ slots) (suc place) lt = slot_of slots place (omega (arith, lt))
 
   same_node : (a b : NodeOf W) → a.work ≡ b.work → a.entries ≡ b.entries → a ≡ b
   same_node a b p q = λ i. record { work = p i; entries = q i }
@@ -49,6 +54,17 @@ module _ {W : Type 0} (digest : NodeOf W → List ℕ) (slots : List (Slot W)) (
       let row : IsRow (grown_by [] slots) slot = slot_row [] slots kept.built place slot stands in
       let n : number ≡ slot.0 = sym is.1 ∙ number_of place slot stands in
       record { tree = ap (tree_at (grown_by [] slots)) n ∙ row.tree; live = row.live }
+
+  -- a live number has a tree
+  live_row : (number : ℕ) → Contains numbers number → IsSome (tree_at (grown_by [] slots) number)
+  live_row number there =
+      let slot = slot_of slots there.0 (omega (arith, there.1, numbers_length)) in
+      let row : IsNodeOf (grown_by [] slots) number slot.0.1 =
+      found_row number there.0 slot.0 (there.1, get_or_default numbers there.0 0 number there.1 ∙ there.2) slot.1 in
+      subst IsSome (sym row.tree) (search rules)
+
+  pub live_below : (number : ℕ) → IsLeastUnused numbers number → AreLiveBelow (grown_by [] slots) number
+  live_below number least below lt = live_row below (least.least below lt)
 
   none_of : (number : ℕ) → IsUnused numbers number → (o : Option (Tree W)) → o ≡ tree_at (grown_by [] slots) number → o ≡ None
   none_of number unused None is = refl

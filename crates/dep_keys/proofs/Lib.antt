@@ -3,6 +3,7 @@ pub mod Indexing
 pub mod Building
 pub mod Kept
 pub mod Placing
+pub mod Unused
 pub mod Marking
 pub mod Sweeping
 pub mod Swept

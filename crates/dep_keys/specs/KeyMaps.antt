@@ -1,5 +1,5 @@
 -- Finite maps from the numbers of live keys to their trees.
-use Rattle.std.specs.Prelude.{◌≡◌, ℕ, ◌==◌, List, [], ◌∷◌, Option, Some, None, IsSome, if◌then◌else◌}
+use Rattle.std.specs.Prelude.{◌≡◌, ℕ, ◌<◌, ◌==◌, List, [], ◌∷◌, Option, Some, None, IsSome, if◌then◌else◌}
 use Rattle.std.specs.Coded.{Coded, coded×, coded_list, coded_ℕ}
 use Rattle.dep_keys.specs.Trees.{Tree, tree_code}
 use Rattle.dep_keys.specs.Trees.Tree.{Bare, Gap, With}
@@ -47,6 +47,10 @@ module _ {W : Type 0} where
   abbrev pub AreLive : KeyMap W → List (Option ℕ) → Type 0
   AreLive keys [] = Unit {0}
   AreLive keys (entry ∷ entries) = IsLive keys entry × AreLive keys entries
+
+  -- each number below this one is live
+  abbrev pub AreLiveBelow : KeyMap W → ℕ → Type 0
+  AreLiveBelow keys number = (below : ℕ) → below < number → IsSome (tree_at keys below)
 
   -- the node of a live number: the number has its tree, and its entries are live
   pub record IsNodeOf (keys : KeyMap W) (number : ℕ) (node : NodeOf W) : Type 0 where

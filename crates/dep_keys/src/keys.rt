@@ -1,7 +1,7 @@
 //! Keys under numbers.
 
 ghost use Rattle.std.specs.Prelude.{◌≡◌, ◌↔◌, ℕ, [], ◌∷◌, ◌++◌, length, ◌==◌, Some, None, IsTrue, IsSome, IfOk, OnOk, OnErr, MatchOption};
-ghost use Rattle.dep_keys.specs.KeyMaps.{tree_at, tree_of, AreLive, Extends, IsKeyMap, IsNodeOf};
+ghost use Rattle.dep_keys.specs.KeyMaps.{tree_at, tree_of, AreLive, AreLiveBelow, Extends, IsKeyMap, IsNew, IsNodeOf};
 ghost use Rattle.dep_keys.specs.Interning.{IsInterned};
 ghost use Rattle.dep_keys.specs.Sweeping.{IsSwept};
 
@@ -126,11 +126,13 @@ impl<W: Work + Drop, F: Fingerprint<W>> Keys<W, F> {
         true
     }
 
-    /// The number of a node's key, which is a new one where the key has none yet.
+    /// The number of a node's key: where the key has none yet, the least one that isn't live.
     pub fn intern(&mut self, node: Node<W>) -> Result<KeyId, AllocError>
         requires { AreLive self.old node.entries }
         ensures stay { Extends self.old self.new }
         ensures ok { IfOk result (λ key. IsInterned self.old (tree_of self.old node) key self.new) }
+        ensures least { IfOk result (λ key. IsNew self.old (tree_of self.old node)
+            → AreLiveBelow self.old key) }
         ensures map { IsKeyMap self.new }
         ensures err { OnErr result (self.new ≡ self.old) }
     {

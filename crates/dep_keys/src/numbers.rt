@@ -1,10 +1,12 @@
 //! The numbers of live keys.
 
-ghost use Rattle.std.specs.Prelude.{◌≡◌, List, ℕ, ◌≤◌, [], ◌∷◌, ◌++◌, length, slice_index, ◌<◌, IfOk, OnOk, OnErr};
+ghost use Rattle.std.specs.Prelude.{◌≡◌, ℕ, suc, ◌+◌, [], ◌∷◌, ◌++◌, ◌≤◌, length, slice_index, ◌<◌, IfOk, OnOk, OnErr};
 ghost use Rattle.std.specs.List.{filter};
+ghost use Rattle.std.specs.Vec.{vec_capacity, vec_len};
 ghost use Rattle.dep_keys.specs.Marks.{is_marked};
-ghost use Rattle.dep_keys.specs.Placed.{ArePlaced, IsPlace, IsUnused};
+ghost use Rattle.dep_keys.specs.Placed.{ArePlaced, IsLeastUnused, IsPlace, unused_below};
 
+use crate::index::Index;
 use crate::marks::is_marked;
 use std::alloc::{AllocError, Global};
 use std::marker::Model;
@@ -15,7 +17,7 @@ pub(crate) struct Numbers {
     live: Vec<usize>,
     // Where each number stands in `live`; left as it was where the number is live no more.
     places: Vec<usize>,
-    // Numbers that were live once. One that is live again is passed over.
+    // The numbers that have a place and aren't live, the greatest first.
     spare: Vec<usize>,
 }
 
@@ -24,11 +26,11 @@ impl Model for Numbers {
 
     ghost Value = { List ℕ };
 
-    ghost use Rattle.dep_keys.specs.Placed.{ArePlaced};
+    ghost use Rattle.dep_keys.specs.Placed.{AreNumbered};
 
     ghost view = { λ numbers. numbers.live.items };
 
-    ghost invariant = { λ numbers. ArePlaced numbers.live.items numbers.places.items };
+    ghost invariant = { λ numbers. AreNumbered numbers.live.items numbers.places.items numbers.spare.items };
 }
 
 impl Numbers {
@@ -50,31 +52,33 @@ impl Numbers {
         place_of(&self.live, &self.places, number)
     }
 
-    /// Gives a number that is not live.
-    pub(crate) fn give(&mut self) -> Result<usize, AllocError>
-        ensures unused { IfOk result (IsUnused self.old) }
+    /// Gives the least number that is not live, and adds a fingerprint to an index.
+    pub(crate) fn give(
+        &mut self,
+        index: &mut Index,
+        fingerprint: [u8; 32],
+    ) -> Result<usize, AllocError>
+        ensures least { IfOk result (IsLeastUnused self.old) }
         ensures given { IfOk result (λ number. self.new ≡ self.old ++ number ∷ []) }
-        ensures err { OnErr result (self.new ≡ self.old) }
+        ensures index { IfOk result (λ _. index.new ≡ index.old ++ fingerprint ∷ []) }
+        ensures err { OnErr result ((self.new ≡ self.old) × (index.new ≡ index.old)) }
     {
         self.live.reserve(1)?;
-        let number = unused(&self.live, &self.places, &mut self.spare);
+        self.places.reserve(1)?;
+        index.add(fingerprint)?;
         let place = self.live.len();
-        if number == self.places.len() {
-            self.places.push(place)?;
-        } else {
-            self.places[number] = place;
-        }
-        self.live.push_reserved(number);
-        Ok(number)
-    }
-
-    /// Takes the number back that was given last.
-    pub(crate) fn take_back(&mut self)
-        ensures { (before : List ℕ) (number : ℕ) → self.old ≡ before ++ number ∷ []
-            → self.new ≡ before }
-    {
-        if let Some(number) = self.live.pop() {
-            let _ = self.spare.push(number);
+        match self.spare.pop() {
+            Some(number) => {
+                self.places[number] = place;
+                self.live.push_reserved(number);
+                Ok(number)
+            }
+            None => {
+                let number = self.places.len();
+                self.places.push_reserved(place);
+                self.live.push_reserved(number);
+                Ok(number)
+            }
         }
     }
 
@@ -90,10 +94,11 @@ impl Numbers {
         ensures ok { OnOk result (self.new ≡ filter (is_marked marks.now) self.old) }
         ensures err { OnErr result (self.new ≡ self.old) }
     {
-        self.spare.reserve(self.live.len())?;
-        spare_others(&self.live, marks, &mut self.spare);
+        self.spare.reserve(self.places.len())?;
+        self.spare.clear();
         keep_marked(&mut self.live, marks);
         place_all(&self.live, &mut self.places);
+        add_unused(&self.live, &self.places, &mut self.spare);
         Ok(())
     }
 }
@@ -111,26 +116,32 @@ fn place_of(live: &[usize], places: &[usize], number: usize) -> Option<usize>
     }
 }
 
-/// A number that is not live: a spare one, or else the next that was never given.
-fn unused(live: &[usize], places: &[usize], spare: &mut Vec<usize>) -> usize
-    requires { ArePlaced live.now places.now }
-    ensures unused { IsUnused live.now result }
-    ensures bound { result ≤ length places.now }
+/// Adds the numbers that have a place and aren't live, the greatest first. There is room for as many as have a place.
+fn add_unused(live: &[usize], places: &[usize], unused: &mut Vec<usize>)
+    requires placed { ArePlaced live.now places.now }
+    requires none { unused.old.items ≡ [] }
+    requires room { length places.now ≤ vec_capacity unused.old }
+    ensures { unused.new.items ≡ unused_below live.now (length places.now) }
 {
-    while let Some(number) = spare.pop() {
-        if number < places.len() && place_of(live, places, number).is_none() {
-            return number;
-        }
+    let mut number = places.len();
+    while number > 0 {
+        number -= 1;
+        add_if_unused(live, places, number, unused);
     }
-    places.len()
 }
 
-/// Adds the numbers that are not marked to the spare ones.
-fn spare_others(live: &[usize], marks: &[bool], spare: &mut Vec<usize>) {
-    for number in live {
-        if !is_marked(marks, *number) {
-            let _ = spare.push(*number);
-        }
+/// Adds a number if it isn't live. There is room for it.
+fn add_if_unused(live: &[usize], places: &[usize], number: usize, unused: &mut Vec<usize>)
+    requires placed { ArePlaced live.now places.now }
+    requires room { vec_len unused.old < vec_capacity unused.old }
+    ensures items { unused.new.items ++ unused_below live.now number
+        ≡ unused.old.items ++ unused_below live.now (suc number) }
+    ensures few { vec_len unused.new ≤ vec_len unused.old + 1 }
+    ensures capacity { vec_capacity unused.new ≡ vec_capacity unused.old }
+{
+    match place_of(live, places, number) {
+        Some(_) => {}
+        None => unused.push_reserved(number),
     }
 }
 

@@ -4,7 +4,7 @@ ghost use Rattle.std.specs.Prelude.{◌≡◌, ℕ, ◌≤◌, [], ◌∷◌, �
 ghost use Rattle.std.specs.List.{filter};
 ghost use Rattle.dep_keys.specs.Marks.{is_marked};
 ghost use Rattle.dep_keys.specs.Built.{IsFound};
-ghost use Rattle.dep_keys.specs.Placed.{IsUnused};
+ghost use Rattle.dep_keys.specs.Placed.{IsLeastUnused};
 
 use crate::fingerprint::Fingerprint;
 use crate::index::Index;
@@ -36,7 +36,7 @@ pub(crate) fn find<W: Work>(
     None
 }
 
-/// Adds a node under a number that is not live.
+/// Adds a node under the least number that is not live.
 pub(crate) fn add<W: Drop>(
     slots: &mut Vec<(KeyId, Node<W>)>,
     numbers: &mut Numbers,
@@ -44,7 +44,7 @@ pub(crate) fn add<W: Drop>(
     fingerprint: [u8; 32],
     node: Node<W>,
 ) -> Result<KeyId, AllocError>
-    ensures unused { IfOk result (IsUnused numbers.old) }
+    ensures least { IfOk result (IsLeastUnused numbers.old) }
     ensures slots { IfOk result (λ key. slots.new.items ≡ slots.old.items ++ (key, node) ∷ []) }
     ensures numbers { IfOk result (λ key. numbers.new ≡ numbers.old ++ key ∷ []) }
     ensures index { IfOk result (λ _. index.new ≡ index.old ++ fingerprint ∷ []) }
@@ -52,11 +52,7 @@ pub(crate) fn add<W: Drop>(
         × (numbers.new ≡ numbers.old) × (index.new ≡ index.old)) }
 {
     slots.reserve(1)?;
-    let number = numbers.give()?;
-    if index.add(fingerprint).is_err() {
-        numbers.take_back();
-        return Err(AllocError);
-    }
+    let number = numbers.give(index, fingerprint)?;
     let key = KeyId::new(number as u64);
     slots.push_reserved((key, node));
     Ok(key)

@@ -22,12 +22,13 @@ use Rattle.stream_edits.specs.Changes.{IsInside, at_of, rest_from, stream_after,
 use Rattle.stream_fold.specs.Changes.{brought_to, length_change, place_after}
 use Rattle.stream_fold.specs.Meeting.{AgreeAt}
 use Rattle.stream_fold.specs.Kept.{IsFolded, IsPast, ArePast, AreNear, spacing}
-use Rattle.stream_fold.specs.Storing.{stored_after}
-use Rattle.stream_fold.specs.Refolding.{IsNew, IsMadeAnew, end_of}
+use Rattle.stream_fold.specs.Storing.{IsThinned, stored_after}
+use Rattle.stream_fold.specs.Refolding.{AreApart, IsNew, IsMadeAnew, end_of}
 use Rattle.stream_fold.proofs.Changed.{moves, rest_inside, place_is, take_before, length_after, apart_after}
 use Rattle.stream_fold.proofs.Folds.{agree_on, outcomes_split, outcomes_behind, outcomes_before}
 use Rattle.stream_fold.proofs.Storage.{States, all_put, kept_cases, from_cut, has_low, has_high, has_put, has_made}
 use Rattle.stream_fold.proofs.Anew.{stored_of, place_of_stored}
+use Rattle.stream_fold.proofs.Thinned.{HasOrigin, IsSparseBut, crowded, keys_there, sparse_after}
 
 -- the first place at which states stay stored
 abbrev pub stays_of : Stream → Option ℕ → ℕ
@@ -92,6 +93,12 @@ module _ (change : Change) (stream : Stream) (outcomes : List Outcome) (states :
       → Contains (keys_of states) (end_of stream met) × (stays_of stream met ≡ end_of stream met)
   met_place None is less = absurd (omega (arith, less))
   met_place (Some to) is less = (place_of_stored states to fold.state is.2, refl)
+
+  -- where a state stays behind it, it is stored there
+  stays_there : (met : Option ℕ) → Met met → (place : ℕ) → stays_of stream met ≤ place → place ≤ length stream
+      → Contains (keys_of states) (end_of stream met)
+  stays_there None is place le most = absurd (omega (arith, le, most))
+  stays_there (Some to) is place le most = place_of_stored states to fold.state is.2
 
   module _ (met : Option ℕ) (made : IsMadeAnew change stream states fold met) where
     abbrev to : ℕ
@@ -250,6 +257,43 @@ module _ (change : Change) (stream : Stream) (outcomes : List Outcome) (states :
       ]
     ]
 
+    made_apart : AreApart fold.kept (keys_of fold.states.items) (place_after change to - fold.since)
+    made_apart = made.refolded.apart (place_after change to - fold.since) (omega (arith, made.refolded.gap, front_long))
+
+    -- where the places come from
+    abbrev Origin : ℕ → Type 0
+    Origin place =
+        HasOrigin (keys_of states) (keys_of fold.states.items) fold.kept to (place_after change to) (place_after change to - fold.since)
+        folded.sparse kept_place made_apart (omega arith) place
+
+    moved_origin : (place : ℕ) (state : FoldState) → IsStoredAt states place state → stays ≤ place → Origin (place_after change place)
+    moved_origin place state is le =
+        let within = (folded.past place state is).within in
+        let past = bounds.same place le within in
+        inr (inr (
+          place,
+          place_of_stored states place state is,
+          past,
+          stays_there met made.met_at place le within,
+          apart_after change stream inside to place bounds.behind past,
+        ))
+
+    origin : (place : ℕ) → Contains (keys_of new_states) place → Origin place
+    origin place there =
+        let state = stored_of new_states place there in
+        all_put (λ place state. Origin place) fold.states.items base
+        (All-weaker (λ (e : ℕ × FoldState). Contains (keys_of fold.states.items) e.0) (λ (e : ℕ × FoldState). Origin e.0)
+        (λ e new. inr (inl new)) fold.states.items (keys_there fold.states.items))
+        (kept_cases (λ place state. Origin place) states fold.kept stays (length_change change) kept_before
+        (λ place state is le. inl (le, place_of_stored states place state is)) moved_origin)
+        place state.0 state.1
+
+    sparse_but : IsSparseBut fold.kept (place_after change to) new_states
+    sparse_but first between last at-first at-between at-last =
+        crowded (keys_of states) (keys_of fold.states.items) fold.kept to (place_after change to) (place_after change to - fold.since)
+        folded.sparse kept_place made_apart (omega arith) first between last (origin first at-first) (origin between at-between)
+        (origin last at-last)
+
     -- the end, where no stored state was met
     pub end_made : met ≡ None → fold.state ≡ state_from no_units after
     end_made is =
@@ -286,21 +330,29 @@ module _ (change : Change) (stream : Stream) (outcomes : List Outcome) (states :
       last_is (Some place) is = kept_last place is ∙ end_kept place is
 
       -- all that is stored is that of the changed stream
-      pub folded_after : IsFolded after (take fold.from outcomes ++ fold.outcomes.items ++ drop to outcomes) new_states last
-      folded_after = record {
+      pub folded_after : (mid final : States) → IsThinned fold.kept new_states mid → IsThinned (place_after change to) mid final
+          → IsFolded after (take fold.from outcomes ++ fold.outcomes.items ++ drop to outcomes) final last
+      folded_after mid final thinned again = record {
         outcomes_are = outcomes_are;
-        past = past_after;
-        near = near_after;
+        past = λ place state is. past_after place state (thinned.only place state (again.only place state is));
+        near = λ k within. again.near k (thinned.near k (near_after k within));
+        sparse = sparse_after fold.kept (place_after change to) new_states mid final sparse_but thinned again;
         end_is = last_is met refl;
       }
 
       -- and so by other names
-      pub folded_by : (units : Stream) (kinds : List Outcome) (kept_states : States) (last_place stays_from : ℕ) (by : LengthChange)
+      pub folded_by : (units : Stream) (kinds : List Outcome) (kept_states mid final : States) (last_place stays_from : ℕ) (by : LengthChange)
           → units ≡ after → kinds ≡ take fold.from outcomes ++ fold.outcomes.items ++ drop last_place outcomes → last_place ≡ to
           → kept_states ≡ stored_after fold.kept stays_from by fold.states.items states → stays_from ≡ stays → by ≡ length_change change
-          → IsFolded units kinds kept_states last
-      folded_by units kinds kept_states last_place stays_from by units_are kinds_are to_is states_are stays_is by_is =
-          rw (units_are, kinds_are, to_is, states_are, stays_is, by_is) folded_after
+          → IsThinned fold.kept kept_states mid → IsThinned fold.place mid final → IsFolded units kinds final last
+      folded_by units kinds kept_states mid final last_place stays_from by units_are kinds_are to_is states_are stays_is by_is thinned again =
+          let same : kept_states ≡ new_states =
+          states_are ∙ (ap (λ (from : ℕ). stored_after fold.kept from by fold.states.items states) stays_is
+          ∙ ap (λ (b : LengthChange). stored_after fold.kept stays b fold.states.items states) by_is) in
+          let at : fold.place ≡ place_after change to = made.refolded.place_is ∙ front_long in
+          rw (units_are, kinds_are, to_is)
+          (folded_after mid final (subst (λ (old : States). IsThinned fold.kept old mid) same thinned)
+          (subst (λ (p : ℕ). IsThinned p mid final) at again))
 
     pub can_shift_as : (stays_from : ℕ) (by : LengthChange) → stays_from ≡ stays → by ≡ length_change change → length stream + length (units_of change) < 2 ^ 64
         → CanShift stays_from by (keys_of (cut fold.kept stays_from states))

@@ -4,6 +4,7 @@ pub mod Folds
 mod Going
 mod Storage
 mod Anew
+mod Thinned
 mod Committed
 mod Stretch
 mod Digests

@@ -1,5 +1,5 @@
 -- What a folded stream stores.
-use Rattle.std.specs.Prelude.{◌≡◌, ℕ, ◌<◌, ◌≤◌, List, length}
+use Rattle.std.specs.Prelude.{◌≡◌, ℕ, ◌+◌, ◌<◌, ◌≤◌, List, Contains, length}
 use Rattle.std.specs.Map.{keys_of}
 use Rattle.outcomes.specs.declared.outcome.Outcome.{Outcome}
 use Rattle.request_core.specs.States.{FoldState, no_units}
@@ -34,10 +34,17 @@ ArePast stream states =
 abbrev pub AreNear : Stream → List (ℕ × FoldState) → Type 0
 AreNear stream states = (k : ℕ) → k < length stream → HasNear spacing (keys_of states) k
 
+-- of three places at which states are stored the last is more than the spacing past the first
+abbrev pub AreSparse : List (ℕ × FoldState) → Type 0
+AreSparse states =
+    (first between last : ℕ) → Contains (keys_of states) first → Contains (keys_of states) between → Contains (keys_of states) last
+    → first < between → between < last → first + spacing < last
+
 -- outcomes, stored states and the last state are those of the stream
 pub record IsFolded
     (stream : Stream) (outcomes : List Outcome) (states : List (ℕ × FoldState)) (end : FoldState) : Type 0 where
   pub outcomes_are : outcomes ≡ outcomes_of stream
   pub past : ArePast stream states
   pub near : AreNear stream states
+  pub sparse : AreSparse states
   pub end_is : end ≡ state_from no_units stream

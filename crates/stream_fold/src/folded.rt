@@ -4,12 +4,12 @@ ghost use Rattle.std.specs.Prelude.{◌≡◌, ◌↔◌, ◌+◌, ◌-◌, ◌^
 ghost use Rattle.request_core.specs.Fold.{outcomes_of};
 ghost use Rattle.checkpoints.specs.Stored.{IsStoredAt};
 ghost use Rattle.stream_edits.specs.Changes.{IsInside, at_of, rest_from, stream_after, units_of};
-ghost use Rattle.stream_fold.specs.Kept.{ArePast};
+ghost use Rattle.stream_fold.specs.Kept.{AreNear, ArePast, AreSparse};
 ghost use Rattle.stream_fold.specs.Meeting.{IsCounted, IsMeeting};
 
 use crate::changes::length_change;
 use crate::refold::Refold;
-use crate::storing::{keep_end, store_anew};
+use crate::storing::{keep_end, store_anew, thin};
 use base_types::Shared;
 use checkpoints::Checkpoints;
 use hashed_units::{HashedOutcome, HashedUnit};
@@ -132,10 +132,13 @@ impl Folded {
         self.outcomes.as_slice()
     }
 
-    /// The states of the fold that are stored, each past its place.
+    /// The states of the fold that are stored, each past its place: one for each 32 units or less, and of three in a row the
+    /// last is more than 32 units past the first.
     pub fn states(&self) -> &Checkpoints<State>
         ensures value { result.now ≡ self.now.stored }
         ensures past { ArePast self.now.stream result.now.states }
+        ensures near { AreNear self.now.stream result.now.states }
+        ensures sparse { AreSparse result.now.states }
     {
         &self.stored
     }
@@ -175,6 +178,8 @@ impl Folded {
             length_change(&change),
             fold.states,
         );
+        thin(&mut self.stored, fold.kept);
+        thin(&mut self.stored, fold.place);
         replace_range(
             &mut self.outcomes,
             fold.from,

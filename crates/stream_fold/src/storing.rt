@@ -3,8 +3,9 @@
 ghost use Rattle.std.specs.Prelude.{◌≡◌, ℕ, ◌<◌, ◌≤◌, length, None, Some};
 ghost use Rattle.std.specs.Map.{keys_of};
 ghost use Rattle.checkpoints.specs.Changes.{CanShift, cut};
-ghost use Rattle.stream_fold.specs.Storing.{put_all, stored_after};
+ghost use Rattle.stream_fold.specs.Storing.{IsThinned, put_all, stored_after};
 
+use crate::refold::SPACING;
 use checkpoints::{Checkpoints, LengthChange};
 use request_core::State;
 
@@ -35,6 +36,23 @@ fn put_all(stored: &mut Checkpoints<State>, mut states: Vec<(usize, State)>)
     states.reverse();
     while let Some((place, state)) = states.pop() {
         stored.put(place, state);
+    }
+}
+
+/// Forgets the state that is stored at a place, where the stored ones before it and past it are near enough to each other.
+pub(crate) fn thin(stored: &mut Checkpoints<State>, place: usize)
+    ensures { IsThinned place stored.old.states stored.new.states }
+{
+    if place == 0 {
+        return;
+    }
+    let past = match stored.after(place) {
+        Some(next) => next.place,
+        None => return,
+    };
+    let before = stored.before(place - 1).place;
+    if past - before <= SPACING {
+        stored.cut(before, past);
     }
 }
 

@@ -1,6 +1,6 @@
-# The C interface: the static library, its header and its pkg-config file.
+# The C interface: the static library, its header, its pkg-config file and manual pages.
 #     make                     builds the library into build/, proved, where it is missing or older than its sources
-#     make install PREFIX=..   puts library, header and pkg-config file below PREFIX (/usr/local)
+#     make install PREFIX=..   puts program, library, header, pkg-config file and manual pages below PREFIX (/usr/local)
 #     make check               builds and runs the tests in C and C++: under AddressSanitizer and UndefinedBehaviorSanitizer,
 #                              and under valgrind where it is there
 #     make examples            builds the examples
@@ -15,7 +15,7 @@ VERSION = 0.1.0
 
 library = build/libcupdaisy.a
 archive = crates/cupdaisy/out/libcupdaisy.a
-sources = crates.txt $(shell find crates/*/src crates/*/specs -type f)
+sources = $(shell tools/sources --files cupdaisy)
 
 all: $(library) build/cupdaisy.pc
 
@@ -34,12 +34,16 @@ build/cupdaisy.pc: cupdaisy.pc.in
 	sed 's|@PREFIX@|$(PREFIX)|; s|@VERSION@|$(VERSION)|' cupdaisy.pc.in > $@
 
 install: $(library)
-	mkdir -p '$(DESTDIR)$(PREFIX)/lib/pkgconfig' '$(DESTDIR)$(PREFIX)/include'
+	mkdir -p '$(DESTDIR)$(PREFIX)/bin' '$(DESTDIR)$(PREFIX)/lib/pkgconfig' '$(DESTDIR)$(PREFIX)/include' \
+	    '$(DESTDIR)$(PREFIX)/share/man/man1' '$(DESTDIR)$(PREFIX)/share/man/man3'
+	program=$$(tools/program) && cp "$$program" '$(DESTDIR)$(PREFIX)/bin/preview'
 	cp $(library) '$(DESTDIR)$(PREFIX)/lib/libcupdaisy.a'
 	cp include/cupdaisy.h '$(DESTDIR)$(PREFIX)/include/cupdaisy.h'
+	cp man/preview.1 '$(DESTDIR)$(PREFIX)/share/man/man1/preview.1'
+	cp man/cupdaisy.3 '$(DESTDIR)$(PREFIX)/share/man/man3/cupdaisy.3'
 	sed 's|@PREFIX@|$(PREFIX)|; s|@VERSION@|$(VERSION)|' cupdaisy.pc.in > '$(DESTDIR)$(PREFIX)/lib/pkgconfig/cupdaisy.pc'
 
-check: $(library)
+check: $(library) examples
 	tools/check-header
 	tools/check-c
 

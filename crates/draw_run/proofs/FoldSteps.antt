@@ -1,5 +1,5 @@
 -- The fold over the units of a stream, unit after unit.
-use Rattle.std.proofs.Common.{◌≡◌, ◌∙◌, ℕ, ◌+◌, List, [], ◌∷◌, ◌++◌, length, map, ap, sym}
+use Rattle.std.proofs.Common.{◌≡◌, ◌∙◌, ℕ, ◌+◌, List, [], ◌∷◌, ◌++◌, length, map, ap, sym, arith}
 use Rattle.std.proofs.lemmas.List.{map-append, length-map}
 use Rattle.outcomes.specs.declared.outcome.Outcome.{Outcome}
 use Rattle.request_core.specs.States.{FoldState, no_units}
@@ -10,8 +10,11 @@ use Rattle.plan_stream.specs.Shown.{shown_of}
 use Rattle.plan_stream.specs.Streams.{numbered_from}
 use Rattle.plan_stream.proofs.Streams.{length-numbered_from, numbered_from-push}
 use Rattle.plan_stream.proofs.UnitTexts.{length-outcomes_of}
+use Rattle.draw_run.specs.Chosen.{kept_from}
 use Rattle.draw_run.specs.declared.folded.Folded.{Folded}
+use Rattle.draw_run.specs.declared.folded.KeptUnit.{KeptUnit}
 use Rattle.draw_run.specs.Folds.{IsFoldOf}
+use Rattle.draw_run.proofs.Chosen.{kept_from-push, length-kept_from}
 
 module _ (done : List (List (List ℕ))) (folded : Folded) (is : IsFoldOf done folded) where
   abbrev stream : List (ℕ × List (List ℕ))
@@ -46,3 +49,17 @@ module _ (done : List (List (List ℕ))) (folded : Folded) (is : IsFoldOf done f
     outcomes_more =
         ap (λ l. l ++ shown_of after.1 ∷ []) is.outcomes_are ∙ sym (map-append shown_of (outcomes_of stream) (after.1 ∷ []))
         ∙ ap (map shown_of) (sym outcomes_next)
+
+    -- the units with their outcomes go on by this one
+    abbrev pub kept_so_far : List KeptUnit
+    kept_so_far = kept_from 1 (outcomes_of stream)
+
+    pub next_id : id ≡ length kept_so_far + 1
+    next_id = omega (arith, id_is, length-kept_from 1 (outcomes_of stream), length-outcomes_of stream, length-numbered_from 1 done)
+
+    pub kept_more : kept_so_far ++ record { id = id; outcome = (fold_step folded.state id unit).1 } ∷ []
+        ≡ kept_from 1 (outcomes_of (numbered_from 1 (done ++ unit ∷ [])))
+    kept_more =
+        let place : 1 + length (outcomes_of stream) ≡ id = omega (arith, length-outcomes_of stream, length-numbered_from 1 done, id_is) in
+        ap (λ (n : ℕ). kept_so_far ++ record { id = n; outcome = after.1 } ∷ []) (sym place)
+        ∙ sym (kept_from-push 1 (outcomes_of stream) after.1) ∙ ap (kept_from 1) (sym outcomes_next)

@@ -1,3 +1,4 @@
+pub mod Chosen
 pub mod Folds
 pub mod Gathering
 pub mod RefusalWith

@@ -1,11 +1,12 @@
 //! `preview draw`: a stream read, planned and drawn.
 
-ghost use Rattle.std.specs.Prelude.{◌≡◌, ◌≢◌, ℕ, List, [], IfErr, IfSome, OnOk};
+ghost use Rattle.std.specs.Prelude.{◌≡◌, ◌≢◌, ℕ, List, [], IfErr, IfOk, IfSome, OnOk};
 ghost use Rattle.std.specs.Io.KnownBytes.{Keeps};
 ghost use Rattle.console_io.specs.Messages.{Tells};
 ghost use Rattle.plan_stream.specs.Faults.{plan_fault_text};
 ghost use Rattle.plan_stream.specs.declared.fault.PlanFault.{PlanFault};
-ghost use Rattle.draw_run.specs.Drawings.{EndsBy, WritesDrawing};
+ghost use Rattle.draw_run.specs.Drawings.{EndsBy, IsDrawn, WritesDrawing};
+ghost use Rattle.draw_run.specs.Folds.{IsFoldOfStream};
 ghost use Rattle.draw_run.specs.Gathering.{IsGathered};
 
 use crate::choice::Choice;
@@ -33,11 +34,12 @@ pub fn draw_on<R: Read, W: Sink, E: Sink>(
         → Keeps (E.contents errors.old) (E.contents errors.new) }
     // At success the text that was read is a stream, and one document is written.
     ensures drawn { result.status ≡ Status.Success → IfSome (R.remaining reader.old) (λ text.
-        WritesDrawing text (W.contents writer.old) (W.contents writer.new)) }
+        WritesDrawing choice.from choice.units text (W.contents writer.old) (W.contents writer.new)) }
     // At a failure it is what the fault that is told leaves of it.
     ensures ends { result.status ≡ Status.Failure → (fault : PlanFault)
         × IfSome (R.remaining reader.old) (λ text.
-        EndsBy text fault (W.refuses writer.new) (W.contents writer.old) (W.contents writer.new))
+        EndsBy choice.from choice.units text fault (W.refuses writer.new)
+        (W.contents writer.old) (W.contents writer.new))
         × Tells result.told (E.refuses errors.new) (E.contents errors.old) (E.contents errors.new)
         (plan_fault_text name.now fault) }
     ensures usage { result.status ≢ Status.Usage }
@@ -56,9 +58,10 @@ fn draw<R: Read, W: Sink>(
     writer: &mut W,
 ) -> Result<(), PlanFault>
     ensures drawn { OnOk result (IfSome (R.remaining reader.old) (λ text.
-        WritesDrawing text (W.contents writer.old) (W.contents writer.new))) }
+        WritesDrawing choice.from choice.units text (W.contents writer.old) (W.contents writer.new))) }
     ensures ends { IfErr result (λ fault. IfSome (R.remaining reader.old) (λ text.
-        EndsBy text fault (W.refuses writer.new) (W.contents writer.old) (W.contents writer.new))) }
+        EndsBy choice.from choice.units text fault (W.refuses writer.new)
+        (W.contents writer.old) (W.contents writer.new))) }
 {
     let gathered = gather(alloc, choice, reader)?;
     print_gathered(alloc, gathered, writer)
@@ -71,9 +74,11 @@ fn print_gathered<W: Sink>(
     writer: &mut W,
 ) -> Result<(), PlanFault>
     ensures drawn { (text : List ℕ) → IsGathered text [] gathered
-        → OnOk result (WritesDrawing text (W.contents writer.old) (W.contents writer.new)) }
+        → OnOk result (WritesDrawing gathered.folded.choice.from gathered.folded.choice.units text
+        (W.contents writer.old) (W.contents writer.new)) }
     ensures ends { (text : List ℕ) → IsGathered text [] gathered → IfErr result (λ fault.
-        EndsBy text fault (W.refuses writer.new) (W.contents writer.old) (W.contents writer.new)) }
+        EndsBy gathered.folded.choice.from gathered.folded.choice.units text fault
+        (W.refuses writer.new) (W.contents writer.old) (W.contents writer.new)) }
 {
     match gathered.finish() {
         Ok(folded) => match document_of(alloc, &folded) {
@@ -91,7 +96,10 @@ fn print_gathered<W: Sink>(
 }
 
 /// The document of what is kept of a stream.
-fn document_of(alloc: Global, folded: &Folded) -> Result<Vec<u8>, AllocError> {
+fn document_of(alloc: Global, folded: &Folded) -> Result<Vec<u8>, AllocError>
+    ensures { (text : List ℕ) → IsFoldOfStream text folded.now → IfOk result (λ document.
+        IsDrawn folded.now.choice.from folded.now.choice.units text document.items) }
+{
     let positions = output_order::positions(alloc, &folded.outcomes)?;
     let units = drawn_units(alloc, &folded.kept, &positions)?;
     let captions = captions_of(alloc, &folded.kept, &positions)?;

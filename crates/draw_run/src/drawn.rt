@@ -1,6 +1,8 @@
 //! What is drawn of units, by what becomes of each.
 
-ghost use Rattle.std.specs.Prelude.{◌≡◌, ◌≤◌, IfOk, vec_len, length};
+ghost use Rattle.std.specs.Prelude.{◌≡◌, ◌≤◌, IfOk, vec_len, length, map};
+ghost use Rattle.stream_svg.specs.Captions.{lines_of};
+ghost use Rattle.draw_run.specs.Chosen.{kept_lines, position_in};
 
 use crate::folded::KeptUnit;
 use h264_controls::Request;
@@ -34,7 +36,8 @@ pub(crate) fn captions_of(
     kept: &[KeptUnit],
     positions: &[Option<usize>],
 ) -> Result<Vec<Caption>, AllocError>
-    ensures { IfOk result (λ captions. vec_len captions ≡ length kept.now) }
+    ensures count { IfOk result (λ captions. vec_len captions ≡ length kept.now) }
+    ensures lines { IfOk result (λ captions. map lines_of captions.items ≡ map (kept_lines positions.now) kept.now) }
 {
     let mut captions = Vec::new(alloc);
     for unit in kept {
@@ -52,7 +55,9 @@ pub(crate) fn captions_of(
 }
 
 /// The position of the unit with an id, in a stream whose ids are 1, 2, 3 and so on.
-fn position_of(positions: &[Option<usize>], id: AuId) -> Option<usize> {
+fn position_of(positions: &[Option<usize>], id: AuId) -> Option<usize>
+    ensures { result ≡ position_in positions.now id }
+{
     let place = id.number().checked_sub(1)?;
     match positions.get(place as usize) {
         Some(position) => *position,

@@ -1,7 +1,9 @@
 //! The fold over the units of a stream, with what is kept of those that are drawn.
 
-ghost use Rattle.std.specs.Prelude.{◌≡◌, ◌+◌, ◌<◌, ◌≤◌, ◌++◌, [], ◌∷◌, List, ℕ, IfOk, OnOk, vec_len};
+ghost use Rattle.std.specs.Prelude.{◌≡◌, ◌≢◌, ◌⊎◌, ◌+◌, ◌<◌, ◌≤◌, ◌++◌, [], ◌∷◌, List, ℕ, length, IfOk, OnOk, true, false, vec_len};
 ghost use Rattle.access_unit.specs.Rooms.{most_units};
+ghost use Rattle.draw_run.specs.Chosen.{chosen};
+ghost use Rattle.draw_run.specs.declared.folded.KeptUnit.{KeptUnit as KeptUnitValue};
 
 use crate::choice::Choice;
 use access_unit::Unit;
@@ -17,7 +19,7 @@ pub(crate) struct Folded {
     pub(crate) state: State,
     /// What becomes of each unit, without its requests.
     pub(crate) outcomes: Vec<Outcome>,
-    choice: Choice,
+    pub(crate) choice: Choice,
     /// The units that are drawn.
     pub(crate) kept: Vec<KeptUnit>,
     ghost few: { vec_len outcomes ≤ most_units },
@@ -36,7 +38,8 @@ impl Folded {
 
     /// Before the first unit.
     pub(crate) fn new(alloc: Global, choice: Choice) -> Result<Folded, AllocError>
-        ensures { IfOk result (IsFoldOf []) }
+        ensures folded { IfOk result (IsFoldOf []) }
+        ensures choice { IfOk result (λ folded. folded.choice ≡ choice) }
     {
         Ok(Folded {
             state: State::new(alloc)?,
@@ -49,7 +52,8 @@ impl Folded {
     /// Takes one unit more.
     pub(crate) fn add(&mut self, alloc: Global, unit: &Unit) -> Result<(), AllocError>
         requires { vec_len self.old.outcomes < most_units }
-        ensures { (done : List (List (List ℕ))) → IsFoldOf done self.old
+        ensures choice { self.new.choice ≡ self.old.choice }
+        ensures folded { (done : List (List (List ℕ))) → IsFoldOf done self.old
             → OnOk result (IsFoldOf (done ++ unit.now ∷ []) self.new) }
     {
         let id = AuId::new(self.outcomes.len() as u32 + 1);
@@ -65,11 +69,23 @@ impl Folded {
 /// Keeps the unit where it is drawn.
 fn keep(kept: &mut Vec<KeptUnit>, choice: Choice, unit: KeptUnit) -> Result<(), AllocError>
     requires { vec_len kept.old ≤ 1000 }
-    ensures { vec_len kept.new ≤ 1000 }
+    ensures few { vec_len kept.new ≤ 1000 }
+    ensures kept { (all : List KeptUnitValue) → kept.old.items ≡ chosen choice.from choice.units all
+        → unit.id ≡ length all + 1
+        → OnOk result (kept.new.items ≡ chosen choice.from choice.units (all ++ unit ∷ [])) }
 {
-    if unit.id.number() < choice.from || kept.len() >= choice.units {
+    if !is_shown(choice, unit.id, kept.len()) {
         return Ok(());
     }
     kept.push(unit)?;
     Ok(())
+}
+
+/// Whether the unit with this id is drawn, after so many that are.
+fn is_shown(choice: Choice, id: AuId, count: usize) -> bool
+    ensures yes { result ≡ true → (choice.from ≢ 0) × (choice.from ≤ id) × (count < choice.units) }
+    ensures no { result ≡ false → (choice.from ≡ 0)
+        ⊎ ((id < choice.from) ⊎ ((choice.from ≤ id) × (choice.units ≤ count))) }
+{
+    choice.from != 0 && choice.from <= id.number() && count < choice.units
 }

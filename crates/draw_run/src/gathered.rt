@@ -25,7 +25,7 @@ pub(crate) struct Gathered {
     count: usize,
     /// Why the stream is refused, if it is.
     refusal: Option<Refusal>,
-    folded: Folded,
+    pub(crate) folded: Folded,
 }
 
 /// What the stream comes to that the reader gives.
@@ -34,8 +34,9 @@ pub(crate) fn gather<R: Read>(
     choice: Choice,
     reader: &mut R,
 ) -> Result<Gathered, InputFault>
-    ensures { IfOk result (λ gathered. IfSome (R.remaining reader.old)
+    ensures gathered { IfOk result (λ gathered. IfSome (R.remaining reader.old)
         (λ text. IsGathered text [] gathered)) }
+    ensures choice { IfOk result (λ gathered. gathered.folded.choice ≡ choice) }
 {
     let mut window = Window::new(alloc)?;
     let mut gathered = Gathered::new(alloc, choice)?;
@@ -52,7 +53,8 @@ pub(crate) fn gather<R: Read>(
 impl Gathered {
     /// Before the first access unit.
     fn new(alloc: Global, choice: Choice) -> Result<Gathered, AllocError>
-        ensures { (text : List ℕ) → IfOk result (IsGathered text text) }
+        ensures gathered { (text : List ℕ) → IfOk result (IsGathered text text) }
+        ensures choice { IfOk result (λ gathered. gathered.folded.choice ≡ choice) }
     {
         Ok(Gathered {
             count: 0,
@@ -63,7 +65,8 @@ impl Gathered {
 
     /// Takes the text of the next access unit.
     fn add(&mut self, alloc: Global, front: &[u8]) -> Result<(), AllocError>
-        ensures { (text left rest : List ℕ) → 0 < length left → IsFront left front.now rest
+        ensures choice { self.new.folded.choice ≡ self.old.folded.choice }
+        ensures gathered { (text left rest : List ℕ) → 0 < length left → IsFront left front.now rest
             → IsGathered text left self.old → OnOk result (IsGathered text rest self.new) }
     {
         match read_front(alloc, front) {
@@ -74,7 +77,8 @@ impl Gathered {
 
     /// Takes an access unit.
     fn accept(&mut self, alloc: Global, unit: &Unit) -> Result<(), AllocError>
-        ensures { (text left front rest : List ℕ) → IsFront left front rest
+        ensures choice { self.new.folded.choice ≡ self.old.folded.choice }
+        ensures gathered { (text left front rest : List ℕ) → IsFront left front rest
             → HasUnits front unit.now → IsAccepted (joined unit.now) unit.now
             → IsGathered text left self.old → OnOk result (IsGathered text rest self.new) }
     {
@@ -86,6 +90,7 @@ impl Gathered {
 
     /// Folds an access unit, where the stream isn't refused and has room for it.
     fn fold(&mut self, alloc: Global, unit: &Unit) -> Result<(), AllocError>
+        ensures choice { self.new.folded.choice ≡ self.old.folded.choice }
         ensures count { self.new.count ≡ self.old.count }
         ensures folded { (text left front rest : List ℕ) → IsFront left front rest
             → HasUnits front unit.now → IsAccepted (joined unit.now) unit.now
@@ -104,7 +109,8 @@ impl Gathered {
 
     /// Takes an access unit that is refused.
     fn refuse(&mut self, refused: Refused) -> Result<(), AllocError>
-        ensures { (text left front rest : List ℕ) → 0 < length left → IsFront left front rest
+        ensures choice { self.new.folded.choice ≡ self.old.folded.choice }
+        ensures gathered { (text left front rest : List ℕ) → 0 < length left → IsFront left front rest
             → IsFrontRefused front refused
             → IsGathered text left self.old → OnOk result (IsGathered text rest self.new) }
     {
@@ -117,7 +123,8 @@ impl Gathered {
     /// Notes why an access unit is refused.
     fn note(&mut self, refused: Refused) -> Result<(), AllocError>
         requires { refused ≢ Refused.Memory }
-        ensures { (text left front rest : List ℕ) → 0 < length left → IsFront left front rest
+        ensures choice { self.new.folded.choice ≡ self.old.folded.choice }
+        ensures gathered { (text left front rest : List ℕ) → 0 < length left → IsFront left front rest
             → IsFrontRefused front refused
             → IsGathered text left self.old → OnOk result (IsGathered text rest self.new) }
     {
@@ -136,6 +143,7 @@ impl Gathered {
 
     /// The fold over the whole stream, or the stream's refusal.
     pub(crate) fn finish(self) -> Result<Folded, Refusal>
+        ensures choice { IfOk result (λ folded. folded.choice ≡ self.folded.choice) }
         ensures ok { IfOk result (λ folded. (text : List ℕ) → IsGathered text [] self
             → IsFoldOfStream text folded) }
         ensures err { IfErr result (λ refusal. (text : List ℕ) → IsGathered text [] self

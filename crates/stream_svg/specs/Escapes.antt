@@ -1,5 +1,5 @@
 -- Text in XML: characters and the references that stand for them (XML 1.0, 2.4 and 4.6).
-use Rattle.std.specs.Prelude.{◌≡◌, ◌≢◌, ℕ, ◌==◌, ◌++◌, List, [], ◌∷◌, codes, if◌then◌else◌}
+use Rattle.std.specs.Prelude.{◌≢◌, ℕ, ◌==◌, ◌++◌, List, [], ◌∷◌, codes, if◌then◌else◌}
 use Rattle.std.specs.List.{flat_map}
 
 -- what a byte of a text is written as: " & ' < > as a reference, each other byte as itself

@@ -1,1 +1,3 @@
 pub mod Escapes
+pub mod Documents
+pub mod Captions

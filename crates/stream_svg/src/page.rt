@@ -1,7 +1,7 @@
 //! The bytes of a document while it is written.
 
-ghost use Rattle.std.specs.Prelude.{◌≡◌, ◌++◌, OnOk};
-ghost use Rattle.stream_svg.specs.Escapes.{escaped};
+ghost use Rattle.std.specs.Prelude.{◌≡◌, ◌++◌, ℕ, List, OnOk};
+ghost use Rattle.stream_svg.specs.Documents.{opening_of};
 
 use crate::escape::push_escaped;
 use std::alloc::{AllocError, Global};
@@ -31,10 +31,25 @@ impl Page {
         self.bytes.extend_from_slice(self.marks.as_bytes())
     }
 
-    /// Adds a text.
-    pub(crate) fn say(&mut self, text: &str) -> Result<(), AllocError>
-        ensures { OnOk result (self.new.bytes.items ≡ self.old.bytes.items ++ escaped text.now) }
+    /// Opens the shapes of a unit, with its lines as their title.
+    pub(crate) fn open(&mut self, lines: &str) -> Result<(), AllocError>
+        ensures { OnOk result (self.new.bytes.items ≡ self.old.bytes.items ++ opening_of lines.now) }
     {
-        push_escaped(&mut self.bytes, text.as_bytes())
+        self.bytes.extend_from_slice(b"<g class=\"u\"><title>")?;
+        push_escaped(&mut self.bytes, lines.as_bytes())?;
+        self.bytes.extend_from_slice(b"</title>")?;
+        Ok(())
+    }
+
+    /// Adds all of another page.
+    pub(crate) fn append(&mut self, page: &Page) -> Result<(), AllocError>
+        ensures { OnOk result (self.new.bytes.items ≡ self.old.bytes.items ++ page.now.bytes.items) }
+    {
+        self.bytes.extend_from_slice(page.bytes.as_slice())
+    }
+
+    /// Takes all marks away, and keeps the room for them.
+    pub(crate) fn clear(&mut self) {
+        self.bytes.clear();
     }
 }

@@ -14,7 +14,7 @@ text{font:11px ui-sans-serif,system-ui,sans-serif;fill:#1d2733}
 .i{fill:#0b5fa5}.p{fill:#8fc7f0}.b{fill:#f2d35c}.f{fill:#c7361b}
 .n{fill:none;stroke:#68737f;stroke-dasharray:3 2}
 .on-i,.on-f{fill:#fff}.on-p,.on-b{fill:#14202b}.on-n{fill:#4a5560}
-.l0,.l1{fill:none;stroke-width:1.2;stroke-opacity:.8}
+.l0,.l1{fill:none;stroke-width:1.2;stroke-opacity:.7}
 .l0{stroke:#0b5fa5}.l1{stroke:#b8570a}
 .d0{fill:#0b5fa5}.d1{fill:#b8570a}
 .far{stroke-dasharray:5 3}

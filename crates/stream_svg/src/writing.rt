@@ -1,6 +1,8 @@
 //! The whole document.
 
-ghost use Rattle.std.specs.Prelude.{◌≡◌, ◌<◌, length};
+ghost use Rattle.std.specs.Prelude.{◌≡◌, ◌<◌, IfOk, OnOk, length, map};
+ghost use Rattle.stream_svg.specs.Documents.{HasTitles};
+ghost use Rattle.stream_svg.specs.Captions.{lines_of};
 
 use crate::boxes::{write_fills, write_letters, write_mark, write_number};
 use crate::caption::Caption;
@@ -22,19 +24,44 @@ pub fn document(
 ) -> Result<Vec<u8>, AllocError>
     requires units { layout.now.grid.units ≡ length units.now }
     requires captions { length captions.now ≡ length units.now }
+    // Each unit's lines are the title of its shapes, in stream order.
+    ensures { IfOk result (λ document. HasTitles (map lines_of captions.now) document.items) }
+{
+    let mut page = Page::new(alloc);
+    write_beginning(&mut page, layout, units, total, edited)?;
+    write_units(alloc, &mut page, layout.grid, units, captions)?;
+    let end = end_of(alloc, layout, units)?;
+    page.append(&end)?;
+    Ok(page.bytes)
+}
+
+/// Writes what stands before the first unit: the head, where periods begin, and the ways between the rows.
+fn write_beginning(
+    page: &mut Page,
+    layout: &Layout,
+    units: &[DrawnUnit],
+    total: usize,
+    edited: bool,
+) -> Result<(), AllocError>
+    requires { layout.now.grid.units ≡ length units.now }
 {
     let grid = layout.grid;
     let row = layout.output.as_slice();
+    write_head(page, grid, units, total, edited)?;
+    write_begins(page, grid, units)?;
+    write_output_begins(page, grid, row)?;
+    write_ways(page, grid, row)
+}
+
+/// What stands after the last unit of the stream's row: the names of faults, and the second row.
+fn end_of(alloc: Global, layout: &Layout, units: &[DrawnUnit]) -> Result<Page, AllocError>
+    requires { layout.now.grid.units ≡ length units.now }
+{
     let mut page = Page::new(alloc);
-    write_head(&mut page, grid, units, total, edited)?;
-    write_begins(&mut page, grid, units)?;
-    write_output_begins(&mut page, grid, row)?;
-    write_ways(&mut page, grid, row)?;
-    write_units(&mut page, grid, units, captions)?;
-    write_reasons(&mut page, grid, units)?;
-    write_output(&mut page, grid, units, row)?;
+    write_reasons(&mut page, layout.grid, units)?;
+    write_output(&mut page, layout.grid, units, layout.output.as_slice())?;
     page.print("</svg>\n")?;
-    Ok(page.bytes)
+    Ok(page)
 }
 
 /// Writes what stands before the first unit.
@@ -126,6 +153,7 @@ fn write_ways(page: &mut Page, grid: Grid, row: &[Shown]) -> Result<(), AllocErr
 
 /// Writes the stream's row.
 fn write_units(
+    alloc: Global,
     page: &mut Page,
     grid: Grid,
     units: &[DrawnUnit],
@@ -133,15 +161,20 @@ fn write_units(
 ) -> Result<(), AllocError>
     requires units { grid.units ≡ length units.now }
     requires captions { length captions.now ≡ length units.now }
+    ensures { OnOk result (HasTitles (map lines_of captions.now) page.new.bytes.items) }
 {
-    for place in 0..units.len() {
-        write_unit(page, grid, units, &captions[place], place)?;
+    let mut shapes = Page::new(alloc);
+    for (place, caption) in captions.iter().enumerate() {
+        shapes.clear();
+        write_shapes(&mut shapes, grid, units, caption, place)?;
+        page.open(caption.lines.as_str())?;
+        page.append(&shapes)?;
     }
     Ok(())
 }
 
-/// Writes a unit, with its arcs and its title.
-fn write_unit(
+/// Writes the shapes of a unit, with its arcs, after its title.
+fn write_shapes(
     page: &mut Page,
     grid: Grid,
     units: &[DrawnUnit],
@@ -153,9 +186,6 @@ fn write_unit(
 {
     let unit = &units[place];
     let area = grid.stream_box(place);
-    page.print("<g class=\"u\"><title>")?;
-    page.say(caption.lines.as_str())?;
-    page.print("</title>")?;
     write_arcs(page, grid, units, place)?;
     write_fills(page, area, unit.kind)?;
     if let Some(mark) = caption.mark {

@@ -2,11 +2,12 @@ use Rattle.std.proofs.Common.{◌≡◌, ◌+◌, ◌∙◌, ◌++◌, ◌∷◌
 use Rattle.outcomes.specs.declared.outcome.Outcome.{Outcome}
 use Rattle.request_core.specs.States.{FoldState}
 use Rattle.plan_stream.specs.Shown.{shown_of}
-use Rattle.draw_run.proofs.FoldSteps.{count_is, outcomes_more, state_more}
+use Rattle.draw_run.specs.Chosen.{chosen}
+use Rattle.draw_run.proofs.FoldSteps.{count_is, kept_more, kept_so_far, next_id, outcomes_more, state_more}
 use Rattle.draw_run.proofs.folded.Folded.add.Goals as goal
 
-pub returns : goal.returns
-returns c = λ done is.
+pub returns-clause-folded : goal.returns-clause-folded
+returns-clause-folded c = λ done is.
     let old = c.args.self.now in
     let unit = c.args.unit.now in
     let id = c.new-id.result in
@@ -18,4 +19,8 @@ returns c = λ done is.
           c.in_ok-push.ensures.items
           ∙ ap (λ (o : Outcome). old.outcomes.items ++ o ∷ []) (c.shown_of.ensures ∙ ap (λ (p : FoldState × Outcome). shown_of p.1) pair)
           ∙ outcomes_more done old is unit id id_is;
+      kept_are =
+          rw (ap (λ (p : FoldState × Outcome). p.1) pair) at
+          (c.in_ok-keep.ensures.kept (kept_so_far done old is unit id id_is) is.kept_are (next_id done old is unit id id_is))
+          ∙ ap (chosen old.choice.from old.choice.units) (kept_more done old is unit id id_is);
     }

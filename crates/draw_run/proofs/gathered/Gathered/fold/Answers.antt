@@ -12,7 +12,7 @@ pub returns-in-None-clause-folded : goal.returns-in-None-clause-folded
 returns-in-None-clause-folded c = λ text left front rest is has accepted comes.
     let old = c.args.self.now in
     let room : length old.folded.outcomes.items < most_units = omega (arith, old.folded.outcomes.ok.0) in
-    comes-taken text left front rest is c.args.unit.now has accepted old.refusal old.count old.folded _ c.add.result c.in-None.is room c.add.ensures comes
+    comes-taken text left front rest is c.args.unit.now has accepted old.refusal old.count old.folded _ c.add.result c.in-None.is room c.add.ensures.folded comes
 
 pub returns-in-None-2-clause-folded : goal.returns-in-None-2-clause-folded
 returns-in-None-2-clause-folded c = λ text left front rest is has accepted comes.

@@ -42,7 +42,7 @@ same_parts text parts others h h' =
     let units = same_reading text h.units h'.units h.has h'.has in
     sym (same_cut h.units parts h.cut) ∙ ap (cut_from []) units ∙ same_cut h'.units others h'.cut
 
--- a stream of access units has one answer, but for want of memory
+-- a stream of access units has one answer, but for lack of memory
 pub only_stream : (text : List ℕ) (parts : List (List (List ℕ))) → HasAccessUnits text parts → AreAccepted parts
     → (result : Result (Vec (List (List ℕ))) StreamRefused) → IsStreamReadAs text result
     → IfOk result (λ units. units.items ≡ parts) × IsOkUnless result stream.Memory

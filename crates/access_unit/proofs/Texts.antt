@@ -27,7 +27,7 @@ never_refused text units refused accepted (shown short others has is) =
     let both = sym none ∙ is in
     cc
 
--- it has one answer, but for want of memory
+-- it has one answer, but for lack of memory
 pub only_answer : (text : List ℕ) (units : List (List ℕ)) → IsAccepted text units → (result : Result (List (List ℕ)) Refused)
     → IsReadAs text result → IfOk result (λ unit. unit ≡ units) × IsOkUnless result Memory
 only_answer text units accepted (Ok unit) read = (same_reading text unit units read.has accepted.has, tt)

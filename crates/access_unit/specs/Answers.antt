@@ -31,7 +31,7 @@ pub data IsRefused (text : List ℕ) (refused : Refused) : Type 0 where
       length text ≤ most_bytes → (units : List (List ℕ)) → HasUnits text units
       → refusal_of units ≡ Some refused → IsRefused text refused
 
--- an answer for the text: its NAL units, its refusal, or that memory is wanted
+-- an answer for the text: its NAL units, its refusal, or that memory ran out
 abbrev pub IsReadAs : List ℕ → Result (List (List ℕ)) Refused → Type 0
 IsReadAs text (Ok units) = IsAccepted text units
 IsReadAs text (Err refused) = (refused ≡ Memory) ⊎ IsRefused text refused

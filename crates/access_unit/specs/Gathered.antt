@@ -15,7 +15,7 @@ pub record HasUnitsAt (units : List (List ℕ)) (range : Range ℕ) : Type 0 whe
   pub has :
       HasUnits (joined (slice_range units range.start range.end)) (slice_range units range.start range.end)
 
--- an answer for an access unit: that memory is wanted
+-- an answer for an access unit: that memory ran out
 abbrev pub wants_memory : {A : Type 0} → Result A Refused → Bool
 wants_memory (Ok unit) = false
 wants_memory (Err refusals.Memory) = true
@@ -29,7 +29,7 @@ pub record IsStoppedAt (answers : List (Result (List (List ℕ)) Refused)) (inde
   pub index_is : index ≡ length units
   pub not_memory : refused ≢ refusals.Memory
 
--- what the answers for the access units come to: all units, the first that is refused, or that memory is wanted
+-- what the answers for the access units come to: all units, the first that is refused, or that memory ran out
 abbrev pub IsGathered : List (Result (List (List ℕ)) Refused) → Result (Vec (List (List ℕ))) StreamRefused → Type 0
 IsGathered answers (Ok units) = answers ≡ map Ok units.items
 IsGathered answers (Err Split) = ⊥

@@ -1,5 +1,5 @@
 -- What is kept of an access unit.
-use Rattle.std.specs.Prelude.{◌≡◌, ℕ, ◌≤◌, List, [], length}
+use Rattle.std.specs.Prelude.{◌≡◌, ℕ, ◌≤◌, List, [], length, Option, None, IfSome}
 use Rattle.std.specs.List.{filter}
 use Rattle.annexb.specs.NalUnit.{is_slice}
 use Rattle.annexb.specs.ByteStream.{joined}
@@ -30,6 +30,11 @@ abbrev pub first_place : Kept → ℕ
 first_place (Lone nals) = 0
 first_place (Several several) = first_of several.value.slices
 
+-- the text of the NAL units joined, where it is kept
+abbrev pub text_in : Kept → Option (List ℕ)
+text_in (Lone nals) = None
+text_in (Several several) = several.value.text
+
 -- what is kept is the access unit of these NAL units
 pub record IsKeptOf (units : List (List ℕ)) (kept : Kept) : Type 0 where
   pub nals_are : nals_in kept ≡ units
@@ -37,3 +42,4 @@ pub record IsKeptOf (units : List (List ℕ)) (kept : Kept) : Type 0 where
   pub within : first_place kept ≤ length units
   pub sets_are : sets_in kept ≡ sets_of units
   pub accepted : IsAccepted (joined units) units
+  pub text_is : IfSome (text_in kept) (λ text. text ≡ joined units)

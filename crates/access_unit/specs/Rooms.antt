@@ -32,7 +32,7 @@ IsStreamRefused text room (Unit index refused) =
     (parts : List (List (List ℕ))) × HasAccessUnits text parts × IsFirstRefused parts index refused
 IsStreamRefused text room StreamFull = (parts : List (List (List ℕ))) × IsStream text parts × (room < length parts)
 
--- an answer for the text: its access units, its refusal, or, for a text of NAL units, that memory is wanted
+-- an answer for the text: its access units, its refusal, or, for a text of NAL units, that memory ran out
 abbrev pub IsReadAs : List ℕ → ℕ → Result (Vec (List (List ℕ))) ReadFault → Type 0
 IsReadAs text room (Ok units) = IsStream text units.items × (length units.items ≤ room)
 IsReadAs text room (Err (Refused refusal)) = IsStreamRefused text room refusal

@@ -30,7 +30,7 @@ abbrev pub refusal_in : {A : Type 0} → Result A Refused → Option Refused
 refusal_in (Ok passed) = None
 refusal_in (Err refused) = Some refused
 
--- the refusal is the one that is shown, or memory is wanted
+-- the refusal is the one that is shown, or memory runs out
 abbrev pub IsShown : Option Refused → Refused → Type 0
 IsShown shown refused = (refused ≡ Memory) ⊎ (shown ≡ Some refused)
 

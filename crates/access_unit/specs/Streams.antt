@@ -24,7 +24,7 @@ pub record IsFirstRefused (parts : List (List (List ℕ))) (index : ℕ) (refuse
   pub is_refused : IsRefused (joined (slice_index_or parts index [])) refused
   pub before : AreAccepted (take index parts)
 
--- an answer for the stream: its access units, the first that is refused, or that memory is wanted
+-- an answer for the stream: its access units, the first that is refused, or that memory ran out
 abbrev pub IsStreamReadAs : List ℕ → Result (Vec (List (List ℕ))) StreamRefused → Type 0
 IsStreamReadAs text (Ok units) = HasAccessUnits text units.items × AreAccepted units.items
 IsStreamReadAs text (Err Split) = (units : List (List ℕ)) → ¬ HasUnits text units

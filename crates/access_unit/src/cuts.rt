@@ -23,20 +23,23 @@ pub(crate) fn cut_next(text: &mut Bytes, nal: &Nal<'_>) -> Result<SharedNal, All
     Ok(SharedNal::new(coded))
 }
 
-/// The NAL units of the text, each with a share of it. No byte is copied.
+/// The NAL units of the text, each with a share of it, and the places where they end. No byte is copied.
 pub(crate) fn cut_all(
     alloc: Global,
     mut text: Bytes,
     nals: &[Nal<'_>],
-) -> Result<Vec<SharedNal>, AllocError>
+) -> Result<(Vec<SharedNal>, Vec<usize>), AllocError>
     requires { HasUnits text nals.now }
-    ensures { IfOk result (λ cut. cut.items ≡ nals.now) }
+    ensures { IfOk result (λ cut. cut.0.items ≡ nals.now) }
 {
+    let whole = text.len();
     let mut cut = Vec::with_capacity(alloc, nals.len())?;
+    let mut ends = Vec::with_capacity(alloc, nals.len())?;
     for nal in nals {
         cut.push(cut_next(&mut text, nal)?)?;
+        ends.push(whole.saturating_sub(text.len()))?;
     }
-    Ok(cut)
+    Ok((cut, ends))
 }
 
 /// How many zeros stand before the start code of the text.

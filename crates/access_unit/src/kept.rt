@@ -1,12 +1,14 @@
 //! What is kept of an access unit.
-ghost use Rattle.std.specs.Prelude.{◌≡◌, ◌≤◌, [], length, vec_len, IfOk};
-ghost use Rattle.access_unit.specs.Keeping.{IsKeptOf, first_place, nals_in, sets_in, slices_in};
+ghost use Rattle.std.specs.Prelude.{◌≡◌, ◌≤◌, [], length, vec_len, IfOk, IfSome, MatchOption, None, Some};
+ghost use Rattle.annexb.specs.ByteStream.{joined};
+ghost use Rattle.access_unit.specs.Keeping.{IsKeptOf, first_place, nals_in, sets_in, slices_in, text_in};
 ghost use Rattle.access_unit.specs.Stored.{IsOfUnit};
 
 use crate::parameter_sets::ParameterSet;
 use crate::parts::Parts;
 use crate::placed::{Slices, placed};
 use crate::shared_nal::SharedNal;
+use bytes::Bytes;
 use std::alloc::{AllocError, Global};
 
 /// What is kept of an access unit.
@@ -24,6 +26,8 @@ pub(crate) struct Several {
     nals: Vec<SharedNal>,
     slices: Slices,
     sets: Vec<ParameterSet>,
+    /// Their text, joined, where they were read from one that has it in one piece.
+    text: Option<Bytes>,
 }
 
 impl Kept {
@@ -57,11 +61,23 @@ impl Kept {
             Kept::Several(several) => several.sets.as_slice(),
         }
     }
+
+    /// The text of the NAL units joined, where it is kept.
+    pub(crate) fn text(&self) -> Option<&Bytes>
+        ensures { MatchOption result (text_in self.now ≡ None)
+            (λ text. text_in self.now ≡ Some text.now) }
+    {
+        match self {
+            Kept::Lone(_) => None,
+            Kept::Several(several) => several.text.as_ref(),
+        }
+    }
 }
 
-/// What is kept of these parts, which are those of an access unit.
-pub(crate) fn keep(alloc: Global, parts: Parts) -> Result<Kept, AllocError>
-    requires { IsOfUnit parts }
+/// What is kept of these parts, which are those of an access unit, and of their text, if there is one in one piece.
+pub(crate) fn keep(alloc: Global, parts: Parts, text: Option<Bytes>) -> Result<Kept, AllocError>
+    requires parts { IsOfUnit parts }
+    requires text { IfSome text (λ text. text ≡ joined parts.nals.items) }
     ensures { IfOk result (IsKeptOf parts.nals.items) }
 {
     let Parts { nals, slices, sets } = parts;
@@ -69,7 +85,12 @@ pub(crate) fn keep(alloc: Global, parts: Parts) -> Result<Kept, AllocError>
         return Ok(lone(nals));
     }
     let slices = placed(alloc, &nals, slices)?;
-    let several = Several { nals, slices, sets };
+    let several = Several {
+        nals,
+        slices,
+        sets,
+        text,
+    };
     Ok(Kept::Several(Box::new(alloc, several)?))
 }
 
@@ -80,6 +101,7 @@ fn lone(mut nals: Vec<SharedNal>) -> Kept
     ensures slices { slices_in result ≡ nals.items }
     ensures sets { sets_in result ≡ [] }
     ensures first { first_place result ≡ 0 }
+    ensures text { text_in result ≡ None }
 {
     match nals.pop() {
         Some(nal) => Kept::Lone([nal]),

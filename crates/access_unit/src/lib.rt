@@ -6,6 +6,7 @@
 
 mod checks;
 mod cuts;
+mod joining;
 mod kept;
 mod laws;
 mod parameter_sets;

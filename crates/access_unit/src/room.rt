@@ -63,7 +63,7 @@ pub fn read_units(
     room: usize,
 ) -> Result<Vec<Unit>, ReadFault>
     ensures read { IsReadAs text.now room result }
-    // A stream for which there is room is refused for want of memory alone.
+    // A stream for which there is room is refused only when memory runs out.
     ensures only { (parts : List (List (List ℕ))) → IsStream text.now parts
         → IfOk result (λ units. units.items ≡ parts)
         × (length parts ≤ room → IsOkUnless result ReadFault.Memory) }

@@ -10,6 +10,7 @@ ghost use Rattle.access_unit.specs.Gathered.{HasUnitsAt, IsGathered, wants_memor
 ghost use Rattle.access_unit.specs.declared.stream.StreamRefused.TheVariants.{Memory};
 
 use crate::cuts::{START_CODE_LEN, cut_all};
+use crate::joining::joined_text;
 use crate::refused::Refused;
 use crate::shared_nal::SharedNal;
 use crate::unit::{MOST_BYTES, Unit, split_units, unit_with};
@@ -73,7 +74,7 @@ pub fn read_stream(
     text: &[u8],
 ) -> Result<Vec<Unit>, StreamRefused>
     ensures read { IsStreamReadAs text.now result }
-    // A stream of access units is refused for want of memory alone.
+    // A stream of access units is refused only when memory runs out.
     ensures only { (parts : List (List (List ℕ))) → HasAccessUnits text.now parts
         → AreAccepted parts → IfOk result (λ units. units.items ≡ parts)
         × IsOkUnless result StreamRefused.Memory }
@@ -94,7 +95,7 @@ pub fn read_shared_stream(
     text: &Bytes,
 ) -> Result<Vec<Unit>, StreamRefused>
     ensures read { IsStreamReadAs text.now result }
-    // A stream of access units is refused for want of memory alone.
+    // A stream of access units is refused only when memory runs out.
     ensures only { (parts : List (List (List ℕ))) → HasAccessUnits text.now parts
         → AreAccepted parts → IfOk result (λ units. units.items ≡ parts)
         × IsOkUnless result StreamRefused.Memory }
@@ -117,16 +118,25 @@ fn read_nals(
     requires { HasUnits text nals.now }
     ensures { IsStreamReadAs text result }
 {
-    let shared = cut_all(alloc, text, nals)?;
+    let (shared, ends) = cut_all(alloc, text.clone()?, nals)?;
     let ranges = cut_units(alloc, nals)?;
-    let answers = read_parts(rt, alloc, shared.as_slice(), ranges.as_slice())?;
+    let answers = read_parts(
+        rt,
+        alloc,
+        &text,
+        &ends,
+        shared.as_slice(),
+        ranges.as_slice(),
+    )?;
     gather(alloc, answers)
 }
 
-/// What the access units at the ranges are read as, in several threads.
+/// What the access units at the ranges are read as, in several threads. The NAL units end at these places of the text.
 fn read_parts(
     rt: &(impl Threads + Sync),
     alloc: Global,
+    text: &Bytes,
+    ends: &[usize],
     nals: &[SharedNal],
     ranges: &[Range<usize>],
 ) -> Result<Vec<Result<Unit, Refused>>, AllocError>
@@ -142,12 +152,15 @@ fn read_parts(
                 requires { HasUnitsAt nals.now range.now }
                 ensures { IsReadAs
                     (joined (slice_range nals.entry.now range.now.start range.now.end)) result }
-            { read_part(alloc, &nals[range.start..range.end]) },
+            {
+                let end = ends[..range.end.min(ends.len())].last();
+                read_part(alloc, text, end, &nals[range.start..range.end])
+            },
         )
         .collect(rt, alloc)
 }
 
-/// What a stream is read as, by what each of its access units is read as, in order: all units; that memory is wanted,
+/// What a stream is read as, by what each of its access units is read as, in order: all units; that memory ran out,
 /// where it is for any of them; or else the first refusal. `read_stream` reads the access units in threads and ends by
 /// this.
 pub fn gather(
@@ -174,7 +187,7 @@ pub fn gather(
     Ok(units)
 }
 
-/// Whether memory is wanted for one of the access units.
+/// Whether memory runs out for one of the access units.
 fn wants_memory(answers: &[Result<Unit, Refused>]) -> bool
     ensures { result ≡ list_any wants_memory answers.now }
 {
@@ -183,15 +196,22 @@ fn wants_memory(answers: &[Result<Unit, Refused>]) -> bool
         .any(|answer| matches!(answer, Err(Refused::Memory)))
 }
 
-/// What the text of an access unit's NAL units is read as.
-fn read_part(alloc: Global, nals: &[SharedNal]) -> Result<Unit, Refused>
+/// What the text of an access unit's NAL units is read as, whose bytes are those of the text in front of this place, if they
+/// stand joined there.
+fn read_part(
+    alloc: Global,
+    text: &Bytes,
+    end: Option<&usize>,
+    nals: &[SharedNal],
+) -> Result<Unit, Refused>
     requires { HasUnits (joined nals.now) nals.now }
     ensures { IsReadAs (joined nals.now) result }
 {
     if is_too_long(nals) {
         Err(Refused::TooLarge)
     } else {
-        unit_with(alloc, nals)
+        let text = joined_text(text, end, nals)?;
+        unit_with(alloc, nals, text)
     }
 }
 

@@ -1,5 +1,5 @@
 //! Access units (7.4.1.2.3).
-ghost use Rattle.std.specs.Prelude.{◌≡◌, ◌⊎◌, ℕ, ◌≤◌, List, length, None, IfOk, IfErr, IsErrOf, IsOkUnless};
+ghost use Rattle.std.specs.Prelude.{◌≡◌, ◌⊎◌, ℕ, ◌≤◌, List, length, None, IfOk, IfErr, IfSome, IsErrOf, IsOkUnless};
 ghost use Rattle.std.specs.List.{filter};
 ghost use Rattle.annexb.specs.NalUnit.{is_slice};
 ghost use Rattle.annexb.specs.ByteStream.{HasUnits, joined};
@@ -58,15 +58,16 @@ impl Unit {
         self.kept.nals()
     }
 
-    /// The text of the NAL units joined, which is read as this access unit. It shares the bytes of a lone one; those of
-    /// several are copied.
+    /// The text of the NAL units joined, which is read as this access unit. It shares the bytes of a lone one, and those of
+    /// several that stand joined in the stream which they were read from; those of others are copied.
     pub fn text(&self, alloc: Global) -> Result<Bytes, AllocError>
         ensures value { IfOk result (λ text. text ≡ joined self.now) }
         ensures accepted { IsAccepted (joined self.now) self.now }
     {
-        match self.nals() {
-            [nal] => nal.coded(),
-            nals => join_shared(alloc, nals),
+        match (self.kept.text(), self.nals()) {
+            (Some(text), _) => text.clone(),
+            (None, [nal]) => nal.coded(),
+            (None, nals) => join_shared(alloc, nals),
         }
     }
 
@@ -89,7 +90,7 @@ impl Unit {
 /// units that isn't too long. The text is copied once, and the unit's NAL units share the copy.
 pub fn read_unit(alloc: Global, text: &[u8]) -> Result<Unit, Refused>
     ensures read { IsReadAs text.now result }
-    // A text of an access unit is refused for want of memory alone.
+    // A text of an access unit is refused only when memory runs out.
     ensures only { (units : List (List ℕ)) → IsAccepted text.now units
         → IfOk result (λ unit. unit ≡ units) × IsOkUnless result Refused.Memory }
     ensures memory { IsErrOf result Refused.Memory
@@ -102,7 +103,7 @@ pub fn read_unit(alloc: Global, text: &[u8]) -> Result<Unit, Refused>
 /// What `read_unit` answers for the text. No byte is copied: the unit's NAL units share the text.
 pub fn read_shared(alloc: Global, text: &Bytes) -> Result<Unit, Refused>
     ensures read { IsReadAs text.now result }
-    // A text of an access unit is refused for want of memory alone.
+    // A text of an access unit is refused only when memory runs out.
     ensures only { (units : List (List ℕ)) → IsAccepted text.now units
         → IfOk result (λ unit. unit ≡ units) × IsOkUnless result Refused.Memory }
     ensures memory { IsErrOf result Refused.Memory
@@ -154,13 +155,18 @@ pub(crate) fn unit_of(alloc: Global, mut text: Bytes, nals: &[Nal<'_>]) -> Resul
         parts.add(alloc, coded)?;
     }
     Ok(Unit {
-        kept: keep(alloc, parts)?,
+        kept: keep(alloc, parts, None)?,
     })
 }
 
-/// The access unit of these NAL units, which it shares, or their refusal.
-pub(crate) fn unit_with(alloc: Global, nals: &[SharedNal]) -> Result<Unit, Refused>
-    requires { IsShortText (joined nals.now) nals.now }
+/// The access unit of these NAL units and of their text, if it is there in one piece, which it shares, or their refusal.
+pub(crate) fn unit_with(
+    alloc: Global,
+    nals: &[SharedNal],
+    text: Option<Bytes>,
+) -> Result<Unit, Refused>
+    requires short { IsShortText (joined nals.now) nals.now }
+    requires text { IfSome text (λ text. text ≡ joined nals.now) }
     ensures ok { IfOk result (λ unit. (unit ≡ nals.now) × (refusal_of nals.now ≡ None)) }
     ensures err { IfErr result (IsShown (refusal_of nals.now)) }
 {
@@ -169,7 +175,7 @@ pub(crate) fn unit_with(alloc: Global, nals: &[SharedNal]) -> Result<Unit, Refus
         parts.add(alloc, nal.clone()?)?;
     }
     Ok(Unit {
-        kept: keep(alloc, parts)?,
+        kept: keep(alloc, parts, text)?,
     })
 }
 

@@ -12,7 +12,7 @@ number_of (ForbiddenBytes at) = 2
 number_of (EmptyUnit at) = 3
 number_of Memory = 4
 
--- what a fault says of the text: memory is wanted only for one that has units
+-- what a fault says of the text: memory runs out only for one that has units
 abbrev pub IsFaultOf : List ℕ → SplitFault → Type 0
 IsFaultOf text NoStartCode = IsFalse (begins_with_start_code text)
 IsFaultOf text (ForbiddenBytes at) = IsFirstForbidden text at

@@ -17,7 +17,7 @@ const START_CODE: [u8; 3] = [0, 0, 1];
 /// where a growth is refused, the rest of the text is still looked through.
 pub fn split(alloc: Global, text: &[u8]) -> Result<Vec<Nal<'_>>, SplitFault>
     ensures found { IfOk result (λ units. HasUnits text.now units.items) }
-    // A text that has units has no others, and is refused for want of memory alone.
+    // A text that has units has no others, and is refused only when memory runs out.
     ensures only { (units : List (List ℕ)) → HasUnits text.now units
         → IfOk result (λ found. found.items ≡ units) × IsOkUnless result SplitFault.Memory }
     ensures memory { IsErrOf result SplitFault.Memory

@@ -17,7 +17,7 @@ pub trait Fingerprint<W> {
     // The fingerprint of a node: one function for the type.
     ghost digest: { NodeOf W → List ℕ };
 
-    /// The node's fingerprint, or want of memory.
+    /// The node's fingerprint, or lack of memory.
     fn of(&mut self, node: &Node<W>) -> Result<[u8; 32], AllocError>
         ensures { IfOk result (λ fingerprint. fingerprint ≡ digest node.now) };
 }

@@ -1,5 +1,6 @@
 -- The digests that are kept beside units and outcomes.
-use Rattle.std.specs.Prelude.{◌≡◌, ℕ, List, map, filter}
+use Rattle.std.specs.Prelude.{◌≡◌, ℕ, List, length, map, filter}
+use Rattle.annexb.specs.ByteStream.{joined}
 use Rattle.annexb.specs.NalUnit.{is_slice}
 use Rattle.h264_controls.specs.declared.request.Request.{Request}
 use Rattle.outcomes.specs.declared.outcome.Outcome.{Outcome}
@@ -9,6 +10,15 @@ use Rattle.hashed_units.specs.SliceBytes.{coded, slices_digest}
 -- the digest of the slices of these NAL units
 abbrev pub unit_digest : List (List ℕ) → List ℕ
 unit_digest units = slices_digest (map coded (filter is_slice units))
+
+-- how many bytes the slices of these NAL units have, with their start codes
+abbrev pub slice_bytes : List (List ℕ) → ℕ
+slice_bytes units = length (joined (filter is_slice units))
+
+-- the digest is that of these NAL units' slices, and so many bytes were hashed for it: each byte of the slices once
+pub record IsHashed (units : List (List ℕ)) (digest : List ℕ) (hashed : ℕ) : Type 0 where
+  pub digest_is : digest ≡ unit_digest units
+  pub hashed_is : hashed ≡ slice_bytes units
 
 -- the bytes of the slices of requests
 abbrev pub bytes_of : List Request → List (List ℕ)

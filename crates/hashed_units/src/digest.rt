@@ -1,10 +1,12 @@
 //! The digest of the bytes of a picture's slices.
 
-ghost use Rattle.std.specs.Prelude.{◌≡◌, ◌↔◌, ◌++◌, ℕ, List, map, IsTrue};
+ghost use Rattle.std.specs.Prelude.{◌≡◌, ◌↔◌, ◌+◌, ◌<◌, ◌^◌, ◌++◌, ℕ, List, length, map, IsTrue};
+ghost use Rattle.annexb.specs.ByteStream.{joined};
 ghost use Rattle.sha2.specs.Hashers.{Holds256};
 ghost use Rattle.hashed_units.specs.Digests.{bytes_of};
 ghost use Rattle.hashed_units.specs.SliceBytes.{coded, sized, slices_digest};
 
+use crate::hashed_bytes::HashedBytes;
 use access_unit::SharedNal;
 use h264_controls::Request;
 use sha2::{Digest, Sha256};
@@ -16,20 +18,22 @@ pub struct SlicesDigest {
 }
 
 impl SlicesDigest {
-    /// The digest of these slices.
-    pub fn of(slices: &[SharedNal]) -> SlicesDigest
-        ensures { result.bytes ≡ slices_digest (map coded slices.now) }
+    /// The digest of these slices, whose bytes are counted as they are hashed, each with its start code.
+    pub fn of(slices: &[SharedNal], hashed: &mut HashedBytes) -> SlicesDigest
+        requires { hashed.old + length (joined slices.now) < 2 ^ 64 }
+        ensures value { result.bytes ≡ slices_digest (map coded slices.now) }
+        ensures counted { hashed.new ≡ hashed.old + length (joined slices.now) }
     {
         let mut hasher = Sha256::new();
         for slice in slices {
-            feed(&mut hasher, slice);
+            feed(&mut hasher, slice, hashed);
         }
         SlicesDigest {
             bytes: hasher.finalize(),
         }
     }
 
-    /// The digest of the slices of these requests.
+    /// The digest of the slices of these requests, for keys that aren't those of a stream's units.
     pub fn of_requests(requests: &[Request]) -> SlicesDigest
         ensures { result.bytes ≡ slices_digest (bytes_of requests.now) }
     {
@@ -57,17 +61,20 @@ impl SlicesDigest {
     }
 }
 
-/// Adds the bytes of a slice to a hasher.
+/// Adds the bytes of a slice to a hasher, and counts them.
 #[tactic(auto, unfolding(crate::specs::SliceBytes::sized))]
-fn feed(hasher: &mut Sha256, slice: &SharedNal)
-    ensures { (message : List ℕ) → Holds256 hasher.old message
+fn feed(hasher: &mut Sha256, slice: &SharedNal, hashed: &mut HashedBytes)
+    requires { hashed.old + (3 + length slice.now) < 2 ^ 64 }
+    ensures fed { (message : List ℕ) → Holds256 hasher.old message
         → Holds256 hasher.new (message ++ sized (coded slice.now)) }
+    ensures counted { hashed.new ≡ hashed.old + (3 + length slice.now) }
 {
     let nal = slice.nal();
     let bytes = nal.bytes();
     hasher.update((bytes.len() as u64 + 3).to_le_bytes());
     hasher.update([0, 0, 1]);
     hasher.update(bytes);
+    hashed.raise(3 + bytes.len());
 }
 
 /// Adds the bytes of a slice, from the start code on, to a hasher.

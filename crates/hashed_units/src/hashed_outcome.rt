@@ -45,14 +45,6 @@ impl HashedOutcome {
         HashedOutcome { outcome, digest }
     }
 
-    /// This outcome of a unit, whose slices' bytes are hashed here.
-    pub fn of(outcome: Outcome) -> HashedOutcome
-        ensures { result ≡ outcome }
-    {
-        let digest = digest_of(&outcome);
-        HashedOutcome { outcome, digest }
-    }
-
     /// The digest of the slices of its requests, if it has any.
     pub fn digest(&self) -> SlicesDigest
         ensures { IsDigestOf self.now result.bytes }
@@ -68,15 +60,5 @@ impl Deref for HashedOutcome {
 
     fn deref(&self) -> &Outcome {
         &self.outcome
-    }
-}
-
-/// The digest of the slices of an outcome's requests, if it has any.
-fn digest_of(outcome: &Outcome) -> SlicesDigest
-    ensures { IsDigestOf outcome.now result.bytes }
-{
-    match outcome {
-        Outcome::Plan(plan) => SlicesDigest::of_requests(plan.requests.as_slice()),
-        Outcome::Fault(_) | Outcome::Empty => SlicesDigest::of(&[]),
     }
 }

@@ -2,10 +2,9 @@
 
 ghost use Rattle.std.specs.Prelude.{◌≡◌, ◌++◌, drop, length, take, IfOk};
 ghost use Rattle.std.specs.List.{AllZip};
-ghost use Rattle.hashed_units.specs.Digests.{unit_digest};
+ghost use Rattle.hashed_units.specs.Digests.{IsHashed};
 
-use crate::digest::SlicesDigest;
-use crate::hashed_unit::HashedUnit;
+use crate::hashed_unit::{HashedUnit, UnitHash};
 use access_unit::Unit;
 use rayon::prelude::*;
 use std::alloc::{AllocError, Global};
@@ -19,26 +18,26 @@ pub fn hash_units(
 ) -> Result<Vec<HashedUnit>, AllocError>
     ensures { IfOk result (λ hashed. hashed.items ≡ units.items) }
 {
-    let digests = digests_of(rt, alloc, &units)?;
-    pair(alloc, units, digests)
+    let hashes = hashes_of(rt, alloc, &units)?;
+    pair(alloc, units, hashes)
 }
 
-/// The digests of the slices of units.
-fn digests_of(
+/// The digests of the slices of units, each with how many bytes were hashed.
+fn hashes_of(
     rt: &(impl Threads + Sync),
     alloc: Global,
     units: &[Unit],
-) -> Result<Vec<SlicesDigest>, AllocError>
-    ensures { IfOk result (λ digests. AllZip (λ unit digest. digest.bytes ≡ unit_digest unit)
-        units.now digests.items) }
+) -> Result<Vec<UnitHash>, AllocError>
+    ensures { IfOk result (λ hashes. AllZip (λ unit hash. IsHashed unit hash.digest.bytes hash.hashed)
+        units.now hashes.items) }
 {
     units
         .par_iter()
         .with_min_len(1)
         .map(
-            |unit: &Unit| -> SlicesDigest
-                ensures { result.bytes ≡ unit_digest unit.now }
-            { SlicesDigest::of(unit.slices()) },
+            |unit: &Unit| -> UnitHash
+                ensures { IsHashed unit.now result.digest.bytes result.hashed }
+            { UnitHash::of(unit) },
         )
         .collect(rt, alloc)
 }
@@ -47,15 +46,15 @@ fn digests_of(
 fn pair(
     alloc: Global,
     units: Vec<Unit>,
-    digests: Vec<SlicesDigest>,
+    hashes: Vec<UnitHash>,
 ) -> Result<Vec<HashedUnit>, AllocError>
-    requires { AllZip (λ unit digest. digest.bytes ≡ unit_digest unit) units.items digests.items }
+    requires { AllZip (λ unit hash. IsHashed unit hash.digest.bytes hash.hashed) units.items hashes.items }
     ensures { IfOk result (λ hashed. hashed.items ≡ units.items) }
 {
     let mut hashed = Vec::with_capacity(alloc, units.len())?;
     for unit in units {
-        let digest = digests[hashed.len()];
-        hashed.push(HashedUnit::with(unit, digest))?;
+        let hash = hashes[hashed.len()];
+        hashed.push(HashedUnit::with(unit, hash))?;
     }
     Ok(hashed)
 }

@@ -12,7 +12,7 @@ abbrev pub IsPut : {X : Type 0} → ℕ → X → List X → List X → Type 0
 IsPut {X} room key cached new =
     (rest : List X) × IsLeft (λ other. other ≡ key) cached rest × (new ≡ take room (key ∷ rest))
 
--- keys are put in turn, each or, for want of memory, nothing
+-- keys are put in turn, each or, for lack of memory, nothing
 abbrev pub ArePut : {X : Type 0} → ℕ → List X → List X → List X → Type 0
 ArePut room [] cached new = new ≡ cached
 ArePut {X} room (key ∷ keys) cached new =

@@ -68,6 +68,22 @@ impl<P: Copy + Drop> Places<P> {
         );
     }
 
+    /// Takes the picture out of the place of a key in use.
+    pub fn empty(&mut self, key: KeyId)
+        ensures uses { (number : ℕ) → uses_at self.new number ≡ uses_at self.old number }
+        ensures places { 0 < uses_at self.old key → (number : ℕ) → place_at self.new number
+            ≡ (if key == number then Some None else place_at self.old number) }
+    {
+        let uses = self.slot(key).uses;
+        self.set(
+            key,
+            Slot {
+                uses,
+                picture: None,
+            },
+        );
+    }
+
     /// Makes room for a key.
     pub(crate) fn make_room(&mut self, key: KeyId) -> Result<(), AllocError>
         ensures same { AreSame self.old self.new }

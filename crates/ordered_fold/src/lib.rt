@@ -1,7 +1,7 @@
 //! A stream under changes in output order: what becomes of each unit, and its place among the pictures that are shown.
 //!
 //! `OrderedFold` joins a `Folded` of stream_fold with the `Periods` of period_counts that its outcomes make. A change is
-//! prepared, which may want memory and leaves all answers as they were, and then committed, which wants none. The positions
+//! prepared, which may run out of memory and leaves all answers as they were, and then committed, which takes none. The positions
 //! of the periods that the stretch of new outcomes touches are made anew, and no others.
 #![tactic(auto)]
 

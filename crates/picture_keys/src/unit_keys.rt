@@ -58,7 +58,7 @@ impl<'a> UnitKeys<'a> {
         }
     }
 
-    /// Goes over one unit more. The key of a valid one is interned. Where memory is wanted, the unit wasn't gone over,
+    /// Goes over one unit more. The key of a valid one is interned. Where memory runs out, the unit wasn't gone over,
     /// and may be again; its key may have been added, which then no unit has.
     pub fn add<F: Fingerprint<Works>>(
         &mut self,
@@ -100,7 +100,7 @@ impl<'a> UnitKeys<'a> {
     }
 }
 
-/// Interns the key of a unit and gives the unit its number, or nothing where it isn't valid. Where memory is wanted, no
+/// Interns the key of a unit and gives the unit its number, or nothing where it isn't valid. Where memory runs out, no
 /// unit is given one.
 fn number_of<F: Fingerprint<Works>>(
     alloc: Global,
@@ -124,7 +124,7 @@ fn number_of<F: Fingerprint<Works>>(
     }
 }
 
-/// Interns the key of a unit's requests, and gives the unit its number. Where memory is wanted, no unit is given one.
+/// Interns the key of a unit's requests, and gives the unit its number. Where memory runs out, no unit is given one.
 fn intern<F: Fingerprint<Works>>(
     alloc: Global,
     numbers: &mut KeyNumbers<'_>,

@@ -45,7 +45,7 @@ length-made old (Delete deleted) id new makes short =
 length-made old (Replace replaced text) id new makes short =
     rw makes.1.stream_is (omega (arith, length-set old.stream makes.1.at (replaced, makes.1.unit), short))
 
--- an edit that is accepted may want memory
+-- an edit that is accepted may run out of memory
 pub TakesMemory-for : (old : Register) (edit : Edit) (accepted : AcceptedEdit) → IsFor old edit accepted → TakesMemory old.stream edit
 TakesMemory-for old (Insert place text) accepted is = (is.makes.accepted.short, is.makes.unit, is.makes.accepted.has)
 TakesMemory-for old (Delete id) accepted is = (is.makes.1.at, is.makes.1.stands)

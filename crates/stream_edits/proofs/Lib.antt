@@ -6,3 +6,4 @@ pub mod Fronts
 pub mod Grouped
 pub mod Drafted
 pub mod OneUnit
+pub mod Hashed

@@ -26,7 +26,7 @@ IsRefusedAmong old edits (groups.Edit index refused) = (refused ≡ refusals.Mem
 IsRefusedAmong old edits groups.Memory = ⊤
 IsRefusedAmong old edits refused = ⊥
 
--- the group is refused so; one of a size that may be may want memory
+-- the group is refused so; one of a size that may be may run out of memory
 abbrev pub IsGroupRefused : Register → List Edit → GroupRefused → Type 0
 IsGroupRefused old edits groups.Empty = edits ≡ []
 IsGroupRefused old edits groups.TooLarge = most_edits < length edits

@@ -23,4 +23,6 @@ pub struct AcceptedGroup {
     pub ids: Vec<AuId>,
     /// How many ids were given, with those of the group.
     pub given: u32,
+    /// How many bytes were hashed for the edits.
+    pub hashed: usize,
 }

@@ -105,13 +105,18 @@ impl Draft {
         Ok(())
     }
 
-    /// The change from the stream as it was to this one.
-    pub(crate) fn into_change(self, units: &[(AuId, Shared<HashedUnit>)]) -> AcceptedGroup
+    /// The change from the stream as it was to this one, with how many bytes were hashed for its edits.
+    pub(crate) fn into_change(
+        self,
+        units: &[(AuId, Shared<HashedUnit>)],
+        hashed: usize,
+    ) -> AcceptedGroup
         requires front { IsFront units.now self.units.items self.front }
         requires rest { IsRest units.now self.units.items self.rest }
-        ensures { (given : ℕ) (edits : List EditValue)
+        ensures change { (given : ℕ) (edits : List EditValue)
             → IsDraft (record { given = given; stream = units.now }) edits self → IsSized edits
             → IsForAll (record { given = given; stream = units.now }) edits result }
+        ensures hashed { result.hashed ≡ hashed }
     {
         let Draft {
             units: made,
@@ -133,6 +138,7 @@ impl Draft {
             change,
             ids: about,
             given,
+            hashed,
         }
     }
 }

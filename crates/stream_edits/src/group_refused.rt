@@ -18,7 +18,7 @@ pub enum GroupRefused {
     /// It has more than 1,024 edits.
     #[error("the group has more than 1,024 edits")]
     TooLarge,
-    /// The first of its edits that is refused, counted from 0, and why, which isn't for want of memory.
+    /// The first of its edits that is refused, counted from 0, and why, which isn't for lack of memory.
     #[error("edit {index}: {refused}")]
     Edit { index: usize, refused: EditRefused },
     /// A growth was refused.

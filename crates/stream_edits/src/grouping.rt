@@ -1,10 +1,11 @@
 //! What a group of edits comes to.
 
-ghost use Rattle.std.specs.Prelude.{◌≡◌, IfErr, IfOk};
+ghost use Rattle.std.specs.Prelude.{◌≡◌, ◌≤◌, length, IfErr, IfOk};
 ghost use Rattle.stream_edits.specs.Drafts.{IsDraft};
 ghost use Rattle.stream_edits.specs.GroupRefusals.{IsGroupRefused, IsRefusedAmong};
-ghost use Rattle.stream_edits.specs.Groups.{IsForAll};
+ghost use Rattle.stream_edits.specs.Groups.{IsForAll, most_edits};
 ghost use Rattle.stream_edits.specs.Ids.{HasIds};
+ghost use Rattle.stream_edits.specs.Reading.{AreHashedFor};
 ghost use Rattle.stream_edits.specs.Streams.{ids_of};
 
 use crate::acceptance::AcceptedGroup;
@@ -32,6 +33,7 @@ pub fn change_of_group(
     requires different { HasIds (record { given = given; stream = units.now }) }
     ensures ok { IfOk result
         (IsForAll (record { given = given; stream = units.now }) group.now) }
+    ensures hashed { IfOk result (λ accepted. AreHashedFor group.now accepted.hashed) }
     ensures err { IfErr result
         (IsGroupRefused (record { given = given; stream = units.now }) group.now) }
 {
@@ -39,7 +41,20 @@ pub fn change_of_group(
     if let Some(refused) = group.refused {
         return Err(GroupRefused::at(group.read.len(), refused));
     }
-    Ok(draft.into_change(units))
+    let hashed = hashed_for(&group.read);
+    Ok(draft.into_change(units, hashed))
+}
+
+/// How many bytes were hashed for these edits.
+fn hashed_for(read: &[ReadEdit]) -> usize
+    requires { length read.now ≤ most_edits }
+    ensures { AreHashedFor read.now result }
+{
+    let mut hashed = 0;
+    for edit in read {
+        hashed += edit.hashed();
+    }
+    hashed
 }
 
 /// The stream under these edits, made on it one after the other, or the refusal of the first that is refused.

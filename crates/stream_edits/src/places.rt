@@ -1,13 +1,17 @@
 //! Places of units in a stream.
 
-ghost use Rattle.std.specs.Prelude.{◌≡◌, ◌<◌, ◌≤◌, length, IfSome};
+ghost use Rattle.std.specs.Prelude.{◌≡◌, ◌<◌, ◌≤◌, length, IfSome, Some};
 ghost use Rattle.stream_edits.specs.Ids.{AreDifferent};
 ghost use Rattle.stream_edits.specs.Streams.{place_among, start_among};
 
 use crate::edits::Place;
 use pictures::AuId;
 
-/// The place of the id among ids that differ, if it is one of them. The last one is found at once. Takes no memory.
+/// How far from the place of its number an id is looked for first.
+const NEAR: usize = 64;
+
+/// The place of the id among ids that differ, if it is one of them. The last one is found at once, and so is one that stands
+/// near the place of its number, as in a stream that was loaded and edited little. Takes no memory.
 pub fn place_of(ids: &[AuId], id: AuId) -> Option<usize>
     requires { AreDifferent ids.now }
     ensures value { result ≡ place_among ids.now id }
@@ -15,8 +19,27 @@ pub fn place_of(ids: &[AuId], id: AuId) -> Option<usize>
 {
     match ids.split_last() {
         Some((last, others)) if *last == id => Some(others.len()),
-        _ => search(ids, id),
+        _ => match find_near(ids, id) {
+            Some(place) => Some(place),
+            None => search(ids, id),
+        },
     }
+}
+
+/// The place of the id among ids that differ, if it stands near the place of its number.
+fn find_near(ids: &[AuId], id: AuId) -> Option<usize>
+    requires { AreDifferent ids.now }
+    ensures value { IfSome result (λ place. Some place ≡ place_among ids.now id) }
+    ensures inside { IfSome result (λ place. place < length ids.now) }
+{
+    let number = id.number() as usize;
+    let to = ids.len().min(number.saturating_add(NEAR));
+    for at in number.saturating_sub(NEAR)..to {
+        if ids[at] == id {
+            return Some(at);
+        }
+    }
+    None
 }
 
 /// The place of the id among ids, looked for from the first one on.

@@ -5,6 +5,7 @@ ghost use Rattle.annexb.specs.ByteStream.{joined};
 ghost use Rattle.access_unit.specs.Answers.{IsAccepted};
 ghost use Rattle.stream_edits.specs.declared.edits.Edit.TheVariants.{Insert};
 ghost use Rattle.stream_edits.specs.Edits.{Register};
+ghost use Rattle.stream_edits.specs.Reading.{IsHashedFor};
 ghost use Rattle.stream_edits.specs.Refusals.{IsRefused, IsRefusedText};
 
 use crate::edits::{Edit, Place};
@@ -60,6 +61,16 @@ impl ReadEdit {
         ensures { result.now ≡ self.now }
     {
         &self.edit
+    }
+
+    /// How many bytes were hashed for it: those of the slices of its unit, once.
+    pub fn hashed(&self) -> usize
+        ensures { IsHashedFor self.now result }
+    {
+        match &self.unit {
+            Some(unit) => unit.hashed(),
+            None => 0,
+        }
     }
 
     /// The edit, without the unit.

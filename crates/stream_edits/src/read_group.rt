@@ -51,7 +51,7 @@ impl Model for ReadGroup {
 
 impl ReadGroup {
     /// The group of these edits with their texts read, or why it is refused whatever the stream is: for its size, or for
-    /// want of memory. A text that is refused is answered when the group is made, since an edit before it may be refused
+    /// lack of memory. A text that is refused is answered when the group is made, since an edit before it may be refused
     /// for the stream. No byte is copied.
     pub fn read(alloc: Global, edits: Vec<Edit>) -> Result<ReadGroup, GroupRefused>
         ensures ok { IfOk result (λ group. (group ≡ edits.items) × IsSized group) }

@@ -11,6 +11,8 @@ pub struct Receipt {
     pub id: AuId,
     /// How many steps of the fold the edit made.
     pub steps: u64,
+    /// How many bytes were hashed for it: those of the slices of the unit that it brings, once.
+    pub hashed: u64,
 }
 
 /// What an accepted group of edits answers.
@@ -22,6 +24,8 @@ pub struct GroupReceipt {
     pub ids: Vec<AuId>,
     /// How many steps of the fold the group made.
     pub steps: u64,
+    /// How many bytes were hashed for its edits.
+    pub hashed: u64,
 }
 
 /// The end of a stream.

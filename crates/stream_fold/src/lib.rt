@@ -1,8 +1,8 @@
 //! A stream under changes, with what becomes of each unit, refolded from stored states.
 //!
 //! `Folded` keeps the units of a stream, what the fold over it makes of each, and the states past some of its places. A
-//! change of one stretch is prepared, which may want memory and leaves all answers as they were, and then committed, which
-//! wants none. The fold goes on from the stored state before the change, and ends where it comes to a state that is stored.
+//! change of one stretch is prepared, which may run out of memory and leaves all answers as they were, and then committed, which
+//! takes none. The fold goes on from the stored state before the change, and ends where it comes to a state that is stored.
 #![tactic(auto)]
 
 mod changes;

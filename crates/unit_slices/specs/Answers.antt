@@ -7,7 +7,7 @@ use Rattle.validity_faults.specs.declared.validity_fault.ValidityFault.{Validity
 use Rattle.unit_slices.specs.declared.stop.Stop.{Stop}
 use Rattle.unit_slices.specs.declared.stop.Stop.TheVariants.{Fault, Memory}
 
--- the fault is what the fold says; for want of memory nothing is said
+-- the fault is what the fold says; for lack of memory nothing is said
 abbrev pub Ends : {Y : Type 0} → Stop → Result Y ValidityFault → Type 0
 Ends (Fault fault) says = says ≡ Err fault
 Ends Memory says = ⊤

@@ -42,7 +42,7 @@ impl<T: Drop> Gathered<T> {
 
     /// Adds what one more slice gives.
     ///
-    /// Where memory is wanted, for this or by the slice, nothing is added.
+    /// Where memory runs out, for this or by the slice, nothing is added.
     pub fn add(&mut self, answer: Result<T, Stop>) -> Result<(), AllocError>
         ensures added { (says : Result T ValidityFault) → Answers answer says
             → OnOk result (self.new ≡ gathered_after self.old says) }

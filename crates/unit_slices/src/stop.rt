@@ -11,7 +11,7 @@ use validity_faults::ValidityFault;
 pub enum Stop {
     /// The unit shows this fault.
     Fault(ValidityFault),
-    /// Memory is wanted, which says nothing of the unit.
+    /// Memory ran out, which says nothing of the unit.
     Memory,
 }
 

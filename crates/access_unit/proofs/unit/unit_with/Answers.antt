@@ -1,6 +1,6 @@
 -- Each NAL unit is stored, or the first refusal is shown.
 use Rattle.std.proofs.Common.{[], ◌∙◌}
-use Rattle.std.proofs.lemmas.List.{get_or_read}
+use Rattle.std.proofs.lemmas.List.{get_or_read, take_all}
 use Rattle.std.proofs.lemmas.Result.{err_from_is_err_and}
 use Rattle.access_unit.proofs.Firsts.{IsShown-first}
 use Rattle.access_unit.proofs.Progress.{IsAddedTo-more, IsOfUnit-end}
@@ -12,17 +12,26 @@ returns-in_err-add-clause-err c =
     let item_is = get_or_read c.args.nals.now loop.nal-index c.nal-item.result c.loop-nal-test.true c.nal-item.is [] in
     let added = c.in_ok-clone.ensures.cases ∙ item_is in
     let p = err_from_is_err_and c.from_residual-in_err-add.result c.from_residual-in_err-add.ensures.1 in
-    rw (p.1, p.2) (IsShown-first _ _ loop.invariant.sound c.loop-nal-test.true _ (rw (added, loop.invariant.stored.nals_are) at c.in_err-add.ensures.err))
+    rw (p.1, p.2) (IsShown-first _ _ loop.invariant.added.sound c.loop-nal-test.true _ (rw (added, loop.invariant.added.stored.nals_are) at c.in_err-add.ensures.err))
 
 pub loop-nal-preserved : goal.loop-nal-preserved
 loop-nal-preserved c =
     let loop = c.loop-nal in
     let item_is = get_or_read c.args.nals.now loop.nal-index c.nal-item.result c.loop-nal-test.true c.nal-item.is [] in
     let added = c.in_ok-clone.ensures.cases ∙ item_is in
-    IsAddedTo-more _ _ _ loop.invariant c.loop-nal-test.true _
-    (rw added at c.in_ok-add.ensures.ok.0)
-    (rw added at c.in_ok-add.ensures.ok.1)
+    record {
+      added =
+          IsAddedTo-more _ _ _ loop.invariant.added c.loop-nal-test.true _
+          (rw added at c.in_ok-add.ensures.ok.0)
+          (rw added at c.in_ok-add.ensures.ok.1);
+      text_is = loop.invariant.text_is;
+    }
 
-pub keep-requires : goal.keep-requires
-keep-requires c =
-    IsOfUnit-end _ _ _ c.loop-nal.invariant c.loop-nal-test.false _ c.requires
+pub keep-requires-clause-parts : goal.keep-requires-clause-parts
+keep-requires-clause-parts c =
+    IsOfUnit-end _ _ _ c.loop-nal.invariant.added c.loop-nal-test.false _ c.requires.short
+
+pub keep-requires-clause-text : goal.keep-requires-clause-text
+keep-requires-clause-text c =
+    let loop = c.loop-nal in
+    rw (loop.invariant.added.stored.nals_are ∙ take_all loop.nal-index c.args.nals.now c.loop-nal-test.false) loop.invariant.text_is

@@ -16,8 +16,8 @@ pieces message nal size is =
     append_assoc (message ++ size) (0 ∷ 0 ∷ 1 ∷ []) nal
     ∙ (append_assoc message size (start_code ++ nal) ∙ ap (λ (bytes : List ℕ). message ++ bytes) sized_is)
 
-pub returns : goal.returns
-returns c = λ message holds.
+pub returns-clause-fed : goal.returns-clause-fed
+returns-clause-fed c = λ message holds.
     let nal : c.bytes-bytes.result.now ≡ c.args.slice.now = c.bytes-bytes.ensures.value ∙ c.nal-nal.ensures in
     subst (λ (nal : List ℕ). Holds256 c.update-3.new.self (message ++ sized (coded nal))) nal
     (subst (Holds256 c.update-3.new.self) (pieces message c.bytes-bytes.result.now c.to_le_bytes.result c.to_le_bytes.ensures)

@@ -2,8 +2,8 @@ use Rattle.std.proofs.Common.{◌≡◌, ◌-◌, length, take, drop, refl, ap, 
 use Rattle.stream_edits.proofs.Drafted.{IsForAll-draft}
 use Rattle.stream_edits.proofs.draft.Draft.into_change.Goals as goal
 
-pub returns : goal.returns
-returns c given edits is sized =
+pub returns-clause-change : goal.returns-clause-change
+returns-clause-change c given edits is sized =
     let front = rw (c.deref.ensures.value) at c.common_front-at.ensures in
     let rest = rw (c.deref-2.ensures.value) at c.common_rest-rest.ensures in
     let long : c.len.result ≡ length c.args.self.units.items = omega (arith, c.len.ensures, c.args.self.units.ok.0) in

@@ -1,3 +1,4 @@
+pub mod Placed
 pub mod Looked
 pub mod Stretched
 pub mod Ran
@@ -7,5 +8,6 @@ pub mod Stored
 pub mod Seen
 pub mod Taking
 pub mod Told
+pub mod Needed
 pub mod Meetings
 pub mod Moved

@@ -11,8 +11,9 @@ use Rattle.stream_edits.specs.declared.edits.Edit.{Edit}
 use Rattle.stream_edits.specs.Edits.{Register}
 use Rattle.stream_edits.specs.Ids.{AreDifferent, HasIds}
 use Rattle.stream_edits.specs.Journals.{edits_of}
-use Rattle.stream_edits.specs.Streams.{Stream, place_of}
+use Rattle.stream_edits.specs.Streams.{Stream, ids_of, place_of}
 use Rattle.stream_edits.proofs.GivenIds.{AreDifferent-ids, HasIds-journal}
+use Rattle.edit_engine.proofs.Placed.{placed}
 use Rattle.edit_engine.specs.Kept.{IsKept}
 use Rattle.edit_engine.specs.Streams.{outcome_in, position_in}
 use Rattle.stream_fold.proofs.Folds.{length-outcomes_from}
@@ -45,3 +46,9 @@ ids_apart journal register store kept =
 -- and belong to units that have ids
 pub ids_kept : (journal : List (List Edit)) (register : Register) (store : StoreValue) → IsKept journal register store → HasIds register
 ids_kept journal register store kept = HasIds-journal (edits_of journal) register kept.replayed
+
+-- a unit is found where it stands
+pub place_kept : (journal : List (List Edit)) (register : Register) (store : StoreValue) → IsKept journal register store
+    → (id at : ℕ) → slice_get (ids_of register.stream) at ≡ Some id → place_of register.stream id ≡ Some at
+place_kept journal register store kept id at stands =
+    sym (placed (ids_of register.stream) id at (AreDifferent-ids register (HasIds-journal (edits_of journal) register kept.replayed)) stands)

@@ -8,6 +8,7 @@ use Rattle.stream_edits.specs.Changes.{IsFor, after}
 use Rattle.stream_edits.specs.Edits.{Register, Makes}
 use Rattle.stream_edits.specs.Groups.{IsForAll, MakesAll}
 use Rattle.stream_edits.specs.Ids.{HasIds}
+use Rattle.stream_edits.specs.Reading.{AreHashedFor, IsHashedFor}
 use Rattle.stream_edits.proofs.Grouped.{HasIds-all}
 use Rattle.edit_engine.specs.Machines.{Machine, Edits}
 use Rattle.edit_engine.specs.Grouping.{AreCounted, AreFewForAll, EditsAll}
@@ -15,10 +16,11 @@ use Rattle.edit_engine.specs.Moves.{Moves}
 use Rattle.edit_engine.proofs.Meetings.{counted_among, few_everywhere}
 
 -- an edit by itself
-pub Edits-moved : (old : Machine) (edit : Edit) (accepted : AcceptedEdit) (steps number : ℕ) (new : Machine)
+pub Edits-moved : (old : Machine) (edit : Edit) (accepted : AcceptedEdit) (steps hashed number : ℕ) (new : Machine)
     → IsFor old.register edit accepted → Moves old (edit ∷ []) accepted.change accepted.given steps new → number ≡ length new.journal
-    → Edits old edit (record { number = number; id = accepted.id; steps = steps }) new
-Edits-moved old edit accepted steps number new for moves number_is = record {
+    → IsHashedFor edit hashed
+    → Edits old edit (record { number = number; id = accepted.id; steps = steps; hashed = hashed }) new
+Edits-moved old edit accepted steps hashed number new for moves number_is hashes = record {
   made = subst (λ register. Makes old.register edit accepted.id register) (sym moves.register_is) for.makes;
   journaled = moves.journaled;
   refits = moves.refits;
@@ -30,13 +32,15 @@ Edits-moved old edit accepted steps number new for moves number_is = record {
     few = λ count is. let few = moves.few count is in let one = for.brings_one in omega (arith, few, one);
     counted = moves.counted;
   };
+  hashes = hashes;
 }
 
 -- a group of edits
 pub EditsAll-moved : (old : Machine) (edits : List Edit) (accepted : AcceptedGroup) (receipt : GroupReceipt) (new : Machine)
     → HasIds old.register → IsForAll old.register edits accepted → Moves old edits accepted.change accepted.given receipt.steps new
-    → receipt.number ≡ length new.journal → receipt.ids.items ≡ accepted.ids.items → EditsAll old edits receipt new
-EditsAll-moved old edits accepted receipt new ids for moves number_is ids_are = record {
+    → receipt.number ≡ length new.journal → receipt.ids.items ≡ accepted.ids.items → AreHashedFor edits receipt.hashed
+    → EditsAll old edits receipt new
+EditsAll-moved old edits accepted receipt new ids for moves number_is ids_are hashes = record {
   sized = for.sized;
   made =
       subst (λ ids. MakesAll old.register edits ids new.register) (sym ids_are)
@@ -51,4 +55,5 @@ EditsAll-moved old edits accepted receipt new ids for moves number_is ids_are = 
   counted =
       subst (λ (register : Register). AreCounted old.register.stream register.stream receipt.steps) (sym moves.register_is)
       (counted_among accepted.change old.register.stream receipt.steps for.inside moves.few for.front for.rest moves.counted);
+  hashes = hashes;
 }

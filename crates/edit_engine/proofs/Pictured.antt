@@ -43,7 +43,7 @@ store_is journal register store is =
     ∙ ap (λ (outcomes : List Outcome). record store { outcomes = outcomes }) (sym is.folded)
 
 -- what holds of stores holds of what contracts see of them
-both_seen : (Holds : StoreValue → StoreValue → Type 0) (journal edited : List (List Edit)) (old new : Register) (before after : StoreValue)
+pub both_seen : (Holds : StoreValue → StoreValue → Type 0) (journal edited : List (List Edit)) (old new : Register) (before after : StoreValue)
     → IsOf old.stream before → IsOf new.stream after → Holds before after
     → Holds (store_of (machine_of journal old before)) (store_of (machine_of edited new after))
 both_seen Holds journal edited old new before after was is holds =
@@ -71,7 +71,7 @@ pub record UnitsStay (old new : StoreValue) : Type 0 where
   pub outcomes_stay : new.outcomes ≡ old.outcomes
 
 -- where one store is the other but for its pictures
-same_units : (old new other : StoreValue) → new ≡ other → other.ids ≡ old.ids → other.outcomes ≡ old.outcomes → UnitsStay old new
+pub same_units : (old new other : StoreValue) → new ≡ other → other.ids ≡ old.ids → other.outcomes ≡ old.outcomes → UnitsStay old new
 same_units old new other same ids outcomes = record {
   ids_stay = ap (λ (store : StoreValue). store.ids) same ∙ ids;
   outcomes_stay = ap (λ (store : StoreValue). store.outcomes) same ∙ outcomes;

@@ -11,13 +11,17 @@ use Rattle.picture_store.specs.declared.answers.Landing.TheVariants as landings
 use Rattle.picture_store.specs.declared.answers.Returning.{Returning}
 use Rattle.picture_store.specs.declared.answers.Returning.TheVariants as returnings
 use Rattle.picture_store.specs.Stores.{OutValue, StoreValue}
+use Rattle.picture_keys.specs.Keys.{Key}
+use Rattle.picture_keys.specs.Known.{key_of, known_after}
 use Rattle.picture_store.specs.Jobs as pictures
+use Rattle.picture_store.specs.Jobs.{Gives}
 use Rattle.stream_edits.specs.declared.edits.Edit.{Edit}
 use Rattle.stream_edits.specs.declared.receipts.Receipt.{Receipt}
 use Rattle.stream_edits.specs.Edits.{Register}
 use Rattle.edit_engine.specs.Kept.{machine_of}
 use Rattle.edit_engine.specs.Machines.{Machine, store_of, Edits}
 use Rattle.edit_engine.specs.Jobs.{AnswersTake, AnswersLand, AnswersGiveBack, KeepsStream}
+use Rattle.edit_engine.specs.Needing.{TakesFor}
 use Rattle.edit_engine.specs.Taken.{as_taken, taken_of, AreRising, AreOut}
 
 -- a machine is its stream's and its pictures'
@@ -92,17 +96,35 @@ edit_agrees jobs old edit receipt new are edits = record {
   rising = subst (λ most. AreRising 0 jobs most) (sym edits.refits.given_stays) are.rising;
 }
 
+-- a job more is out, under the next number
+more_agree : (jobs : List JobValue) (old : Machine) (job : JobValue) (new : Machine) (key : Key) → AreOut jobs old
+    → new.out ≡ old.out ++ (record { number = job.number; key = key; input = job.input }) ∷ [] → new.jobs ≡ job.number
+    → job.number ≡ old.jobs + 1 → AreOut (jobs ++ job ∷ []) new
+more_agree jobs old job new key are out_is jobs_is number_is = record {
+  same =
+      ap (λ (others : List JobValue). others ++ job ∷ []) are.same
+      ∙ (sym (map_push as_taken old.out (record { number = job.number; key = key; input = job.input }))
+      ∙ ap (λ (out : List OutValue). map as_taken out) (sym out_is));
+  rising =
+      subst (λ most. AreRising 0 (jobs ++ job ∷ []) most) (sym jobs_is)
+      (rising_push 0 jobs old.jobs job are.rising number_is);
+}
+
 -- a job that is taken is out
 pub take_agrees : (jobs : List JobValue) (old : Machine) (job : JobValue) (new : Machine) → AreOut jobs old
     → AnswersTake old (Ok (Some job)) new → AreOut (jobs ++ job ∷ []) new
-take_agrees jobs old job new are answers = record {
-  same =
-      ap (λ (others : List JobValue). others ++ job ∷ []) are.same
-      ∙ (sym (map_push as_taken old.out _) ∙ ap (λ (out : List OutValue). map as_taken out) (sym (ap (λ (store : StoreValue). store.out) answers.0.new_is)));
-  rising =
-      subst (λ most. AreRising 0 (jobs ++ job ∷ []) most) (sym (ap (λ (store : StoreValue). store.given) answers.0.new_is))
-      (rising_push 0 jobs old.jobs job are.rising answers.0.number_is);
-}
+take_agrees jobs old job new are answers =
+    more_agree jobs old job new (key_of (known_after [] answers.0.before) answers.0.plan.requests) are
+    (ap (λ (store : StoreValue). store.out) answers.0.new_is) (ap (λ (store : StoreValue). store.given) answers.0.new_is)
+    answers.0.number_is
+
+-- and so is one that is taken for a unit
+pub take_for_agrees : (jobs : List JobValue) (old : Machine) (id unit : ℕ) (job : JobValue) (new : Machine) → AreOut jobs old
+    → TakesFor old id unit job new → AreOut (jobs ++ job ∷ []) new
+take_for_agrees jobs old id unit job new are taken =
+    let gives : Gives (store_of old) taken.at job (store_of new) = taken.takes.gives in
+    more_agree jobs old job new (key_of (known_after [] gives.before) gives.plan.requests) are
+    (ap (λ (store : StoreValue). store.out) gives.new_is) (ap (λ (store : StoreValue). store.given) gives.new_is) gives.number_is
 
 module _ (jobs : List JobValue) (old : Machine) (at : ℕ) (job : JobValue) (are : AreOut jobs old) (stands : slice_get jobs at ≡ Some job) where
   -- a job that was taken is out

@@ -39,7 +39,7 @@ keys_before known (first ∷ before) after =
     (keys_before (known_with known first.0 (key_of_outcome known first.1)) before after)
 
 -- the unit at a place among those with their outcomes is within those with ids
-within_ids : (ids : List ℕ) (became : List Outcome) (before : List (ℕ × Outcome)) (unit : ℕ × Outcome) (after : List (ℕ × Outcome))
+pub within_ids : (ids : List ℕ) (became : List Outcome) (before : List (ℕ × Outcome)) (unit : ℕ × Outcome) (after : List (ℕ × Outcome))
     → zip ids became ≡ before ++ unit ∷ after → length before < length ids
 within_ids [] became [] unit after same = absurd (cc)
 within_ids [] became (first ∷ before) unit after same = absurd (cc)

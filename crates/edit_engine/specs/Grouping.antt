@@ -6,6 +6,7 @@ use Rattle.stream_edits.specs.declared.receipts.GroupReceipt.{GroupReceipt}
 use Rattle.stream_edits.specs.Common.{IsLongestFront, IsLongestRest}
 use Rattle.stream_edits.specs.GroupRefusals.{IsGroupRefused}
 use Rattle.stream_edits.specs.Groups.{IsSized, MakesAll}
+use Rattle.stream_edits.specs.Reading.{AreHashedFor}
 use Rattle.stream_edits.specs.Streams.{Stream}
 use Rattle.edit_engine.specs.Machines.{Machine, RefitsTo, store_of}
 use Rattle.stream_fold.specs.Kept.{spacing}
@@ -41,6 +42,7 @@ pub record EditsAll (old : Machine) (edits : List Edit) (receipt : GroupReceipt)
   pub number_is : receipt.number ≡ length new.journal
   pub few : AreFewForAll old.register.stream new.register.stream receipt.steps
   pub counted : AreCounted old.register.stream new.register.stream receipt.steps
+  pub hashes : AreHashedFor edits receipt.hashed
 
 -- an answer to a group: its receipt, or why it is refused and changes nothing
 abbrev pub AnswersGroup : Machine → List Edit → Result GroupReceipt GroupRefused → Machine → Type 0

@@ -6,6 +6,7 @@ pub mod Moves
 pub mod Stretches
 pub mod Showing
 pub mod Jobs
+pub mod Needing
 pub mod Taken
 pub mod Numbers
 pub mod Kept

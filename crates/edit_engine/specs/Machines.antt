@@ -13,6 +13,7 @@ use Rattle.stream_edits.specs.Edits.{Register, no_units, Makes}
 use Rattle.stream_edits.specs.declared.changes.Change.{Change}
 use Rattle.stream_edits.specs.Changes.{IsFor, after}
 use Rattle.stream_fold.specs.Meeting.{IsCounted, IsMeeting}
+use Rattle.stream_edits.specs.Reading.{IsHashedFor}
 use Rattle.stream_edits.specs.Refusals.{IsRefused}
 
 -- the room of the cache; the accepted edits in order, those of a group as one entry, and what they leave; the number of
@@ -70,6 +71,7 @@ pub record Edits (old : Machine) (edit : Edit) (receipt : Receipt) (new : Machin
   pub refits : RefitsTo (store_of old) new.register.stream (store_of new)
   pub number_is : receipt.number ≡ length new.journal
   pub refolds : Refolds old.register edit receipt.steps new.register
+  pub hashes : IsHashedFor edit receipt.hashed
 
 -- an answer to an edit: its receipt, or why it is refused and changes nothing
 abbrev pub AnswersEdit : Machine → Edit → Result Receipt EditRefused → Machine → Type 0

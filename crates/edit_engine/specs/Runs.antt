@@ -13,6 +13,7 @@ use Rattle.stream_edits.specs.declared.receipts.Receipt.{Receipt}
 use Rattle.stream_edits.specs.declared.refusals.EditRefused.{EditRefused}
 use Rattle.edit_engine.specs.declared.refusals.NoSuchUnit.{NoSuchUnit}
 use Rattle.edit_engine.specs.declared.refusals.NotOut.{NotOut}
+use Rattle.edit_engine.specs.declared.showing.Dropping.{Dropping}
 use Rattle.edit_engine.specs.declared.showing.Shown.{Shown}
 use Rattle.edit_engine.specs.declared.replies.Reply.{Reply}
 use Rattle.edit_engine.specs.declared.replies.Reply.TheVariants as replies
@@ -23,6 +24,7 @@ use Rattle.edit_engine.specs.Streams.{outcome_in, position_in}
 use Rattle.edit_engine.specs.Machines.{Machine, empty, AnswersEdit}
 use Rattle.edit_engine.specs.Grouping.{AnswersGroup}
 use Rattle.edit_engine.specs.Jobs.{AnswersTake, AnswersLand, AnswersGiveBack, IsUnitOf}
+use Rattle.edit_engine.specs.Needing.{AnswersDrop, TakesFor, TellsTakeFor}
 use Rattle.edit_engine.specs.Showing.{Shows}
 use Rattle.edit_engine.specs.Taken.{taken_of}
 
@@ -32,7 +34,7 @@ Reports stream id (Ok report) =
     (outcome_in stream id ≡ Some report.outcome) × (position_in stream id ≡ Some report.position)
 Reports stream id (Err none) = place_of stream id ≡ None
 
--- a job is taken, and told by its number with its unit; want of memory ends a run, and is no reply
+-- a job is taken, and told by its number with its unit; lack of memory ends a run, and is no reply
 abbrev pub TakesJob : Machine → Result (Option TakenJob) TakeRefused → Machine → Type 0
 TakesJob old (Ok (Some taken)) new =
     (job : JobValue) × (job.number ≡ taken.number) × AnswersTake old (Ok (Some job)) new
@@ -40,6 +42,14 @@ TakesJob old (Ok (Some taken)) new =
 TakesJob old (Ok None) new = AnswersTake old (Ok None) new
 TakesJob old (Err JobsSpent) new = AnswersTake old (Err JobsSpent) new
 TakesJob old (Err Memory) new = ⊥
+
+-- a job is taken for the unit of the id, and told by its number with its unit
+abbrev pub TakesJobFor : Machine → ℕ → Result (Option TakenJob) TakeRefused → Machine → Type 0
+TakesJobFor old id (Ok (Some taken)) new =
+    (job : JobValue) × (job.number ≡ taken.number) × TakesFor old id taken.unit job new
+TakesJobFor old id (Ok None) new = TellsTakeFor old id (Ok None) new
+TakesJobFor old id (Err JobsSpent) new = TellsTakeFor old id (Err JobsSpent) new
+TakesJobFor old id (Err Memory) new = ⊥
 
 -- no job of the number is out, and nothing changes
 abbrev pub IsNotOut : Machine → ℕ → Machine → Type 0
@@ -72,12 +82,17 @@ Answers old (commands.Unit id) reply new =
     × (new ≡ old)
 Answers old commands.Take reply new =
     (answer : Result (Option TakenJob) TakeRefused) × (reply ≡ replies.Take answer) × TakesJob old answer new
+Answers old (commands.TakeFor id) reply new =
+    (answer : Result (Option TakenJob) TakeRefused) × (reply ≡ replies.TakeFor answer) × TakesJobFor old id answer new
 Answers old (commands.Land number) reply new =
     (answer : Result Landing NotOut) × (reply ≡ replies.Land answer) × LandsJob old number answer new
 Answers old (commands.GiveBack number) reply new =
     (answer : Result Returning NotOut) × (reply ≡ replies.GiveBack answer) × GivesJobBack old number answer new
 Answers old (commands.Show id) reply new =
     (answer : Shown) × (reply ≡ replies.Show answer) × Shows old id answer × (new ≡ old)
+Answers old (commands.Drop id) reply new =
+    (answer : Dropping) × (reply ≡ replies.Dropped answer) × AnswersDrop old id answer new
+Answers old commands.ClearCache reply new = (reply ≡ replies.Cleared) × (new ≡ record old { cached = [] })
 
 -- each command has its reply, in turn
 abbrev pub Runs : Machine → List Command → List Reply → Machine → Type 0

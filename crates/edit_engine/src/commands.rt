@@ -18,12 +18,18 @@ pub enum Command {
     Unit(AuId),
     /// To give a picture to decode.
     Take,
+    /// To give a picture to decode that the unit of this id needs.
+    TakeFor(AuId),
     /// To decode the job of this number, which is out, and to take its result.
     Land(u64),
     /// To take the job of this number back undone.
     GiveBack(u64),
     /// To show the unit of this id.
     Show(AuId),
+    /// To drop the picture of the unit of this id.
+    Drop(AuId),
+    /// To drop the pictures that are cached.
+    ClearCache,
 }
 
 impl Command {
@@ -36,9 +42,12 @@ impl Command {
             Command::Group(edits) => Ok(Command::Group(copies_of(alloc, edits)?)),
             Command::Unit(id) => Ok(Command::Unit(*id)),
             Command::Take => Ok(Command::Take),
+            Command::TakeFor(id) => Ok(Command::TakeFor(*id)),
             Command::Land(number) => Ok(Command::Land(*number)),
             Command::GiveBack(number) => Ok(Command::GiveBack(*number)),
             Command::Show(id) => Ok(Command::Show(*id)),
+            Command::Drop(id) => Ok(Command::Drop(*id)),
+            Command::ClearCache => Ok(Command::ClearCache),
         }
     }
 }

@@ -1,9 +1,10 @@
 //! Jobs that a runner takes, lands and gives back.
 
-ghost use Rattle.std.specs.Prelude.{◌≡◌, ◌==◌, ◌<◌, length, position, All, None, Some, IfOk, IfSome, IsTrue, OnErr, MatchOption, slice_index_or};
+ghost use Rattle.std.specs.Prelude.{◌≡◌, ◌==◌, ◌+◌, ◌<◌, ◌≤◌, ◌++◌, ◌∷◌, [], length, position, vec_len, All, None, Some, IfOk, IfSome, IsTrue, OnErr, MatchOption, slice_index_or};
+ghost use Rattle.std.specs.Vec.{vec_capacity};
 ghost use Rattle.stand_in_device.specs.Inputs.{is_whole};
 ghost use Rattle.stand_in_device.specs.Jobs.{JobValue};
-ghost use Rattle.edit_engine.specs.Runs.{GivesJobBack, LandsJob, TakesJob};
+ghost use Rattle.edit_engine.specs.Runs.{GivesJobBack, LandsJob, TakesJob, TakesJobFor};
 ghost use Rattle.edit_engine.specs.Taken.{AreOut, input_among};
 
 use crate::held_job::HeldJob;
@@ -11,6 +12,7 @@ use crate::refusals::NotOut;
 use crate::replies::TakenJob;
 use crate::session::Session;
 use picture_store::{Landing, Returning, TakeRefused};
+use pictures::AuId;
 use stand_in_device::{Device, Finished, Input, Job, Undone};
 use std::alloc::{AllocError, Global};
 
@@ -26,15 +28,42 @@ pub(crate) fn take(
 {
     jobs.reserve(1)?;
     match session.take_told() {
-        Ok(Some((unit, job))) => {
-            let number = job.number();
-            jobs.push_reserved(HeldJob::new(job));
-            Ok(Ok(Some(TakenJob { number, unit })))
-        }
+        Ok(Some((unit, job))) => Ok(Ok(Some(hold(jobs, unit, job)))),
         Ok(None) => Ok(Ok(None)),
         Err(TakeRefused::JobsSpent) => Ok(Err(TakeRefused::JobsSpent)),
         Err(TakeRefused::Memory) => Err(AllocError),
     }
+}
+
+/// Takes a job for the unit that has the id, and tells its number and its unit.
+pub(crate) fn take_for(
+    session: &mut Session,
+    jobs: &mut Vec<HeldJob>,
+    id: AuId,
+) -> Result<Result<Option<TakenJob>, TakeRefused>, AllocError>
+    requires { AreOut jobs.old.items session.old }
+    ensures out { AreOut jobs.new.items session.new }
+    ensures ok { IfOk result (λ answer. TakesJobFor session.old id answer session.new) }
+    ensures err { OnErr result (session.new ≡ session.old) }
+{
+    jobs.reserve(1)?;
+    match session.take_told_for(id) {
+        Ok(Some((unit, job))) => Ok(Ok(Some(hold(jobs, unit, job)))),
+        Ok(None) => Ok(Ok(None)),
+        Err(TakeRefused::JobsSpent) => Ok(Err(TakeRefused::JobsSpent)),
+        Err(TakeRefused::Memory) => Err(AllocError),
+    }
+}
+
+/// Keeps a job of a unit, for which there is room, and tells its number and its unit.
+fn hold(jobs: &mut Vec<HeldJob>, unit: AuId, job: Job) -> TakenJob
+    requires { vec_len jobs.old + 1 ≤ vec_capacity jobs.old }
+    ensures held { jobs.new.items ≡ jobs.old.items ++ job ∷ [] }
+    ensures told { result ≡ record { number = job.number; unit = unit } }
+{
+    let number = job.number();
+    jobs.push_reserved(HeldJob::new(job));
+    TakenJob { number, unit }
 }
 
 /// Decodes the job of this number, if it is out, and lands its result.

@@ -1,7 +1,7 @@
 //! Replies to commands.
 
 use crate::refusals::{NoSuchUnit, NotOut};
-use crate::showing::Shown;
+use crate::showing::{Dropping, Shown};
 use outcomes::Outcome;
 use picture_store::{Landing, Returning, TakeRefused};
 use pictures::AuId;
@@ -18,15 +18,22 @@ pub enum Reply {
     Unit(Result<UnitReport, NoSuchUnit>),
     /// The job, `None` where no picture is due, or that all numbers of jobs were given.
     Take(Result<Option<TakenJob>, TakeRefused>),
+    /// The job, `None` where no needed unit is due, or that all numbers of jobs were given.
+    TakeFor(Result<Option<TakenJob>, TakeRefused>),
     /// What became of the job's result.
     Land(Result<Landing, NotOut>),
     /// What became of the job.
     GiveBack(Result<Returning, NotOut>),
     /// What is shown of the unit.
     Show(Shown),
+    /// What became of the unit's picture.
+    Dropped(Dropping),
+    /// No picture is cached any more.
+    Cleared,
 }
 
-/// A job that is out, and its unit: the first of the stream, when the job was taken, that has the job's key.
+/// A job that is out, and its unit: the first of the stream, when the job was taken, that has the job's key, or for a job
+/// that was taken for a unit the first of its needed units that has it.
 #[derive(Clone, Copy, Debug, PartialEq, Eq)]
 pub struct TakenJob {
     pub number: u64,

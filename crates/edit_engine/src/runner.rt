@@ -11,7 +11,7 @@ ghost use Rattle.stand_in_device.specs.Inputs.{is_whole};
 use crate::commands::Command;
 use crate::config::{Config, ConfigFault};
 use crate::held_job::HeldJob;
-use crate::jobs::{give_back, input_among, land, take};
+use crate::jobs::{give_back, input_among, land, take, take_for};
 use crate::refusals::NoSuchUnit;
 use crate::replies::{Reply, UnitReport};
 use crate::session::Session;
@@ -74,7 +74,7 @@ impl Runner {
         })
     }
 
-    /// Follows a command and answers it. An edit that wants memory is answered so; where anything else wants memory,
+    /// Follows a command and answers it. An edit that runs out of memory is answered so; where anything else runs out of memory,
     /// there is no answer.
     pub fn step(&mut self, command: Command) -> Result<Reply, AllocError>
         ensures ok { IfOk result (λ reply. Answers self.old command reply self.new) }
@@ -85,6 +85,10 @@ impl Runner {
             Command::Group(edits) => Ok(Reply::Group(self.session.edit_group(edits))),
             Command::Unit(id) => Ok(Reply::Unit(report(self.alloc, &self.session, id)?)),
             Command::Take => Ok(Reply::Take(take(&mut self.session, &mut self.jobs)?)),
+            Command::TakeFor(id) => {
+                let taken = take_for(&mut self.session, &mut self.jobs, id)?;
+                Ok(Reply::TakeFor(taken))
+            }
             Command::Land(number) => {
                 let (session, jobs) = (&mut self.session, &mut self.jobs);
                 let landed = land(self.alloc, session, jobs, &mut self.device, number)?;
@@ -95,6 +99,11 @@ impl Runner {
                 Ok(Reply::GiveBack(given))
             }
             Command::Show(id) => Ok(Reply::Show(self.session.show(id))),
+            Command::Drop(id) => Ok(Reply::Dropped(self.session.drop_picture(id))),
+            Command::ClearCache => {
+                self.session.clear_cache();
+                Ok(Reply::Cleared)
+            }
         }
     }
 
@@ -147,8 +156,8 @@ fn report(
     }
 }
 
-/// Follows the commands in turn, from an empty stream, and answers each. An edit that wants memory is answered so; any
-/// other want of memory ends the run.
+/// Follows the commands in turn, from an empty stream, and answers each. An edit that runs out of memory is answered so; any
+/// other lack of memory ends the run.
 pub fn run(alloc: Global, config: Config, commands: &[Command]) -> Result<Vec<Reply>, AllocError>
     requires { (1 ≤ config.cache) × (config.cache ≤ most_room) }
     ensures { IfOk result (λ replies. IsRun config.cache commands.now replies.items) }

@@ -1,9 +1,9 @@
 //! The session: a stream under edits, and the pictures of its units.
 
-ghost use Rattle.std.specs.Prelude.{◌≡◌, ◌<◌, ◌≤◌, ◌↔◌, length, Contains, Some, None, IsTrue, IfOk, IfSome, IsErrOf, MatchResult, OnErr};
+ghost use Rattle.std.specs.Prelude.{◌≡◌, ◌<◌, ◌≤◌, ◌↔◌, ℕ, [], length, slice_get, Contains, Some, None, IsTrue, IfOk, IfSome, IsErrOf, MatchResult, OnErr};
 ghost use Rattle.request_core.specs.Fold.{outcomes_of};
 ghost use Rattle.picture_cache.specs.Bounded.{most_room};
-ghost use Rattle.picture_store.specs.Stores.{AreOneToOne, IsNumberInUse};
+ghost use Rattle.picture_store.specs.Stores.{AreNumbered, AreOneToOne, IsNumberInUse};
 ghost use Rattle.stream_edits.specs.Changes.{IsInside};
 ghost use Rattle.stream_edits.specs.Journals.{edits_of};
 ghost use Rattle.stream_edits.specs.Streams.{ids_of, last_of, place_of};
@@ -13,12 +13,13 @@ ghost use Rattle.edit_engine.specs.Grouping.{AnswersGroup};
 ghost use Rattle.edit_engine.specs.Machines.{empty, AnswersEdit, store_of};
 ghost use Rattle.edit_engine.specs.Moves.{ComeTo, Moves};
 ghost use Rattle.edit_engine.specs.Jobs.{AnswersGiveBack, AnswersLand, AnswersTake, TellsTake};
+ghost use Rattle.edit_engine.specs.Needing.{AnswersDrop, AnswersTakeFor, IsAnyOutFor, IsPendingIn, TellsTakeFor};
 ghost use Rattle.edit_engine.specs.Showing.{HasNumber, Shows};
 
 use crate::config::{Config, ConfigFault};
 use crate::preparing::prepare;
 use crate::refusals::NoSuchUnit;
-use crate::showing::Shown;
+use crate::showing::{Dropping, Shown};
 use base_types::Shared;
 use dep_keys::KeyId;
 use hashed_units::HashedOutcome;
@@ -118,12 +119,14 @@ impl Session {
         let (units, ids) = (self.ordered.units(), self.store.ids());
         let accepted = change_of(self.alloc, units, ids, self.given, &read)?;
         let AcceptedEdit { change, id, given } = accepted;
+        let hashed = read.hashed();
         let entry = JournalEntry::of_edit(read.into_edit());
         let steps = self.make(change, given, entry)?;
         Ok(Receipt {
             number: self.journal.len() as u64,
             id,
             steps,
+            hashed: hashed as u64,
         })
     }
 
@@ -145,13 +148,19 @@ impl Session {
     {
         let (units, ids) = (self.ordered.units(), self.store.ids());
         let accepted = change_of_group(self.alloc, units, ids, self.given, &group)?;
-        let AcceptedGroup { change, ids, given } = accepted;
+        let AcceptedGroup {
+            change,
+            ids,
+            given,
+            hashed,
+        } = accepted;
         let entry = JournalEntry::of_group(group.into_edits());
         let steps = self.make(change, given, entry)?;
         Ok(GroupReceipt {
             number: self.journal.len() as u64,
             ids,
             steps,
+            hashed: hashed as u64,
         })
     }
 
@@ -177,7 +186,10 @@ impl Session {
     ///
     /// The job isn't bound to its unit: its result is taken wherever the same picture is wanted when it lands.
     pub fn take(&mut self) -> Result<Option<Job>, TakeRefused>
-        ensures { AnswersTake self.old result self.new }
+        ensures answers { AnswersTake self.old result self.new }
+        // A pending unit stays so only as long as a job is out.
+        ensures waits { IfOk result (λ job. job ≡ None
+            → (id : ℕ) → IsPendingIn self.old id → IsAnyOutFor self.old id) }
     {
         match self.take_told() {
             Ok(Some((_, job))) => Ok(Some(job)),
@@ -187,11 +199,47 @@ impl Session {
     }
 
     /// Gives a picture to decode as `take` does, and tells the unit of the job.
-    pub(crate) fn take_told(&mut self) -> Result<Option<(AuId, Job)>, TakeRefused>
-        ensures { TellsTake self.old result self.new }
+    pub fn take_told(&mut self) -> Result<Option<(AuId, Job)>, TakeRefused>
+        ensures tells { TellsTake self.old result self.new }
+        ensures waits { IfOk result (λ told. told ≡ None
+            → (id : ℕ) → IsPendingIn self.old id → IsAnyOutFor self.old id) }
     {
         match self.store.take() {
             Ok(Some(JobAt { at, job })) => Ok(Some((self.store.ids()[at], job))),
+            Ok(None) => Ok(None),
+            Err(refused) => Err(refused),
+        }
+    }
+
+    /// Gives a picture to decode for the unit that has the id: the earliest one that is due of those that it needs, down to
+    /// pictures that are held. `None` where there is none, as for an id that isn't there. Whoever lands what is taken for a
+    /// unit gets to its picture: while it is pending, `None` is answered only as long as a job that it waits for is out.
+    pub fn take_for(&mut self, id: AuId) -> Result<Option<Job>, TakeRefused>
+        ensures answers { AnswersTakeFor self.old id result self.new }
+        ensures waits { IfOk result (λ job. job ≡ None
+            → IsPendingIn self.old id → IsAnyOutFor self.old id) }
+    {
+        match self.take_told_for(id) {
+            Ok(Some((_, job))) => Ok(Some(job)),
+            Ok(None) => Ok(None),
+            Err(refused) => Err(refused),
+        }
+    }
+
+    /// Gives a picture to decode as `take_for` does, and tells the unit of the job.
+    pub(crate) fn take_told_for(&mut self, id: AuId) -> Result<Option<(AuId, Job)>, TakeRefused>
+        ensures tells { TellsTakeFor self.old id result self.new }
+        ensures waits { IfOk result (λ told. told ≡ None
+            → IsPendingIn self.old id → IsAnyOutFor self.old id) }
+    {
+        let Some(place) = self.find(id) else {
+            return Ok(None);
+        };
+        match self.store.take_for(place) {
+            Ok(Some(JobAt { at, job })) => {
+                let ids = self.store.ids();
+                Ok(Some((ids[at], job)))
+            }
             Ok(None) => Ok(None),
             Err(refused) => Err(refused),
         }
@@ -211,18 +259,49 @@ impl Session {
         self.store.give_back(job)
     }
 
+    /// Drops the picture of the unit that has the id, and with it that of each unit that has the same key. It isn't cached
+    /// by that: a job has to make it again. It takes no memory.
+    pub fn drop_picture(&mut self, id: AuId) -> Dropping
+        ensures { AnswersDrop self.old id result self.new }
+    {
+        let Some(place) = self.find(id) else {
+            return Dropping::NoSuchUnit;
+        };
+        if self.store.drop_picture(place) {
+            Dropping::Dropped
+        } else {
+            Dropping::NotHeld
+        }
+    }
+
+    /// Drops the pictures that are cached. It takes no memory.
+    pub fn clear_cache(&mut self)
+        ensures { self.new ≡ record self.old { cached = [] } }
+    {
+        self.store.clear_cache();
+    }
+
     /// What is shown of the unit that has the id. It takes no memory.
     pub fn show(&self, id: AuId) -> Shown
         ensures { Shows self.now id result }
     {
-        let Some(place) = self.find(id) else {
-            return Shown::NoSuchUnit;
-        };
-        let outcome: &Outcome = &self.store.outcomes()[place];
+        match self.find(id) {
+            Some(place) => self.show_at(place),
+            None => Shown::NoSuchUnit,
+        }
+    }
+
+    /// What is shown of the unit at a place of the stream. It takes no memory.
+    pub fn show_at(&self, at: usize) -> Shown
+        requires { at < length self.now.register.stream }
+        ensures { (id : ℕ) → slice_get (ids_of self.now.register.stream) at ≡ Some id
+            → Shows self.now id result }
+    {
+        let outcome: &Outcome = &self.store.outcomes()[at];
         match outcome {
             Outcome::Fault(fault) => Shown::Fault(*fault),
             Outcome::Empty => Shown::Empty,
-            Outcome::Plan(_) => match self.store.picture(place) {
+            Outcome::Plan(_) => match self.store.picture(at) {
                 Some(picture) => Shown::Ready(picture),
                 None => Shown::Pending,
             },
@@ -273,6 +352,14 @@ impl Session {
             Some(place) => Ok(self.store.key_at(place)),
             None => Err(NoSuchUnit),
         }
+    }
+
+    /// The number of each unit's key, in decoding order; nothing for a unit that isn't valid.
+    pub fn numbers(&self) -> &[Option<KeyId>]
+        ensures value { result.now ≡ self.now.numbers }
+        ensures numbered { AreNumbered (store_of self.now) }
+    {
+        self.store.numbers()
     }
 
     /// Whether a number is that of a key in use: of one that some unit of the stream has. It takes no memory.

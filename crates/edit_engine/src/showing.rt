@@ -1,4 +1,4 @@
-//! What is shown of a unit.
+//! What is shown of a unit, and what comes of dropping its picture.
 
 use outcomes::ValidityFault;
 use stand_in_device::Picture;
@@ -14,6 +14,17 @@ pub enum Shown {
     Fault(ValidityFault),
     /// It is a unit without a slice, so that it has no picture.
     Empty,
+    /// No unit has the id.
+    NoSuchUnit,
+}
+
+/// What comes of dropping a unit's picture.
+#[derive(Clone, Copy, Debug, PartialEq, Eq)]
+pub enum Dropping {
+    /// It was held, and is no more.
+    Dropped,
+    /// It wasn't held, or the unit isn't valid.
+    NotHeld,
     /// No unit has the id.
     NoSuchUnit,
 }

@@ -46,7 +46,7 @@ impl<K: Eq + Hash + Drop, P: Drop> PictureCache<K, P> {
         Ok(PictureCache { cache })
     }
 
-    /// Puts a pair first. One that had its key goes, and where there are too many, the last one. For want of memory
+    /// Puts a pair first. One that had its key goes, and where there are too many, the last one. For lack of memory
     /// the new pair alone is dropped; where the key is there, none is wanted.
     pub fn put(&mut self, key: K, picture: P) -> Result<(), AllocError>
         ensures ok { OnOk result (self.new ≡ with_first K.eq self.old key picture) }
@@ -65,6 +65,13 @@ impl<K: Eq + Hash + Drop, P: Drop> PictureCache<K, P> {
         ensures bounded { IsBounded K.eq self.new }
     {
         self.cache.pop(&key)
+    }
+
+    /// Takes all pairs out. Takes no memory.
+    pub fn clear(&mut self)
+        ensures { self.new ≡ record { pairs = []; capacity = self.old.capacity } }
+    {
+        self.cache.clear();
     }
 
     /// The picture that was put under the key, if it is there. The order of the pairs stays.

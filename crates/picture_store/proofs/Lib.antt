@@ -17,7 +17,11 @@ pub mod Using
 pub mod Refitted
 pub mod Landed
 pub mod Filled
-pub mod Units
 pub mod Taken
+pub mod Waiting
+pub mod Pended
+pub mod Emptied
+pub mod Earliest
+pub mod TakenFor
 pub mod Settled
 pub mod Same

@@ -5,7 +5,7 @@ use Rattle.std.proofs.lemmas.Option.{slice_get_read, slice_get_within, get_or_fr
 use Rattle.dep_keys.specs.KeyMaps.{tree_at, IsKeyMap}
 use Rattle.picture_keys.specs.Keys.{Key}
 use Rattle.picture_keys.specs.Numbered.{StandsFor, AllStandFor}
-use Rattle.picture_store.specs.Stores.{IsNumberInUse, StoreValue, unit_keys}
+use Rattle.picture_store.specs.Stores.{AreNumbered, IsNumberInUse, StoreValue, unit_keys}
 use Rattle.picture_store.specs.Showing.{IsNumberAt}
 use Rattle.picture_store.specs.Kept.{Trees}
 
@@ -88,3 +88,29 @@ in_use_listed keys store all number (at, within, is) =
 pub listed_in_use : (store : StoreValue) (number : ℕ) → IsNumberInUse store number → Contains store.numbers (Some number)
 listed_in_use store number (key, (at, has, is)) =
     (at, slice_get_within store.numbers at (Some number) is, get_or_from_slice_get store.numbers at (Some number) (Some number) is)
+
+number_of_some : (keys : Trees) (number : Option ℕ) (tree : Option Key) (key : Key) → StandsFor keys number tree
+    → tree ≡ Some key → (n : ℕ) × (number ≡ Some n)
+number_of_some keys None tree key stands is = absurd (cc)
+number_of_some keys (Some n) tree key stands is = (n, refl)
+
+-- a unit that has a key has a number
+key_numbered : (keys : Trees) (found : List (Option ℕ)) (trees : List (Option Key)) → AllStandFor keys found trees
+    → (at : ℕ) (key : Key) → slice_get trees at ≡ Some (Some key) → (n : ℕ) × (slice_get found at ≡ Some (Some n))
+key_numbered keys [] [] all at key is = absurd (nothing_there at (Some key) is)
+key_numbered keys [] (tree ∷ trees) all at key is = absurd all
+key_numbered keys (first ∷ found) [] all at key is = absurd all
+key_numbered keys (first ∷ found) (tree ∷ trees) all zero key is =
+    let same : tree ≡ Some key = cc in
+    let some : (n : ℕ) × (first ≡ Some n) = number_of_some keys first tree key all.0 same in
+    (some.0, ap (λ (number : Option ℕ). Some number) some.1)
+key_numbered keys (first ∷ found) (tree ∷ trees) all (suc at) key is = key_numbered keys found trees all.1 at key is
+
+-- so each key in use has one
+pub all_numbered : (keys : Trees) (store : StoreValue) → AllStandFor keys store.numbers (unit_keys store) → AreNumbered store
+all_numbered keys store all key (at, within, is) =
+    let read : slice_get (unit_keys store) at ≡ Some (Some key) =
+    slice_get_read (unit_keys store) (length (unit_keys store)) at (Some key) refl within (sym is) in
+    let number : (n : ℕ) × (slice_get store.numbers at ≡ Some (Some n)) =
+    key_numbered keys store.numbers (unit_keys store) all at key read in
+    (number.0, (at, read, number.1))

@@ -21,7 +21,8 @@ use Rattle.picture_store.specs.Due.{AreHeld}
 use Rattle.picture_store.specs.Naming.{AreCovered, AreShown, AreThere, IsShown}
 use Rattle.picture_store.specs.Inputs.{HasKnown, IsInputOf}
 use Rattle.picture_store.proofs.Ready.{are_held}
-use Rattle.picture_store.proofs.Entries.{IsKnown, all_known, entries_many, covered, shown, shown_of}
+use Rattle.needed_units.proofs.Entries.{entries_many}
+use Rattle.picture_store.proofs.Entries.{IsKnown, all_known, covered, shown, shown_of}
 use Rattle.picture_store.proofs.Shown.{all_there, shows_known, whole}
 
 module _ (keys : Trees) (key : ℕ) (node : NodeOf (List Work)) (is_node : IsNodeOf keys key node) (outcome : Outcome)

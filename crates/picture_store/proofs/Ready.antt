@@ -34,14 +34,14 @@ key_of : (keys : Trees) (number : ℕ) (key : Key) → tree_at keys number ≡ S
 key_of keys number key there = ap (λ (tree : Option Key). unwrap_or tree (Bare [])) there
 
 module _ (keys : Trees) (places : PlacesValue) (right : AreRight keys places) where
-  held_key : (number : ℕ) (key : Key) → tree_at keys number ≡ Some key → IsHeld places number
+  pub held_key : (number : ℕ) (key : Key) → tree_at keys number ≡ Some key → IsHeld places number
       → Contains (keys_for keys (numbers_held places)) key
   held_key number key there held =
       subst (λ k. Contains (keys_for keys (numbers_held places)) k) (key_of keys number key there)
       (map_in (key_for keys) (numbers_held places) number
       (found_held places number held.0 held.1))
 
-  key_held : (number : ℕ) (key : Key) → tree_at keys number ≡ Some key → Contains (keys_for keys (numbers_held places)) key
+  pub key_held : (number : ℕ) (key : Key) → tree_at keys number ≡ Some key → Contains (keys_for keys (numbers_held places)) key
       → IsHeld places number
   key_held number key there among =
       let by_key = of_map (key_for keys) (numbers_held places) key among in

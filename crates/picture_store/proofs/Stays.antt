@@ -27,7 +27,7 @@ pub key_is : (keys : Trees) (number : ℕ) (key : Key) → tree_at keys number �
 key_is keys number key is = ap (λ (o : Option Key). unwrap_or o (Bare [])) is
 
 -- nothing isn't something
-none_is_not_some : {X : Type 0} (x : X) → Some x ≡ None → ⊥
+pub none_is_not_some : {X : Type 0} (x : X) → Some x ≡ None → ⊥
 none_is_not_some x e = cc
 
 stands_here : (keys : Trees) (number : ℕ) (tree : Option Key) (trees : List (Option Key)) → StandsFor keys (Some number) tree

@@ -9,6 +9,7 @@ use Rattle.outcomes.specs.declared.outcome.Outcome.TheVariants.{Plan as Planned,
 use Rattle.dep_keys.specs.KeyMaps.{tree_at}
 use Rattle.stand_in_device.specs.declared.picture.Picture.{Picture}
 use Rattle.stand_in_device.specs.Inputs.{InputValue, is_whole}
+use Rattle.stand_in_device.specs.Jobs.{JobValue}
 use Rattle.picture_keys.specs.Keys.{Key}
 use Rattle.picture_keys.specs.Known.{Known, key_of, key_of_outcome, known_after, keys_after, keys_of}
 use Rattle.picture_keys.specs.Numbered.{AllStandFor}
@@ -16,8 +17,8 @@ use Rattle.picture_keys.specs.KeyPictures.{picture_of_key}
 use Rattle.stand_in_device.specs.Pictures.{picture_of}
 use Rattle.picture_keys.proofs.Pictured.{shows_its_key}
 use Rattle.picture_store.specs.declared.job_out.JobOut.{JobOut}
-use Rattle.picture_store.specs.Stores.{OutValue, IsReady}
-use Rattle.picture_store.specs.Jobs.{IsDue, IsAnyDue, Takes}
+use Rattle.picture_store.specs.Stores.{OutValue, StoreValue, IsReady}
+use Rattle.picture_store.specs.Jobs.{IsDue, IsAnyDue, Gives, Takes}
 use Rattle.key_places.specs.Places.{place_at, numbers_held}
 use Rattle.picture_store.specs.Places.{PlacesValue}
 use Rattle.picture_store.specs.Due.{IsDueNumber, IsNotDue}
@@ -28,13 +29,18 @@ use Rattle.picture_store.proofs.Viewed.{seen, viewed}
 use Rattle.picture_store.proofs.Stays.{key_is, stand_live, stand_number}
 use Rattle.picture_store.proofs.Tables.{none_not_some}
 use Rattle.picture_store.proofs.Landed.{awaited_for, held_for, found_length, keyed, length-zip_same}
-use Rattle.picture_store.proofs.Units.{IsAt, unit_at, second_at, stand_take}
+use Rattle.needed_units.proofs.UnitAt.{IsAt, unit_at, second_at, stand_take}
+
+-- the first of two lists
+take_front : {X : Type 0} (xs ys : List X) → take (length xs) (xs ++ ys) ≡ xs
+take_front [] ys = refl
+take_front (x ∷ xs) ys = ap (λ rest. x ∷ rest) (take_front xs ys)
 
 module _ (keys : Trees) (ids : List ℕ) (outcomes : List Outcome) (found : List (Option ℕ)) (places : PlacesValue)
     (cached : List (ℕ × Picture)) (room : ℕ) (out : List JobOut) (given : ℕ)
     (kept : IsKept keys ids outcomes found places cached out) where
   -- a job's key is among those of the jobs that are seen
-  out_seen_key : (number : ℕ) → Contains (numbers_out out) number
+  pub out_seen_key : (number : ℕ) → Contains (numbers_out out) number
       → Contains (map (λ (job : OutValue). job.key) (jobs_for keys out)) (key_for keys number)
   out_seen_key number is =
       let source : (job : JobOut) × Contains out job × (job.key ≡ number) =
@@ -44,7 +50,7 @@ module _ (keys : Trees) (ids : List ℕ) (outcomes : List Outcome) (found : List
       (among_map (seen keys) out source.0 source.1))
 
   -- and the other way round, where the number is live
-  seen_out_key : (number : ℕ) (key : Key) → tree_at keys number ≡ Some key
+  pub seen_out_key : (number : ℕ) (key : Key) → tree_at keys number ≡ Some key
       → Contains (map (λ (job : OutValue). job.key) (jobs_for keys out)) key → Contains (numbers_out out) number
   seen_out_key number key live is =
       let outer : (job : OutValue) × Contains (jobs_for keys out) job × (job.key ≡ key) =
@@ -176,41 +182,69 @@ module _ (keys : Trees) (ids : List ℕ) (outcomes : List Outcome) (found : List
         All-contains (IsNotDue keys places out) (take at found) (Some first.0) none first.1
         (subst (IsDueNumber keys places out) same from.3)
 
-    -- the job of the unit is taken
-    pub taken : (outcome : Outcome) → unit.0.1 ≡ outcome → All (IsNotDue keys places out) (take at found)
+    -- the job of the unit is given
+    pub given_job : (outcome : Outcome) → unit.0.1 ≡ outcome
         → (input : InputValue) → IsInputOf known outcome input → (next : ℕ) → next ≡ given + 1
         → (more : List JobOut) → more ≡ out ++ (record { number = next; key = number; input = input }) ∷ []
-        → (takes : Takes (viewed keys ids outcomes found places cached room out given) (record { number = next; input = input })
-        (viewed keys ids outcomes found places cached room more next))
-        × (at ≡ length takes.before)
-    taken (Faulty fault) same none input made next next_is more more_is = absurd made
-    taken Empty same none input made next next_is more more_is = absurd made
-    taken (Planned plan) same none input made next next_is more more_is =
+        → Gives (viewed keys ids outcomes found places cached room out given) at (record { number = next; input = input })
+        (viewed keys ids outcomes found places cached room more next)
+    given_job (Faulty fault) same input made next next_is more more_is = absurd made
+    given_job Empty same input made next next_is more more_is = absurd made
+    given_job (Planned plan) same input made next next_is more more_is =
         let tree : tree_at keys number ≡ Some (key_of known plan.requests) =
         tree_is ∙ ap (key_of_outcome known) same in
         let key_same : key_for keys number ≡ key_of known plan.requests =
-        key_is keys number (key_of known plan.requests) tree in (
-          record {
-            before = take at (zip ids outcomes);
-            id = unit.0.0;
-            plan = plan;
-            after = drop (suc at) (zip ids outcomes);
-            stands =
-                unit.1.parts
-                ∙ ap (λ o. take at (zip ids outcomes) ++ (unit.0.0, o) ∷ drop (suc at) (zip ids outcomes)) same;
-            due = due_for number (key_of known plan.requests) tree contained due;
-            earliest = All-from_contains (keys_after [] (take at (zip ids outcomes))) (none_before none);
-            number_is = next_is;
-            requests_are = made.0;
-            shows = made.1;
-            new_is =
-                ap (λ (jobs : List OutValue). record (viewed keys ids outcomes found places cached room out given) { out = jobs; given = next })
-                (ap (jobs_for keys) more_is
-                ∙ map-append (seen keys) out ((record { number = next; key = number; input = input }) ∷ [])
-                ∙ ap (λ (key : Key). jobs_for keys out ++ (record { number = next; key = key; input = input }) ∷ []) key_same);
-          },
-          sym (length-take-le at (zip ids outcomes) (omega (arith, in_units))),
-        )
+        key_is keys number (key_of known plan.requests) tree in
+        record {
+          before = take at (zip ids outcomes);
+          id = unit.0.0;
+          plan = plan;
+          after = drop (suc at) (zip ids outcomes);
+          stands =
+              unit.1.parts
+              ∙ ap (λ o. take at (zip ids outcomes) ++ (unit.0.0, o) ∷ drop (suc at) (zip ids outcomes)) same;
+          at_is = sym (length-take-le at (zip ids outcomes) (omega (arith, in_units)));
+          due = due_for number (key_of known plan.requests) tree contained due;
+          number_is = next_is;
+          requests_are = made.0;
+          shows = made.1;
+          new_is =
+              ap (λ (jobs : List OutValue). record (viewed keys ids outcomes found places cached room out given) { out = jobs; given = next })
+              (ap (jobs_for keys) more_is
+              ∙ map-append (seen keys) out ((record { number = next; key = number; input = input }) ∷ [])
+              ∙ ap (λ (key : Key). jobs_for keys out ++ (record { number = next; key = key; input = input }) ∷ []) key_same);
+        }
+
+    -- where no unit before it is due, its job is taken
+    pub taken : (job : JobValue) (new : StoreValue)
+        → Gives (viewed keys ids outcomes found places cached room out given) at job new
+        → All (IsNotDue keys places out) (take at found)
+        → (takes : Takes (viewed keys ids outcomes found places cached room out given) job new) × (at ≡ length takes.before)
+    taken job new gives none = (
+      record {
+        before = gives.before;
+        id = gives.id;
+        plan = gives.plan;
+        after = gives.after;
+        stands = gives.stands;
+        due = gives.due;
+        earliest =
+            subst (λ (units : List (ℕ × Outcome)). All (λ key. IfSome key
+            (λ k. IsDue (viewed keys ids outcomes found places cached room out given) k → ⊥)) (keys_of units)) before_is
+            (All-from_contains (keys_after [] (take at (zip ids outcomes))) (none_before none));
+        number_is = gives.number_is;
+        requests_are = gives.requests_are;
+        shows = gives.shows;
+        new_is = gives.new_is;
+      },
+      gives.at_is,
+    )
+      where
+        before_is : take at (zip ids outcomes) ≡ gives.before
+        before_is =
+            ap (λ n. take n (zip ids outcomes)) gives.at_is
+            ∙ ap (take (length gives.before)) gives.stands
+            ∙ take_front gives.before ((gives.id, Planned gives.plan) ∷ gives.after)
 
     -- what is stored then
     pub kept_taken : (outcome : Outcome) → unit.0.1 ≡ outcome → (input : InputValue) → IsInputOf known outcome input

@@ -27,7 +27,7 @@ viewed keys ids outcomes found places cached room out given = record {
   given = given;
 }
 
--- what holds anyhow holds where a call wanted memory
+-- what holds anyhow holds where a call ran out of memory
 pub on_any_err : {T E P : Type 0} (r : Result T E) → P → OnErr r P
 on_any_err (Ok x) p = search rules
 on_any_err (Err e) p = p

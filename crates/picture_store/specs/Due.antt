@@ -1,17 +1,13 @@
 -- When the key of a number is due.
-use Rattle.std.specs.Prelude.{◌≡◌, ℕ, List, [], ◌∷◌, Contains, Option, None, Some, IfSome}
+use Rattle.std.specs.Prelude.{◌≡◌, ℕ, suc, List, [], ◌∷◌, Contains, Option, None, Some, IfSome, drop, slice_get}
 use Rattle.dep_keys.specs.KeyMaps.{tree_at}
-use Rattle.stand_in_device.specs.declared.picture.Picture.{Picture}
+pub use Rattle.needed_units.specs.Held.{IsHeld}
 use Rattle.picture_keys.specs.Keys.{Key}
 use Rattle.picture_store.specs.declared.job_out.JobOut.{JobOut}
 use Rattle.key_places.specs.Places.{place_at, numbers_held}
 use Rattle.picture_store.specs.Places.{PlacesValue}
 use Rattle.picture_store.specs.Stores.{IsReady}
 use Rattle.picture_store.specs.Kept.{Trees, keys_for, numbers_out}
-
--- the picture of the key of this number is held
-abbrev pub IsHeld : PlacesValue → ℕ → Type 0
-IsHeld places number = (picture : Picture) × (place_at places number ≡ Some (Some picture))
 
 -- the pictures of the keys at entries are held
 abbrev pub AreHeld : PlacesValue → List (Option ℕ) → Type 0
@@ -31,3 +27,17 @@ pub record IsDueNumber (keys : Trees) (places : PlacesValue) (out : List JobOut)
 -- the number, if there is one, isn't that of a key that is due
 abbrev pub IsNotDue : Trees → PlacesValue → List JobOut → Option ℕ → Type 0
 IsNotDue keys places out number = IfSome number (λ n. IsDueNumber keys places out n → ⊥)
+
+-- the key of the unit at a place is due
+abbrev pub IsDueThere : Trees → PlacesValue → List JobOut → List (Option ℕ) → ℕ → Type 0
+IsDueThere keys places out found at =
+    (number : ℕ) × (slice_get found at ≡ Some (Some number)) × IsDueNumber keys places out number
+
+-- of these places, the last one first, this is the earliest whose unit's key is due, and that is the number of its key
+pub record IsEarliestDue (keys : Trees) (places : PlacesValue) (out : List JobOut) (found : List (Option ℕ)) (needed : List ℕ)
+    (at number : ℕ) : Type 0 where
+  pub index : ℕ
+  pub stands : slice_get needed index ≡ Some at
+  pub number_is : slice_get found at ≡ Some (Some number)
+  pub due : IsDueNumber keys places out number
+  pub earliest : (place : ℕ) → Contains (drop (suc index) needed) place → IsDueThere keys places out found place → ⊥

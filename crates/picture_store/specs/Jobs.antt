@@ -54,6 +54,28 @@ pub record Takes (old : StoreValue) (job : JobValue) (new : StoreValue) : Type 0
     given = job.number;
   }
 
+-- the job of the unit at a place, which is due, is given: under the next number, with the requests of that unit and the
+-- pictures of their references
+pub record Gives (old : StoreValue) (at : ℕ) (job : JobValue) (new : StoreValue) : Type 0 where
+  pub before : List (ℕ × Outcome)
+  pub id : ℕ
+  pub plan : Plan
+  pub after : List (ℕ × Outcome)
+  pub stands : units_of old ≡ before ++ (id, outcomes.Plan plan) ∷ after
+  pub at_is : at ≡ length before
+  pub due : IsDue old (key_of (known_after [] before) plan.requests)
+  pub number_is : job.number ≡ old.given + 1
+  pub requests_are : job.input.requests ≡ plan.requests
+  pub shows : ShowsKnown (known_after [] before) job.input
+  pub new_is : new ≡ record old {
+    out = old.out ++ (record {
+      number = job.number;
+      key = key_of (known_after [] before) plan.requests;
+      input = job.input;
+    }) ∷ [];
+    given = job.number;
+  }
+
 -- what `take` answers: a job, that none is due, or why none is given though one is due
 abbrev pub AnswersTake : StoreValue → Result (Option JobValue) TakeRefused → StoreValue → Type 0
 AnswersTake old (Ok (Some job)) new = Takes old job new

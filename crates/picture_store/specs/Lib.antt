@@ -13,3 +13,5 @@ pub mod Stretches
 pub mod Needs
 pub mod Inputs
 pub mod Showing
+pub mod Pending
+pub mod TakingFor

@@ -47,6 +47,10 @@ abbrev pub IsNumberOf : StoreValue → Key → ℕ → Type 0
 IsNumberOf store key number =
     (at : ℕ) × (slice_get (unit_keys store) at ≡ Some (Some key)) × (slice_get store.numbers at ≡ Some (Some number))
 
+-- each key in use has a number
+abbrev pub AreNumbered : StoreValue → Type 0
+AreNumbered store = (key : Key) → IsInUse store key → (number : ℕ) × IsNumberOf store key number
+
 -- the number is that of a key in use
 abbrev pub IsNumberInUse : StoreValue → ℕ → Type 0
 IsNumberInUse store number = (key : Key) × IsNumberOf store key number

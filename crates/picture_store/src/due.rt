@@ -1,14 +1,15 @@
 //! Which key is due: its picture is wanted, no job makes it, and the pictures that it refers to are held.
 
-ghost use Rattle.std.specs.Prelude.{◌≡◌, ◌<◌, ◌↔◌, ℕ, Option, Some, None, length, take, All, IfSome, IsSome, IsTrue, MatchOption, slice_index_or};
+ghost use Rattle.std.specs.Prelude.{◌≡◌, ◌<◌, ◌↔◌, ℕ, Option, Some, None, length, take, All, Contains, IfSome, IsSome, IsTrue, MatchOption, slice_get, slice_index_or};
 ghost use Rattle.picture_store.specs.Kept.{AreRight};
 ghost use Rattle.key_places.specs.Places.{place_at};
-ghost use Rattle.picture_store.specs.Due.{AreHeld, IsDueNumber, IsHeld, IsNotDue};
+ghost use Rattle.picture_store.specs.Due.{AreHeld, IsDueNumber, IsDueThere, IsEarliestDue, IsNotDue};
 ghost use Rattle.picture_store.specs.Settled.{AreSettled, NeedsNone};
 
 use crate::job_out::{JobOut, is_out};
 use dep_keys::{Fingerprint, KeyId, Keys};
 use key_places::Places;
+use needed_units::is_held;
 use picture_keys::Works;
 use stand_in_device::Picture;
 
@@ -65,6 +66,59 @@ pub(crate) fn first_due<F: Fingerprint<Works>>(
     None
 }
 
+/// The earliest of these places, the last one first, whose unit's key is due, and that key.
+pub(crate) fn earliest_due<F: Fingerprint<Works>>(
+    keys: &Keys<Works, F>,
+    places: &Places<Picture>,
+    out: &[JobOut],
+    found: &[Option<KeyId>],
+    needed: &[usize],
+) -> Option<(usize, KeyId)>
+    requires { AreRight keys.now places.now }
+    ensures { MatchOption result
+        ((at : ℕ) → Contains needed.now at
+        → IsDueThere keys.now places.now out.now found.now at → ⊥)
+        (λ due. IsEarliestDue keys.now places.now out.now found.now needed.now due.0 due.1) }
+{
+    let mut left = needed.len();
+    while left > 0 {
+        left -= 1;
+        let at = needed[left];
+        if let Some(key) = due_key(keys, places, out, key_at(found, at)) {
+            return Some((at, key));
+        }
+    }
+    None
+}
+
+/// The key of the unit at a place.
+fn key_at(found: &[Option<KeyId>], at: usize) -> Option<KeyId>
+    ensures { (number : ℕ) → result ≡ Some number
+        ↔ (slice_get found.now at ≡ Some (Some number)) }
+{
+    match found.get(at) {
+        Some(key) => *key,
+        None => None,
+    }
+}
+
+/// The key of a unit, where it has one that is due.
+fn due_key<F: Fingerprint<Works>>(
+    keys: &Keys<Works, F>,
+    places: &Places<Picture>,
+    out: &[JobOut],
+    key: Option<KeyId>,
+) -> Option<KeyId>
+    requires { AreRight keys.now places.now }
+    ensures { MatchOption result (IsNotDue keys.now places.now out.now key)
+        (λ due. (key ≡ Some due) × IsDueNumber keys.now places.now out.now due) }
+{
+    match key {
+        Some(key) if is_due(keys, places, out, key) => Some(key),
+        _ => None,
+    }
+}
+
 /// Whether a unit has a key that is due.
 fn has_due<F: Fingerprint<Works>>(
     keys: &Keys<Works, F>,
@@ -118,11 +172,4 @@ fn are_held(places: &Places<Picture>, entries: &[Option<KeyId>]) -> bool
         }
     }
     true
-}
-
-/// Whether the picture of a key is held.
-fn is_held(places: &Places<Picture>, key: KeyId) -> bool
-    ensures { IsTrue result ↔ IsHeld places.now key }
-{
-    matches!(places.get(key), Some(Some(_)))
 }

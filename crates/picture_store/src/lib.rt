@@ -3,15 +3,17 @@
 //!
 //! `PictureStore` knows a stream by its units' ids and what becomes of each. `refit` takes a stretch of it that changed,
 //! and finds the keys of its units and of those after it whose keys may have changed with it: a picture whose key stays in
-//! use stays held. `take` gives the job of the earliest picture that can be decoded, `land` takes its result, late or twice,
-//! `give_back` the job undone, and `picture` shows what is held. Below are picture_keys, which gives keys their numbers, and
-//! picture_cache; above is the session.
+//! use stays held. `take` gives the job of the earliest picture that can be decoded, `take_for` that of the earliest which a
+//! unit needs, `land` takes its result, late or twice, `give_back` the job undone, `picture` shows what is held, and
+//! `drop_picture` lets it go. Below are needed_units, picture_keys, which gives keys their numbers, and picture_cache; above
+//! is the session.
 #![tactic(auto)]
 
 mod answers;
 mod due;
 mod inputs;
 mod job_out;
+mod laws;
 mod naming;
 mod recounting;
 mod refitting;
@@ -20,6 +22,7 @@ mod store;
 mod stretch;
 
 pub use answers::{JobAt, Landing, Returning};
+pub use laws::something_is_due;
 pub use picture_cache::MOST_ROOM;
 pub use refitting::numbers_of;
 pub use refusals::TakeRefused;

@@ -53,7 +53,7 @@ pub(crate) fn make_ready(
     Ok(leaving)
 }
 
-/// Counts the keys of the units that come, for which there is room, and then those of units that go. Memory is wanted for
+/// Counts the keys of the units that come, for which there is room, and then those of units that go. Memory runs out for
 /// the cache alone.
 pub(crate) fn recount(
     places: &mut Places<Picture>,

@@ -1,21 +1,23 @@
 //! The store: pictures that are held or cached, and jobs that are out.
 
-ghost use Rattle.std.specs.Prelude.{◌≡◌, ℕ, ◌≤◌, ◌<◌, ◌↔◌, length, Contains, Some, IsTrue, IfOk, OnOk, OnErr};
+ghost use Rattle.std.specs.Prelude.{◌≡◌, ℕ, ◌≤◌, ◌<◌, ◌↔◌, length, Contains, None, Some, IsTrue, IfOk, OnOk, OnErr, slice_get};
 ghost use Rattle.std.specs.List.{zip};
 ghost use Rattle.std.specs.Prelude.{[]};
 ghost use Rattle.picture_cache.specs.Bounded.{most_room};
 ghost use Rattle.picture_keys.specs.Decodable.{AllCanDecode};
-ghost use Rattle.picture_store.specs.Stores.{empty, AreOneToOne, IsNumberInUse};
+ghost use Rattle.picture_store.specs.Stores.{empty, AreNumbered, AreOneToOne, IsNumberInUse};
 ghost use Rattle.picture_store.specs.Changes.{Refits};
 ghost use Rattle.picture_store.specs.Jobs.{AnswersGiveBack, AnswersLand, TellsTake};
 ghost use Rattle.key_places.specs.Places.{uses_at};
 ghost use Rattle.picture_store.specs.Filling.{IsFilled};
 ghost use Rattle.picture_store.specs.Showing.{IsNumberAt, IsPictureAt};
 ghost use Rattle.picture_store.specs.Needs.{TellNeeds};
+ghost use Rattle.picture_store.specs.Pending.{IsAnyOutBy, IsDueAt, IsPending};
+ghost use Rattle.picture_store.specs.TakingFor.{AnswersDrop, TellsGiven, TellsTakeFor};
 ghost use Rattle.picture_store.specs.Stretches.{IsStretch, ids_with, outcomes_with};
 
 use crate::answers::{JobAt, Landing, Returning};
-use crate::due::{first_due, first_to_do, is_awaited};
+use crate::due::{earliest_due, first_due, first_to_do, is_awaited};
 use crate::inputs::input_of;
 use crate::job_out::{JobOut, place_of};
 use crate::naming::references_of;
@@ -28,6 +30,7 @@ use checkpoints::Checkpoints;
 use dep_keys::{KeyId, Keys, Sha256Fingerprint};
 use hashed_units::HashedOutcome;
 use key_places::Places;
+use needed_units::{Units, is_held, needed_places};
 use picture_cache::PictureCache;
 use picture_keys::Works;
 use pictures::AuId;
@@ -141,8 +144,16 @@ impl PictureStore {
         self.outcomes.as_slice()
     }
 
+    /// The number of each unit's key, in the order of the stream; nothing for a unit that isn't valid.
+    pub fn numbers(&self) -> &[Option<KeyId>]
+        ensures value { result.now ≡ self.now.numbers }
+        ensures numbered { AreNumbered self.now }
+    {
+        self.found.as_slice()
+    }
+
     /// Takes a stretch of units in the place of another one. A picture whose key stays in use stays held, and one that is
-    /// cached is held again where its key comes into use. Where memory is wanted, nothing changes; but a picture whose key
+    /// cached is held again where its key comes into use. Where memory runs out, nothing changes; but a picture whose key
     /// goes out of use is cached only where memory is found for it.
     ///
     /// The keys of the units in front of the stretch stay as they are; those of its units and of the units after it are
@@ -235,7 +246,10 @@ impl PictureStore {
 
     /// Gives the earliest picture that is due to be decoded, under the next number.
     pub fn take(&mut self) -> Result<Option<JobAt>, TakeRefused>
-        ensures { TellsTake self.old result self.new }
+        ensures tells { TellsTake self.old result self.new }
+        // A pending unit stays so only as long as a job is out.
+        ensures waits { IfOk result (λ told. told ≡ None
+            → (at : ℕ) → IsPending self.old at → IsAnyOutBy self.old at) }
     {
         let settled = first_to_do(&self.places, &self.out, &self.found, self.settled);
         self.settled = settled;
@@ -246,6 +260,39 @@ impl PictureStore {
         let Some(key) = self.found[at] else {
             return Ok(None);
         };
+        Ok(Some(self.give(at, key)?))
+    }
+
+    /// Gives the earliest picture that is due of those that the picture of the unit at a place needs, under the next
+    /// number. Its unit needn't be the first of the stream that has its key.
+    pub fn take_for(&mut self, at: usize) -> Result<Option<JobAt>, TakeRefused>
+        requires { at < length self.old.ids }
+        ensures tells { TellsTakeFor self.old at result self.new }
+        // A pending unit stays so only as long as the job of a unit that it needs is out.
+        ensures waits { IfOk result (λ told. told ≡ None
+            → IsPending self.old at → IsAnyOutBy self.old at) }
+    {
+        let units = Units {
+            keys: &self.keys,
+            places: &self.places,
+            ids: &self.ids,
+            outcomes: &self.outcomes,
+            found: &self.found,
+        };
+        let needed = needed_places(self.alloc, &units, at)?;
+        let due = earliest_due(&self.keys, &self.places, &self.out, &self.found, &needed);
+        let Some((place, key)) = due else {
+            return Ok(None);
+        };
+        Ok(Some(self.give(place, key)?))
+    }
+
+    /// Gives the job of the unit at a place, whose key is due, under the next number.
+    fn give(&mut self, at: usize, key: KeyId) -> Result<JobAt, TakeRefused>
+        requires number { slice_get self.old.numbers at ≡ Some (Some key) }
+        requires due { IsDueAt self.old at }
+        ensures { TellsGiven self.old at result self.new }
+    {
         let Some(number) = self.given.checked_add(1) else {
             return Err(TakeRefused::JobsSpent);
         };
@@ -260,7 +307,7 @@ impl PictureStore {
         });
         self.given = number;
         let job = Job::new(number, input);
-        Ok(Some(JobAt { at, job }))
+        Ok(JobAt { at, job })
     }
 
     /// Takes the result of a job. It takes no memory.
@@ -288,6 +335,29 @@ impl PictureStore {
             }
             None => Returning::Foreign,
         }
+    }
+
+    /// Drops the picture of the unit at a place, and says whether it was held. It isn't cached, and it takes no memory.
+    pub fn drop_picture(&mut self, at: usize) -> bool
+        requires { at < length self.old.ids }
+        ensures { AnswersDrop self.old at result self.new }
+    {
+        let Some(key) = self.found[at] else {
+            return false;
+        };
+        if !is_held(&self.places, key) {
+            return false;
+        }
+        self.places.empty(key);
+        self.settled = 0;
+        true
+    }
+
+    /// Drops the pictures that are cached. It takes no memory.
+    pub fn clear_cache(&mut self)
+        ensures { self.new ≡ record self.old { cached = [] } }
+    {
+        self.cache.clear();
     }
 }
 

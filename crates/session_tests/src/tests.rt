@@ -7,6 +7,7 @@ mod groups;
 mod jobs;
 mod limits;
 mod many;
+mod needed;
 mod random;
 mod running;
 mod stretches;

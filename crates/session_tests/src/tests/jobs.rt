@@ -2,7 +2,7 @@
 
 use super::{A, I, P1, P2, row_holds, runner_of};
 use edit_engine::{
-    Command, Config, Landing, NotOut, Picture, Reply, Returning, Runner, Shown, run,
+    Command, Config, Dropping, Landing, NotOut, Picture, Reply, Returning, Runner, Shown, run,
 };
 use pictures::AuId;
 use session_builders::{Told, edit_of};
@@ -21,7 +21,7 @@ const NON_REFERENCE: &[u8] = &[0, 0, 1, 0x01, 0x9A, 0x47];
 const OTHER_NON_REFERENCE: &[u8] = &[0, 0, 1, 0x01, 0x9A, 0x46];
 
 /// The IDR picture alone, with other slice data.
-const I1: &[u8] = &[0, 0, 1, 0x65, 0x88, 0x84, 0x81];
+pub(super) const I1: &[u8] = &[0, 0, 1, 0x65, 0x88, 0x84, 0x81];
 
 /// A with other slice data, twice.
 pub(super) const A1: &[u8] = &[
@@ -48,6 +48,9 @@ pub(super) enum Act {
     /// The job of this number, with this unit.
     Take(u64, u32),
     TakesNone,
+    /// For the unit of this id the job of this number, with this unit.
+    TakeFor(u32, u64, u32),
+    TakesNoneFor(u32),
     Land(u64, Landing),
     LandsNone(u64),
     Give(u64),
@@ -57,8 +60,12 @@ pub(super) enum Act {
     Fault(u32, u8),
     Empty(u32),
     Gone(u32),
+    Drop(u32, Dropping),
+    ClearCache,
     /// Jobs are taken and landed until none is due.
     Settle,
+    /// Jobs are taken for the unit of this id and landed until none is due.
+    SettleFor(u32),
 }
 
 /// A unit in the middle is deleted, and inserted again: what comes after it has its picture again.
@@ -256,10 +263,15 @@ fn command_of(act: Act) -> Command {
     match act {
         Act::Edit(told) => Command::Edit(edit_of(told)),
         Act::Take(..) | Act::TakesNone | Act::Settle => Command::Take,
+        Act::TakeFor(id, _, _) | Act::TakesNoneFor(id) | Act::SettleFor(id) => {
+            Command::TakeFor(AuId::new(id))
+        }
         Act::Land(number, _) | Act::LandsNone(number) => Command::Land(number),
         Act::Give(number) | Act::GivesNone(number) => Command::GiveBack(number),
         Act::Ready(id) | Act::Pending(id) | Act::Fault(id, _) => Command::Show(AuId::new(id)),
         Act::Empty(id) | Act::Gone(id) => Command::Show(AuId::new(id)),
+        Act::Drop(id, _) => Command::Drop(AuId::new(id)),
+        Act::ClearCache => Command::ClearCache,
     }
 }
 
@@ -271,6 +283,12 @@ fn is_reply(reply: &Reply, act: Act) -> bool {
             taken.number == number && taken.unit.number() == unit
         }
         (Reply::Take(Ok(taken)), Act::TakesNone) => taken.is_none(),
+        (Reply::TakeFor(Ok(Some(taken))), Act::TakeFor(_, number, unit)) => {
+            taken.number == number && taken.unit.number() == unit
+        }
+        (Reply::TakeFor(Ok(taken)), Act::TakesNoneFor(_)) => taken.is_none(),
+        (Reply::Dropped(dropping), Act::Drop(_, wanted)) => *dropping == wanted,
+        (Reply::Cleared, Act::ClearCache) => true,
         (Reply::Land(Ok(landing)), Act::Land(_, wanted)) => *landing == wanted,
         (Reply::Land(Err(NotOut)), Act::LandsNone(_)) => true,
         (Reply::GiveBack(Ok(returning)), Act::Give(_)) => *returning == Returning::Returned,
@@ -292,10 +310,10 @@ fn is_shown(shown: Shown, act: Act) -> bool {
     }
 }
 
-/// Takes and lands jobs until none is due, at most a hundred; whether that came to its end.
-fn settle(runner: &mut Runner) -> Result<bool, AllocError> {
+/// Takes jobs by an act's command and lands them until none is due, at most a hundred; whether that came to its end.
+fn settle(runner: &mut Runner, act: Act) -> Result<bool, AllocError> {
     for _ in 0..100 {
-        let Some(number) = taken(runner)? else {
+        let Some(number) = number_taken(&runner.step(command_of(act))?) else {
             return Ok(true);
         };
         runner.step(Command::Land(number))?;
@@ -303,15 +321,10 @@ fn settle(runner: &mut Runner) -> Result<bool, AllocError> {
     Ok(false)
 }
 
-/// The number of the job that is taken, if one is.
-fn taken(runner: &mut Runner) -> Result<Option<u64>, AllocError> {
-    Ok(number_taken(&runner.step(Command::Take)?))
-}
-
 /// The number of the job of a reply, if it has one.
 fn number_taken(reply: &Reply) -> Option<u64> {
     match reply {
-        Reply::Take(Ok(Some(taken))) => Some(taken.number),
+        Reply::Take(Ok(Some(taken))) | Reply::TakeFor(Ok(Some(taken))) => Some(taken.number),
         _ => None,
     }
 }
@@ -319,13 +332,13 @@ fn number_taken(reply: &Reply) -> Option<u64> {
 /// The runner answers the act so.
 pub(super) fn holds(runner: &mut Runner, act: Act) -> Result<bool, AllocError> {
     match act {
-        Act::Settle => settle(runner),
+        Act::Settle | Act::SettleFor(_) => settle(runner, act),
         _ => Ok(is_reply(&runner.step(command_of(act))?, act)),
     }
 }
 
 /// The runner answers all acts so.
-fn all_hold(mut runner: Runner, acts: &[Act]) -> Result<bool, AllocError> {
+pub(super) fn all_hold(mut runner: Runner, acts: &[Act]) -> Result<bool, AllocError> {
     for act in acts {
         if !holds(&mut runner, *act)? {
             return Ok(false);
@@ -374,7 +387,7 @@ fn are_replies(replies: &[Reply], acts: &[Act]) -> bool {
 }
 
 /// A run of the acts' commands replies so to each, whatever is out at the end.
-fn runs(alloc: Global, acts: &[Act]) -> Result<bool, AllocError> {
+pub(super) fn runs(alloc: Global, acts: &[Act]) -> Result<bool, AllocError> {
     let commands = commands_of(alloc, acts)?;
     let replies = run(alloc, Config { cache: 64 }, &commands)?;
     Ok(are_replies(&replies, acts))
@@ -391,7 +404,7 @@ fn a_run_replies_about_jobs(rt: HostRuntime) -> Result<(), Fail> {
 /// Whether the picture of A, decoded, is this one.
 fn shows_a(mut runner: Runner, picture: Picture) -> Result<bool, AllocError> {
     runner.step(Command::Edit(edit_of(Told::First(A))))?;
-    settle(&mut runner)?;
+    settle(&mut runner, Act::Settle)?;
     match runner.step(Command::Show(AuId::new(1)))? {
         Reply::Show(shown) => Ok(shown == Shown::Ready(picture)),
         _ => Ok(false),

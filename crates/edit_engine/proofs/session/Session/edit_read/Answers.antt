@@ -30,4 +30,4 @@ returns c =
     let moves = rw (c.of_edit-entry.ensures, c.into_edit.ensures, ← c.self.view_is) at c.in_ok-steps.ensures.ok in
     let number : c.len.result ≡ length c.make.new.self.journal =
     rw (← c.self-2.view_is) (omega (arith, c.len.ensures, c.self-2.inside.journal.ok.0)) in
-    rw (← c.self.view_is) (Edits-moved _ c.args.read accepted c.in_ok-steps.steps c.len.result c.make.new.self for moves number)
+    rw (← c.self.view_is) (Edits-moved _ c.args.read accepted c.in_ok-steps.steps c.hashed-hashed.result c.len.result c.make.new.self for moves number c.hashed-hashed.ensures)

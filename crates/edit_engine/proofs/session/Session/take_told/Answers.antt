@@ -1,4 +1,4 @@
-use Rattle.std.proofs.Common.{◌≡◌, ℕ, ◌<◌, List, length, None, subst, ap, ◌∙◌, get_or, arith}
+use Rattle.std.proofs.Common.{◌≡◌, ℕ, ◌<◌, List, length, None, subst, ap, ◌∙◌, get_or, refl, arith}
 use Rattle.std.specs.Prelude.{Ok, Err}
 use Rattle.std.proofs.lemmas.List.{length-map}
 use Rattle.picture_store.specs.Stores.{StoreValue}
@@ -6,6 +6,7 @@ use Rattle.stream_edits.specs.Streams.{ids_of}
 use Rattle.edit_engine.specs.Machines.{Machine}
 use Rattle.edit_engine.specs.Jobs.{AnswersTake}
 use Rattle.edit_engine.specs.Kept.{machine_of}
+use Rattle.edit_engine.proofs.Needed.{all_wait}
 use Rattle.edit_engine.proofs.Pictured.{IsOf, IsOf-kept, take_seen}
 use Rattle.edit_engine.proofs.Told.{id_read, within_stream, told_seen}
 use Rattle.edit_engine.proofs.session.Session.take_told.Goals as goal
@@ -16,7 +17,7 @@ bounds-ids-at c =
     let s = c.self.inside in
     let is : IsOf s.ordered.folded.stream s.store =
     IsOf-kept s.journal.items (record { given = s.given; stream = s.ordered.folded.stream }) s.store c.self.invariant in
-    let told = rw c.in-Ok-Some.field-0-is at c.in-Ok-Some.ensures in
+    let told = rw c.in-Ok-Some.field-0-is at c.in-Ok-Some.ensures.tells in
     let stay : c.take.new.self.ids ≡ s.store.ids = ap (λ (store : StoreValue). store.ids) told.0.new_is in
     omega (
       arith,
@@ -32,7 +33,7 @@ offset_bounds-ids-at c =
     let s = c.self.inside in
     let is : IsOf s.ordered.folded.stream s.store =
     IsOf-kept s.journal.items (record { given = s.given; stream = s.ordered.folded.stream }) s.store c.self.invariant in
-    let told = rw c.in-Ok-Some.field-0-is at c.in-Ok-Some.ensures in
+    let told = rw c.in-Ok-Some.field-0-is at c.in-Ok-Some.ensures.tells in
     omega (
       arith,
       told.1,
@@ -41,14 +42,14 @@ offset_bounds-ids-at c =
       c.self.invariant.bounded,
     )
 
-pub returns : goal.returns
-returns c =
+pub returns-clause-tells : goal.returns-clause-tells
+returns-clause-tells c =
     let s = c.self.inside in
     let is : IsOf s.ordered.folded.stream s.store =
     IsOf-kept s.journal.items (record { given = s.given; stream = s.ordered.folded.stream }) s.store c.self.invariant in
     elim c.match-take.branch [
       | in-Ok-Some w ↦
-          let told = rw w.in-Ok-Some.field-0-is at (w.in-Ok-Some.ensures {u = tt}) in
+          let told = rw w.in-Ok-Some.field-0-is at (w.in-Ok-Some.ensures {u = tt}).tells in
           let stay : c.take.new.self.ids ≡ s.store.ids = ap (λ (store : StoreValue). store.ids) told.0.new_is in
           let same : w.ids.result.now ≡ ids_of s.ordered.folded.stream = w.ids.ensures ∙ (stay ∙ is.identified) in
           let within : w.in-Ok-Some.field-0-0.at < length (ids_of s.ordered.folded.stream) = omega (
@@ -63,7 +64,7 @@ returns c =
           w.index-ids-at.result
           (id_read s.ordered.folded.stream w.in-Ok-Some.field-0-0.at (length told.0.before) w.index-ids-at.result told.1 within read))
       | in-Ok-None w ↦
-          let told = rw w.in-Ok-None.field-0-is at (w.in-Ok-None.ensures {u = tt}) in
+          let told = rw w.in-Ok-None.field-0-is at (w.in-Ok-None.ensures {u = tt}).tells in
           rw (w.result-is, ← c.self.view_is)
           (take_seen s.journal.items (record { given = s.given; stream = s.ordered.folded.stream }) s.store c.take.new.self is (Ok None) told)
       | in-Err w ↦
@@ -71,5 +72,19 @@ returns c =
           (subst (λ (old : Machine). AnswersTake old (Err w.in-Err.refused) (machine_of s.journal.items (record { given = s.given; stream = s.ordered.folded.stream }) c.take.new.self))
           c.self.view_is
           (take_seen s.journal.items (record { given = s.given; stream = s.ordered.folded.stream }) s.store c.take.new.self is
-          (Err w.in-Err.refused) (w.in-Err.ensures {u = tt})))
+          (Err w.in-Err.refused) (w.in-Err.ensures {u = tt}).tells))
+    ]
+
+pub returns-clause-waits : goal.returns-clause-waits
+returns-clause-waits c =
+    let s = c.self.inside in
+    let is : IsOf s.ordered.folded.stream s.store =
+    IsOf-kept s.journal.items (record { given = s.given; stream = s.ordered.folded.stream }) s.store c.self.invariant in
+    elim c.match-take.branch [
+      | in-Ok-Some w ↦ rw w.result-is (λ none. absurd cc)
+      | in-Ok-None w ↦
+          let waits = rw w.in-Ok-None.field-0-is at (w.in-Ok-None.ensures {u = tt}).waits in
+          rw (w.result-is, ← c.self.view_is)
+          (λ none. all_wait s.journal.items (record { given = s.given; stream = s.ordered.folded.stream }) s.store is (waits refl))
+      | in-Err w ↦ rw w.result-is tt
     ]

@@ -1,0 +1,111 @@
+-- Needed units of a session are those of its store.
+use Rattle.std.proofs.Common.{◌≡◌, refl, sym, ap, ◌∙◌, subst, ℕ, ◌<◌, List, length, Option, None, Some}
+use Rattle.std.specs.Prelude.{slice_get, Bool, true, false, Ok, Err}
+use Rattle.std.proofs.lemmas.Option.{same_Some}
+use Rattle.outcomes.specs.declared.outcome.Outcome.TheVariants.{Plan as Planned}
+use Rattle.stand_in_device.specs.Jobs.{JobValue}
+use Rattle.picture_store.specs.declared.refusals.TakeRefused.{TakeRefused}
+use Rattle.picture_store.specs.declared.refusals.TakeRefused.TheVariants.{JobsSpent, Memory}
+use Rattle.picture_store.specs.Jobs.{Gives, most_jobs}
+use Rattle.picture_store.specs.Pending.{IsPending, IsAnyDueBy, IsAnyOutBy}
+use Rattle.picture_store.specs.Stores.{StoreValue}
+use Rattle.picture_store.specs.TakingFor as pictures
+use Rattle.stream_edits.specs.declared.edits.Edit.{Edit}
+use Rattle.stream_edits.specs.Edits.{Register}
+use Rattle.stream_edits.specs.Streams.{Stream, ids_of, place_of}
+use Rattle.edit_engine.specs.Kept.{machine_of}
+use Rattle.edit_engine.specs.Machines.{Machine, store_of}
+use Rattle.edit_engine.specs.Needing.{IsPendingIn, IsAnyDueFor, IsAnyOutFor, TakesFor, TellsTakeFor, AnswersDrop}
+use Rattle.edit_engine.specs.declared.showing.Dropping.TheVariants.{Dropped, NotHeld}
+use Rattle.edit_engine.proofs.Pictured.{IsOf, IsOf-stays, UnitsStay, both_seen, one_seen, same_units, store_is}
+use Rattle.edit_engine.proofs.Told.{within_ids}
+
+-- where nothing has the id, nothing needs
+pub none_there : {P : ℕ → Type 0} (place : Option ℕ) → place ≡ None → ((at : ℕ) × (place ≡ Some at) × P at) → ⊥
+none_there place none (at, is, p) = let no : ◌≡◌ {A = Option ℕ} None (Some at) = sym none ∙ is in cc
+
+-- where a job is given
+pub UnitsStay-gives : (old : StoreValue) (at : ℕ) (job : JobValue) (new : StoreValue) → Gives old at job new → UnitsStay old new
+UnitsStay-gives old at job new gives = same_units old new _ gives.new_is refl refl
+
+-- where a picture is dropped
+pub UnitsStay-drop : (old : StoreValue) (at : ℕ) (dropped : Bool) (new : StoreValue)
+    → pictures.AnswersDrop old at dropped new → UnitsStay old new
+UnitsStay-drop old at true new is = same_units old new _ is.4 refl refl
+UnitsStay-drop old at false new is = same_units old new old is.1 refl refl
+
+module _ (journal : List (List Edit)) (register : Register) (store : StoreValue) (is : IsOf register.stream store) where
+  -- a pending unit of the session is one of its store
+  pub pending_stored : (at : ℕ) → IsPending (store_of (machine_of journal register store)) at → IsPending store at
+  pending_stored at pending =
+      subst (λ (s : StoreValue). IsPending s at) (store_is journal register store is) pending
+
+  pub out_seen : (at : ℕ) → IsAnyOutBy store at → IsAnyOutBy (store_of (machine_of journal register store)) at
+  out_seen at out = one_seen (λ (s : StoreValue). IsAnyOutBy s at) journal register store is out
+
+  -- where a pending unit's needed unit is out in the store, it is so in the session
+  pub all_wait : ((at : ℕ) → IsPending store at → IsAnyOutBy store at) → (id : ℕ)
+      → IsPendingIn (machine_of journal register store) id → IsAnyOutFor (machine_of journal register store) id
+  all_wait waits id pending =
+      (pending.0, pending.1, out_seen pending.0 (waits pending.0 (pending_stored pending.0 pending.2)))
+
+  module _ (id target : ℕ) (stands : place_of register.stream id ≡ Some target) where
+    pub one_waits : (IsPending store target → IsAnyOutBy store target) → IsPendingIn (machine_of journal register store) id
+        → IsAnyOutFor (machine_of journal register store) id
+    one_waits waits pending =
+        let same : pending.0 ≡ target = same_Some pending.0 target (sym pending.1 ∙ stands) in
+        (target, stands, out_seen target (waits (subst (IsPending store) same (pending_stored pending.0 pending.2))))
+
+    -- a needed unit is due in the session where one is in the store
+    pub due_seen : IsAnyDueBy store target → IsAnyDueFor (machine_of journal register store) id
+    due_seen due = (target, stands, one_seen (λ (s : StoreValue). IsAnyDueBy s target) journal register store is due)
+
+    pub due_stored : IsAnyDueFor (machine_of journal register store) id → IsAnyDueBy store target
+    due_stored due =
+        subst (IsAnyDueBy store) (same_Some due.0 target (sym due.1 ∙ stands))
+        (subst (λ (s : StoreValue). IsAnyDueBy s due.0) (store_is journal register store is) due.2)
+
+    -- what is taken for the unit in the store is taken in the session
+    pub takes_seen : (at unit : ℕ) (job : JobValue) (new : StoreValue)
+        → pictures.TakesFor store target (record { at = at; job = job }) new → slice_get (ids_of register.stream) at ≡ Some unit
+        → TakesFor (machine_of journal register store) id unit job (machine_of journal register new)
+    takes_seen at unit job new takes unit_is = record {
+      target = target;
+      target_is = stands;
+      at = at;
+      unit_is = unit_is;
+      takes =
+          both_seen (λ (before after : StoreValue). pictures.TakesFor before target (record { at = at; job = job }) after)
+          journal journal register register store new is
+          (IsOf-stays register.stream store new is (UnitsStay-gives store at job new takes.gives)) takes;
+      stream = (refl, refl);
+    }
+
+    -- a picture that is dropped in the store is dropped in the session
+    pub drop_seen : (dropped : Bool) (new : StoreValue) → pictures.AnswersDrop store target dropped new
+        → pictures.AnswersDrop (store_of (machine_of journal register store)) target dropped
+        (store_of (machine_of journal register new))
+    drop_seen dropped new answers =
+        both_seen (λ (before after : StoreValue). pictures.AnswersDrop before target dropped after) journal journal register register
+        store new is (IsOf-stays register.stream store new is (UnitsStay-drop store target dropped new answers)) answers
+
+    -- that none is due
+    pub none_seen : (new : StoreValue) → pictures.TellsTakeFor store target (Ok None) new
+        → TellsTakeFor (machine_of journal register store) id (Ok None) (machine_of journal register new)
+    none_seen new told =
+        (λ due. told.0 (due_stored due), ap (λ (s : StoreValue). machine_of journal register s) told.1)
+
+    -- why no job is given
+    pub refused_seen : (refused : TakeRefused) (new : StoreValue) → pictures.TellsTakeFor store target (Err refused) new
+        → TellsTakeFor (machine_of journal register store) id (Err refused) (machine_of journal register new)
+    refused_seen JobsSpent new told =
+        (due_seen told.0, told.1, ap (λ (s : StoreValue). machine_of journal register s) told.2)
+    refused_seen Memory new told = ap (λ (s : StoreValue). machine_of journal register s) told
+
+-- a job that is given is of a unit of the stream
+pub gives_within : (stream : Stream) (old : StoreValue) → IsOf stream old → (at : ℕ) (job : JobValue) (new : StoreValue)
+    → Gives old at job new → at < length (ids_of stream)
+gives_within stream old is at job new gives =
+    let within = within_ids old.ids old.outcomes gives.before (gives.id, Planned gives.plan) gives.after gives.stands in
+    subst (λ n. n < length (ids_of stream)) (sym gives.at_is)
+    (subst (λ (ids : List ℕ). length gives.before < length ids) is.identified within)

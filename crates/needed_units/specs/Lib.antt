@@ -1,0 +1,4 @@
+pub mod Columns
+pub mod Held
+pub mod Needed
+pub mod Scanned

@@ -1,0 +1,102 @@
+-- What is held where the picture of a key is dropped.
+use Rattle.std.proofs.Common.{◌≡◌, refl, sym, ap, subst, ◌∙◌, ℕ, ◌<◌, List, Option, None, Some, IsSome, Contains, ◌↔◌, Bool, true, false, ◌==◌, if◌then◌else◌}
+use Rattle.std.specs.List.{zip}
+use Rattle.std.specs.Map.{keys_of as numbers_of}
+use Rattle.std.proofs.lemmas.Bool.{eqb-true, eq-eqb}
+use Rattle.outcomes.specs.declared.outcome.Outcome.{Outcome}
+use Rattle.dep_keys.specs.KeyMaps.{tree_at}
+use Rattle.stand_in_device.specs.declared.picture.Picture.{Picture}
+use Rattle.picture_keys.specs.Keys.{Key}
+use Rattle.key_places.specs.Places.{place_at, numbers_held}
+use Rattle.key_places.proofs.Held.{held_found, found_held}
+use Rattle.picture_store.specs.declared.job_out.JobOut.{JobOut}
+use Rattle.picture_store.specs.Places.{PlacesValue}
+use Rattle.picture_store.specs.Due.{IsHeld}
+use Rattle.picture_store.specs.Kept.{Trees, key_for, keys_for, IsRight, IsKept}
+use Rattle.picture_store.proofs.Lifting.{for_contains, contains_for}
+use Rattle.picture_store.proofs.Stays.{key_is}
+
+module _ (keys : Trees) (ids : List ℕ) (outcomes : List Outcome) (found : List (Option ℕ)) (places more : PlacesValue)
+    (cached : List (ℕ × Picture)) (out : List JobOut) (kept : IsKept keys ids outcomes found places cached out) (number : ℕ)
+    (held : IsHeld places number)
+    (emptied : (other : ℕ) → place_at more other ≡ (if number == other then Some None else place_at places other)) where
+  -- a picture that is held afterwards was held, and is of another key
+  still_held : (other : ℕ) (picture : Picture) → place_at more other ≡ Some (Some picture)
+      → (place_at places other ≡ Some (Some picture)) × (number ≡ other → ⊥)
+  still_held other picture is = by_same (number == other) refl (sym (emptied other) ∙ is)
+    where
+      by_same : (b : Bool) → b ≡ (number == other)
+          → (if b then Some None else place_at places other) ≡ Some (Some picture)
+          → (place_at places other ≡ Some (Some picture)) × (number ≡ other → ⊥)
+      by_same true same place = absurd cc
+      by_same false same place = (place, λ one. let yes : (number == other) ≡ true = eq-eqb number other one in cc)
+
+  -- and the other way round
+  held_still : (other : ℕ) (picture : Picture) → place_at places other ≡ Some (Some picture) → (number ≡ other → ⊥)
+      → place_at more other ≡ Some (Some picture)
+  held_still other picture is apart = emptied other ∙ by_same (number == other) refl
+    where
+      by_same : (b : Bool) → b ≡ (number == other)
+          → (if b then Some None else place_at places other) ≡ Some (Some picture)
+      by_same true same = absurd (apart (eqb-true number other (sym same)))
+      by_same false same = is
+
+  used_some : (other : ℕ) → IsSome (place_at more other) ↔ IsSome (place_at places other)
+  used_some other = subst (λ (place : Option (Option Picture)). IsSome place ↔ IsSome (place_at places other)) (sym (emptied other)) (by_same (number == other) refl)
+    where
+      by_same : (b : Bool) → b ≡ (number == other)
+          → IsSome (if b then Some None else place_at places other) ↔ IsSome (place_at places other)
+      by_same true same = (
+        λ some. subst (λ n. IsSome (place_at places n)) (eqb-true number other (sym same)) (subst IsSome (sym held.1) refl),
+        λ some. refl,
+      )
+      by_same false same = (λ some. some, λ some. some)
+
+  -- what is kept then
+  pub kept_emptied : IsKept keys ids outcomes found more cached out
+  kept_emptied = record {
+    right = record {
+      one = kept.right.one;
+      held = λ other picture is. kept.right.held other picture (still_held other picture is).0;
+    };
+    same = kept.same;
+    stand = kept.stand;
+    decodable = kept.decodable;
+    used = λ other. (λ some. (kept.used other).0 ((used_some other).0 some), λ is. (used_some other).1 ((kept.used other).1 is));
+    stored = kept.stored;
+    jobs = kept.jobs;
+  }
+
+  -- the keys that are held then are the others
+  pub held_emptied : (key other : Key) → tree_at keys number ≡ Some key
+      → Contains (keys_for keys (numbers_held more)) other
+      ↔ (Contains (keys_for keys (numbers_held places)) other × (other ≡ key → ⊥))
+  held_emptied key other tree = (λ is. forth is, λ both. back both.0 both.1)
+    where
+      forth : Contains (keys_for keys (numbers_held more)) other
+          → Contains (keys_for keys (numbers_held places)) other × (other ≡ key → ⊥)
+      forth is =
+          let source : (n : ℕ) × Contains (numbers_held more) n × (key_for keys n ≡ other) =
+          for_contains keys (numbers_held more) other is in
+          let there : (picture : Picture) × (place_at more source.0 ≡ Some (Some picture)) =
+          held_found more source.0 source.1 in
+          let was = still_held source.0 there.0 there.1 in
+          let right : IsRight keys source.0 there.0 = kept.right.held source.0 there.0 was.0 in
+          let live : tree_at keys source.0 ≡ Some other =
+          right.1 ∙ ap Some (sym (key_is keys source.0 right.0 right.1) ∙ source.2) in (
+            subst (Contains (keys_for keys (numbers_held places))) source.2
+                (contains_for keys (numbers_held places) source.0 (found_held places source.0 there.0 was.0)),
+            λ same. was.1 (kept.right.one.trees number source.0 other (tree ∙ ap Some (sym same)) live),
+          )
+
+      back : Contains (keys_for keys (numbers_held places)) other → (other ≡ key → ⊥)
+          → Contains (keys_for keys (numbers_held more)) other
+      back is apart =
+          let source : (n : ℕ) × Contains (numbers_held places) n × (key_for keys n ≡ other) =
+          for_contains keys (numbers_held places) other is in
+          let there : (picture : Picture) × (place_at places source.0 ≡ Some (Some picture)) =
+          held_found places source.0 source.1 in
+          let still = held_still source.0 there.0 there.1
+          (λ one. apart (sym source.2 ∙ ap (key_for keys) (sym one) ∙ key_is keys number key tree)) in
+          subst (Contains (keys_for keys (numbers_held more))) source.2
+          (contains_for keys (numbers_held more) source.0 (found_held more source.0 there.0 still))

@@ -1,0 +1,11 @@
+use Rattle.picture_store.proofs.Numbered.{all_numbered}
+use Rattle.picture_store.proofs.Viewed.{viewed}
+use Rattle.picture_store.proofs.store.PictureStore.numbers.Goals as goal
+
+pub returns-clause-numbered : goal.returns-clause-numbered
+returns-clause-numbered c =
+    let s = c.self.inside in
+    rw (← c.self.view_is)
+    (all_numbered s.keys
+    (viewed s.keys s.ids.items s.outcomes.items s.found.items s.places s.cache.pairs s.cache.capacity s.out.items s.given)
+    c.self.invariant.kept.stand)

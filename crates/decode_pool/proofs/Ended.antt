@@ -42,7 +42,7 @@ finished opened seats journal books numbered theirs agree noted = record {
   counted = as_many journal books agree (each_once journal books agree noted);
 }
 
--- why there is no end: want of memory, which says nothing
+-- why there is no end: lack of memory, which says nothing
 pub wanted : (opened : ℕ) (seats : List Seat) (refusal : Refusal) → IsWant refusal → IsRefusal opened seats refusal
 wanted opened seats refusal is =
     subst (λ (cause : FinishFault). IsFault opened seats cause (journal_in refusal)) (sym is) tt

@@ -86,7 +86,7 @@ pub record HasFault (opened : ℕ) (seats : List Seat) (journal : List (List Edi
   pub theirs : AreBooksOf opened seats books
   pub disagrees : Disagrees journal books seat number
 
--- why a desk isn't finished, of the seats alone or of the journal too; want of memory says nothing of either
+-- why a desk isn't finished, of the seats alone or of the journal too; lack of memory says nothing of either
 abbrev pub IsFault : ℕ → List Seat → FinishFault → Option (List (List Edit)) → Type 0
 IsFault opened seats faults.SeatMissing None = AreNumbered opened seats → ⊥
 IsFault opened seats faults.SeatMissing (Some journal) = LacksBook opened seats journal
@@ -103,7 +103,7 @@ abbrev pub IsRefusal : ℕ → List Seat → Refusal → Type 0
 IsRefusal opened seats refusal =
     IsFault opened seats refusal.cause (journal_in refusal)
 
--- a refusal tells that memory is wanted
+-- a refusal tells that memory ran out
 abbrev pub IsWant : Refusal → Type 0
 IsWant refusal = refusal.cause ≡ faults.Memory
 

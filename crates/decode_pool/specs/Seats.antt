@@ -55,7 +55,7 @@ NotesGroup old edits (Ok receipt) n new =
     Notes old (receipts.Group (record { edits = edits; ids = receipt.ids.items }) n) new
 NotesGroup old edits (Err refused) n new = NotesNothing old new
 
--- what is shown is noted with the journal's length; where memory is wanted, nothing is shown
+-- what is shown is noted with the journal's length; where memory runs out, nothing is shown
 abbrev pub NotesShow : Seat → ℕ → Result Shown AllocError → ℕ → Seat → Type 0
 NotesShow old id (Ok answer) n new = Notes old (receipts.Show id answer n) new
 NotesShow old id (Err wanted) n new = NotesNothing old new

@@ -92,7 +92,8 @@ fn look_through(
     if let Err(fault) = audit(alloc, journal, &books) {
         return Err(refusal_of(fault, copy_of(alloc, journal)));
     }
-    if !are_all_noted(journal, &books) {
+    let are_noted = are_all_noted(alloc, journal, &books)?;
+    if !are_noted {
         return Err(with_journal(FinishFault::SeatMissing, copy_of(alloc, journal)));
     }
     Ok(())

@@ -7,7 +7,7 @@ ghost use Rattle.decode_pool.specs.Finishing.{AreBooksOf, AreEachOnce, AreNumber
 
 use crate::seat::Seat;
 use edit_engine::JournalEntry;
-use seat_books::{SeatBook, is_noted};
+use seat_books::{SeatBook, noted_lengths};
 use std::alloc::{AllocError, Global};
 
 /// Whether the seats have the numbers from 1 to how many were opened, each once.
@@ -79,15 +79,20 @@ fn book_of(alloc: Global, seats: &[Seat], number: usize) -> Result<SeatBook, All
 }
 
 /// Whether each edit and each group of the journal stands in one of the books.
-pub(crate) fn are_all_noted(journal: &[JournalEntry], books: &[SeatBook]) -> bool
-    ensures { MatchBool result
+pub(crate) fn are_all_noted(
+    alloc: Global,
+    journal: &[JournalEntry],
+    books: &[SeatBook],
+) -> Result<bool, AllocError>
+    ensures { IfOk result (λ all. MatchBool all
         ((at : ℕ) → at < length journal.now → is_noted books.now (at + 1) ≡ true)
-        ((at : ℕ) × (at < length journal.now) × (is_noted books.now (at + 1) ≡ false)) }
+        ((at : ℕ) × (at < length journal.now) × (is_noted books.now (at + 1) ≡ false))) }
 {
+    let noted = noted_lengths(alloc, books)?;
     for at in 0..journal.len() {
-        if !is_noted(books, at as u64 + 1) {
-            return false;
+        if !noted.has(at as u64 + 1) {
+            return Ok(false);
         }
     }
-    true
+    Ok(true)
 }

@@ -1,73 +1,63 @@
 -- Whether a receipt agrees, by a replay that has come as far.
-use Rattle.std.proofs.Common.{◌≡◌, ℕ, ◌+◌, ◌<◌, ◌≤◌, Bool, true, false, List, [], ◌∷◌, ◌++◌, length, Option, None, Some, IsTrue, ap, sym, ◌∙◌, subst, refl, arith, inl, inr}
-use Rattle.std.specs.Prelude.{slice_get, All, Contains, ◌↔◌, not, Result, Ok, Err, IfOk}
+use Rattle.std.proofs.Common.{◌≡◌, ℕ, ◌+◌, ◌<◌, ◌≤◌, Bool, true, false, cond, List, [], ◌∷◌, ◌++◌, length, Some, IsTrue, ap, sym, ◌∙◌, subst, refl, arith, eqb, inl, inr}
+use Rattle.std.specs.Bool.{Decides}
+use Rattle.std.specs.Prelude.{◌&&◌, slice_get, All, Contains, not, Result, Ok, Err, IfOk}
 use Rattle.std.proofs.lemmas.List.Elements.{All-contains, All-push, All-weaker, Contains-push}
 use Rattle.std.proofs.lemmas.Option.{slice_get_within}
-use Rattle.dep_keys.specs.KeyMaps.{Extends, IsKeyMap, tree_at}
 use Rattle.stand_in_device.specs.declared.picture.Picture.{Picture}
 use Rattle.picture_keys.specs.Keys.{Key}
 use Rattle.picture_keys.specs.KeyPictures.{picture_of_key}
-use Rattle.picture_keys.specs.Numbered.{AllStandFor}
+use Rattle.picture_store.specs.Stores.{AreNumbered, AreOneToOne, IsNumberOf}
 use Rattle.key_places.proofs.Members.{nowhere}
 use Rattle.stream_edits.specs.declared.edits.Edit.{Edit}
 use Rattle.edit_engine.specs.declared.showing.Shown.{Shown}
 use Rattle.edit_engine.specs.declared.showing.Shown.TheVariants as shown
 use Rattle.stream_edits.specs.Edits.{Register}
 use Rattle.stream_edits.specs.Groups.{MakesAll}
-use Rattle.edit_engine.specs.Machines.{Machine, empty}
-use Rattle.edit_engine.specs.Showing.{keys_in, HasKey}
+use Rattle.edit_engine.specs.Machines.{Machine, RefitsTo, empty, store_of}
+use Rattle.edit_engine.specs.Showing.{HasKey}
 use Rattle.seat_books.specs.declared.book.SeatBook.{SeatBook}
 use Rattle.seat_books.specs.declared.receipts.SeatReceipt.{SeatReceipt}
 use Rattle.seat_books.specs.declared.receipts.SeatReceipt.TheVariants as receipts
 use Rattle.seat_books.specs.declared.replay.Replay.{Replay}
 use Rattle.seat_books.specs.Books.{Agrees, EditAgrees, IsPossible, LeadTo, ShowAgrees, ShowsReady, WasReady, is_noted, length_in}
-use Rattle.seat_books.specs.Following.{AreReady, IsChecked, IsKeyOf, IsOf, IsReplayed, IsUpTo, MakesEntry, Sees, reach}
-use Rattle.seat_books.proofs.Fronts.{IsFront-next, IsFront-same, LeadTo-next, length_next}
-use Rattle.seat_books.proofs.Numbers.{one_key}
-use Rattle.seat_books.proofs.Readies.{AreReady-entry, AreReady-extended, AreReady-plain, AreReady-shown}
+use Rattle.seat_books.specs.Following.{AreReady, IsChecked, IsOf, IsReplayed, IsUpTo, MakesEntry, Sees, Stays, reach}
+use Rattle.seat_books.specs.Sets.{has}
+use Rattle.seat_books.proofs.Fronts.{IsFront-next, LeadTo-next, length_next}
+use Rattle.seat_books.proofs.Numbers.{numbered_used, one_key}
+use Rattle.seat_books.proofs.Readies.{AreReady-entry, AreReady-plain, AreReady-shown}
 use Rattle.seat_books.proofs.Unique.{all_edits, one_lead, some_same}
 
 pub not_true : false ≡ true → ⊥
 not_true is = cc
 
--- a replay that makes the next entry
-pub IsReplayed-next : (journal : List (List Edit)) (earlier : List SeatReceipt) (old new : Replay) (edits : List Edit)
-    (ids : List ℕ) (found : List (Option ℕ)) → IsReplayed journal earlier old → slice_get journal (reach old) ≡ Some edits
-    → MakesEntry old.session edits ids new.session → Extends old.keys new.keys → IsKeyMap new.keys
-    → AllStandFor new.keys found (keys_in new.session.register.stream)
-    → ((number : ℕ) → Contains new.ready.items number ↔ (Contains old.ready.items number × Contains found (Some number)))
+-- a replay that makes the next entry, and caches nothing
+pub IsReplayed-next : (journal : List (List Edit)) (earlier : List SeatReceipt) (old new : Replay) (made : Machine)
+    (edits : List Edit) (ids : List ℕ) → IsReplayed journal earlier old → slice_get journal (reach old) ≡ Some edits
+    → MakesEntry old.session edits ids made → RefitsTo (store_of old.session) made.register.stream (store_of made)
+    → AreNumbered (store_of old.session) → new.session ≡ record made { cached = [] } → new.ready ≡ old.ready
     → IsReplayed journal earlier new
-IsReplayed-next journal earlier old new edits ids found replayed stands makes extends one stand used =
-    let more : reach new ≡ reach old + 1 = length_next old.session.journal new.session.journal edits makes.journaled in
-    let leads : LeadTo journal (reach old + 1) new.session.register =
-    LeadTo-next journal (reach old) old.session.register edits ids new.session.register replayed.made.leads stands makes.made in
+IsReplayed-next journal earlier old new made edits ids replayed stands makes refits numbered session_is ready_is =
+    let entry : MakesEntry old.session edits ids new.session = rw session_is (record { made = makes.made; journaled = makes.journaled }) in
+    let more : reach new ≡ reach old + 1 = length_next old.session.journal new.session.journal edits entry.journaled in
+    let leads : LeadTo journal (reach old + 1) made.register =
+    LeadTo-next journal (reach old) old.session.register edits ids made.register replayed.made.leads stands makes.made in
+    let ready : AreReady journal earlier (reach old + 1) made old.ready =
+    AreReady-entry journal earlier (reach old) old.session made old.ready replayed.passed replayed.made.leads leads replayed.bare
+    refits numbered replayed.ready in
     record {
-      made = IsFront-next journal old.session new.session edits ids replayed.made stands makes;
+      made = IsFront-next journal old.session new.session edits ids replayed.made stands entry;
       passed =
           All-weaker (λ (receipt : SeatReceipt). length_in receipt ≤ reach old) (λ (receipt : SeatReceipt). length_in receipt ≤ reach new)
           (λ receipt below. omega (arith, more, below)) earlier replayed.passed;
-      one = one;
+      bare = rw session_is (record {
+        used = λ key held. ((refits.held_are key).0 held).0;
+        cached_none = refl;
+        out_none = refits.out_stays ∙ replayed.bare.out_none;
+      });
       ready =
-          subst (λ (n : ℕ). AreReady journal earlier n new.keys new.ready.items) (sym more)
-          (AreReady-entry journal earlier (reach old) new.session.register old.keys new.keys found old.ready.items new.ready.items
-          replayed.passed leads extends one stand used replayed.ready);
-    }
-
--- a replay of the same entries, by more keys
-pub IsReplayed-extended : (journal : List (List Edit)) (earlier : List SeatReceipt) (old new : Replay)
-    → new.session.journal ≡ old.session.journal → new.session.register ≡ old.session.register
-    → Extends old.keys new.keys → IsKeyMap new.keys → new.ready.items ≡ old.ready.items
-    → IsReplayed journal earlier old → IsReplayed journal earlier new
-IsReplayed-extended journal earlier old new journal_is register_is extends one ready_is replayed =
-    let same : reach old ≡ reach new = ap length (sym journal_is) in
-    record {
-      made = IsFront-same journal old.session new.session journal_is register_is replayed.made;
-      passed = subst (λ (n : ℕ). All (λ (receipt : SeatReceipt). length_in receipt ≤ n) earlier) same replayed.passed;
-      one = one;
-      ready =
-          subst (λ (n : ℕ). AreReady journal earlier n new.keys new.ready.items) same
-          (subst (λ (ready : List ℕ). AreReady journal earlier (reach old) new.keys ready) (sym ready_is)
-          (AreReady-extended journal earlier (reach old) old.keys new.keys old.ready.items extends replayed.ready));
+          subst (λ (n : ℕ). AreReady journal earlier n new.session new.ready) (sym more)
+          (rw (session_is, ready_is) ready);
     }
 
 -- a receipt of no picture follows
@@ -77,31 +67,29 @@ pub IsReplayed-plain : (journal : List (List Edit)) (earlier : List SeatReceipt)
 IsReplayed-plain journal earlier receipt replay plain below replayed = record {
   made = replayed.made;
   passed = All-push (λ (r : SeatReceipt). length_in r ≤ reach replay) earlier receipt replayed.passed below;
-  one = replayed.one;
-  ready = AreReady-plain journal earlier receipt (reach replay) replay.keys replay.ready.items plain replayed.ready;
+  bare = replayed.bare;
+  ready = AreReady-plain journal earlier receipt (reach replay) replay.session replay.ready plain replayed.ready;
 }
 
--- a receipt of a picture follows, whose key is noted
+-- a receipt of a picture follows, whose key is ready then
 pub IsReplayed-shown : (journal : List (List Edit)) (earlier : List SeatReceipt) (old new : Replay) (id number : ℕ) (key : Key)
-    (picture : Picture) → new.session.journal ≡ old.session.journal → new.session.register ≡ old.session.register
-    → new.keys ≡ old.keys → new.ready.items ≡ old.ready.items ++ number ∷ []
-    → tree_at old.keys number ≡ Some key → HasKey old.session.register.stream id key
-    → IsReplayed journal earlier old
+    (picture : Picture) → new.session ≡ old.session
+    → ((other : ℕ) → has new.ready other ≡ cond (eqb number other) true (has old.ready other))
+    → HasKey old.session.register.stream id key → IsNumberOf (store_of old.session) key number → Contains old.session.held key
+    → AreOneToOne (store_of old.session) (store_of old.session) → IsReplayed journal earlier old
     → IsReplayed journal (earlier ++ receipts.Show id (shown.Ready picture) (reach old) ∷ []) new
-IsReplayed-shown journal earlier old new id number key picture journal_is register_is keys_are ready_is tree has replayed =
-    let same : reach old ≡ reach new = ap length (sym journal_is) in
+IsReplayed-shown journal earlier old new id number key picture session_is added has_key numbered held one replayed =
     let last : SeatReceipt = receipts.Show id (shown.Ready picture) (reach old) in
+    let ready : AreReady journal (earlier ++ last ∷ []) (reach old) old.session new.ready =
+    AreReady-shown journal earlier (reach old) old.session old.ready new.ready id number key picture replayed.made.leads has_key numbered
+    held one added replayed.ready in
     record {
-      made = IsFront-same journal old.session new.session journal_is register_is replayed.made;
+      made = rw session_is replayed.made;
       passed =
-          subst (λ (n : ℕ). All (λ (receipt : SeatReceipt). length_in receipt ≤ n) (earlier ++ last ∷ [])) same
+          rw session_is
           (All-push (λ (receipt : SeatReceipt). length_in receipt ≤ reach old) earlier last replayed.passed (omega arith));
-      one = rw keys_are replayed.one;
-      ready =
-          subst (λ (n : ℕ). AreReady journal (earlier ++ last ∷ []) n new.keys new.ready.items) same
-          (rw (keys_are, ready_is)
-          (AreReady-shown journal earlier (reach old) old.session.register old.keys old.ready.items id number key picture
-          replayed.made.leads tree has replayed.ready));
+      bare = rw session_is replayed.bare;
+      ready = rw session_is ready;
     }
 
 -- no receipt of that kind agrees
@@ -285,26 +273,23 @@ Sees-plain journal earlier old new id answer possible plain journal_is replayed 
     }
 
 -- before the first edit and the first receipt
-pub IsUpTo-new : (journal : List (List Edit)) (replay : Replay) → replay.session ≡ empty 1 → replay.keys ≡ []
-    → replay.ready.items ≡ [] → IsUpTo journal [] replay
-IsUpTo-new journal replay session_is keys_are ready_is = record {
+pub IsUpTo-new : (journal : List (List Edit)) (replay : Replay) → replay.session ≡ empty 1 → IsUpTo journal [] replay
+IsUpTo-new journal replay session_is = record {
   replayed = record {
     made = rw session_is (record {
       front = refl;
       leads = record { within = omega arith; replayed = refl };
     });
     passed = λ k d low. absurd (omega (arith, low));
-    one = rw keys_are (record { numbers = tt; trees = λ a b tree there here. absurd (none_is_some tree there) });
-    ready = record {
-      right = λ number there. absurd (nowhere number (subst (λ (xs : List ℕ). Contains xs number) ready_is there));
-      whole = λ key was. absurd (nowhere was.0 was.1);
-    };
+    bare = rw session_is (record {
+      used = λ key held. absurd (nowhere key held);
+      cached_none = refl;
+      out_none = refl;
+    });
+    ready = rw session_is (λ key number is. absurd (nowhere (Some key) (numbered_used (store_of (empty 1)) key number is)));
   };
   last = inl (ap (λ (machine : Machine). length machine.journal) session_is);
 }
-  where
-    none_is_some : (tree : Key) → None ≡ Some tree → ⊥
-    none_is_some tree same = cc
 
 not_both : (b : Bool) → not b ≡ true → b ≡ true → ⊥
 not_both true is so = not_true is
@@ -315,54 +300,58 @@ or_else true not_so = absurd (not_so refl)
 or_else false not_so = refl
 
 -- a unit waits whose key isn't among those that are ready
-pub Sees-pending : (journal : List (List Edit)) (earlier : List SeatReceipt) (old new : Replay) (id number : ℕ) (among : Bool)
-    → new.session.journal ≡ old.session.journal → IsReplayed journal earlier new
-    → IsKeyOf new.keys old.session.register.stream id (Some number)
-    → IsTrue among ↔ Contains new.ready.items number
-    → Sees journal earlier old id shown.Pending (not among) new
-Sees-pending journal earlier old new id number among journal_is replayed key is =
-    Sees-plain journal earlier old new id shown.Pending (not among) (λ k shows. shows) journal_is replayed possible only
+pub Sees-pending : (journal : List (List Edit)) (earlier : List SeatReceipt) (replay : Replay) (id number : ℕ) (key : Key)
+    (held : Bool) → IsReplayed journal earlier replay → HasKey replay.session.register.stream id key
+    → IsNumberOf (store_of replay.session) key number → Decides held (Contains replay.session.held key)
+    → Sees journal earlier replay id shown.Pending (not (held && has replay.ready number)) replay
+Sees-pending journal earlier replay id number key held replayed has_key numbered is =
+    Sees-plain journal earlier replay replay id shown.Pending (not (held && has replay.ready number)) (λ k shows. shows) refl replayed
+    possible only
   where
-    same : reach new ≡ reach old
-    same = ap length journal_is
+    both_true : (a b : Bool) → IsTrue a → IsTrue b → (a && b) ≡ true
+    both_true true true x y = refl
+    both_true true false x y = y
+    both_true false b x y = absurd (not_true x)
 
-    ready : AreReady journal earlier (reach old) new.keys new.ready.items
-    ready = subst (λ (n : ℕ). AreReady journal earlier n new.keys new.ready.items) same replayed.ready
+    each_true : (a b : Bool) → (a && b) ≡ true → IsTrue a × IsTrue b
+    each_true true true so = (refl, refl)
+    each_true true false so = absurd (not_true so)
+    each_true false b so = absurd (not_true so)
 
-    possible : IsTrue (not among) → IsPossible journal earlier (reach old) old.session.register.stream id shown.Pending
+    possible : IsTrue (not (held && has replay.ready number)) → IsPossible journal earlier (reach replay) replay.session.register.stream id shown.Pending
     possible so = (
-      key.0,
-      key.2,
+      key,
+      has_key,
       λ was.
-          let noted = ready.whole key.0 was in
-          let one : noted.0 ≡ number = replayed.one.trees noted.0 number key.0 noted.1 key.1 in
-          not_both among so (is.1 (subst (λ (n : ℕ). Contains new.ready.items n) one noted.2)),
+          let both = (replayed.ready key number numbered).0 was in
+          not_both (held && has replay.ready number) so (both_true held (has replay.ready number) (is.1 both.0) both.1),
     )
 
-    only : IsPossible journal earlier (reach old) old.session.register.stream id shown.Pending → IsTrue (not among)
+    only : IsPossible journal earlier (reach replay) replay.session.register.stream id shown.Pending → IsTrue (not (held && has replay.ready number))
     only waits =
-        or_else among (λ so.
-        let noted = ready.right number (is.0 so) in
-        let first : noted.0 ≡ key.0 = some_same noted.0 key.0 (sym noted.1 ∙ key.1) in
-        let then : key.0 ≡ waits.0 = one_key old.session.register.stream id key.0 waits.0 key.2 waits.1 in
-        waits.2 (subst (λ (k : Key). WasReady journal earlier (reach old) k) (first ∙ then) noted.2))
+        or_else (held && has replay.ready number) (λ so.
+        let each = each_true held (has replay.ready number) so in
+        let same : key ≡ waits.0 = one_key replay.session.register.stream id key waits.0 has_key waits.1 in
+        waits.2 (subst (λ (k : Key). WasReady journal earlier (reach replay) k) same
+        ((replayed.ready key number numbered).1 (is.0 each.0, each.1))))
 
--- the picture of a unit's key was made, and its key is noted
-pub Sees-ready : (journal : List (List Edit)) (earlier : List SeatReceipt) (old new : Replay) (id number : ℕ) (picture : Picture)
-    → new.session.journal ≡ old.session.journal → new.session.register ≡ old.session.register
-    → Extends old.keys new.keys → IsKeyMap new.keys → new.ready.items ≡ old.ready.items ++ number ∷ []
-    → IsKeyOf new.keys old.session.register.stream id (Some number)
-    → ((key : Key) × HasKey old.session.register.stream id key × (picture ≡ picture_of_key key))
-    → IsReplayed journal earlier old → Sees journal earlier old id (shown.Ready picture) true new
-Sees-ready journal earlier old new id number picture journal_is register_is extends one ready_is key right replayed =
-    let mid : Replay = record old { keys = new.keys } in
-    let extended : IsReplayed journal earlier mid = IsReplayed-extended journal earlier old mid refl refl extends one refl replayed in
+-- the picture of a unit's key was made, and its key is ready then
+pub Sees-ready : (journal : List (List Edit)) (earlier : List SeatReceipt) (old mid new : Replay) (id number : ℕ) (key : Key)
+    (picture : Picture) → Stays old.session mid.session → new.session ≡ mid.session
+    → ((other : ℕ) → has new.ready other ≡ cond (eqb number other) true (has mid.ready other))
+    → HasKey mid.session.register.stream id key → IsNumberOf (store_of mid.session) key number → Contains mid.session.held key
+    → picture ≡ picture_of_key key
+    → AreOneToOne (store_of mid.session) (store_of mid.session) → IsReplayed journal earlier mid
+    → Sees journal earlier old id (shown.Ready picture) true new
+Sees-ready journal earlier old mid new id number key picture stays session_is added has_key numbered held right one replayed =
+    let same : reach old ≡ reach mid = ap length (sym stays.journal_stays) in
     record {
-      is = λ so. right;
+      is = λ so. (key, subst (λ (r : Register). HasKey r.stream id key) stays.register_stays has_key, right);
       only = λ possible. refl;
-      stays = journal_is;
+      stays = ap (λ (machine : Machine). machine.journal) session_is ∙ stays.journal_stays;
       follows = λ so.
-          IsReplayed-shown journal earlier mid new id number key.0 picture journal_is register_is refl ready_is key.1 key.2 extended;
+          subst (λ (n : ℕ). IsReplayed journal (earlier ++ receipts.Show id (shown.Ready picture) n ∷ []) new) (sym same)
+          (IsReplayed-shown journal earlier mid new id number key picture session_is added has_key numbered held one replayed);
     }
 
 -- another picture isn't that of the unit's key

@@ -4,5 +4,8 @@ pub mod Numbers
 pub mod Readies
 pub mod Fronts
 pub mod Made
+pub mod Decoded
 pub mod Checked
 pub mod Audited
+pub mod Noting
+pub mod Shown

@@ -1,74 +1,18 @@
 -- Numbers of keys, and the units that have them.
-use Rattle.std.proofs.Common.{◌≡◌, ◌⊎◌, ℕ, zero, suc, ◌+◌, ◌<◌, List, [], ◌∷◌, ◌++◌, length, get_or, take, Option, None, Some, ap, sym, ◌∙◌, subst, refl, arith, inl, inr}
-use Rattle.std.specs.Prelude.{slice_get, option_and_then, Contains, ◌↔◌}
-use Rattle.std.proofs.lemmas.List.{take_more, length-map}
-use Rattle.std.proofs.lemmas.List.Elements.{Contains-append_left, Contains-push, Contains-push_cases}
-use Rattle.h264_controls.specs.declared.work.Work.{Work}
-use Rattle.dep_keys.specs.KeyMaps.{KeyMap, tree_at}
+use Rattle.std.proofs.Common.{◌≡◌, ℕ, zero, suc, List, [], ◌∷◌, take, Option, None, Some, ap, sym, ◌∙◌, subst, arith}
+use Rattle.std.specs.Prelude.{slice_get, option_and_then, Contains}
 use Rattle.picture_keys.specs.Keys.{Key}
-use Rattle.picture_keys.specs.Numbered.{StandsFor, AllStandFor}
-use Rattle.request_core.specs.Fold.{outcomes_of}
+use Rattle.picture_store.specs.Stores.{StoreValue, AreOneToOne, IsNumberOf, unit_keys}
+use Rattle.stream_edits.specs.Edits.{Register}
 use Rattle.stream_edits.specs.Streams.{Stream, ids_of, place_of}
-use Rattle.edit_engine.specs.Showing.{keys_in, HasKey}
-use Rattle.edit_engine.proofs.Looked.{length-outcomes_of}
-use Rattle.seat_books.specs.Following.{AddsUsed, IsKeyOf}
-
--- what stands at the place of a unit
-abbrev pub StandsAt : KeyMap (List Work) → List (Option Key) → ℕ → Option ℕ → Type 0
-StandsAt keys trees at None = (key : Key) → slice_get trees at ≡ Some (Some key) → ⊥
-StandsAt keys trees at (Some number) = (key : Key) × (tree_at keys number ≡ Some key) × (slice_get trees at ≡ Some (Some key))
-
-none_some : (key : Key) → None ≡ Some (Some key) → ⊥
-none_some key same = cc
-
-no_key : (tree : Option Key) (key : Key) → tree ≡ None → Some tree ≡ Some (Some key) → ⊥
-no_key tree key none same = cc
-
-first_stands : (keys : KeyMap (List Work)) (number : Option ℕ) (tree : Option Key) (trees : List (Option Key))
-    → StandsFor keys number tree → StandsAt keys (tree ∷ trees) 0 number
-first_stands keys None tree trees stands = λ key same. no_key tree key stands same
-first_stands keys (Some number) None trees stands = absurd stands
-first_stands keys (Some number) (Some key) trees stands = (key, stands, refl)
-
-later_stands : (keys : KeyMap (List Work)) (number : Option ℕ) (tree : Option Key) (trees : List (Option Key)) (at : ℕ)
-    → StandsAt keys trees at number → StandsAt keys (tree ∷ trees) (suc at) number
-later_stands keys None tree trees at stands = stands
-later_stands keys (Some number) tree trees at stands = stands
-
-pub stands_at : (keys : KeyMap (List Work)) (found : List (Option ℕ)) (trees : List (Option Key)) (at : ℕ) (number : Option ℕ)
-    → AllStandFor keys found trees → slice_get found at ≡ Some number → StandsAt keys trees at number
-stands_at keys [] trees at number all is = absurd (cc)
-stands_at keys (first ∷ found) [] at number all is = absurd all
-stands_at keys (first ∷ found) (tree ∷ trees) zero number all is =
-    subst (λ (n : Option ℕ). StandsAt keys (tree ∷ trees) 0 n) (ap_some first number is) (first_stands keys first tree trees all.0)
-  where
-    ap_some : (a b : Option ℕ) → Some a ≡ Some b → a ≡ b
-    ap_some a b same = cc
-stands_at keys (first ∷ found) (tree ∷ trees) (suc at) number all is =
-    later_stands keys number tree trees at (stands_at keys found trees at number all.1 is)
-
--- nothing stands past the end
-pub stands_past : (keys : KeyMap (List Work)) (found : List (Option ℕ)) (trees : List (Option Key)) (at : ℕ)
-    → AllStandFor keys found trees → slice_get found at ≡ None → StandsAt keys trees at None
-stands_past keys [] [] at all is = λ key same. none_some key same
-stands_past keys [] (tree ∷ trees) at all is = absurd all
-stands_past keys (first ∷ found) [] at all is = absurd all
-stands_past keys (first ∷ found) (tree ∷ trees) zero all is = absurd (cc)
-stands_past keys (first ∷ found) (tree ∷ trees) (suc at) all is = stands_past keys found trees at all.1 is
-
--- the number at the place of a unit is that of its key
-pub key_of_place : (keys : KeyMap (List Work)) (stream : Stream) (id at : ℕ) (number : Option ℕ)
-    → place_of stream id ≡ Some at → StandsAt keys (keys_in stream) at number → IsKeyOf keys stream id number
-key_of_place keys stream id at None stands none = λ key has.
-    none key (sym (ap (option_and_then (slice_get (keys_in stream))) stands) ∙ has)
-key_of_place keys stream id at (Some number) stands here =
-    (here.0, here.1, ap (option_and_then (slice_get (keys_in stream))) stands ∙ here.2)
-
--- a unit that isn't there has no key
-pub key_of_none : (keys : KeyMap (List Work)) (stream : Stream) (id : ℕ) → place_of stream id ≡ None
-    → IsKeyOf keys stream id None
-key_of_none keys stream id none key has =
-    none_some key (sym (ap (option_and_then (slice_get (keys_in stream))) none) ∙ has)
+use Rattle.stream_edits.proofs.GivenIds.{AreDifferent-ids, HasIds-journal}
+use Rattle.edit_engine.specs.Jobs.{IsFirstWith}
+use Rattle.edit_engine.specs.Machines.{Machine, store_of}
+use Rattle.edit_engine.specs.Showing.{keys_in, HasKey, HasNumber}
+use Rattle.edit_engine.proofs.Placed.{placed}
+use Rattle.stream_edits.specs.declared.edits.Edit.{Edit}
+use Rattle.stream_edits.specs.Journals.{edits_of}
+use Rattle.seat_books.specs.Books.{LeadTo}
 
 -- a unit has one key
 pub one_key : (stream : Stream) (id : ℕ) (key other : Key) → HasKey stream id key → HasKey stream id other → key ≡ other
@@ -96,60 +40,60 @@ got_place keys (Some at) key has = among_got keys at (Some key) has
 pub used_key : (stream : Stream) (id : ℕ) (key : Key) → HasKey stream id key → Contains (keys_in stream) (Some key)
 used_key stream id key has = got_place (keys_in stream) (place_of stream id) key has
 
--- what is among the first elements of a list, where the next one is added
-module _ {X : Type 0} where
-  pub among_more : (xs : List X) (i : ℕ) (d x : X) → i < length xs → Contains (take (i + 1) xs) x
-      → Contains (take i xs) x ⊎ (get_or xs i d ≡ x)
-  among_more xs i d x within there =
-      Contains-push_cases (take i xs) (get_or xs i d) x (subst (λ (ys : List X). Contains ys x) (take_more xs i d within) there)
+-- a key that has a number is in use
+pub numbered_used : (store : StoreValue) (key : Key) (number : ℕ) → IsNumberOf store key number
+    → Contains (unit_keys store) (Some key)
+numbered_used store key number is = among_got (unit_keys store) is.0 (Some key) is.1
 
-  pub among_before : (xs : List X) (i : ℕ) (d x : X) → i < length xs → Contains (take i xs) x → Contains (take (i + 1) xs) x
-  among_before xs i d x within there =
-      subst (λ (ys : List X). Contains ys x) (sym (take_more xs i d within))
-      (Contains-append_left (take i xs) (get_or xs i d ∷ []) x there)
+-- the number and the key of a unit stand at its place
+at_one_place : (keys : List (Option Key)) (numbers : List (Option ℕ)) (place : Option ℕ) (key : Key) (number : ℕ)
+    → option_and_then (slice_get keys) place ≡ Some (Some key)
+    → option_and_then (slice_get numbers) place ≡ Some (Some number)
+    → (at : ℕ) × (slice_get keys at ≡ Some (Some key)) × (slice_get numbers at ≡ Some (Some number))
+at_one_place keys numbers None key number is so = absurd (cc)
+at_one_place keys numbers (Some at) key number is so = (at, is, so)
 
-  pub among_here : (xs : List X) (i : ℕ) (d x : X) → i < length xs → get_or xs i d ≡ x → Contains (take (i + 1) xs) x
-  among_here xs i d x within is =
-      subst (λ (ys : List X). Contains ys x) (sym (take_more xs i d within))
-      (subst (λ (y : X). Contains (take i xs ++ get_or xs i d ∷ []) y) is (Contains-push (take i xs) (get_or xs i d)))
+-- the number of a unit's key is that of the key
+pub number_of_unit : (machine : Machine) (id : ℕ) (key : Key) (number : ℕ) → HasKey machine.register.stream id key
+    → HasNumber machine id (Some number) → IsNumberOf (store_of machine) key number
+number_of_unit machine id key number has (other, has_other, stands) =
+    at_one_place (keys_in machine.register.stream) machine.numbers (place_of machine.register.stream id) key number has stands
 
--- one number more, where it is a unit's
-pub adds_more : (keys : List ℕ) (i key : ℕ) (old new : List ℕ) (found : List (Option ℕ)) → i < length keys
-    → key ≡ get_or keys i key → AddsUsed old key found new
-    → ((n : ℕ) → Contains old n ↔ (Contains (take i keys) n × Contains found (Some n)))
-    → (n : ℕ) → Contains new n ↔ (Contains (take (i + 1) keys) n × Contains found (Some n))
-adds_more keys i key old new found within item adds before n =
-    elim adds [
-      | inl added ↦ (
-        λ there.
-            elim (Contains-push_cases old key n (subst (λ (xs : List ℕ). Contains xs n) added.1 there)) [
-              | inl earlier ↦ (among_before keys i key n within ((before n).0 earlier).0, ((before n).0 earlier).1)
-              | inr same ↦ (
-                among_here keys i key n within (sym item ∙ same),
-                subst (λ (k : ℕ). Contains found (Some k)) same added.0,
-              )
-            ],
-        λ both.
-            subst (λ (xs : List ℕ). Contains xs n) (sym added.1)
-            (elim (among_more keys i key n within both.0) [
-              | inl earlier ↦ Contains-append_left old (key ∷ []) n ((before n).1 (earlier, both.1))
-              | inr same ↦ subst (λ (k : ℕ). Contains (old ++ key ∷ []) k) (item ∙ same) (Contains-push old key)
-            ]),
-      )
-      | inr kept ↦ (
-        λ there.
-            let earlier = (before n).0 (subst (λ (xs : List ℕ). Contains xs n) kept.1 there) in
-            (among_before keys i key n within earlier.0, earlier.1),
-        λ both.
-            subst (λ (xs : List ℕ). Contains xs n) (sym kept.1)
-            (elim (among_more keys i key n within both.0) [
-              | inl earlier ↦ (before n).1 (earlier, both.1)
-              | inr same ↦ absurd (kept.0 (subst (λ (k : ℕ). Contains found (Some k)) (sym (item ∙ same)) both.1))
-            ]),
-      )
-    ]
+-- a unit that has a key is there, and has a number
+pub has_number : (machine : Machine) (id : ℕ) (key : Key) → HasKey machine.register.stream id key
+    → HasNumber machine id None → ⊥
+has_number machine id key has none = no_key (sym has ∙ none.0)
+  where
+    no_key : Some (Some key) ≡ Some None → ⊥
+    no_key same = cc
 
--- each unit has an id and an outcome
-pub same_lengths : (stream : Stream) → length (ids_of stream) ≡ length (outcomes_of stream)
-same_lengths stream =
-    length-map stream (λ (unit : ℕ × List (List ℕ)). unit.0) ∙ sym (length-outcomes_of stream)
+pub has_place : (stream : Stream) (id : ℕ) (key : Key) → HasKey stream id key → place_of stream id ≡ None → ⊥
+has_place stream id key has none = nowhere (place_of stream id) none has
+  where
+    nowhere : (place : Option ℕ) → place ≡ None → option_and_then (slice_get (keys_in stream)) place ≡ Some (Some key) → ⊥
+    nowhere None is there = cc
+    nowhere (Some at) is there = cc
+
+-- the first unit with a key has it
+pub first_has : (journal : List (List Edit)) (n : ℕ) (register : Register) (id : ℕ) (key : Key) → LeadTo journal n register
+    → IsFirstWith register.stream key id → HasKey register.stream id key
+first_has journal n register id key leads first =
+    let place : Some first.at ≡ place_of register.stream id =
+    placed (ids_of register.stream) id first.at
+    (AreDifferent-ids register (HasIds-journal (edits_of (take n journal)) register leads.replayed)) first.stands in
+    ap (option_and_then (slice_get (keys_in register.stream))) (sym place) ∙ first.has
+
+-- numbers stay with the stream and its units' numbers
+pub same_number : (old new : Machine) → new.register ≡ old.register → new.numbers ≡ old.numbers → (key : Key) (number : ℕ)
+    → IsNumberOf (store_of new) key number → IsNumberOf (store_of old) key number
+same_number old new register_is numbers_are key number is = (
+  is.0,
+  subst (λ (register : Register). slice_get (keys_in register.stream) is.0 ≡ Some (Some key)) register_is is.1,
+  subst (λ (numbers : List (Option ℕ)). slice_get numbers is.0 ≡ Some (Some number)) numbers_are is.2,
+)
+
+pub same_numbers : (old new : Machine) → new.register ≡ old.register → new.numbers ≡ old.numbers
+    → AreOneToOne (store_of new) (store_of new) → AreOneToOne (store_of old) (store_of old)
+same_numbers old new register_is numbers_are one key other number another first second =
+    one key other number another (same_number new old (sym register_is) (sym numbers_are) key number first)
+    (same_number new old (sym register_is) (sym numbers_are) other another second)

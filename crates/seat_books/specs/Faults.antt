@@ -26,7 +26,7 @@ pub record Disagrees (journal : List (List Edit)) (books : List SeatBook) (seat 
   pub before : FirstBooksAgree journal books at
   pub fault : IsFirstFault journal (take at books) book.receipts.items number
 
--- the fault is shown by the books; want of memory says nothing of them
+-- the fault is shown by the books; lack of memory says nothing of them
 abbrev pub IsFaultOf : List (List Edit) → List SeatBook → AuditFault → Type 0
 IsFaultOf journal books (faults.SeatDisagrees seat number) = Disagrees journal books seat number
 IsFaultOf journal books faults.Memory = Unit {0}

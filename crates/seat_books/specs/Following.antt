@@ -1,31 +1,18 @@
 -- What the replay of a journal beside a book keeps.
-use Rattle.std.specs.Prelude.{◌≡◌, ◌⊎◌, ℕ, ◌≤◌, Bool, List, [], ◌∷◌, ◌++◌, Option, None, Some, IsTrue, length, take, All, Contains}
-use Rattle.h264_controls.specs.declared.work.Work.{Work}
-use Rattle.dep_keys.specs.KeyMaps.{KeyMap, IsKeyMap, tree_at}
+use Rattle.std.specs.Prelude.{◌≡◌, ◌⊎◌, ◌↔◌, ℕ, ◌≤◌, Bool, List, [], ◌∷◌, ◌++◌, IsTrue, length, take, All, Contains}
 use Rattle.picture_keys.specs.Keys.{Key}
 use Rattle.stream_edits.specs.declared.edits.Edit.{Edit}
 use Rattle.edit_engine.specs.declared.showing.Shown.{Shown}
-use Rattle.stream_edits.specs.Streams.{Stream}
 use Rattle.stream_edits.specs.Groups.{MakesAll}
-use Rattle.edit_engine.specs.Machines.{Machine}
-use Rattle.edit_engine.specs.Showing.{HasKey}
+use Rattle.picture_store.specs.Stores.{IsNumberOf}
+use Rattle.edit_engine.specs.Machines.{Machine, store_of}
 use Rattle.seat_books.specs.declared.book.SeatBook.{SeatBook}
 use Rattle.seat_books.specs.declared.receipts.SeatReceipt.{SeatReceipt}
 use Rattle.seat_books.specs.declared.receipts.SeatReceipt.TheVariants as receipts
+use Rattle.seat_books.specs.declared.number_set.NumberSet.{NumberSet}
 use Rattle.seat_books.specs.declared.replay.Replay.{Replay}
-use Rattle.seat_books.specs.Books.{Agrees, IsPossible, LeadTo, WasReady, length_in}
-
--- the number is that of the key of the unit that has the id; where there is none, the unit has no key
-abbrev pub IsKeyOf : KeyMap (List Work) → Stream → ℕ → Option ℕ → Type 0
-IsKeyOf keys stream id None = (key : Key) → HasKey stream id key → ⊥
-IsKeyOf keys stream id (Some number) =
-    (key : Key) × (tree_at keys number ≡ Some key) × HasKey stream id key
-
--- a number is added where it is a unit's
-abbrev pub AddsUsed : List ℕ → ℕ → List (Option ℕ) → List ℕ → Type 0
-AddsUsed old number found new =
-    (Contains found (Some number) × (new ≡ old ++ number ∷ []))
-    ⊎ ((Contains found (Some number) → ⊥) × (new ≡ old))
+use Rattle.seat_books.specs.Books.{Agrees, IsInUse, IsPossible, LeadTo, WasReady, length_in}
+use Rattle.seat_books.specs.Sets.{has}
 
 -- how many entries were made
 abbrev pub reach : Replay → ℕ
@@ -36,20 +23,31 @@ pub record IsFront (journal : List (List Edit)) (machine : Machine) : Type 0 whe
   pub front : machine.journal ≡ take (length machine.journal) journal
   pub leads : LeadTo journal (length machine.journal) machine.register
 
--- the numbers are those of the keys that a receipt shows as ready and that stayed in use
-pub record AreReady (journal : List (List Edit)) (earlier : List SeatReceipt) (n : ℕ) (keys : KeyMap (List Work))
-    (ready : List ℕ) : Type 0 where
-  pub right : (number : ℕ) → Contains ready number
-      → (key : Key) × (tree_at keys number ≡ Some key) × WasReady journal earlier n key
-  pub whole : (key : Key) → WasReady journal earlier n key
-      → (number : ℕ) × (tree_at keys number ≡ Some key) × Contains ready number
+-- of the keys whose pictures a session holds, the numbers are those of the keys that a receipt shows as ready and that
+-- stayed in use, and each such key's picture is held
+abbrev pub AreReady : List (List Edit) → List SeatReceipt → ℕ → Machine → NumberSet → Type 0
+AreReady journal earlier n machine ready =
+    (key : Key) (number : ℕ) → IsNumberOf (store_of machine) key number
+    → WasReady journal earlier n key ↔ (Contains machine.held key × IsTrue (has ready number))
+
+-- a session holds pictures of keys in use alone, and caches none; no job is out
+pub record IsBare (machine : Machine) : Type 0 where
+  pub used : (key : Key) → Contains machine.held key → IsInUse machine.register.stream key
+  pub cached_none : machine.cached ≡ []
+  pub out_none : machine.out ≡ []
 
 -- the journal's first entries were made, no fewer than any of the receipts notes, and the keys are those that are ready
 pub record IsReplayed (journal : List (List Edit)) (earlier : List SeatReceipt) (replay : Replay) : Type 0 where
   pub made : IsFront journal replay.session
   pub passed : All (λ receipt. length_in receipt ≤ reach replay) earlier
-  pub one : IsKeyMap replay.keys
-  pub ready : AreReady journal earlier (reach replay) replay.keys replay.ready.items
+  pub bare : IsBare replay.session
+  pub ready : AreReady journal earlier (reach replay) replay.session replay.ready
+
+-- the edits stay, the stream that they lead to, and the numbers of its units' keys
+pub record Stays (old new : Machine) : Type 0 where
+  pub journal_stays : new.journal ≡ old.journal
+  pub register_stays : new.register ≡ old.register
+  pub numbers_stay : new.numbers ≡ old.numbers
 
 -- no receipt, or one of that length
 abbrev pub IsLastLength : List SeatReceipt → ℕ → Type 0

@@ -1,5 +1,7 @@
 pub mod Noted
 pub mod Books
+pub mod Sets
+pub mod Noting
 pub mod Faults
 pub mod Numbers
 pub mod Following

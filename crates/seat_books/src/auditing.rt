@@ -1,53 +1,61 @@
 //! The audit of books.
 
-ghost use Rattle.std.specs.Prelude.{◌≡◌, IfErr, IfOk, MatchOption, OnOk};
+ghost use Rattle.std.specs.Prelude.{◌≡◌, List, IfErr, IfOk, MatchOption, OnOk};
 ghost use Rattle.stream_edits.specs.Edits.{Register, no_units, Replays};
 ghost use Rattle.stream_edits.specs.Journals.{edits_of};
 ghost use Rattle.seat_books.specs.Books.{BookAgrees, BooksAgree};
 ghost use Rattle.seat_books.specs.Faults.{IsFaultOf, IsFirstFault};
+ghost use Rattle.seat_books.specs.Noting.{AreNoted};
+ghost use Rattle.seat_books.specs.declared.book.SeatBook.{SeatBook as Book};
 
 use crate::book::SeatBook;
 use crate::faults::AuditFault;
+use crate::noted::note;
+use crate::number_set::NumberSet;
 use crate::replay::Replay;
 use edit_engine::JournalEntry;
 use std::alloc::{AllocError, Global};
 
 /// Whether the books of seats, in the seats' order, agree with a journal of which each edit is accepted after those before
 /// it; or else the first receipt that doesn't, in the first book that has one. Each book is followed over the journal once,
-/// so that this takes as long as to make the journal's edits once for each book that isn't empty.
+/// up to the length that its last receipt notes. So this takes as long as to make the journal's edits once for each book that
+/// isn't empty, to decode a picture when a receipt shows that it is ready, and some steps for each receipt.
 ///
-/// An entry that no session's journal has, of no edit or of more than 1,024, is answered as want of memory where a book comes
+/// An entry that no session's journal has, of no edit or of more than 1,024, is answered as lack of memory where a book comes
 /// to it.
 pub fn audit(alloc: Global, journal: &[JournalEntry], books: &[SeatBook]) -> Result<(), AuditFault>
     requires { (register : Register) × Replays no_units (edits_of journal.now) register }
     ensures ok { OnOk result (BooksAgree journal.now books.now) }
     ensures err { IfErr result (IsFaultOf journal.now books.now) }
 {
+    let mut noted = NumberSet::new(alloc);
     for (at, book) in books.iter().enumerate() {
-        if let Some(number) = first_fault(alloc, journal, &books[..at], book)? {
+        if let Some(number) = first_fault(alloc, journal, &noted, book)? {
             return Err(AuditFault::SeatDisagrees {
                 seat: at + 1,
                 number,
             });
         }
+        note(&mut noted, book)?;
     }
     Ok(())
 }
 
-/// The number of the first receipt of a book that doesn't agree, after the books of lower seats.
+/// The number of the first receipt of a book that doesn't agree, after the books of lower seats, which have noted edits at
+/// these lengths.
 fn first_fault(
     alloc: Global,
     journal: &[JournalEntry],
-    lower: &[SeatBook],
+    noted: &NumberSet,
     book: &SeatBook,
 ) -> Result<Option<usize>, AllocError>
-    ensures { IfOk result (λ fault. MatchOption fault
-        (BookAgrees journal.now lower.now book.now)
-        (λ number. IsFirstFault journal.now lower.now book.now.receipts.items number)) }
+    ensures { IfOk result (λ fault. (lower : List Book) → AreNoted lower noted.now → MatchOption fault
+        (BookAgrees journal.now lower book.now)
+        (λ number. IsFirstFault journal.now lower book.now.receipts.items number)) }
 {
     let mut replay = Replay::new(alloc)?;
     for (at, receipt) in book.receipts.iter().enumerate() {
-        if !replay.agrees(journal, lower, receipt)? {
+        if !replay.agrees(journal, noted, receipt)? {
             return Ok(Some(at + 1));
         }
     }

@@ -1,12 +1,8 @@
-//! Whether edits are the same, and whether they were noted before.
+//! Whether edits are the same.
 
 ghost use Rattle.std.specs.Prelude.{◌≡◌};
 ghost use Rattle.std.specs.Bool.{Decides};
-ghost use Rattle.std.specs.List.{list_any};
-ghost use Rattle.seat_books.specs.Books.{is_edit_of, is_noted};
 
-use crate::book::SeatBook;
-use crate::receipts::SeatReceipt;
 use edit_engine::Edit;
 
 /// Whether both are the same edits in the same order.
@@ -37,31 +33,5 @@ fn same_edit(edit: &Edit, other: &Edit) -> bool
             *id == *other_id && text.as_slice() == other_text.as_slice()
         }
         _ => false,
-    }
-}
-
-/// Whether one of the books has a receipt of the edit or group that made the journal so long.
-pub fn is_noted(books: &[SeatBook], length: u64) -> bool
-    ensures { result ≡ is_noted books.now length }
-{
-    books.iter().any(|book| is_among(&book.receipts, length))
-}
-
-/// Whether one of the receipts is of the edit or group that made the journal so long.
-fn is_among(receipts: &[SeatReceipt], length: u64) -> bool
-    ensures { result ≡ list_any (is_edit_of length) receipts.now }
-{
-    receipts.iter().any(|receipt| is_edit_of(receipt, length))
-}
-
-/// Whether the receipt is of the edit or group that made the journal so long.
-fn is_edit_of(receipt: &SeatReceipt, length: u64) -> bool
-    ensures { result ≡ is_edit_of length receipt.now }
-{
-    match receipt {
-        SeatReceipt::Edit { length: noted, .. } | SeatReceipt::Group { length: noted, .. } => {
-            *noted == length
-        }
-        SeatReceipt::Show { .. } => false,
     }
 }

@@ -1,6 +1,7 @@
 //! The making of a journal's entries.
 
-ghost use Rattle.std.specs.Prelude.{◌∷◌, [], IfOk};
+ghost use Rattle.std.specs.Prelude.{◌∷◌, [], IfOk, OnOk};
+ghost use Rattle.edit_engine.specs.Machines.{RefitsTo, store_of};
 ghost use Rattle.seat_books.specs.Following.{MakesEntry};
 
 use crate::copying::copy_of_edits;
@@ -8,13 +9,15 @@ use edit_engine::{Edit, GroupReceipt, Session};
 use pictures::AuId;
 use std::alloc::{AllocError, Global};
 
-/// Makes the edits of an entry, and answers the ids that they are given. A journal's are refused for want of memory alone.
+/// Makes the edits of an entry, and answers the ids that they are given. A journal's are refused only when memory runs out.
 pub(crate) fn make_entry(
     alloc: Global,
     session: &mut Session,
     edits: &[Edit],
 ) -> Result<Vec<AuId>, AllocError>
-    ensures { IfOk result (λ ids. MakesEntry session.old edits.now ids.items session.new) }
+    ensures makes { IfOk result (λ ids. MakesEntry session.old edits.now ids.items session.new) }
+    ensures refits { OnOk result
+        (RefitsTo (store_of session.old) session.new.register.stream (store_of session.new)) }
 {
     if edits.len() == 1 {
         return make_one(alloc, session, &edits[0]);
@@ -24,7 +27,10 @@ pub(crate) fn make_entry(
 
 /// Makes an edit by itself, which no copy of the stream is made for.
 fn make_one(alloc: Global, session: &mut Session, edit: &Edit) -> Result<Vec<AuId>, AllocError>
-    ensures { IfOk result (λ ids. MakesEntry session.old (edit.now ∷ []) ids.items session.new) }
+    ensures makes { IfOk result
+        (λ ids. MakesEntry session.old (edit.now ∷ []) ids.items session.new) }
+    ensures refits { OnOk result
+        (RefitsTo (store_of session.old) session.new.register.stream (store_of session.new)) }
 {
     let Ok(receipt) = session.edit(edit.copy()?) else {
         return Err(AllocError);
@@ -40,7 +46,9 @@ fn make_several(
     session: &mut Session,
     edits: &[Edit],
 ) -> Result<Vec<AuId>, AllocError>
-    ensures { IfOk result (λ ids. MakesEntry session.old edits.now ids.items session.new) }
+    ensures makes { IfOk result (λ ids. MakesEntry session.old edits.now ids.items session.new) }
+    ensures refits { OnOk result
+        (RefitsTo (store_of session.old) session.new.register.stream (store_of session.new)) }
 {
     let copy = copy_of_edits(alloc, edits)?;
     let Ok(receipt) = session.edit_group(copy) else {
@@ -50,6 +58,7 @@ fn make_several(
         number: _,
         ids,
         steps: _,
+        hashed: _,
     } = receipt;
     Ok(ids)
 }

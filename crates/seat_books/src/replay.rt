@@ -1,9 +1,13 @@
 //! A journal replayed beside a book.
 
 ghost use Rattle.std.specs.Bool.{Decides};
-ghost use Rattle.std.specs.Prelude.{◌≡◌, ◌≤◌, ◌∷◌, ◌++◌, [], ℕ, List, None, Some, IfOk, OnOk, length, slice_get};
+ghost use Rattle.std.specs.Prelude.{◌≡◌, ◌≤◌, ◌==◌, [], ℕ, List, None, Some, IfOk, IsTrue, OnOk, length, slice_get, Contains, false, if◌then◌else◌};
 ghost use Rattle.stream_edits.specs.declared.edits.Edit.{Edit as EditValue};
 ghost use Rattle.stream_edits.specs.Streams.{place_of};
+ghost use Rattle.picture_keys.specs.Keys.{Key};
+ghost use Rattle.picture_store.specs.Stores.{AreOneToOne, IsNumberOf};
+ghost use Rattle.edit_engine.specs.Machines.{store_of};
+ghost use Rattle.edit_engine.specs.Showing.{HasKey};
 ghost use Rattle.edit_engine.specs.Streams.{outcome_in};
 ghost use Rattle.edit_engine.specs.declared.showing.Shown.TheVariants.{Ready, Pending};
 ghost use Rattle.outcomes.specs.declared.outcome.Outcome.TheVariants as outcomes;
@@ -11,29 +15,27 @@ ghost use Rattle.seat_books.specs.declared.book.SeatBook.{SeatBook as Book};
 ghost use Rattle.seat_books.specs.declared.receipts.SeatReceipt.{SeatReceipt as Receipt};
 ghost use Rattle.seat_books.specs.declared.receipts.SeatReceipt.TheVariants.{Show as ShowNoted};
 ghost use Rattle.seat_books.specs.Following.{IsChecked, IsOf, IsReplayed, IsUpTo, MakesEntry, Sees, reach};
+ghost use Rattle.seat_books.specs.Noting.{AreNoted};
+ghost use Rattle.seat_books.specs.Sets.{has};
 
-use crate::book::SeatBook;
-use crate::comparing::{is_noted, same_edits};
-use crate::keys::{is_among, number_of, numbers_in, those_in_use};
+use crate::comparing::same_edits;
 use crate::making::make_entry;
+use crate::number_set::NumberSet;
 use crate::receipts::SeatReceipt;
-use crate::settling::settle;
-use dep_keys::{KeyId, Keys, Sha256Fingerprint};
 use edit_engine::{Config, Edit, JournalEntry, Session, Shown};
 use outcomes::{Outcome, ValidityFault};
-use picture_keys::Works;
 use pictures::AuId;
-use stand_in_device::Picture;
+use stand_in_device::{Device, Picture};
 use std::alloc::{AllocError, Global};
 use std::slice;
 
-/// A journal replayed so far, and the keys whose pictures the book shows as ready and that were in use since then. A key
-/// has one number throughout.
+/// A journal replayed so far. Its session caches no picture, so that a picture which is held has been wanted ever since it was
+/// decoded. Of the keys whose pictures are held, `ready` has the numbers of those that the book shows as ready since then.
 pub(crate) struct Replay {
-    alloc: Global,
-    session: Session,
-    keys: Keys<Works, Sha256Fingerprint>,
-    ready: Vec<KeyId>,
+    pub(crate) alloc: Global,
+    pub(crate) session: Session,
+    pub(crate) device: Device,
+    ready: NumberSet,
 }
 
 // By hand, so that whoever drops one is proved over one call.
@@ -42,7 +44,7 @@ impl Drop for Replay {
         let Replay {
             alloc: _,
             session: _,
-            keys: _,
+            device: _,
             ready: _,
         } = self;
     }
@@ -59,28 +61,29 @@ impl Replay {
         Ok(Replay {
             alloc,
             session,
-            keys: Keys::new(alloc),
-            ready: Vec::new(alloc),
+            device: Device::new(alloc),
+            ready: NumberSet::new(alloc),
         })
     }
 
-    /// Whether the next receipt of a book agrees, after the books of lower seats.
+    /// Whether the next receipt of a book agrees, after the books of lower seats, which have noted edits at these lengths.
     pub(crate) fn agrees(
         &mut self,
         journal: &[JournalEntry],
-        lower: &[SeatBook],
+        noted: &NumberSet,
         receipt: &SeatReceipt,
     ) -> Result<bool, AllocError>
-        ensures { IfOk result (λ agrees. (earlier : List Receipt) → IsUpTo journal.now earlier self.old
-            → IsChecked journal.now lower.now earlier receipt.now agrees self.new) }
+        ensures { IfOk result (λ agrees. (lower : List Book) (earlier : List Receipt)
+            → AreNoted lower noted.now → IsUpTo journal.now earlier self.old
+            → IsChecked journal.now lower earlier receipt.now agrees self.new) }
     {
         match receipt {
             SeatReceipt::Edit { edit, id, length } => {
                 let (edits, ids) = (slice::from_ref(edit), slice::from_ref(id));
-                self.agrees_edit(journal, lower, edits, ids, *length)
+                self.agrees_edit(journal, noted, edits, ids, *length)
             }
             SeatReceipt::Group { group, length } => {
-                self.agrees_edit(journal, lower, group.edits(), group.ids(), *length)
+                self.agrees_edit(journal, noted, group.edits(), group.ids(), *length)
             }
             SeatReceipt::Show { id, shown, length } => {
                 self.agrees_show(journal, *id, *shown, *length)
@@ -92,16 +95,17 @@ impl Replay {
     fn agrees_edit(
         &mut self,
         journal: &[JournalEntry],
-        lower: &[SeatBook],
+        noted: &NumberSet,
         edits: &[Edit],
         ids: &[AuId],
         length: u64,
     ) -> Result<bool, AllocError>
-        ensures { IfOk result (λ agrees. (earlier : List Receipt) (receipt : Receipt)
-            → IsOf receipt edits.now ids.now length → IsUpTo journal.now earlier self.old
-            → IsChecked journal.now lower.now earlier receipt agrees self.new) }
+        ensures { IfOk result (λ agrees. (lower : List Book) (earlier : List Receipt) (receipt : Receipt)
+            → AreNoted lower noted.now → IsOf receipt edits.now ids.now length
+            → IsUpTo journal.now earlier self.old
+            → IsChecked journal.now lower earlier receipt agrees self.new) }
     {
-        if length <= self.reach() || length > journal.len() as u64 || is_noted(lower, length) {
+        if length <= self.reach() || length > journal.len() as u64 || noted.has(length) {
             return Ok(false);
         }
         let at = (length - 1) as usize;
@@ -159,9 +163,9 @@ impl Replay {
             → slice_get journal (reach self.old) ≡ Some edits.now
             → IsReplayed journal earlier self.new) }
     {
+        let _ = self.session.numbers();
         let ids = make_entry(self.alloc, &mut self.session, edits)?;
-        let found = numbers_in(self.alloc, &mut self.keys, &self.session)?;
-        self.ready = those_in_use(self.alloc, &self.ready, &found)?;
+        self.session.clear_cache();
         Ok(ids)
     }
 
@@ -173,45 +177,71 @@ impl Replay {
     {
         match shown {
             Shown::Ready(picture) => self.shows(id, picture),
-            Shown::Pending => self.may_wait(id),
+            Shown::Pending => Ok(self.may_wait(id)),
             Shown::Fault(fault) => Ok(has_fault(&self.session, id, fault)),
             Shown::Empty => Ok(is_empty(&self.session, id)),
             Shown::NoSuchUnit => Ok(is_absent(&self.session, id)),
         }
     }
 
-    /// Whether this is the picture of the unit's key, which is noted then. Once a session is settled, it holds the picture
-    /// of each valid unit.
+    /// Whether this is the picture of the unit's key, which is ready then. Once what is due is decoded, the session holds the
+    /// picture of each valid unit.
     fn shows(&mut self, id: AuId, picture: Picture) -> Result<bool, AllocError>
         ensures { IfOk result (λ possible. (journal : List (List EditValue)) (earlier : List Receipt)
             → IsReplayed journal earlier self.old
             → Sees journal earlier self.old id (Ready picture) possible self.new) }
     {
-        let found = numbers_in(self.alloc, &mut self.keys, &self.session)?;
-        let Some(key) = number_of(&self.session, &found, id) else {
+        let Ok(Some(key)) = self.session.key(id) else {
             return Ok(false);
         };
-        settle(self.alloc, &mut self.session)?;
+        self.settle()?;
         let Shown::Ready(made) = self.session.show(id) else {
             return Err(AllocError);
         };
         if !same_picture(made, picture) {
             return Ok(false);
         }
-        self.ready.push(key)?;
+        self.ready.add(key.number())?;
         Ok(true)
     }
 
-    /// Whether the unit is valid, and its key isn't noted.
-    fn may_wait(&mut self, id: AuId) -> Result<bool, AllocError>
-        ensures { IfOk result (λ possible. (journal : List (List EditValue)) (earlier : List Receipt)
-            → IsReplayed journal earlier self.old
-            → Sees journal earlier self.old id Pending possible self.new) }
+    /// Whether the unit is valid, and its key isn't ready.
+    fn may_wait(&self, id: AuId) -> bool
+        ensures { (journal : List (List EditValue)) (earlier : List Receipt)
+            → IsReplayed journal earlier self.now
+            → Sees journal earlier self.now id Pending result self.now }
     {
-        let found = numbers_in(self.alloc, &mut self.keys, &self.session)?;
-        match number_of(&self.session, &found, id) {
-            Some(key) => Ok(!is_among(&self.ready, key)),
-            None => Ok(false),
+        match self.session.key(id) {
+            Ok(Some(key)) => !(self.is_held(id) && self.ready.has(key.number())),
+            Ok(None) | Err(_) => false,
+        }
+    }
+
+    /// Whether the picture of the unit that has the id is held.
+    fn is_held(&self, id: AuId) -> bool
+        ensures { (key : Key) → HasKey self.now.session.register.stream id key
+            → Decides result (Contains self.now.session.held key) }
+    {
+        match self.session.show(id) {
+            Shown::Ready(_) => true,
+            Shown::Pending => false,
+            Shown::Fault(_) => false,
+            Shown::Empty => false,
+            Shown::NoSuchUnit => false,
+        }
+    }
+
+    /// The key of the unit that has the id, if it has one, isn't ready any more.
+    pub(crate) fn forget(&mut self, id: AuId)
+        ensures session { self.new.session ≡ self.old.session }
+        ensures ready { (key : Key) → HasKey self.old.session.register.stream id key
+            → (number : ℕ) × IsNumberOf (store_of self.old.session) key number
+            × AreOneToOne (store_of self.old.session) (store_of self.old.session)
+            × ((other : ℕ) → has self.new.ready other
+            ≡ (if number == other then false else has self.old.ready other)) }
+    {
+        if let Ok(Some(key)) = self.session.key(id) {
+            self.ready.remove(key.number());
         }
     }
 }

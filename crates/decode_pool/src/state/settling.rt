@@ -41,9 +41,9 @@ impl State {
             (λ at. IsPendingAt self.now.session at) }
     {
         let _ = self.session.journal();
-        let ids = self.session.ids();
-        for at in from..ids.len() {
-            if self.session.show(ids[at]) == Shown::Pending {
+        let units = self.session.ids().len();
+        for at in from..units {
+            if self.session.show_at(at) == Shown::Pending {
                 return Some(at);
             }
         }

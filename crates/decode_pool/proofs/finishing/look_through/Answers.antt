@@ -12,6 +12,12 @@ returns-in_err-books-clause-err c =
     let p = err_from_is_err_and c.from_residual.result c.from_residual.ensures.1 in
     want_err c.args.opened c.args.seats.now c.from_residual.result p.0 p.1 p.2
 
+pub returns-in_err-are_noted-clause-err : goal.returns-in_err-are_noted-clause-err
+returns-in_err-are_noted-clause-err c =
+    let residual = c.from_residual-in_err-are_noted in
+    let p = err_from_is_err_and residual.result residual.ensures.1 in
+    want_err c.args.opened c.args.seats.now residual.result p.0 p.1 p.2
+
 pub returns-in-Err-clause-err : goal.returns-in-Err-clause-err
 returns-in-Err-clause-err c =
     let numbered : AreNumbered c.args.opened c.args.seats.now = c.are_numbered.ensures.0 c.if-not-are_numbered.false in
@@ -21,18 +27,18 @@ returns-in-Err-clause-err c =
     audited c.args.opened c.args.seats.now c.journal-journal.result.now c.deref.result.now c.in-Err.fault
     (λ it. it.items) c.copy_of.result c.refusal_of.result numbered theirs c.copy_of.ensures c.refusal_of.ensures c.in-Err.ensures.err
 
-pub returns-then-not-are_all_noted-clause-err : goal.returns-then-not-are_all_noted-clause-err
-returns-then-not-are_all_noted-clause-err c =
+pub returns-then-not-are_noted-clause-err : goal.returns-then-not-are_noted-clause-err
+returns-then-not-are_noted-clause-err c =
     let numbered : AreNumbered c.args.opened c.args.seats.now = c.are_numbered.ensures.0 c.if-not-are_numbered.false in
     let agree : BooksAgree c.journal-journal.result.now c.in_ok-books.books.items =
     subst (λ (books : List SeatBook). BooksAgree c.journal-journal.result.now books) c.deref.ensures.value
     c.in_default.ensures.ok in
     let lacks : Lacks c.journal-journal.result.now c.in_ok-books.books.items =
     subst (λ (books : List SeatBook). Lacks c.journal-journal.result.now books) c.deref-2.ensures.value
-    c.if-not-are_all_noted.ensures in
+    (rw c.if-not-are_noted.true at c.in_ok-are_noted.ensures) in
     missed c.args.opened c.args.seats.now c.journal-journal.result.now c.in_ok-books.books.items (λ it. it.items)
-    c.copy_of-then-not-are_all_noted.result c.with_journal.result numbered c.in_ok-books.ensures agree
-    c.copy_of-then-not-are_all_noted.ensures c.with_journal.ensures lacks
+    c.copy_of-then-not-are_noted.result c.with_journal.result numbered c.in_ok-books.ensures agree
+    c.copy_of-then-not-are_noted.ensures c.with_journal.ensures lacks
 
 pub returns-clause-ok : goal.returns-clause-ok
 returns-clause-ok c =
@@ -42,7 +48,7 @@ returns-clause-ok c =
     c.in_default.ensures.ok in
     let noted : (at : ℕ) → at < length c.journal-journal.result.now → is_noted c.in_ok-books.books.items (at + 1) ≡ true =
     subst (λ (books : List SeatBook). (at : ℕ) → at < length c.journal-journal.result.now → is_noted books (at + 1) ≡ true)
-    c.deref-2.ensures.value c.if-not-are_all_noted.ensures in
+    c.deref-2.ensures.value (rw c.if-not-are_noted.false at c.in_ok-are_noted.ensures) in
     subst (λ (journal : List (List Edit)). IsFinished c.args.opened c.args.seats.now journal) c.journal-journal.ensures.value
     (finished c.args.opened c.args.seats.now c.journal-journal.result.now c.in_ok-books.books.items numbered
     c.in_ok-books.ensures agree noted)

@@ -1,6 +1,7 @@
-use Rattle.std.proofs.Common.{◌≡◌, length, Some, refl}
+use Rattle.std.proofs.Common.{◌≡◌, length, take, Some, refl}
 use Rattle.std.specs.Prelude.{slice_get}
 use Rattle.std.proofs.lemmas.Option.{slice_get_read}
+use Rattle.seat_books.proofs.Noting.{AreNoted-more}
 use Rattle.seat_books.proofs.Audited.{FirstBooksAgree-more}
 use Rattle.seat_books.proofs.auditing.audit.Goals as goal
 
@@ -12,8 +13,8 @@ returns-in-Some-clause-err c = record {
   stands =
       slice_get_read c.args.books.now (length c.args.books.now) c.loop-at.at c.index-books-at.result refl c.loop-at-test.true
       c.index-books-at.is;
-  before = c.loop-at.invariant;
-  fault = rw c.in-Some.is at c.in_ok-number.ensures;
+  before = c.loop-at.invariant.agreed;
+  fault = (rw c.in-Some.is at c.in_ok-number.ensures) (take c.loop-at.at c.args.books.now) c.loop-at.invariant.noted;
 }
 
 pub loop-at-preserved : goal.loop-at-preserved
@@ -21,5 +22,12 @@ loop-at-preserved c =
     let stands : slice_get c.args.books.now c.loop-at.at ≡ Some c.index-books-at.result =
     slice_get_read c.args.books.now (length c.args.books.now) c.loop-at.at c.index-books-at.result refl c.loop-at-test.true
     c.index-books-at.is in
-    FirstBooksAgree-more c.args.journal.now c.args.books.now c.loop-at.at c.index-books-at.result stands
-    (rw c.in_default.is at c.in_ok-number.ensures) c.loop-at.invariant
+    record {
+      agreed =
+          FirstBooksAgree-more c.args.journal.now c.args.books.now c.loop-at.at c.index-books-at.result stands
+          ((rw c.in_default.is at c.in_ok-number.ensures) (take c.loop-at.at c.args.books.now) c.loop-at.invariant.noted)
+          c.loop-at.invariant.agreed;
+      noted =
+          AreNoted-more c.args.books.now c.loop-at.at c.index-books-at.result c.loop-at.noted c.note.new.noted stands
+          c.loop-at.invariant.noted c.in_ok-note.ensures;
+    }

@@ -1,12 +1,26 @@
-use Rattle.std.proofs.Common.{◌≡◌, ℕ, ◌<◌, List, length, Some, sym, subst, arith}
-use Rattle.std.specs.Prelude.{slice_get}
-use Rattle.std.proofs.lemmas.Option.{slice_get_within}
+use Rattle.std.proofs.Common.{◌≡◌, ℕ, ◌<◌, List, length, get_or, ap, subst, arith, rules}
+use Rattle.std.proofs.lemmas.Option.{slice_get_within, slice_get-get_or}
+use Rattle.stream_edits.specs.Streams.{ids_of}
+use Rattle.edit_engine.specs.declared.showing.Shown.{Shown}
+use Rattle.edit_engine.specs.declared.showing.Shown.TheVariants.{Pending}
+use Rattle.edit_engine.specs.Showing.{Shows}
 use Rattle.decode_pool.proofs.state.State.first_pending.Goals as goal
+
+pub returns-then-eq-clause-place : goal.returns-then-eq-clause-place
+returns-then-eq-clause-place c =
+    let ids : List ℕ = ids_of c.args.self.now.session.register.stream in
+    let within : c.loop-at.at < length ids = omega (arith, c.loop-at-test.true, ap length c.ids-units.ensures) in
+    let stands = slice_get-get_or ids c.loop-at.at 0 within in
+    let pending : c.show_at.result ≡ Pending = search rules in (
+      get_or ids c.loop-at.at 0,
+      stands,
+      subst (λ (answer : Shown). Shows c.args.self.now.session (get_or ids c.loop-at.at 0) answer) pending
+          (c.show_at.ensures (get_or ids c.loop-at.at 0) stands),
+    )
 
 pub returns-clause-place : goal.returns-clause-place
 returns-clause-place c = λ at id from is.
-    let there : slice_get c.ids-ids.result.now at ≡ Some id =
-    subst (λ (ids : List ℕ). slice_get ids at ≡ Some id) (sym c.ids-ids.ensures) is in
-    let within : at < length c.ids-ids.result.now = slice_get_within c.ids-ids.result.now at id there in
-    let past : at < c.loop-at.at = omega (arith, c.loop-at-test.false) in
-    c.loop-at.invariant at id from past there
+    let ids : List ℕ = ids_of c.args.self.now.session.register.stream in
+    let within : at < length ids = slice_get_within ids at id is in
+    let past : at < c.loop-at.at = omega (arith, within, c.loop-at-test.false, ap length c.ids-units.ensures) in
+    c.loop-at.invariant at id from past is

@@ -11,10 +11,10 @@ use Rattle.seat_books.proofs.Checked.{checked_edit, not_false}
 use Rattle.seat_books.proofs.replay.Replay.agrees_edit.Goals as goal
 
 pub returns : goal.returns
-returns c = λ earlier receipt of up.
+returns c = λ lower earlier receipt noted of up.
     let low : reach c.args.self.now < c.args.length = omega (arith, c.reach.ensures, c.if-length-reach.false) in
     let long : c.args.length ≤ length c.args.journal.now = omega (arith, c.if-length-journal.false) in
-    let own : is_noted c.args.lower.now c.args.length ≡ false = sym c.is_noted.ensures ∙ c.if-is_noted.false in
+    let own : is_noted lower c.args.length ≡ false = sym (noted c.args.length) ∙ (sym c.has.ensures ∙ c.if-has.false) in
     let yes : c.same_edits.result ≡ true = search (rules, not_false) in
     let same : c.args.edits.now ≡ c.index-journal-at.result = c.same_edits.ensures.0 yes ∙ c.edits.ensures in
     let to : reach c.args.self.now ≤ c.args.length - 1 = omega (arith, low) in
@@ -27,7 +27,7 @@ returns c = λ earlier receipt of up.
     (read ∙ ap (λ (edits : List Edit). Some edits) (sym same)) in
     let alike : Decides c.eq.result (c.as_slice.result.now ≡ c.args.ids.now) =
     slice_eq-Decides Decides-eqb c.as_slice.result.now c.args.ids.now c.eq.result c.eq.ensures in
-    checked_edit c.args.journal.now c.args.lower.now earlier c.args.self.now c.go_on.new.self c.make.new.self receipt c.args.edits.now
+    checked_edit c.args.journal.now lower earlier c.args.self.now c.go_on.new.self c.make.new.self receipt c.args.edits.now
     c.args.ids.now c.args.length c.in_ok-given.given.items c.eq.result of up low own stands counted mid.0 c.in_ok-given.ensures.makes
     (c.in_ok-given.ensures.follows c.args.journal.now earlier mid.0 stands)
     (λ agrees. sym c.as_slice.ensures.value ∙ alike.0 agrees) (λ is. alike.1 (c.as_slice.ensures.value ∙ is))

@@ -1,18 +1,24 @@
-use Rattle.std.proofs.Common.{refl}
-use Rattle.seat_books.specs.declared.replay.Replay.{Replay}
-use Rattle.seat_books.proofs.Checked.{IsReplayed-extended, Sees-pending}
+use Rattle.std.proofs.Common.{◌≡◌, Bool, ap, sym, ◌∙◌, subst}
+use Rattle.std.specs.Prelude.{◌&&◌, not}
+use Rattle.edit_engine.specs.declared.showing.Shown.TheVariants.{Pending}
+use Rattle.seat_books.specs.Following.{Sees}
+use Rattle.seat_books.specs.Sets.{has}
+use Rattle.seat_books.proofs.Checked.{Sees-pending}
+use Rattle.seat_books.proofs.Numbers.{number_of_unit}
 use Rattle.seat_books.proofs.replay.Replay.may_wait.Goals as goal
+use Rattle.seat_books.proofs.replay.Replay.may_wait.Goals.{then-is_held, else-is_held}
 
-pub returns-in-Some : goal.returns-in-Some
-returns-in-Some c = λ journal earlier replayed.
-    let new : Replay = record {
-      alloc = c.args.self.now.alloc;
-      session = c.args.self.now.session;
-      keys = c.numbers_in.new.keys;
-      ready = c.args.self.now.ready;
-    } in
-    let key = (rw c.deref.ensures.value at c.in-Some.ensures) c.numbers_in.new.keys c.in_ok-found.ensures.ok in
-    let among = rw c.deref-in-Some.ensures.value at c.is_among.ensures in
-    Sees-pending journal earlier c.args.self.now new c.args.id c.in-Some.key c.is_among.result refl
-    (IsReplayed-extended journal earlier c.args.self.now new refl refl c.numbers_in.ensures.stay
-    (c.numbers_in.ensures.one replayed.one) refl replayed) key among
+pub returns-after-is_held : goal.returns-after-is_held
+returns-after-is_held c = λ journal earlier replayed.
+    let value = rw c.in-Ok-Some.field-0-is at c.in-Ok-Some.ensures.value in
+    let noted : Bool = has c.args.self.now.ready c.in-Ok-Some.key in
+    let same : (c.is_held.result && noted) ≡ c.if-is_held.result =
+    elim c.if-is_held.branch [
+      | then-is_held w ↦
+          ap (λ (held : Bool). held && noted) w.if-is_held.true
+          ∙ (ap (has c.args.self.now.ready) (sym w.number.ensures) ∙ (sym w.has.ensures ∙ sym w.result-is))
+      | else-is_held w ↦ ap (λ (held : Bool). held && noted) w.if-is_held.false ∙ (sym w.if-is_held.false ∙ sym w.result-is)
+    ] in
+    subst (λ (possible : Bool). Sees journal earlier c.args.self.now c.args.id Pending (not possible) c.args.self.now) same
+    (Sees-pending journal earlier c.args.self.now c.args.id c.in-Ok-Some.key value.0 c.is_held.result replayed value.1
+    (number_of_unit c.args.self.now.session c.args.id value.0 c.in-Ok-Some.key value.1 value) (c.is_held.ensures value.0 value.1))

@@ -20,3 +20,9 @@ returns-in-NoSuchUnit c = λ journal earlier replayed.
     rw c.in-NoSuchUnit.is
     (Sees-plain journal earlier c.args.self.now c.args.self.now c.args.id shown.NoSuchUnit c.is_absent.result
     (λ key shows. shows) refl replayed c.is_absent.ensures.0 c.is_absent.ensures.1)
+
+pub returns-in-Ready : goal.returns-in-Ready
+returns-in-Ready c = rw c.in-Ready.is c.shows.ensures
+
+pub returns-in-Pending : goal.returns-in-Pending
+returns-in-Pending c = rw c.in-Pending.is c.may_wait.ensures

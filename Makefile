@@ -1,21 +1,23 @@
 # The C interface: the static library, its header, its pkg-config file and manual pages.
-#     make                     builds the library into build/, proved, where it is missing or older than its sources
+#     make                     builds the library into build/, where it is missing or older than its sources; it is proved first
 #     make install PREFIX=..   puts program, library, header, pkg-config file and manual pages below PREFIX (/usr/local)
 #     make check               builds and runs the tests in C and C++: under AddressSanitizer and UndefinedBehaviorSanitizer,
 #                              and under valgrind where it is there
+#     make check-install       installs into an empty folder, and builds and runs a program by what pkg-config says alone
 #     make examples            builds the examples
 PREFIX = /usr/local
 DESTDIR =
 CC = gcc
 CXX = g++
 CFLAGS = -O2 -g
-CXXFLAGS = -O2 -g
 WARNINGS = -Wall -Wextra -Wpedantic -Wconversion -Werror
 VERSION = 0.1.0
 
 library = build/libcupdaisy.a
 archive = crates/cupdaisy/out/libcupdaisy.a
-sources = $(shell tools/sources --files cupdaisy)
+sources = crates.txt $(shell tools/sources --files cupdaisy)
+examples = $(patsubst examples/%.c,build/%,$(wildcard examples/*.c)) \
+    $(patsubst examples/%.cpp,build/%,$(wildcard examples/*.cpp))
 
 all: $(library) build/cupdaisy.pc
 
@@ -47,12 +49,21 @@ check: $(library) examples
 	tools/check-header
 	tools/check-c
 
-examples: build/first build/play
+check-install: $(library)
+	tools/check-install
 
-build/%: examples/%.c include/cupdaisy.h $(library)
+examples: $(examples) build/libcupdaisy.so
+
+build/%: examples/%.c $(wildcard examples/*.h) include/cupdaisy.h $(library)
 	$(CC) -std=c99 $(WARNINGS) $(CFLAGS) -Iinclude $< $(library) -o $@
+
+build/%: examples/%.cpp $(wildcard examples/*.h examples/*.hpp) include/cupdaisy.h $(library)
+	$(CXX) -std=c++11 $(WARNINGS) $(CFLAGS) -Iinclude $< $(library) -o $@
+
+build/libcupdaisy.so: $(library)
+	$(CC) -shared -Wl,--whole-archive $(library) -Wl,--no-whole-archive -o $@
 
 clean:
 	rm -rf build
 
-.PHONY: all install check examples clean
+.PHONY: all install check check-install examples clean

@@ -21,7 +21,7 @@ static uint32_t insert_file(cupdaisy_session *session, const char *path)
     }
     size_t length = fread(text, 1, MOST, file);
     fclose(file);
-    cupdaisy_receipt receipt = {0, 0, 0};
+    cupdaisy_receipt receipt = {0, 0, 0, 0};
     uint32_t status = cupdaisy_insert_last(session, text, length, &receipt);
     free(text);
     return status;

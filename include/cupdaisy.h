@@ -30,6 +30,9 @@
 #include <stdbool.h>
 #include <stddef.h>
 #include <stdint.h>
+#ifdef __linux__
+#include <linux/v4l2-controls.h>
+#endif
 
 #ifdef __cplusplus
 extern "C" {
@@ -50,11 +53,11 @@ extern "C" {
 #define CUPDAISY_NOTHING_DUE 108  /* no picture is due */
 #define CUPDAISY_JOBS_SPENT 109   /* all numbers of jobs were given */
 #define CUPDAISY_STALE 110        /* the result of the job is wanted no more */
-#define CUPDAISY_NOT_HELD 111     /* the picture isn't held (no call answers it yet) */
+#define CUPDAISY_NOT_HELD 111     /* the unit isn't valid, or its picture isn't held */
 #define CUPDAISY_PENDING 112      /* the unit is valid, and its picture isn't held */
-#define CUPDAISY_HAS_FAULT 113    /* the unit has a fault, which cupdaisy_outcome tells */
+#define CUPDAISY_HAS_FAULT 113    /* the unit has a fault, which cupdaisy_outcome_of tells */
 #define CUPDAISY_NO_PICTURE 114   /* the unit has no slice, so that it has no picture */
-#define CUPDAISY_NOT_AN_EDIT 115  /* an edit of a group is of no kind, or its text isn't within the bytes (no call answers it yet) */
+#define CUPDAISY_NOT_AN_EDIT 115  /* an edit of a group is of no kind, or its text isn't within the bytes */
 #define CUPDAISY_NO_WEIGHTS 116   /* the slice has no weight table */
 #define CUPDAISY_NO_SUCH_NAME 117 /* no status or fault has the number */
 
@@ -71,6 +74,7 @@ typedef struct cupdaisy_session {
 typedef struct cupdaisy_receipt {
     uint64_t number; /* how many edits and groups were accepted, with this one */
     uint64_t steps;  /* how many steps of the fold over the stream it made */
+    uint64_t hashed; /* how many bytes were hashed for it: those of the slices that it brings, once */
     uint32_t id;     /* the unit that was inserted, deleted or replaced; ids are 1, 2, 3 and so on, and never given twice */
 } cupdaisy_receipt;
 
@@ -91,8 +95,88 @@ typedef struct cupdaisy_outcome {
 /* A job that was taken: a picture to decode. */
 typedef struct cupdaisy_job {
     uint64_t number; /* jobs are 1, 2, 3 and so on */
-    uint32_t unit;   /* the first unit of the stream that has this picture */
+    uint32_t unit;   /* the first unit of the stream that has this picture; of cupdaisy_take_for the one that is needed */
 } cupdaisy_job;
+
+/* What a job is made of. */
+typedef struct cupdaisy_job_input {
+    uint64_t unit;       /* the unit whose requests it has */
+    uint64_t slices;     /* how many slices it has, each with its request */
+    uint64_t references; /* how many references it has */
+} cupdaisy_job_input;
+
+/* A picture that the requests of a job may refer to: reference_ts of the decoded picture buffer, and its name. */
+typedef struct cupdaisy_reference {
+    uint64_t timestamp;
+    uint8_t picture[32];
+} cupdaisy_reference;
+
+/* The kinds of edits. */
+#define CUPDAISY_INSERT_FIRST 0
+#define CUPDAISY_INSERT_AFTER 1
+#define CUPDAISY_DELETE 2
+#define CUPDAISY_REPLACE 3
+
+/* An edit of a group: its text is `count` bytes of all texts of the group, from the byte `from` on. */
+typedef struct cupdaisy_edit {
+    uint32_t kind; /* one of the four above */
+    uint32_t id;   /* the id that it names; not read where it names none */
+    size_t from;   /* not read of a deletion, and so is count */
+    size_t count;
+} cupdaisy_edit;
+
+/* What a group is told beside its ids. */
+typedef struct cupdaisy_group_receipt {
+    uint64_t number; /* how many edits and groups were accepted, with this one */
+    uint64_t steps;  /* how many steps of the fold over the stream it made */
+    uint64_t hashed; /* how many bytes were hashed for its edits */
+    uint64_t index;  /* which edit is why the group isn't made, from 0 on; else 0 */
+} cupdaisy_group_receipt;
+
+/* What a load is told. Its units have the ids first, first + 1 and so on, as many as units. */
+typedef struct cupdaisy_load_receipt {
+    uint64_t number; /* how many edits and groups were accepted, with the last one of these; 0 where none was */
+    uint64_t steps;  /* how many steps of the fold over the stream they made */
+    uint64_t hashed; /* how many bytes were hashed for them */
+    uint64_t units;  /* how many units were inserted */
+    uint64_t index;  /* which access unit the stream is refused for, from 0 on; else 0 */
+    uint32_t first;  /* the id of the first unit; 0 where none was inserted */
+} cupdaisy_load_receipt;
+
+/* An edit of the journal. */
+typedef struct cupdaisy_journal_edit {
+    uint32_t kind;  /* one of the four above */
+    uint32_t id;    /* the id that it names; 0 where it names none */
+    uint64_t bytes; /* how many bytes its text has */
+} cupdaisy_journal_edit;
+
+#ifdef __linux__
+/*
+ * The request of a slice: the controls of the kernel's stateless decoder interface but the weights, filled, and what else
+ * a decoder is told. A host that has a real driver knows:
+ *   - Drivers differ in whether the start code belongs to the slice's bytes: V4L2_STATELESS_H264_START_CODE_NONE wants the
+ *     bytes from unit_begins on; header_bit_size stays.
+ *   - A CAPTURE buffer keeps its timestamp while it is queued anew, and a unit keeps its id when it is replaced; so each
+ *     decode gets a timestamp of its own, and each reference_ts of the decoded picture buffer is rewritten by the job's
+ *     references.
+ *   - An entry of a list whose fields are 0 is missing, whatever its index.
+ *   - 8-bit 4:2:0 is all that some drivers take.
+ *   - Most drivers are frame-based: one request has the bytes of all slices one after the other, without slice_params and
+ *     weights, and with V4L2_H264_DECODE_PARAM_FLAG_PFRAME or _BFRAME where a slice is P or B.
+ */
+typedef struct cupdaisy_request {
+    uint64_t timestamp;   /* of the unit, in nanoseconds */
+    uint64_t bytes;       /* how many bytes the slice has, with a start code of three bytes */
+    uint32_t unit_begins; /* where the NAL unit begins among them */
+    uint32_t hold;        /* 1 where the capture buffer is held, as more slices of the picture follow; else 0 */
+    uint32_t has_weights; /* 1 where the slice has a weight table, else 0 */
+    struct v4l2_ctrl_h264_pps pps;
+    struct v4l2_ctrl_h264_sps sps;
+    struct v4l2_ctrl_h264_scaling_matrix scaling_matrix;
+    struct v4l2_ctrl_h264_slice_params slice_params;
+    struct v4l2_ctrl_h264_decode_params decode_params;
+} cupdaisy_request;
+#endif
 
 /*
  * Opens a session with an empty stream. Its cache has room for so many pictures of units that are gone, 1 to 4,096. Takes
@@ -127,6 +211,27 @@ uint32_t cupdaisy_delete(cupdaisy_session *session, uint32_t id, cupdaisy_receip
 uint32_t cupdaisy_replace(cupdaisy_session *session, uint32_t id, const uint8_t *text, size_t text_length,
                           cupdaisy_receipt *receipt);
 
+/*
+ * Makes edits together, as one step: all of them, each on the stream that those before it left, or none. An edit may name an
+ * id that one before it gave. `ids` has room for one id an edit at least; the first are the units that were inserted, deleted
+ * or replaced, in the order of the edits. The texts are copied. Takes memory.
+ * The first of these that holds is the status: TOO_SMALL where `ids` has less room; NOT_AN_EDIT; 20 for no edit, 21 for more
+ * than 1,024; the refusal of the first edit that is refused, as above. MEMORY may stand in for any of them but TOO_SMALL. With
+ * NOT_AN_EDIT and the refusal of an edit `receipt` is written, whole, and tells which edit it is; MEMORY tells none. `ids` is
+ * written with DONE alone.
+ */
+uint32_t cupdaisy_group(cupdaisy_session *session, const cupdaisy_edit *edits, size_t edits_length, const uint8_t *texts,
+                        size_t texts_length, uint32_t *ids, size_t ids_length, cupdaisy_group_receipt *receipt);
+
+/*
+ * Inserts the access units of a byte stream after the last unit, each by an edit. A stream that is refused inserts none: 1
+ * where the text doesn't split into NAL units; the refusal of its first access unit that is refused, 2 to 14; 17 where there
+ * are more than there is room for. An edit that is refused, 18 or MEMORY, ends it, and those before it stay. MEMORY may stand
+ * in for any refusal, with no unit inserted. `receipt` is written with each status but NO_SESSION. Takes memory, for each
+ * access unit's text too.
+ */
+uint32_t cupdaisy_load(cupdaisy_session *session, const uint8_t *text, size_t text_length, cupdaisy_load_receipt *receipt);
+
 /* How many units the stream has. */
 uint32_t cupdaisy_units(cupdaisy_session *session, size_t *units);
 
@@ -139,8 +244,20 @@ uint32_t cupdaisy_place(cupdaisy_session *session, uint32_t id, size_t *place);
 /* The position of the unit of the id in output order, from 0 on. NO_SUCH_UNIT, NOT_VALID. */
 uint32_t cupdaisy_position(cupdaisy_session *session, uint32_t id, size_t *position);
 
+/* The id of the unit at a position in output order. NO_SUCH_PLACE where no unit has it. */
+uint32_t cupdaisy_unit_at(cupdaisy_session *session, size_t position, uint32_t *id);
+
 /* What becomes of the unit of the id. NO_SUCH_UNIT. */
 uint32_t cupdaisy_outcome_of(cupdaisy_session *session, uint32_t id, cupdaisy_outcome *outcome);
+
+/*
+ * The number of the key of the unit of the id: of all that its picture is made of. Units have equal numbers exactly where
+ * their pictures are made alike, and a number stays while a unit has its key. NO_SUCH_UNIT, NOT_VALID.
+ */
+uint32_t cupdaisy_key(cupdaisy_session *session, uint32_t id, uint64_t *key);
+
+/* Whether a number is that of a key in use, which some unit of the stream has: 1, else 0. It looks at each unit. */
+uint32_t cupdaisy_in_use(cupdaisy_session *session, uint64_t key, uint32_t *in_use);
 
 /*
  * What is shown of the unit of the id: the name of its picture as the stream is now, whatever was decoded before. A name
@@ -158,6 +275,15 @@ uint32_t cupdaisy_show(cupdaisy_session *session, uint32_t id, uint8_t picture[3
 uint32_t cupdaisy_take(cupdaisy_session *session, cupdaisy_job *job);
 
 /*
+ * Takes a job that the unit of the id needs: of its own picture and of those that it is made from, down to pictures that are
+ * held, the earliest of the stream that isn't out as a job and whose references are all held. So a host that shows one unit
+ * decodes what it needs and no more. Takes memory.
+ * NOTHING_DUE where there is none: while the unit's picture isn't held, only where a picture that it needs is out as a job.
+ * Also for an id that no unit has, and a unit that isn't valid. JOBS_SPENT; MEMORY.
+ */
+uint32_t cupdaisy_take_for(cupdaisy_session *session, uint32_t id, cupdaisy_job *job);
+
+/*
  * Lands the job of the number: its picture was made, and is held from then on where it is wanted. Jobs may land in any
  * order, and late. The library makes the picture's name anew for it. Takes memory.
  * STALE where the picture isn't wanted any more, or is held already: the job is out no more; NO_SUCH_JOB; MEMORY.
@@ -166,6 +292,69 @@ uint32_t cupdaisy_land(cupdaisy_session *session, uint64_t job);
 
 /* Gives the job of the number back, so that its picture is given to decode again. NO_SUCH_JOB. */
 uint32_t cupdaisy_give_back(cupdaisy_session *session, uint64_t job);
+
+/*
+ * Says that the picture of the unit of the id is no longer there, as its surface is used for another: it isn't held any
+ * more, nor is it cached, and a job may make it again. Units that have one picture share that. Jobs that are out stay. Takes
+ * no memory.
+ * NOT_HELD where the unit isn't valid, or its picture isn't held; NO_SUCH_UNIT.
+ */
+uint32_t cupdaisy_drop_picture(cupdaisy_session *session, uint32_t id);
+
+/*
+ * Says that the pictures of the cache, which no unit has any more, are no longer there, so that no edit takes one of them
+ * back. Takes no memory.
+ */
+uint32_t cupdaisy_clear_cache(cupdaisy_session *session);
+
+/*
+ * What the job of the number, which is out, is made of, as it was when it was taken; a reference of it by its index, from 0
+ * on; and the name of the picture that it makes, under which `show` answers once it has landed. NO_SUCH_JOB; NO_SUCH_PLACE;
+ * cupdaisy_job_picture takes memory, and may answer MEMORY.
+ */
+uint32_t cupdaisy_job_input_of(cupdaisy_session *session, uint64_t job, cupdaisy_job_input *input);
+uint32_t cupdaisy_job_reference(cupdaisy_session *session, uint64_t job, size_t index, cupdaisy_reference *reference);
+uint32_t cupdaisy_job_picture(cupdaisy_session *session, uint64_t job, uint8_t picture[32]);
+
+/*
+ * The request of a slice, from 0 on: of the unit of the id, as the stream is now; of the job of the number, which is out, as
+ * it was when it was taken. NO_SUCH_UNIT, NOT_VALID; NO_SUCH_JOB; NO_SUCH_SLICE; NO_WEIGHTS where the slice has no weight
+ * table.
+ * The bytes of a slice are its NAL unit after a start code of three bytes. `needed` is how many there are, with
+ * CUPDAISY_TOO_SMALL too, where nothing else is written.
+ */
+#ifdef __linux__
+uint32_t cupdaisy_unit_request(cupdaisy_session *session, uint32_t id, size_t slice, cupdaisy_request *request);
+uint32_t cupdaisy_unit_weights(cupdaisy_session *session, uint32_t id, size_t slice,
+                               struct v4l2_ctrl_h264_pred_weights *weights);
+uint32_t cupdaisy_job_request(cupdaisy_session *session, uint64_t job, size_t slice, cupdaisy_request *request);
+uint32_t cupdaisy_job_weights(cupdaisy_session *session, uint64_t job, size_t slice,
+                              struct v4l2_ctrl_h264_pred_weights *weights);
+#endif
+uint32_t cupdaisy_unit_bytes(cupdaisy_session *session, uint32_t id, size_t slice, uint8_t *bytes, size_t bytes_length,
+                             size_t *needed);
+uint32_t cupdaisy_job_bytes(cupdaisy_session *session, uint64_t job, size_t slice, uint8_t *bytes, size_t bytes_length,
+                            size_t *needed);
+
+/*
+ * The journal: the accepted edits in order, those of a group as one entry. How many entries it has; how many edits an entry
+ * has, from 0 on; an edit of an entry, from 0 on; and its text, as the bytes of a slice are written. NO_SUCH_PLACE.
+ */
+uint32_t cupdaisy_journal(cupdaisy_session *session, size_t *entries);
+uint32_t cupdaisy_journal_entry(cupdaisy_session *session, size_t entry, size_t *edits);
+uint32_t cupdaisy_journal_edit_at(cupdaisy_session *session, size_t entry, size_t index, cupdaisy_journal_edit *edit);
+uint32_t cupdaisy_journal_text(cupdaisy_session *session, size_t entry, size_t index, uint8_t *text, size_t text_length,
+                               size_t *needed);
+
+/*
+ * The name of a status, the name of a fault, and the version, as text without a zero at its end, written as the bytes of a
+ * slice are. NO_SUCH_NAME. cupdaisy_version is a million times the major number, a thousand times the minor one, and the
+ * patch. These need no session.
+ */
+uint32_t cupdaisy_status_name(uint32_t status, uint8_t *name, size_t name_length, size_t *needed);
+uint32_t cupdaisy_fault_name(uint32_t fault, uint8_t *name, size_t name_length, size_t *needed);
+uint32_t cupdaisy_version(void);
+uint32_t cupdaisy_version_text(uint8_t *text, size_t text_length, size_t *needed);
 
 #ifdef __cplusplus
 }

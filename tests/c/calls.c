@@ -35,7 +35,7 @@ static bool is_receipt(cupdaisy_receipt receipt, uint64_t number, uint32_t id)
 /* A, P1 and P2 under the ids 1, 2 and 3. */
 static void fill(cupdaisy_session *session)
 {
-    cupdaisy_receipt receipt = {0, 0, 0};
+    cupdaisy_receipt receipt = {0, 0, 0, 0};
     EXPECT(cupdaisy_insert_first(session, A, sizeof A, &receipt) == CUPDAISY_DONE && is_receipt(receipt, 1, 1));
     EXPECT(cupdaisy_insert_after(session, 1, P1, sizeof P1, &receipt) == CUPDAISY_DONE && is_receipt(receipt, 2, 2));
     EXPECT(cupdaisy_insert_last(session, P2, sizeof P2, &receipt) == CUPDAISY_DONE && is_receipt(receipt, 3, 3));
@@ -82,7 +82,7 @@ static void faults_are_told(void)
 {
     cupdaisy_session session = CUPDAISY_NONE;
     EXPECT(cupdaisy_open(&session, 16) == CUPDAISY_DONE);
-    cupdaisy_receipt receipt = {0, 0, 0};
+    cupdaisy_receipt receipt = {0, 0, 0, 0};
     EXPECT(cupdaisy_insert_last(&session, P1, sizeof P1, &receipt) == CUPDAISY_DONE);
     EXPECT(cupdaisy_insert_last(&session, sets, sizeof sets, &receipt) == CUPDAISY_DONE);
     cupdaisy_outcome outcome = {0, 0, 0, 0, 0, 0, 0};
@@ -104,7 +104,7 @@ static void edits_are_refused(void)
     cupdaisy_session session = CUPDAISY_NONE;
     EXPECT(cupdaisy_open(&session, 16) == CUPDAISY_DONE);
     fill(&session);
-    cupdaisy_receipt receipt = {7, 7, 7};
+    cupdaisy_receipt receipt = {7, 7, 7, 7};
     static const uint8_t type14[] = {0, 0, 1, 0x6E, 0x40, 0x80};
     EXPECT(cupdaisy_insert_first(&session, A, 0, &receipt) == 1);
     EXPECT(cupdaisy_insert_after(&session, 1, type14, sizeof type14, &receipt) == 2);
@@ -113,7 +113,7 @@ static void edits_are_refused(void)
     EXPECT(cupdaisy_delete(&session, 9, &receipt) == CUPDAISY_NO_SUCH_UNIT);
     EXPECT(cupdaisy_replace(&session, 9, P1, sizeof P1, &receipt) == CUPDAISY_NO_SUCH_UNIT);
     EXPECT(cupdaisy_replace(&session, 2, type14, sizeof type14, &receipt) == 2);
-    EXPECT(receipt.number == 7 && receipt.steps == 7 && receipt.id == 7);
+    EXPECT(receipt.number == 7 && receipt.steps == 7 && receipt.hashed == 7 && receipt.id == 7);
     size_t units = 0;
     EXPECT(cupdaisy_units(&session, &units) == CUPDAISY_DONE && units == 3);
     EXPECT(cupdaisy_close(&session) == CUPDAISY_DONE);
@@ -125,7 +125,7 @@ static void deleted_unit_is_repaired(void)
     EXPECT(cupdaisy_open(&session, 16) == CUPDAISY_DONE);
     fill(&session);
     EXPECT(settle(&session) == 3);
-    cupdaisy_receipt receipt = {0, 0, 0};
+    cupdaisy_receipt receipt = {0, 0, 0, 0};
     EXPECT(cupdaisy_delete(&session, 2, &receipt) == CUPDAISY_DONE && is_receipt(receipt, 4, 2));
     cupdaisy_outcome outcome = {0, 0, 0, 0, 0, 0, 0};
     EXPECT(cupdaisy_outcome_of(&session, 3, &outcome) == CUPDAISY_DONE && outcome.fault == 11);
@@ -141,7 +141,7 @@ static void stale_and_late(void)
 {
     cupdaisy_session session = CUPDAISY_NONE;
     EXPECT(cupdaisy_open(&session, 16) == CUPDAISY_DONE);
-    cupdaisy_receipt receipt = {0, 0, 0};
+    cupdaisy_receipt receipt = {0, 0, 0, 0};
     cupdaisy_job job = {7, 7};
     uint8_t picture[32] = {0};
     EXPECT(cupdaisy_take(&session, &job) == CUPDAISY_NOTHING_DUE && job.number == 7 && job.unit == 7);
@@ -168,7 +168,7 @@ static void equal_units_have_one_picture(void)
 {
     cupdaisy_session session = CUPDAISY_NONE;
     EXPECT(cupdaisy_open(&session, 1) == CUPDAISY_DONE);
-    cupdaisy_receipt receipt = {0, 0, 0};
+    cupdaisy_receipt receipt = {0, 0, 0, 0};
     cupdaisy_job job = {0, 0};
     EXPECT(cupdaisy_insert_first(&session, A, sizeof A, &receipt) == CUPDAISY_DONE);
     EXPECT(cupdaisy_insert_after(&session, 1, I, sizeof I, &receipt) == CUPDAISY_DONE);
@@ -185,10 +185,283 @@ static void equal_units_have_one_picture(void)
     EXPECT(cupdaisy_close(&session) == CUPDAISY_DONE);
 }
 
+static void jobs_are_told(void)
+{
+    cupdaisy_session session = CUPDAISY_NONE;
+    EXPECT(cupdaisy_open(&session, 16) == CUPDAISY_DONE);
+    fill(&session);
+    cupdaisy_job job = {0, 0};
+    uint8_t first[32] = {0};
+    uint8_t shown[32] = {0};
+    EXPECT(cupdaisy_take(&session, &job) == CUPDAISY_DONE);
+    EXPECT(cupdaisy_job_picture(&session, job.number, first) == CUPDAISY_DONE);
+    EXPECT(cupdaisy_land(&session, job.number) == CUPDAISY_DONE);
+    EXPECT(cupdaisy_show(&session, 1, shown) == CUPDAISY_DONE && memcmp(first, shown, sizeof first) == 0);
+    EXPECT(cupdaisy_take(&session, &job) == CUPDAISY_DONE && job.number == 2 && job.unit == 2);
+    /* The unit is replaced: the job stays as it was taken. */
+    cupdaisy_receipt receipt = {0, 0, 0, 0};
+    EXPECT(cupdaisy_replace(&session, 2, P1x, sizeof P1x, &receipt) == CUPDAISY_DONE);
+    cupdaisy_job_input input = {0, 0, 0};
+    EXPECT(cupdaisy_job_input_of(&session, 2, &input) == CUPDAISY_DONE);
+    EXPECT(input.unit == 2 && input.slices == 1 && input.references == 1);
+    EXPECT(cupdaisy_job_input_of(&session, 1, &input) == CUPDAISY_NO_SUCH_JOB && input.unit == 2);
+    cupdaisy_reference reference = {0, {0}};
+    EXPECT(cupdaisy_job_reference(&session, 2, 0, &reference) == CUPDAISY_DONE);
+    EXPECT(reference.timestamp == 1000 && memcmp(first, reference.picture, sizeof first) == 0);
+    EXPECT(cupdaisy_job_reference(&session, 2, 1, &reference) == CUPDAISY_NO_SUCH_PLACE);
+    EXPECT(cupdaisy_job_reference(&session, 1, 0, &reference) == CUPDAISY_NO_SUCH_JOB);
+    EXPECT(cupdaisy_job_picture(&session, 1, first) == CUPDAISY_NO_SUCH_JOB);
+    uint8_t bytes[16];
+    memset(bytes, 7, sizeof bytes);
+    size_t needed = 0;
+    EXPECT(cupdaisy_job_bytes(&session, 2, 0, bytes, 5, &needed) == CUPDAISY_TOO_SMALL && needed == 6 && bytes[0] == 7);
+    EXPECT(cupdaisy_job_bytes(&session, 2, 0, bytes, sizeof bytes, &needed) == CUPDAISY_DONE && needed == 6);
+    EXPECT(memcmp(bytes, P1, sizeof P1) == 0 && bytes[6] == 7);
+    EXPECT(cupdaisy_job_bytes(&session, 2, 1, bytes, sizeof bytes, &needed) == CUPDAISY_NO_SUCH_SLICE);
+    EXPECT(cupdaisy_unit_bytes(&session, 2, 0, bytes, sizeof bytes, &needed) == CUPDAISY_DONE && needed == 7);
+    EXPECT(memcmp(bytes, P1x, sizeof P1x) == 0);
+    EXPECT(cupdaisy_unit_bytes(&session, 9, 0, bytes, sizeof bytes, &needed) == CUPDAISY_NO_SUCH_UNIT && needed == 7);
+#ifdef __linux__
+    cupdaisy_request request;
+    memset(&request, 0xFF, sizeof request);
+    EXPECT(cupdaisy_job_request(&session, 2, 0, &request) == CUPDAISY_DONE);
+    EXPECT(request.timestamp == 2000 && request.bytes == 6 && request.unit_begins == 3);
+    EXPECT(request.hold == 0 && request.has_weights == 0);
+    EXPECT(request.slice_params.header_bit_size == 23 && request.slice_params.slice_type == V4L2_H264_SLICE_TYPE_P);
+    EXPECT(request.slice_params.ref_pic_list0[0].fields == V4L2_H264_FRAME_REF);
+    EXPECT(request.slice_params.ref_pic_list0[0].index == 0 && request.slice_params.ref_pic_list0[1].fields == 0);
+    EXPECT(request.decode_params.frame_num == 1 && request.decode_params.dpb[0].reference_ts == 1000);
+    EXPECT(request.sps.profile_idc == 66 && request.sps.level_idc == 10 && request.sps.max_num_ref_frames == 1);
+    EXPECT(request.sps.pic_order_cnt_type == 2 && request.sps.pic_width_in_mbs_minus1 == 0);
+    EXPECT(cupdaisy_unit_request(&session, 2, 0, &request) == CUPDAISY_DONE && request.bytes == 7);
+    EXPECT(cupdaisy_unit_request(&session, 2, 1, &request) == CUPDAISY_NO_SUCH_SLICE);
+    EXPECT(cupdaisy_unit_request(&session, 9, 0, &request) == CUPDAISY_NO_SUCH_UNIT);
+    EXPECT(cupdaisy_job_request(&session, 1, 0, &request) == CUPDAISY_NO_SUCH_JOB && request.bytes == 7);
+    struct v4l2_ctrl_h264_pred_weights weights;
+    memset(&weights, 7, sizeof weights);
+    EXPECT(cupdaisy_unit_weights(&session, 2, 0, &weights) == CUPDAISY_NO_WEIGHTS);
+    EXPECT(cupdaisy_job_weights(&session, 2, 0, &weights) == CUPDAISY_NO_WEIGHTS);
+    EXPECT(weights.luma_log2_weight_denom == 0x0707);
+#endif
+    uint64_t key = 0;
+    uint64_t other = 0;
+    EXPECT(cupdaisy_key(&session, 1, &key) == CUPDAISY_DONE);
+    EXPECT(cupdaisy_key(&session, 2, &other) == CUPDAISY_DONE && key != other);
+    EXPECT(cupdaisy_key(&session, 9, &other) == CUPDAISY_NO_SUCH_UNIT);
+    EXPECT(cupdaisy_close(&session) == CUPDAISY_DONE);
+}
+
+/* The worked examples of taking for a unit and of dropping pictures. */
+static void pictures_are_dropped(void)
+{
+    cupdaisy_session session = CUPDAISY_NONE;
+    EXPECT(cupdaisy_open(&session, 16) == CUPDAISY_DONE);
+    fill(&session);
+    cupdaisy_job job = {7, 7};
+    EXPECT(cupdaisy_take_for(&session, 9, &job) == CUPDAISY_NOTHING_DUE && job.number == 7);
+    for (uint32_t number = 1; number <= 3; number++) {
+        EXPECT(cupdaisy_take_for(&session, 3, &job) == CUPDAISY_DONE && job.number == number && job.unit == number);
+        EXPECT(cupdaisy_take_for(&session, 3, &job) == CUPDAISY_NOTHING_DUE && job.number == number);
+        EXPECT(cupdaisy_land(&session, number) == CUPDAISY_DONE);
+    }
+    uint8_t picture[32] = {0};
+    EXPECT(cupdaisy_show(&session, 3, picture) == CUPDAISY_DONE);
+    EXPECT(cupdaisy_drop_picture(&session, 2) == CUPDAISY_DONE);
+    EXPECT(cupdaisy_drop_picture(&session, 2) == CUPDAISY_NOT_HELD);
+    EXPECT(cupdaisy_drop_picture(&session, 9) == CUPDAISY_NO_SUCH_UNIT);
+    EXPECT(cupdaisy_show(&session, 2, picture) == CUPDAISY_PENDING);
+    EXPECT(cupdaisy_show(&session, 3, picture) == CUPDAISY_DONE);
+    EXPECT(cupdaisy_take_for(&session, 3, &job) == CUPDAISY_NOTHING_DUE);
+    EXPECT(cupdaisy_take(&session, &job) == CUPDAISY_DONE && job.number == 4 && job.unit == 2);
+    EXPECT(cupdaisy_land(&session, 4) == CUPDAISY_DONE);
+    uint64_t key = 0;
+    uint32_t in_use = 7;
+    EXPECT(cupdaisy_key(&session, 3, &key) == CUPDAISY_DONE);
+    EXPECT(cupdaisy_in_use(&session, key, &in_use) == CUPDAISY_DONE && in_use == 1);
+    cupdaisy_receipt receipt = {0, 0, 0, 0};
+    EXPECT(cupdaisy_delete(&session, 3, &receipt) == CUPDAISY_DONE);
+    EXPECT(cupdaisy_in_use(&session, key, &in_use) == CUPDAISY_DONE && in_use == 0);
+    /* The deleted unit's picture is cached, and comes back with the unit; a cleared cache has it no more. */
+    EXPECT(cupdaisy_insert_last(&session, P2, sizeof P2, &receipt) == CUPDAISY_DONE && receipt.id == 4);
+    EXPECT(cupdaisy_show(&session, 4, picture) == CUPDAISY_DONE);
+    EXPECT(cupdaisy_delete(&session, 4, &receipt) == CUPDAISY_DONE);
+    EXPECT(cupdaisy_clear_cache(&session) == CUPDAISY_DONE);
+    EXPECT(cupdaisy_insert_last(&session, P2, sizeof P2, &receipt) == CUPDAISY_DONE && receipt.id == 5);
+    EXPECT(cupdaisy_show(&session, 5, picture) == CUPDAISY_PENDING);
+    EXPECT(cupdaisy_close(&session) == CUPDAISY_DONE);
+}
+
+static void journal_is_told(void)
+{
+    cupdaisy_session session = CUPDAISY_NONE;
+    EXPECT(cupdaisy_open(&session, 16) == CUPDAISY_DONE);
+    fill(&session);
+    cupdaisy_receipt receipt = {0, 0, 0, 0};
+    EXPECT(cupdaisy_delete(&session, 3, &receipt) == CUPDAISY_DONE);
+    size_t number = 0;
+    EXPECT(cupdaisy_journal(&session, &number) == CUPDAISY_DONE && number == 4);
+    EXPECT(cupdaisy_journal_entry(&session, 1, &number) == CUPDAISY_DONE && number == 1);
+    EXPECT(cupdaisy_journal_entry(&session, 4, &number) == CUPDAISY_NO_SUCH_PLACE && number == 1);
+    cupdaisy_journal_edit edit = {9, 9, 9};
+    EXPECT(cupdaisy_journal_edit_at(&session, 0, 0, &edit) == CUPDAISY_DONE);
+    EXPECT(edit.kind == CUPDAISY_INSERT_FIRST && edit.id == 0 && edit.bytes == sizeof A);
+    EXPECT(cupdaisy_journal_edit_at(&session, 1, 0, &edit) == CUPDAISY_DONE);
+    EXPECT(edit.kind == CUPDAISY_INSERT_AFTER && edit.id == 1 && edit.bytes == sizeof P1);
+    EXPECT(cupdaisy_journal_edit_at(&session, 3, 0, &edit) == CUPDAISY_DONE);
+    EXPECT(edit.kind == CUPDAISY_DELETE && edit.id == 3 && edit.bytes == 0);
+    EXPECT(cupdaisy_journal_edit_at(&session, 3, 1, &edit) == CUPDAISY_NO_SUCH_PLACE);
+    uint8_t text[32];
+    size_t needed = 0;
+    memset(text, 7, sizeof text);
+    EXPECT(cupdaisy_journal_text(&session, 1, 0, text, sizeof text, &needed) == CUPDAISY_DONE && needed == sizeof P1);
+    EXPECT(memcmp(text, P1, sizeof P1) == 0);
+    EXPECT(cupdaisy_journal_text(&session, 0, 0, text, 3, &needed) == CUPDAISY_TOO_SMALL && needed == sizeof A);
+    EXPECT(cupdaisy_journal_text(&session, 4, 0, text, 3, &needed) == CUPDAISY_NO_SUCH_PLACE && needed == sizeof A);
+    EXPECT(cupdaisy_close(&session) == CUPDAISY_DONE);
+}
+
+static void names_are_told(void)
+{
+    uint8_t name[32];
+    size_t needed = 0;
+    memset(name, 7, sizeof name);
+    EXPECT(cupdaisy_status_name(16, name, sizeof name, &needed) == CUPDAISY_DONE);
+    EXPECT(needed == 10 && memcmp(name, "NoSuchUnit", 10) == 0 && name[10] == 7);
+    EXPECT(cupdaisy_status_name(12, name, sizeof name, &needed) == CUPDAISY_NO_SUCH_NAME && needed == 10);
+    EXPECT(cupdaisy_fault_name(11, name, sizeof name, &needed) == CUPDAISY_DONE);
+    EXPECT(needed == 11 && memcmp(name, "FrameNumGap", 11) == 0);
+    EXPECT(cupdaisy_fault_name(11, name, 10, &needed) == CUPDAISY_TOO_SMALL && needed == 11);
+    EXPECT(cupdaisy_fault_name(19, name, sizeof name, &needed) == CUPDAISY_NO_SUCH_NAME);
+    EXPECT(cupdaisy_version() == 1000);
+    EXPECT(cupdaisy_version_text(name, sizeof name, &needed) == CUPDAISY_DONE && needed == 5);
+    EXPECT(memcmp(name, "0.1.0", 5) == 0);
+}
+
+/* The texts of a group one after the other, and edits that name them. */
+static const uint8_t group_texts[] = {0, 0, 1, 0x41, 0x9A, 0x23, 0, 0, 1, 0x41, 0x9A, 0x43, 0, 0, 1, 0x6E, 0x40, 0x80};
+
+static void groups_are_made(void)
+{
+    cupdaisy_session session = CUPDAISY_NONE;
+    EXPECT(cupdaisy_open(&session, 16) == CUPDAISY_DONE);
+    cupdaisy_receipt receipt = {0, 0, 0, 0};
+    EXPECT(cupdaisy_insert_first(&session, A, sizeof A, &receipt) == CUPDAISY_DONE);
+    cupdaisy_edit edits[] = {{CUPDAISY_INSERT_AFTER, 1, 0, 6}, {CUPDAISY_INSERT_AFTER, 2, 6, 6},
+                             {CUPDAISY_REPLACE, 2, 0, 6}, {CUPDAISY_DELETE, 3, 99, 99}};
+    uint32_t ids[5] = {7, 7, 7, 7, 7};
+    cupdaisy_group_receipt told = {7, 7, 7, 7};
+    EXPECT(cupdaisy_group(&session, edits, 4, group_texts, 18, ids, 3, &told) == CUPDAISY_TOO_SMALL);
+    EXPECT(cupdaisy_group(&session, edits, 0, group_texts, 18, ids, 5, &told) == 20);
+    EXPECT(ids[0] == 7 && told.number == 7 && told.steps == 7 && told.index == 7);
+    EXPECT(cupdaisy_group(&session, edits, 4, group_texts, 11, ids, 5, &told) == CUPDAISY_NOT_AN_EDIT && told.index == 1);
+    edits[1].id = 9;
+    EXPECT(cupdaisy_group(&session, edits, 4, group_texts, 18, ids, 5, &told) == CUPDAISY_NO_SUCH_UNIT && told.index == 1);
+    edits[1].from = 12;
+    EXPECT(cupdaisy_group(&session, edits, 2, group_texts, 18, ids, 5, &told) == 2 && told.index == 1);
+    edits[2].kind = 4;
+    EXPECT(cupdaisy_group(&session, edits, 4, group_texts, 18, ids, 5, &told) == CUPDAISY_NOT_AN_EDIT && told.index == 2);
+    EXPECT(ids[0] == 7 && told.number == 0 && told.steps == 0);
+    edits[1].id = 2;
+    edits[1].from = 6;
+    edits[2].kind = CUPDAISY_REPLACE;
+    EXPECT(cupdaisy_group(&session, edits, 4, group_texts, 18, ids, 5, &told) == CUPDAISY_DONE);
+    EXPECT(told.number == 2 && told.steps > 0 && told.index == 0);
+    EXPECT(ids[0] == 2 && ids[1] == 3 && ids[2] == 2 && ids[3] == 3 && ids[4] == 7);
+    size_t number = 0;
+    EXPECT(cupdaisy_units(&session, &number) == CUPDAISY_DONE && number == 2);
+    EXPECT(cupdaisy_journal_entry(&session, 1, &number) == CUPDAISY_DONE && number == 4);
+    EXPECT(cupdaisy_close(&session) == CUPDAISY_DONE);
+}
+
+static void streams_are_loaded(void)
+{
+    cupdaisy_session session = CUPDAISY_NONE;
+    EXPECT(cupdaisy_open(&session, 16) == CUPDAISY_DONE);
+    uint8_t stream[sizeof A + sizeof group_texts];
+    memcpy(stream, A, sizeof A);
+    memcpy(stream + sizeof A, group_texts, sizeof group_texts);
+    cupdaisy_load_receipt told;
+    memset(&told, 7, sizeof told);
+    EXPECT(cupdaisy_load(&session, stream, sizeof stream, &told) == 2 && told.index == 3);
+    EXPECT(told.number == 0 && told.steps == 0 && told.units == 0 && told.first == 0);
+    EXPECT(cupdaisy_load(&session, stream + 1, 1, &told) == 1 && told.index == 0);
+    EXPECT(cupdaisy_load(&session, stream, sizeof A + 12, &told) == CUPDAISY_DONE);
+    EXPECT(told.number == 3 && told.steps >= 3 && told.units == 3 && told.index == 0 && told.first == 1);
+    EXPECT(cupdaisy_load(&session, stream, sizeof A, &told) == CUPDAISY_DONE);
+    EXPECT(told.number == 4 && told.units == 1 && told.first == 4);
+    uint32_t id = 0;
+    for (size_t position = 0; position < 4; position++)
+        EXPECT(cupdaisy_unit_at(&session, position, &id) == CUPDAISY_DONE && id == position + 1);
+    EXPECT(cupdaisy_unit_at(&session, 4, &id) == CUPDAISY_NO_SUCH_PLACE && id == 4);
+    EXPECT(settle(&session) == 3);
+    EXPECT(cupdaisy_close(&session) == CUPDAISY_DONE);
+}
+
+/* The bytes of the slices that an edit brings, and no others, with start codes of three bytes. */
+static void hashed_bytes_are_told(void)
+{
+    cupdaisy_session session = CUPDAISY_NONE;
+    EXPECT(cupdaisy_open(&session, 16) == CUPDAISY_DONE);
+    cupdaisy_receipt receipt = {7, 7, 7, 7};
+    EXPECT(cupdaisy_insert_first(&session, A, sizeof A, &receipt) == CUPDAISY_DONE && receipt.hashed == sizeof I);
+    EXPECT(cupdaisy_insert_last(&session, sets, sizeof sets, &receipt) == CUPDAISY_DONE && receipt.hashed == 0);
+    EXPECT(cupdaisy_replace(&session, 2, P1x, sizeof P1x, &receipt) == CUPDAISY_DONE && receipt.hashed == sizeof P1x);
+    EXPECT(cupdaisy_delete(&session, 2, &receipt) == CUPDAISY_DONE && receipt.hashed == 0);
+    cupdaisy_edit edits[] = {{CUPDAISY_INSERT_AFTER, 1, 0, 6}, {CUPDAISY_INSERT_AFTER, 3, 6, 6}, {CUPDAISY_DELETE, 3, 0, 0}};
+    uint32_t ids[3] = {0, 0, 0};
+    cupdaisy_group_receipt group = {7, 7, 7, 7};
+    EXPECT(cupdaisy_group(&session, edits, 3, group_texts, 12, ids, 3, &group) == CUPDAISY_DONE && group.hashed == 12);
+    cupdaisy_load_receipt load = {7, 7, 7, 7, 7, 7};
+    EXPECT(cupdaisy_load(&session, group_texts, 12, &load) == CUPDAISY_DONE && load.hashed == 12);
+    EXPECT(cupdaisy_load(&session, group_texts, 18, &load) == 2 && load.hashed == 0);
+    EXPECT(cupdaisy_close(&session) == CUPDAISY_DONE);
+}
+
+static void expect_no_more(cupdaisy_session *session)
+{
+    cupdaisy_edit edit = {CUPDAISY_DELETE, 1, 0, 0};
+    uint32_t ids[1] = {7};
+    cupdaisy_group_receipt group = {7, 7, 7, 7};
+    cupdaisy_load_receipt load = {7, 7, 7, 7, 7, 7};
+    EXPECT(cupdaisy_group(session, &edit, 1, A, sizeof A, ids, 1, &group) == CUPDAISY_NO_SESSION && ids[0] == 7 && group.index == 7);
+    EXPECT(cupdaisy_load(session, A, sizeof A, &load) == CUPDAISY_NO_SESSION && load.units == 7);
+    uint32_t id = 7;
+    uint64_t key = 7;
+    size_t number = 7;
+    uint8_t bytes[32] = {7};
+    EXPECT(cupdaisy_unit_at(session, 0, &id) == CUPDAISY_NO_SESSION && id == 7);
+    EXPECT(cupdaisy_key(session, 1, &key) == CUPDAISY_NO_SESSION && key == 7);
+    EXPECT(cupdaisy_in_use(session, 1, &id) == CUPDAISY_NO_SESSION && id == 7);
+    cupdaisy_job job = {7, 7};
+    EXPECT(cupdaisy_take_for(session, 1, &job) == CUPDAISY_NO_SESSION && job.number == 7);
+    EXPECT(cupdaisy_drop_picture(session, 1) == CUPDAISY_NO_SESSION);
+    EXPECT(cupdaisy_clear_cache(session) == CUPDAISY_NO_SESSION);
+    cupdaisy_job_input input = {7, 7, 7};
+    cupdaisy_reference reference = {7, {7}};
+    EXPECT(cupdaisy_job_input_of(session, 1, &input) == CUPDAISY_NO_SESSION && input.unit == 7);
+    EXPECT(cupdaisy_job_reference(session, 1, 0, &reference) == CUPDAISY_NO_SESSION && reference.timestamp == 7);
+    EXPECT(cupdaisy_job_picture(session, 1, bytes) == CUPDAISY_NO_SESSION && bytes[0] == 7);
+    EXPECT(cupdaisy_unit_bytes(session, 1, 0, bytes, sizeof bytes, &number) == CUPDAISY_NO_SESSION && number == 7);
+    EXPECT(cupdaisy_job_bytes(session, 1, 0, bytes, sizeof bytes, &number) == CUPDAISY_NO_SESSION && number == 7);
+#ifdef __linux__
+    static cupdaisy_request request;
+    static struct v4l2_ctrl_h264_pred_weights weights;
+    EXPECT(cupdaisy_unit_request(session, 1, 0, &request) == CUPDAISY_NO_SESSION && request.bytes == 0);
+    EXPECT(cupdaisy_job_request(session, 1, 0, &request) == CUPDAISY_NO_SESSION && request.bytes == 0);
+    EXPECT(cupdaisy_unit_weights(session, 1, 0, &weights) == CUPDAISY_NO_SESSION);
+    EXPECT(cupdaisy_job_weights(session, 1, 0, &weights) == CUPDAISY_NO_SESSION);
+#endif
+    cupdaisy_journal_edit edited = {7, 7, 7};
+    EXPECT(cupdaisy_journal(session, &number) == CUPDAISY_NO_SESSION && number == 7);
+    EXPECT(cupdaisy_journal_entry(session, 0, &number) == CUPDAISY_NO_SESSION && number == 7);
+    EXPECT(cupdaisy_journal_edit_at(session, 0, 0, &edited) == CUPDAISY_NO_SESSION && edited.kind == 7);
+    EXPECT(cupdaisy_journal_text(session, 0, 0, bytes, sizeof bytes, &number) == CUPDAISY_NO_SESSION && number == 7);
+}
+
 /* With a handle that has no session each call says so, and writes nothing. */
 static void expect_no_session(cupdaisy_session *session)
 {
-    cupdaisy_receipt receipt = {7, 7, 7};
+    cupdaisy_receipt receipt = {7, 7, 7, 7};
     EXPECT(cupdaisy_insert_first(session, A, sizeof A, &receipt) == CUPDAISY_NO_SESSION);
     EXPECT(cupdaisy_insert_after(session, 1, A, sizeof A, &receipt) == CUPDAISY_NO_SESSION);
     EXPECT(cupdaisy_insert_last(session, A, sizeof A, &receipt) == CUPDAISY_NO_SESSION);
@@ -210,6 +483,7 @@ static void expect_no_session(cupdaisy_session *session)
     EXPECT(cupdaisy_take(session, &job) == CUPDAISY_NO_SESSION && job.number == 7);
     EXPECT(cupdaisy_land(session, 1) == CUPDAISY_NO_SESSION);
     EXPECT(cupdaisy_give_back(session, 1) == CUPDAISY_NO_SESSION);
+    expect_no_more(session);
     EXPECT(cupdaisy_close(session) == CUPDAISY_NO_SESSION);
 }
 
@@ -233,7 +507,7 @@ static void handles_are_opened_and_closed(void)
     EXPECT(cupdaisy_close(&session) == CUPDAISY_DONE);
 }
 
-/* A call that wants memory is made again with memory. */
+/* A call that runs out of memory is made again with memory. */
 #define WITH_MEMORY(call)                                                                \
     do {                                                                                 \
         uint32_t status = (call);                                                        \
@@ -251,7 +525,7 @@ static size_t run_refusing(size_t at, bool after)
     refuse_at = at;
     refuse_after = after;
     cupdaisy_session session = CUPDAISY_NONE;
-    cupdaisy_receipt receipt = {0, 0, 0};
+    cupdaisy_receipt receipt = {0, 0, 0, 0};
     cupdaisy_job job = {0, 0};
     WITH_MEMORY(cupdaisy_open(&session, 2));
     WITH_MEMORY(cupdaisy_insert_first(&session, A, sizeof A, &receipt));
@@ -272,6 +546,25 @@ static size_t run_refusing(size_t at, bool after)
     WITH_MEMORY(cupdaisy_give_back(&session, job.number));
     WITH_MEMORY(cupdaisy_delete(&session, 3, &receipt));
     EXPECT(is_receipt(receipt, 5, 3));
+    cupdaisy_edit edits[] = {{CUPDAISY_INSERT_AFTER, 2, 0, 6}, {CUPDAISY_DELETE, 4, 0, 0}};
+    uint32_t ids[2] = {0, 0};
+    cupdaisy_group_receipt group = {0, 0, 0, 0};
+    WITH_MEMORY(cupdaisy_group(&session, edits, 2, group_texts, 6, ids, 2, &group));
+    EXPECT(group.number == 6 && ids[0] == 4 && ids[1] == 4);
+    cupdaisy_load_receipt load = {0, 0, 0, 0, 0, 0};
+    uint32_t status = cupdaisy_load(&session, group_texts, 12, &load);
+    if (status == CUPDAISY_MEMORY) {
+        refuse_at = 0;
+        EXPECT(load.units < 2);
+        status = load.units == 0 ? cupdaisy_load(&session, group_texts, 12, &load)
+                                 : cupdaisy_load(&session, group_texts + 6, 6, &load);
+    }
+    EXPECT(status == CUPDAISY_DONE && load.number == 8);
+    WITH_MEMORY(cupdaisy_take_for(&session, 2, &job));
+    EXPECT(job.number == 5 && job.unit == 2);
+    uint8_t made[32] = {0};
+    WITH_MEMORY(cupdaisy_job_picture(&session, 5, made));
+    WITH_MEMORY(cupdaisy_give_back(&session, 5));
     uint8_t picture[32] = {0};
     EXPECT(cupdaisy_show(&session, 1, picture) == CUPDAISY_DONE);
     EXPECT(cupdaisy_show(&session, 2, picture) == CUPDAISY_PENDING);
@@ -300,6 +593,13 @@ int main(void)
     deleted_unit_is_repaired();
     stale_and_late();
     equal_units_have_one_picture();
+    jobs_are_told();
+    pictures_are_dropped();
+    journal_is_told();
+    names_are_told();
+    groups_are_made();
+    streams_are_loaded();
+    hashed_bytes_are_told();
     handles_are_opened_and_closed();
     growths_are_refused();
     EXPECT(blocks == 0);

@@ -3,11 +3,15 @@
 ghost use Rattle.stream_edits.specs.declared.edits.Edit.TheVariants.{Delete, Insert, Replace};
 ghost use Rattle.stream_edits.specs.declared.edits.Place.TheVariants.{After, First};
 ghost use Rattle.session_calls.specs.Editing.{EditsBy, EditsByCopy, end_of};
-ghost use Rattle.cupdaisy.specs.Calls.{Does};
+ghost use Rattle.session_calls.specs.Grouping.{GroupsTo};
+ghost use Rattle.session_calls.specs.Loading.{LoadsTo};
+ghost use Rattle.cupdaisy.specs.Calls.{Does, DoesTwo};
 
 use edit_engine::Place;
 use pictures::AuId;
-use session_calls::{EditReceipt, NO_SESSION, delete, insert, insert_last, replace};
+use session_calls::{
+    EditAsked, EditReceipt, GroupTold, LoadTold, NO_SESSION, delete, insert, insert_last, replace,
+};
 use session_handle::Handle;
 use std::alloc::Global;
 
@@ -110,6 +114,46 @@ pub extern "C" fn cupdaisy_replace(
         return NO_SESSION;
     };
     let status = replace(alloc, &mut runner, id, text, receipt);
+    session.put(runner);
+    status
+}
+
+/// Makes edits together, as one step.
+#[unsafe(no_mangle)]
+pub extern "C" fn cupdaisy_group(
+    alloc: Global,
+    session: &mut Handle,
+    edits: &[EditAsked],
+    texts: &[u8],
+    ids: &mut [u32],
+    receipt: &mut GroupTold,
+) -> u32
+    ensures { DoesTwo session.old.held.state result ids.old ids.new receipt.old receipt.new session.new.held.state
+        (λ old new. GroupsTo old texts.now edits.now result (ids.old, receipt.old) (ids.new, receipt.new) new) }
+{
+    let Some(mut runner) = session.take(alloc) else {
+        return NO_SESSION;
+    };
+    let status = session_calls::group(alloc, &mut runner, edits, texts, ids, receipt);
+    session.put(runner);
+    status
+}
+
+/// Inserts the access units of a stream after the last one.
+#[unsafe(no_mangle)]
+pub extern "C" fn cupdaisy_load(
+    alloc: Global,
+    session: &mut Handle,
+    text: &[u8],
+    receipt: &mut LoadTold,
+) -> u32
+    ensures { Does session.old.held.state result receipt.old receipt.new session.new.held.state
+        (λ old new. LoadsTo old text.now result receipt.new new) }
+{
+    let Some(mut runner) = session.take(alloc) else {
+        return NO_SESSION;
+    };
+    let status = session_calls::load(alloc, &mut runner, text, receipt);
     session.put(runner);
     status
 }

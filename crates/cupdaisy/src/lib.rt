@@ -5,7 +5,11 @@
 //! session_handle and session_calls.
 #![tactic(auto)]
 
+mod dropping;
 mod edits;
 mod jobs;
+mod journal;
+mod names;
 mod questions;
+mod requests;
 mod sessions;

@@ -1,6 +1,8 @@
 //! Questions about the stream.
 
-ghost use Rattle.std.specs.Prelude.{◌≡◌, length};
+ghost use Rattle.std.specs.Prelude.{◌≡◌, ℕ, length, Result};
+ghost use Rattle.session_calls.specs.Finding.{IsAtPosition};
+ghost use Rattle.session_calls.specs.Keys.{IsKeyOf, TellsUse};
 ghost use Rattle.session_calls.specs.Showing.{ShowsTo};
 ghost use Rattle.session_calls.specs.Asking.{id_at, outcome_told, place_told, position_told};
 ghost use Rattle.session_calls.specs.Statuses.{done};
@@ -82,6 +84,26 @@ pub extern "C" fn cupdaisy_position(
     status
 }
 
+/// The id of the unit at a position in output order.
+#[unsafe(no_mangle)]
+pub extern "C" fn cupdaisy_unit_at(
+    alloc: Global,
+    session: &mut Handle,
+    position: usize,
+    id: &mut u32,
+) -> u32
+    ensures { Asks session.old.held.state result id.old id.new session.new.held.state
+        (λ machine. (answer : Result ℕ ℕ) × IsAtPosition machine.register.stream position answer
+        × Tells answer result id.old id.new) }
+{
+    let Some(runner) = session.take(alloc) else {
+        return NO_SESSION;
+    };
+    let status = session_calls::unit_at(runner.session(), position, id);
+    session.put(runner);
+    status
+}
+
 /// What becomes of the unit of the id.
 #[unsafe(no_mangle)]
 pub extern "C" fn cupdaisy_outcome_of(
@@ -116,6 +138,39 @@ pub extern "C" fn cupdaisy_show(
         return NO_SESSION;
     };
     let status = session_calls::show(runner.session(), id, picture);
+    session.put(runner);
+    status
+}
+
+/// The number of the key of the unit of the id.
+#[unsafe(no_mangle)]
+pub extern "C" fn cupdaisy_key(alloc: Global, session: &mut Handle, id: u32, key: &mut u64) -> u32
+    ensures { Asks session.old.held.state result key.old key.new session.new.held.state
+        (λ machine. (answer : Result ℕ ℕ) × IsKeyOf machine id answer × Tells answer result key.old key.new) }
+{
+    let Some(runner) = session.take(alloc) else {
+        return NO_SESSION;
+    };
+    let status = session_calls::key(runner.session(), id, key);
+    session.put(runner);
+    status
+}
+
+/// Whether a number is that of a key in use.
+#[unsafe(no_mangle)]
+pub extern "C" fn cupdaisy_in_use(
+    alloc: Global,
+    session: &mut Handle,
+    key: u64,
+    in_use: &mut u32,
+) -> u32
+    ensures { Asks session.old.held.state result in_use.old in_use.new session.new.held.state
+        (λ machine. (result ≡ done) × TellsUse machine.numbers key in_use.new) }
+{
+    let Some(runner) = session.take(alloc) else {
+        return NO_SESSION;
+    };
+    let status = session_calls::in_use(runner.session(), key, in_use);
     session.put(runner);
     status
 }

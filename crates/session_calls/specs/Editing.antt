@@ -1,5 +1,5 @@
 -- Edits, and what is told of them.
-use Rattle.std.specs.Prelude.{◌≡◌, ◌⊎◌, ℕ, List, Option, None, Some, Result, Ok, Err}
+use Rattle.std.specs.Prelude.{◌≡◌, ◌⊎◌, ℕ, Option, None, Some, Result, Ok, Err}
 use Rattle.stream_edits.specs.declared.edits.Edit.{Edit}
 use Rattle.stream_edits.specs.declared.edits.Place.{Place}
 use Rattle.stream_edits.specs.declared.edits.Place.TheVariants.{First, After}
@@ -14,7 +14,8 @@ use Rattle.session_calls.specs.Telling.{Tells}
 
 -- a receipt, as it is told
 abbrev pub told_receipt : Receipt → EditReceipt
-told_receipt receipt = record { number = receipt.number; steps = receipt.steps; id = receipt.id }
+told_receipt receipt =
+    record { number = receipt.number; steps = receipt.steps; hashed = receipt.hashed; id = receipt.id }
 
 -- an answer to an edit, as it is told: its receipt, or the number of its refusal
 abbrev pub told_edit : Result Receipt EditRefused → Result EditReceipt ℕ
@@ -31,7 +32,7 @@ EditsBy old edit status told tells new =
 abbrev pub IsWanting : {A : Type 0} → Machine → ℕ → A → A → Machine → Type 0
 IsWanting old status told tells new = (status ≡ memory) × (tells ≡ told) × (new ≡ old)
 
--- an edit whose text is copied first, which may want memory whatever the text is
+-- an edit whose text is copied first, which may run out of memory whatever the text is
 abbrev pub EditsByCopy : Machine → Edit → ℕ → EditReceipt → EditReceipt → Machine → Type 0
 EditsByCopy old edit status told tells new =
     EditsBy old edit status told tells new ⊎ IsWanting old status told tells new

@@ -11,7 +11,7 @@ use Rattle.edit_engine.specs.declared.replies.Reply.{Reply}
 use Rattle.edit_engine.specs.declared.replies.Reply.TheVariants as replies
 use Rattle.edit_engine.specs.declared.replies.TakenJob.{TakenJob}
 use Rattle.edit_engine.specs.Machines.{Machine}
-use Rattle.edit_engine.specs.Runs.{TakesJob, LandsJob, GivesJobBack}
+use Rattle.edit_engine.specs.Runs.{TakesJob, TakesJobFor, LandsJob, GivesJobBack}
 use Rattle.session_calls.specs.declared.jobs.JobTaken.{JobTaken}
 use Rattle.session_calls.specs.Statuses.{done, memory, jobs_spent, no_such_job, nothing_due, stale}
 use Rattle.session_calls.specs.Telling.{Tells}
@@ -26,6 +26,7 @@ told_take (Err refusals.Memory) = Err memory
 -- a reply to one who asks for a job, as it is told
 abbrev pub told_reply : Reply → Result JobTaken ℕ
 told_reply (replies.Take answer) = told_take answer
+told_reply (replies.TakeFor answer) = told_take answer
 told_reply reply = Err nothing_due
 
 -- a job is taken, or it is said why none is; or memory is refused, and nothing changes
@@ -38,6 +39,17 @@ TakesAs old told new =
 abbrev pub TakesTo : Machine → ℕ → JobTaken → JobTaken → Machine → Type 0
 TakesTo old status told tells new =
     (answer : Result JobTaken ℕ) × TakesAs old answer new × Tells answer status told tells
+
+-- a job is taken for the unit of the id, or it is said why none is; or memory is refused, and nothing changes
+abbrev pub TakesForAs : Machine → ℕ → Result JobTaken ℕ → Machine → Type 0
+TakesForAs old id told new =
+    ((answer : Result (Option TakenJob) TakeRefused) × TakesJobFor old id answer new × (told ≡ told_take answer))
+    ⊎ ((told ≡ Err memory) × (new ≡ old))
+
+-- a job is taken for the unit of the id and told
+abbrev pub TakesForTo : Machine → ℕ → ℕ → JobTaken → JobTaken → Machine → Type 0
+TakesForTo old id status told tells new =
+    (answer : Result JobTaken ℕ) × TakesForAs old id answer new × Tells answer status told tells
 
 -- what became of a job's result, as it is told
 abbrev pub told_landing : Result Landing NotOut → ℕ

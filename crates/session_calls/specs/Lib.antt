@@ -1,6 +1,17 @@
 pub mod Statuses
 pub mod Telling
+pub mod Filling
 pub mod Editing
+pub mod Grouping
+pub mod AskedFaults
+pub mod Loading
 pub mod Asking
+pub mod Finding
+pub mod Keys
 pub mod Showing
+pub mod Dropping
 pub mod Jobs
+pub mod JobInputs
+pub mod Requests
+pub mod Journals
+pub mod Names

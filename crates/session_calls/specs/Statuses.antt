@@ -57,7 +57,7 @@ jobs_spent = 109
 abbrev pub stale : ℕ
 stale = 110
 
--- the picture isn't held: kept for a call that is to come
+-- the unit isn't valid, or its picture isn't held
 abbrev pub not_held : ℕ
 not_held = 111
 

@@ -13,12 +13,13 @@ use pictures::AuId;
 use std::alloc::Global;
 
 /// What an accepted edit is told: how many edits and groups were accepted, with this one; how many steps of the fold it
-/// made; and the id of the unit that was inserted, deleted or replaced.
+/// made; how many bytes were hashed for it; and the id of the unit that was inserted, deleted or replaced.
 #[repr(C)]
 #[derive(Clone, Copy, Debug, PartialEq, Eq)]
 pub struct EditReceipt {
     pub number: u64,
     pub steps: u64,
+    pub hashed: u64,
     pub id: u32,
 }
 
@@ -46,6 +47,7 @@ fn told_edit(answer: Result<Receipt, EditRefused>) -> Result<EditReceipt, u32>
         Ok(receipt) => Ok(EditReceipt {
             number: receipt.number,
             steps: receipt.steps,
+            hashed: receipt.hashed,
             id: receipt.id.number(),
         }),
         Err(refused) => Err(u32::from(refused.number())),
@@ -83,7 +85,7 @@ pub fn insert_last(
 }
 
 /// The place behind the last unit.
-fn end_of(session: &Session) -> Place
+pub(crate) fn end_of(session: &Session) -> Place
     ensures { result ≡ end_of session.now.register.stream }
 {
     match session.last().id {

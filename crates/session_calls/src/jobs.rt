@@ -1,11 +1,12 @@
 //! Jobs: pictures to decode.
 
 ghost use Rattle.std.specs.Prelude.{◌≡◌};
-ghost use Rattle.session_calls.specs.Jobs.{GivesBackTo, LandsTo, TakesAs, TakesTo, told_landing, told_reply, told_returning};
+ghost use Rattle.session_calls.specs.Jobs.{GivesBackTo, LandsTo, TakesAs, TakesForAs, TakesForTo, TakesTo, told_landing, told_reply, told_returning, told_take};
 
 use crate::statuses::{DONE, JOBS_SPENT, MEMORY, NO_SUCH_JOB, NOTHING_DUE, STALE};
 use crate::telling::tell;
-use edit_engine::{Command, Landing, NotOut, Reply, Returning, Runner, TakeRefused};
+use edit_engine::{Command, Landing, NotOut, Reply, Returning, Runner, TakeRefused, TakenJob};
+use pictures::AuId;
 
 /// A job that was taken: its number, and the unit whose picture it makes.
 #[repr(C)]
@@ -32,18 +33,45 @@ fn taken_from(runner: &mut Runner) -> Result<JobTaken, u32>
     }
 }
 
+/// Takes a job that the unit of the id needs: the earliest of those whose references are all held.
+pub fn take_for(runner: &mut Runner, id: u32, taken: &mut JobTaken) -> u32
+    ensures { TakesForTo runner.old id result taken.old taken.new runner.new }
+{
+    tell(taken_for(runner, id), taken)
+}
+
+/// Takes a job that the unit of the id needs, or says why there is none.
+fn taken_for(runner: &mut Runner, id: u32) -> Result<JobTaken, u32>
+    ensures { TakesForAs runner.old id result runner.new }
+{
+    match runner.step(Command::TakeFor(AuId::new(id))) {
+        Ok(reply) => told_reply(&reply),
+        Err(_) => Err(MEMORY),
+    }
+}
+
 /// A reply to one who asks for a job, as it is told.
 fn told_reply(reply: &Reply) -> Result<JobTaken, u32>
     ensures { result ≡ told_reply reply.now }
 {
     match reply {
-        Reply::Take(Ok(Some(taken))) => Ok(JobTaken {
+        Reply::Take(answer) | Reply::TakeFor(answer) => told_take(answer),
+        _ => Err(NOTHING_DUE),
+    }
+}
+
+/// An answer to one who asks for a job, as it is told.
+fn told_take(answer: &Result<Option<TakenJob>, TakeRefused>) -> Result<JobTaken, u32>
+    ensures { result ≡ told_take answer.now }
+{
+    match answer {
+        Ok(Some(taken)) => Ok(JobTaken {
             number: taken.number,
             unit: taken.unit.number(),
         }),
-        Reply::Take(Err(TakeRefused::JobsSpent)) => Err(JOBS_SPENT),
-        Reply::Take(Err(TakeRefused::Memory)) => Err(MEMORY),
-        _ => Err(NOTHING_DUE),
+        Ok(None) => Err(NOTHING_DUE),
+        Err(TakeRefused::JobsSpent) => Err(JOBS_SPENT),
+        Err(TakeRefused::Memory) => Err(MEMORY),
     }
 }
 

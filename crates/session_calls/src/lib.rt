@@ -7,8 +7,18 @@
 #![tactic(auto)]
 
 mod asking;
+mod dropping;
 mod editing;
+mod filling;
+mod finding;
+mod grouping;
+mod job_inputs;
 mod jobs;
+mod journaling;
+mod keys;
+mod loading;
+mod naming;
+mod requests;
 mod showing;
 mod statuses;
 mod telling;
@@ -16,8 +26,22 @@ mod telling;
 pub use asking::{
     KIND_EMPTY, KIND_FAULT, KIND_PLAN, UnitOutcome, id_at, outcome, place, position, units,
 };
+pub use dropping::{clear_cache, drop_picture};
 pub use editing::{EditReceipt, delete, edit, insert, insert_last, replace};
-pub use jobs::{JobTaken, give_back, land, take};
+pub use finding::unit_at;
+pub use grouping::{EditAsked, GroupTold, group};
+pub use job_inputs::{JobInput, JobReference, job_input, job_picture, job_reference};
+pub use jobs::{JobTaken, give_back, land, take, take_for};
+pub use journaling::{
+    JournalEdit, KIND_DELETE, KIND_INSERT_AFTER, KIND_INSERT_FIRST, KIND_REPLACE, journal,
+    journal_edit, journal_entry, journal_text,
+};
+pub use keys::{in_use, key};
+pub use loading::{LoadTold, load};
+pub use naming::{fault_name, status_name, version, version_text};
+pub use requests::{
+    SliceRequest, job_bytes, job_request, job_weights, unit_bytes, unit_request, unit_weights,
+};
 pub use showing::show;
 pub use statuses::{
     CACHE_RANGE, DONE, HAS_FAULT, IS_OPEN, JOBS_SPENT, MEMORY, NO_PICTURE, NO_SESSION, NO_SUCH_JOB,

@@ -28,7 +28,7 @@ pub const NOTHING_DUE: u32 = 108;
 pub const JOBS_SPENT: u32 = 109;
 /// The result of a job is wanted no more.
 pub const STALE: u32 = 110;
-/// The picture isn't held.
+/// The unit isn't valid, or its picture isn't held.
 pub const NOT_HELD: u32 = 111;
 /// The unit is valid, and its picture isn't held.
 pub const PENDING: u32 = 112;

@@ -1,0 +1,86 @@
+//! The journal.
+
+ghost use Rattle.std.specs.Prelude.{◌≡◌, length};
+ghost use Rattle.session_calls.specs.Journals.{FillsText, edit_in, edits_at, told_journal};
+ghost use Rattle.session_calls.specs.Requests.{told_as};
+ghost use Rattle.session_calls.specs.Statuses.{done};
+ghost use Rattle.session_calls.specs.Telling.{Tells};
+ghost use Rattle.cupdaisy.specs.Calls.{Asks, AsksTwo};
+
+use session_calls::{JournalEdit, NO_SESSION};
+use session_handle::Handle;
+use std::alloc::Global;
+
+/// How many entries the journal has.
+#[unsafe(no_mangle)]
+pub extern "C" fn cupdaisy_journal(alloc: Global, session: &mut Handle, entries: &mut usize) -> u32
+    ensures { Asks session.old.held.state result entries.old entries.new session.new.held.state
+        (λ machine. (result ≡ done) × (entries.new ≡ length machine.journal)) }
+{
+    let Some(runner) = session.take(alloc) else {
+        return NO_SESSION;
+    };
+    let status = session_calls::journal(runner.session(), entries);
+    session.put(runner);
+    status
+}
+
+/// How many edits an entry of the journal has.
+#[unsafe(no_mangle)]
+pub extern "C" fn cupdaisy_journal_entry(
+    alloc: Global,
+    session: &mut Handle,
+    entry: usize,
+    edits: &mut usize,
+) -> u32
+    ensures { Asks session.old.held.state result edits.old edits.new session.new.held.state
+        (λ machine. Tells (edits_at machine entry) result edits.old edits.new) }
+{
+    let Some(runner) = session.take(alloc) else {
+        return NO_SESSION;
+    };
+    let status = session_calls::journal_entry(runner.session(), entry, edits);
+    session.put(runner);
+    status
+}
+
+/// An edit of an entry of the journal.
+#[unsafe(no_mangle)]
+pub extern "C" fn cupdaisy_journal_edit_at(
+    alloc: Global,
+    session: &mut Handle,
+    entry: usize,
+    index: usize,
+    edit: &mut JournalEdit,
+) -> u32
+    ensures { Asks session.old.held.state result edit.old edit.new session.new.held.state
+        (λ machine. Tells (told_as told_journal (edit_in machine entry index)) result edit.old edit.new) }
+{
+    let Some(runner) = session.take(alloc) else {
+        return NO_SESSION;
+    };
+    let status = session_calls::journal_edit(runner.session(), entry, index, edit);
+    session.put(runner);
+    status
+}
+
+/// The text of an edit of an entry of the journal.
+#[unsafe(no_mangle)]
+pub extern "C" fn cupdaisy_journal_text(
+    alloc: Global,
+    session: &mut Handle,
+    entry: usize,
+    index: usize,
+    text: &mut [u8],
+    needed: &mut usize,
+) -> u32
+    ensures { AsksTwo session.old.held.state result text.old text.new needed.old needed.new session.new.held.state
+        (λ machine. FillsText (edit_in machine entry index) result text.old text.new needed.old needed.new) }
+{
+    let Some(runner) = session.take(alloc) else {
+        return NO_SESSION;
+    };
+    let status = session_calls::journal_text(runner.session(), entry, index, text, needed);
+    session.put(runner);
+    status
+}

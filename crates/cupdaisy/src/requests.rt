@@ -1,0 +1,132 @@
+//! The requests of units and of jobs.
+
+ghost use Rattle.session_calls.specs.Requests.{FillsFrom, request_layout, request_of_job, request_of_unit, told_as, weights_of};
+ghost use Rattle.session_calls.specs.Telling.{Tells};
+ghost use Rattle.cupdaisy.specs.Calls.{Asks, AsksTwo};
+
+use linux_layouts::PredWeights;
+use session_calls::{NO_SESSION, SliceRequest};
+use session_handle::Handle;
+use std::alloc::Global;
+
+/// The request of a slice of the unit of the id, as the stream is now.
+#[unsafe(no_mangle)]
+pub extern "C" fn cupdaisy_unit_request(
+    alloc: Global,
+    session: &mut Handle,
+    id: u32,
+    slice: usize,
+    request: &mut SliceRequest,
+) -> u32
+    ensures { Asks session.old.held.state result request.old request.new session.new.held.state
+        (λ machine. Tells (told_as request_layout (request_of_unit machine id slice)) result request.old request.new) }
+{
+    let Some(runner) = session.take(alloc) else {
+        return NO_SESSION;
+    };
+    let status = session_calls::unit_request(runner.session(), id, slice, request);
+    session.put(runner);
+    status
+}
+
+/// The weight table of a slice of the unit of the id, as the stream is now.
+#[unsafe(no_mangle)]
+pub extern "C" fn cupdaisy_unit_weights(
+    alloc: Global,
+    session: &mut Handle,
+    id: u32,
+    slice: usize,
+    weights: &mut PredWeights,
+) -> u32
+    ensures { Asks session.old.held.state result weights.old weights.new session.new.held.state
+        (λ machine. Tells (weights_of (request_of_unit machine id slice)) result weights.old weights.new) }
+{
+    let Some(runner) = session.take(alloc) else {
+        return NO_SESSION;
+    };
+    let status = session_calls::unit_weights(runner.session(), id, slice, weights);
+    session.put(runner);
+    status
+}
+
+/// The bytes of a slice of the unit of the id, as the stream is now.
+#[unsafe(no_mangle)]
+pub extern "C" fn cupdaisy_unit_bytes(
+    alloc: Global,
+    session: &mut Handle,
+    id: u32,
+    slice: usize,
+    bytes: &mut [u8],
+    needed: &mut usize,
+) -> u32
+    ensures { AsksTwo session.old.held.state result bytes.old bytes.new needed.old needed.new session.new.held.state
+        (λ machine. FillsFrom (request_of_unit machine id slice) result bytes.old bytes.new needed.old needed.new) }
+{
+    let Some(runner) = session.take(alloc) else {
+        return NO_SESSION;
+    };
+    let status = session_calls::unit_bytes(runner.session(), id, slice, bytes, needed);
+    session.put(runner);
+    status
+}
+
+/// The request of a slice of the job of the number, as it was when the job was taken.
+#[unsafe(no_mangle)]
+pub extern "C" fn cupdaisy_job_request(
+    alloc: Global,
+    session: &mut Handle,
+    job: u64,
+    slice: usize,
+    request: &mut SliceRequest,
+) -> u32
+    ensures { Asks session.old.held.state result request.old request.new session.new.held.state
+        (λ machine. Tells (told_as request_layout (request_of_job machine job slice)) result request.old request.new) }
+{
+    let Some(runner) = session.take(alloc) else {
+        return NO_SESSION;
+    };
+    let status = session_calls::job_request(&runner, job, slice, request);
+    session.put(runner);
+    status
+}
+
+/// The weight table of a slice of the job of the number, as it was when the job was taken.
+#[unsafe(no_mangle)]
+pub extern "C" fn cupdaisy_job_weights(
+    alloc: Global,
+    session: &mut Handle,
+    job: u64,
+    slice: usize,
+    weights: &mut PredWeights,
+) -> u32
+    ensures { Asks session.old.held.state result weights.old weights.new session.new.held.state
+        (λ machine. Tells (weights_of (request_of_job machine job slice)) result weights.old weights.new) }
+{
+    let Some(runner) = session.take(alloc) else {
+        return NO_SESSION;
+    };
+    let status = session_calls::job_weights(&runner, job, slice, weights);
+    session.put(runner);
+    status
+}
+
+/// The bytes of a slice of the job of the number, as it was when the job was taken.
+#[unsafe(no_mangle)]
+pub extern "C" fn cupdaisy_job_bytes(
+    alloc: Global,
+    session: &mut Handle,
+    job: u64,
+    slice: usize,
+    bytes: &mut [u8],
+    needed: &mut usize,
+) -> u32
+    ensures { AsksTwo session.old.held.state result bytes.old bytes.new needed.old needed.new session.new.held.state
+        (λ machine. FillsFrom (request_of_job machine job slice) result bytes.old bytes.new needed.old needed.new) }
+{
+    let Some(runner) = session.take(alloc) else {
+        return NO_SESSION;
+    };
+    let status = session_calls::job_bytes(&runner, job, slice, bytes, needed);
+    session.put(runner);
+    status
+}

@@ -1,0 +1,195 @@
+/*
+ * A session in C++: it is opened where it is made, and closed where its scope ends. A status that the caller can't go on from
+ * is thrown as Refused; a call that finds nothing says so by what it returns. cupdaisy.h says what each call does.
+ */
+#ifndef CUPDAISY_HPP
+#define CUPDAISY_HPP
+
+#include "cupdaisy.h"
+
+#include <algorithm>
+#include <array>
+#include <iterator>
+#include <stdexcept>
+#include <string>
+#include <vector>
+
+namespace cupdaisy {
+
+/* The name of a picture, under which a host files its surface. */
+using Picture = std::array<std::uint8_t, 32>;
+using Bytes = std::vector<std::uint8_t>;
+
+inline std::string name_of(std::uint32_t status)
+{
+    std::array<std::uint8_t, 64> name = {};
+    std::size_t length = 0;
+    if (cupdaisy_status_name(status, name.data(), name.size(), &length) != CUPDAISY_DONE)
+        return std::to_string(status);
+    return std::string(name.begin(), name.begin() + static_cast<std::ptrdiff_t>(length));
+}
+
+class Refused : public std::runtime_error {
+public:
+    explicit Refused(std::uint32_t refused) : std::runtime_error(name_of(refused)), status(refused) {}
+    std::uint32_t status;
+};
+
+inline void expect(std::uint32_t status)
+{
+    if (status != CUPDAISY_DONE)
+        throw Refused(status);
+}
+
+/* Whether a call found something; `absent` is what it answers where it found nothing. */
+inline bool is_found(std::uint32_t status, std::uint32_t absent)
+{
+    if (status != absent)
+        expect(status);
+    return status != absent;
+}
+
+/* Where a text begins: no pointer may be null, also of an empty one. */
+inline const std::uint8_t *begin_of(const Bytes &text)
+{
+    static const std::uint8_t nothing = 0;
+    return text.empty() ? &nothing : text.data();
+}
+
+class Session {
+public:
+    explicit Session(std::uint16_t cache = 64) { expect(cupdaisy_open(&handle, cache)); }
+    ~Session() { cupdaisy_close(&handle); }
+    /* A handle is never copied. One that has to move lies behind a std::unique_ptr. */
+    Session(const Session &) = delete;
+    Session &operator=(const Session &) = delete;
+
+    cupdaisy_load_receipt load(const Bytes &text)
+    {
+        cupdaisy_load_receipt receipt;
+        expect(cupdaisy_load(&handle, begin_of(text), text.size(), &receipt));
+        return receipt;
+    }
+
+    cupdaisy_receipt insert_after(std::uint32_t id, const Bytes &text)
+    {
+        cupdaisy_receipt receipt;
+        expect(cupdaisy_insert_after(&handle, id, begin_of(text), text.size(), &receipt));
+        return receipt;
+    }
+
+    cupdaisy_receipt erase(std::uint32_t id)
+    {
+        cupdaisy_receipt receipt;
+        expect(cupdaisy_delete(&handle, id, &receipt));
+        return receipt;
+    }
+
+    std::size_t units()
+    {
+        std::size_t count = 0;
+        expect(cupdaisy_units(&handle, &count));
+        return count;
+    }
+
+    std::uint32_t id_at(std::size_t place)
+    {
+        std::uint32_t id = 0;
+        expect(cupdaisy_id_at(&handle, place, &id));
+        return id;
+    }
+
+    /* Whether a unit has the position in output order, and its id. */
+    bool unit_at(std::size_t position, std::uint32_t &id)
+    {
+        return is_found(cupdaisy_unit_at(&handle, position, &id), CUPDAISY_NO_SUCH_PLACE);
+    }
+
+    /* CUPDAISY_DONE with the picture's name, CUPDAISY_PENDING, CUPDAISY_HAS_FAULT, CUPDAISY_NO_PICTURE or CUPDAISY_NO_SUCH_UNIT. */
+    std::uint32_t show(std::uint32_t id, Picture &picture) { return cupdaisy_show(&handle, id, picture.data()); }
+
+    bool take(cupdaisy_job &job) { return is_found(cupdaisy_take(&handle, &job), CUPDAISY_NOTHING_DUE); }
+
+    /* A job for what the picture of this unit needs; none where it needs nothing that is due. */
+    bool take_for(std::uint32_t id, cupdaisy_job &job)
+    {
+        return is_found(cupdaisy_take_for(&handle, id, &job), CUPDAISY_NOTHING_DUE);
+    }
+
+    /* The picture is gone: whether it was held. */
+    bool drop(std::uint32_t id) { return is_found(cupdaisy_drop_picture(&handle, id), CUPDAISY_NOT_HELD); }
+
+    void clear_cache() { expect(cupdaisy_clear_cache(&handle)); }
+
+    /* Whether the picture was still wanted. */
+    bool land(std::uint64_t job) { return is_found(cupdaisy_land(&handle, job), CUPDAISY_STALE); }
+
+    void give_back(std::uint64_t job) { expect(cupdaisy_give_back(&handle, job)); }
+
+    cupdaisy_job_input input(std::uint64_t job)
+    {
+        cupdaisy_job_input input;
+        expect(cupdaisy_job_input_of(&handle, job, &input));
+        return input;
+    }
+
+    /* The names of the pictures that a job refers to. */
+    std::vector<Picture> references(std::uint64_t job)
+    {
+        std::vector<Picture> pictures;
+        const std::uint64_t count = input(job).references;
+        for (std::size_t index = 0; index < count; index++) {
+            cupdaisy_reference reference;
+            expect(cupdaisy_job_reference(&handle, job, index, &reference));
+            Picture picture;
+            std::copy(std::begin(reference.picture), std::end(reference.picture), picture.begin());
+            pictures.push_back(picture);
+        }
+        return pictures;
+    }
+
+    Picture picture(std::uint64_t job)
+    {
+        Picture picture;
+        expect(cupdaisy_job_picture(&handle, job, picture.data()));
+        return picture;
+    }
+
+    /* The bytes of a slice of a job, after a start code of three bytes. */
+    Bytes bytes(std::uint64_t job, std::size_t slice)
+    {
+        return filled([&](std::uint8_t *text, std::size_t room, std::size_t *needed) {
+            return cupdaisy_job_bytes(&handle, job, slice, text, room, needed);
+        });
+    }
+
+    /* The text of an edit of the journal. */
+    Bytes text(std::size_t entry, std::size_t index)
+    {
+        return filled([&](std::uint8_t *text, std::size_t room, std::size_t *needed) {
+            return cupdaisy_journal_text(&handle, entry, index, text, room, needed);
+        });
+    }
+
+private:
+    /* What a call writes, once it has as much room as it says that it needs. */
+    template <typename Call> static Bytes filled(Call call)
+    {
+        Bytes text(1);
+        std::size_t needed = 0;
+        std::uint32_t status = call(text.data(), 0, &needed);
+        if (status == CUPDAISY_TOO_SMALL) {
+            text.resize(needed);
+            status = call(text.data(), needed, &needed);
+        }
+        expect(status);
+        text.resize(needed);
+        return text;
+    }
+
+    cupdaisy_session handle = CUPDAISY_NONE;
+};
+
+}
+
+#endif

@@ -1,0 +1,77 @@
+/* Each call of examples/cupdaisy.hpp, with the values of the repository's worked examples. */
+#include "cupdaisy.hpp"
+
+#include <cstdio>
+
+using cupdaisy::Bytes;
+
+static int failures;
+
+#define EXPECT(condition)                                             \
+    do {                                                              \
+        if (!(condition)) {                                           \
+            std::printf("%s:%d: %s\n", __FILE__, __LINE__, #condition); \
+            failures++;                                               \
+        }                                                             \
+    } while (0)
+
+static const Bytes A = {0, 0, 1, 0x67, 0x42, 0x00, 0x0A, 0xDA, 0x79, 0, 0, 1, 0x68, 0xCE, 0x38, 0x80,
+                        0, 0, 1, 0x65, 0x88, 0x84, 0x80};
+static const Bytes P1 = {0, 0, 1, 0x41, 0x9A, 0x23};
+static const Bytes P2 = {0, 0, 1, 0x41, 0x9A, 0x43};
+
+template <typename Call> static std::uint32_t refusal(Call call)
+{
+    try {
+        call();
+    } catch (const cupdaisy::Refused &refused) {
+        return refused.status;
+    }
+    return CUPDAISY_DONE;
+}
+
+static void edits_are_made()
+{
+    cupdaisy::Session session;
+    Bytes stream = A;
+    stream.insert(stream.end(), P1.begin(), P1.end());
+    EXPECT(session.load(stream).units == 2);
+    EXPECT(session.insert_after(2, P2).id == 3 && session.units() == 3 && session.id_at(2) == 3);
+    std::uint32_t id = 0;
+    EXPECT(session.unit_at(2, id) && id == 3 && !session.unit_at(3, id));
+    EXPECT(session.text(2, 0) == P2);
+    EXPECT(session.erase(3).number == 4 && session.units() == 2);
+    EXPECT(refusal([&] { session.load(Bytes()); }) == 1);
+    EXPECT(refusal([&] { session.erase(9); }) == CUPDAISY_NO_SUCH_UNIT);
+    EXPECT(refusal([&] { session.id_at(2); }) == CUPDAISY_NO_SUCH_PLACE);
+    EXPECT(refusal([] { cupdaisy::Session none(0); }) == CUPDAISY_CACHE_RANGE);
+    EXPECT(cupdaisy::Refused(16).what() == std::string("NoSuchUnit"));
+}
+
+static void jobs_are_told()
+{
+    cupdaisy::Session session(16);
+    session.load(A);
+    session.insert_after(1, P1);
+    cupdaisy_job job;
+    cupdaisy::Picture picture = {};
+    EXPECT(session.take(job) && job.number == 1 && session.references(1).empty());
+    const cupdaisy::Picture first = session.picture(1);
+    EXPECT(session.show(1, picture) == CUPDAISY_PENDING && session.land(1));
+    EXPECT(session.show(1, picture) == CUPDAISY_DONE && picture == first);
+    EXPECT(session.take(job) && job.unit == 2 && session.input(job.number).slices == 1);
+    EXPECT(session.references(job.number) == std::vector<cupdaisy::Picture>(1, first));
+    EXPECT(session.bytes(job.number, 0) == P1);
+    EXPECT(refusal([&] { session.bytes(job.number, 1); }) == CUPDAISY_NO_SUCH_SLICE);
+    session.give_back(job.number);
+    EXPECT(session.take(job) && job.number == 3 && !session.take(job));
+    session.erase(2);
+    EXPECT(!session.land(3) && refusal([&] { session.land(3); }) == CUPDAISY_NO_SUCH_JOB);
+}
+
+int main()
+{
+    edits_are_made();
+    jobs_are_told();
+    return failures != 0;
+}

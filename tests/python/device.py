@@ -1,0 +1,197 @@
+#!/usr/bin/env python3
+"""Runs examples/v4l2_request.c on a device that isn't there, and looks at what it asks of it.
+
+    tests/python/device.py [--program PROGRAM] [--preview PREVIEW] FILE..
+
+tests/v4l2/fake_device.c answers for the device, with planes and without, and tells each request. A surface is found by the timestamp
+of its decode alone, as a driver finds it. Slice by slice, the record of each request is computed from its structs, its bytes and
+the pictures of these surfaces: so each decode gives a picture, and the pictures have to be those that `preview run --hex`
+shows of the file. Frame by frame, with start codes and without, each request has to have the bytes of all slices of a unit, no
+slice_params, PFRAME and BFRAME as its slices are, and in each entry that a list names the timestamp at which that unit was decoded.
+PROGRAM is build/v4l2_request by default, PREVIEW bin/preview or what PREVIEW in the environment names.
+
+Exit status: 0 if nothing differs, else 1; 77 if a compiler or the kernel's header isn't there.
+"""
+import argparse
+import hashlib
+import json
+import os
+import pathlib
+import shutil
+import subprocess
+import sys
+import tempfile
+
+TOP = pathlib.Path(__file__).resolve().parent.parent.parent
+sys.path.insert(0, str(TOP / "tools"))
+
+import kernel_structs    # noqa: E402
+import syntax    # noqa: E402
+from kernel_structs import Differs    # noqa: E402
+
+# The controls by their numbers in the class.
+NAMES = {2: "sps", 3: "pps", 4: "scaling_matrix", 5: "pred_weights", 6: "slice_params", 7: "decode_params"}
+NO_SLICE = ["sps", "pps", "scaling_matrix", "decode_params"]
+PFRAME, BFRAME = 8, 16
+# By slice_type: P, B, I.
+FLAGS = (PFRAME, BFRAME, 0)
+START = b"\0\0\1"
+
+
+class Asked:
+    """A request, as the device was asked."""
+
+    def __init__(self, line):
+        word, timestamp, capture, hold, text, *controls = line.split(" ")
+        if word != "request":
+            raise Differs(f"a line is {line[:80]!r}")
+        self.timestamp, self.capture, self.is_held, self.text = int(timestamp), int(capture), hold == "1", bytes.fromhex(text)
+        pairs = (control.split("=") for control in controls)
+        self.controls = {NAMES[int(number)]: bytes.fromhex(value) for number, value in pairs}
+
+
+class Surfaces:
+    """The CAPTURE buffers: what each holds, found by the timestamp of its decode."""
+
+    def __init__(self):
+        self.held = {}    # place: (timestamp, content)
+
+    def at(self, timestamp):
+        found = [content for decoded, content in self.held.values() if decoded == timestamp]
+        if len(found) != 1:
+            raise Differs(f"{len(found)} surfaces have the timestamp {timestamp}")
+        return found[0]
+
+
+class ByTime(dict):
+    """The contents of surfaces by timestamps, looked up as they are asked for."""
+
+    def __init__(self, surfaces):
+        super().__init__()
+        self.surfaces = surfaces
+
+    def __missing__(self, timestamp):
+        return self.surfaces.at(timestamp)
+
+
+def asked(options, device, file, planes, *words):
+    """The requests of a run on the device."""
+    with tempfile.NamedTemporaryFile() as log:
+        environment = dict(os.environ, LD_PRELOAD=str(device), FAKE_LOG=log.name, FAKE_PLANES=planes)
+        command = [options.program, file, "--video", "fake-video", "--media", "fake-media", *words]
+        ran = subprocess.run(command, env=environment, capture_output=True, text=True, check=False)
+        if ran.returncode != 0 or ran.stdout:
+            raise Differs(f"v4l2_request ended with status {ran.returncode}: {ran.stderr.strip()[:200]}")
+        return [Asked(line) for line in pathlib.Path(log.name).read_text().splitlines()]
+
+
+def pictures_of(memory, requests):
+    """The pictures of requests of slices, in the order of their decodes."""
+    surfaces, records, pictures = Surfaces(), b"", []
+    for request in requests:
+        values, form = {}, b""
+        for control in kernel_structs.CONTROLS:
+            struct = request.controls.get(control)
+            form += b"" if control != "pred_weights" else b"\0" if struct is None else b"\1"
+            if struct is not None:
+                values[control], more = memory.read(f"v4l2_ctrl_h264_{control}", struct)
+                form += more
+        surfaces.held.pop(request.capture, None)
+        records += kernel_structs.record(form, values["slice_params"], values["decode_params"]["dpb"], request.text,
+                                         ByTime(surfaces))
+        if not request.is_held:
+            pictures.append(hashlib.sha256(records).digest())
+            surfaces.held[request.capture] = request.timestamp, pictures[-1]
+            records = b""
+    return pictures
+
+
+def compare_slices(options, memory, device, file, planes):
+    """The pictures of a run, slice by slice; they have to be those that are shown."""
+    wanted = set(names_of(options, file).values())
+    found = pictures_of(memory, asked(options, device, file, planes))
+    if set(found) != wanted:
+        raise Differs(f"{len(set(found) - wanted)} of {len(found)} pictures are shown of no unit, and "
+                      f"{len(wanted - set(found))} of {len(wanted)} weren't decoded")
+    return len(found)
+
+
+def compare_frames(options, memory, device, file, has_start_codes):
+    """The requests of a run, frame by frame, held against `plan --json`; each picture is decoded."""
+    names, wanted = names_of(options, file), {}
+    for plan, nals in zip(plans_of(options, file), units_of(file)):
+        if "requests" in plan:
+            text = b"".join((START if has_start_codes else b"") + nal for nal in nals)
+            wanted.setdefault(text, []).append(plan)
+    surfaces, words = Surfaces(), ["--frame-based"] + ([] if has_start_codes else ["--no-start-code"])
+    requests, decoded = asked(options, device, file, "1", *words), set()
+    for request in requests:
+        surfaces.held.pop(request.capture, None)
+        value, _ = memory.read("v4l2_ctrl_h264_decode_params", request.controls["decode_params"])
+        if request.is_held or sorted(request.controls) != sorted(NO_SLICE):
+            raise Differs(f"a request of a frame has {sorted(request.controls)}, hold {request.is_held}")
+        plan = next((plan for plan in wanted.get(request.text, []) if is_of(plan, value, surfaces, names)), None)
+        if plan is None:
+            raise Differs(f"a request of {len(request.text)} bytes is of no unit")
+        surfaces.held[request.capture] = request.timestamp, names[plan["unit"]]
+        decoded.add(names[plan["unit"]])
+    if decoded != set(names.values()):
+        raise Differs(f"{len(set(names.values()) - decoded)} pictures weren't decoded")
+    return len(requests)
+
+
+def plans_of(options, file):
+    return [json.loads(line) for line in kernel_structs.printed(options.preview, "plan", "--json", file)]
+
+
+def units_of(file):
+    """The slices of each unit."""
+    return [[nal for nal in nals if nal[0] & 31 in (1, 5)] for nals in syntax.cut(syntax.split(pathlib.Path(file).read_bytes()))]
+
+
+def names_of(options, file):
+    """The picture of each valid unit."""
+    shown = kernel_structs.shown_by_run(options.preview, file, len(units_of(file)))
+    return {int(words[1]): bytes.fromhex(words[3]) for words in map(str.split, shown) if words[2] == "ready"}
+
+
+def is_of(plan, value, surfaces, names):
+    """Whether decode_params are those of a unit's first slice but for what a frame has, with its references where they lie."""
+    flags = 0
+    for request in plan["requests"]:
+        params, dpb = request["v4l2_ctrl_h264_slice_params"], request["v4l2_ctrl_h264_decode_params"]["dpb"]
+        flags |= FLAGS[params["slice_type"]]
+        for entry in params["ref_pic_list0"] + params["ref_pic_list1"]:
+            named = dpb[entry["index"]]["reference_ts"] // 1000
+            if entry["fields"] and surfaces.at(value["dpb"][entry["index"]]["reference_ts"]) != names[named]:
+                return False
+    return value["flags"] & (PFRAME | BFRAME) == flags and value["frame_num"] \
+        == plan["requests"][0]["v4l2_ctrl_h264_decode_params"]["frame_num"]
+
+
+def main():
+    parser = argparse.ArgumentParser(description=__doc__, formatter_class=argparse.RawTextHelpFormatter)
+    parser.add_argument("--program", default=str(TOP / "build" / "v4l2_request"))
+    parser.add_argument("--preview", default=kernel_structs.PREVIEW)
+    parser.add_argument("files", nargs="+", metavar="FILE")
+    options = parser.parse_args()
+    if not shutil.which("gcc") or not os.path.exists(kernel_structs.HEADER):
+        print("gcc or the kernel's header isn't there: nothing was compared")
+        return 77
+    memory, failures = kernel_structs.Memory(pathlib.Path(kernel_structs.HEADER).read_text()), 0
+    with tempfile.TemporaryDirectory() as folder:
+        device = pathlib.Path(folder) / "fake_device.so"
+        subprocess.run(["gcc", "-std=c99", "-O1", "-shared", "-fPIC", TOP / "tests/v4l2/fake_device.c", "-o", device], check=True)
+        for file in options.files:
+            try:
+                counts = [compare_slices(options, memory, device, file, planes) for planes in ("1", "0")]
+                counts += [compare_frames(options, memory, device, file, has) for has in (True, False)]
+                print(f"{file}: {', '.join(map(str, counts))} decodes compared")
+            except Differs as fault:
+                failures += 1
+                print(f"{file}: {fault}")
+    return 1 if failures else 0
+
+
+if __name__ == "__main__":
+    sys.exit(main())

@@ -1,0 +1,382 @@
+#!/usr/bin/env python3
+"""Drives drawn sessions through the C interface by ctypes, and compares every answer with the plain model in tools/.
+
+    tests/python/drawn.py [--sessions N] [--steps N] [--seed N] FILE..
+
+Each of N sessions (10 by default), by a seed of its own from --seed on, makes so many steps (60 by default): edits whose texts
+are the files' units, whole or damaged, groups of edits, loads, and jobs that are taken, landed and given back in any order.
+Each answer is compared, and after each step the whole stream: ids, outcomes, positions, keys, what is shown, and the requests
+of one unit and of one job with all their bytes. At the end the journal is that of the accepted edits.
+
+Exit status: 0 if nothing differs, else 1.
+"""
+import argparse
+import os
+import pathlib
+import random
+import sys
+import tempfile
+
+TOP = pathlib.Path(__file__).resolve().parent.parent.parent
+sys.path[:0] = [str(TOP / "tools"), str(TOP / "examples")]
+
+import cupdaisy    # noqa: E402
+import fold    # noqa: E402
+import kernel_structs    # noqa: E402
+import session as model    # noqa: E402
+import syntax    # noqa: E402
+
+# The model's names of edits, as kinds of the interface.
+KINDS = {"first": cupdaisy.INSERT_FIRST, "after": cupdaisy.INSERT_AFTER, "delete": cupdaisy.DELETE,
+         "replace": cupdaisy.REPLACE}
+CACHE, MOST_UNITS = 4096, 24
+STEPS = ("edit", "edit", "edit", "edit", "group", "load", "take", "take", "take_for", "take_for", "land", "give", "settle",
+         "settle_for", "drop", "drop", "clear")
+
+
+class Differs(Exception):
+    """The library and the model answer differently."""
+
+
+def same(what, found, wanted):
+    if found != wanted:
+        raise Differs(f"{what}: {found!r}, and by the model {wanted!r}")
+
+
+def units_of(path):
+    """The texts of a stream's units."""
+    return [b"".join(syntax.START + nal for nal in nals) for nals in syntax.cut(syntax.split(path.read_bytes()))]
+
+
+def answered(call, *operands):
+    """What a call answers, or the number and the index that it is refused with."""
+    try:
+        return call(*operands)
+    except cupdaisy.Refused as refused:
+        return ("refused", refused.status, refused.index)
+
+
+def asked(edit):
+    """An edit of the model's, as the interface has it: its kind, its id and its text."""
+    name, *operands = edit
+    return KINDS[name], 0 if name == "first" else operands[0], b"" if name == "delete" else operands[-1]
+
+
+class Drawn:
+    """A session and its model."""
+
+    def __init__(self, rng, files, memory, session):
+        self.rng, self.memory, self.session = rng, memory, session
+        self.model, self.texts = model.Session(CACHE), [text for units in files for text in units]
+        self.files, self.jobs, self.journal = files, {}, []
+        # The number of each key that was in use before the step, or is told in it.
+        self.keys, self.numbers = {}, set()
+        self.given, self.undo, self.at = {}, None, -1
+
+    def begin(self):
+        """Inserts the first units of a file."""
+        for text in self.rng.choice(self.files)[:self.rng.randint(0, 12)]:
+            unit = self.model.edit(edit := ("after", self.model.stream[-1][0], text) if self.model.stream else ("first", text))
+            same("insert", self.session.insert_last(text).id, unit)
+            self.accepted([edit], [unit])
+
+    def text(self):
+        """A unit's text: one of the stream, the next one of the files, or any; now and then damaged."""
+        rng, near = self.rng, [*self.given.values()]
+        self.at = (self.at + 1) % len(self.texts) if rng.random() < 0.7 else rng.randrange(len(self.texts))
+        text = bytearray(rng.choice(near) if near and rng.random() < 0.4 else self.texts[self.at])
+        if rng.random() < 0.15:
+            place = rng.randrange(len(text))
+            text[place] = rng.randrange(256)
+            text = text[:rng.choice((place, len(text), len(text)))]
+        return bytes(text)
+
+    def unit(self):
+        """An id of the stream, or now and then one that isn't there."""
+        ids = [unit[0] for unit in self.model.stream]
+        return self.rng.choice(ids) if ids and self.rng.random() < 0.95 else self.rng.choice((0, 9999, 4294967295))
+
+    def drawn_edit(self):
+        """An edit, as the model has it: often one that undoes the last; few units are left in longer streams."""
+        rng, undo, self.undo = self.rng, self.undo, None
+        if undo and rng.random() < 0.5:
+            return undo
+        many = len(self.model.stream) >= MOST_UNITS
+        kind = rng.choice(("delete", "delete", "replace") if many else ("first", "after", "after", "replace", "delete"))
+        if kind == "first" and rng.random() < 0.2 or not self.model.stream:
+            return "first", self.text()
+        if kind == "delete":
+            return "delete", self.unit()
+        last = self.model.stream[-1][0]
+        return (kind, self.unit(), self.text()) if kind == "replace" else ("after", rng.choice((last, self.unit())), self.text())
+
+    def undoing(self, name, *operands):
+        """The edit that undoes one that is made next, but for an insertion, whose id isn't there yet."""
+        at = self.model.place(operands[0]) if name in ("delete", "replace") else None
+        if at is None:
+            return None
+        former = self.given[operands[0]]
+        if name == "replace":
+            return "replace", operands[0], former
+        return ("after", self.model.stream[at - 1][0], former) if at else ("first", former)
+
+    def accepted(self, edits, ids):
+        """Notes edits that were made together, and the ids that they are about."""
+        self.journal.append([asked(edit) for edit in edits])
+        for (name, *operands), unit in zip(edits, ids):
+            self.given.pop(unit, None)
+            if name != "delete":
+                self.given[unit] = operands[-1]
+
+    def edit(self):
+        edit = self.drawn_edit()
+        name, *operands = edit
+        undo = self.undoing(*edit)
+        calls = {"first": self.session.insert_first, "after": self.session.insert_after, "replace": self.session.replace,
+                 "delete": self.session.delete}
+        is_last = name == "after" and operands[0] == self.model.stream[-1][0]
+        found = answered(self.session.insert_last, operands[1]) if is_last else answered(calls[name], *operands)
+        try:
+            unit = self.model.edit(edit)
+        except syntax.Refused as refused:
+            return same(f"{name} {operands[:-1]}", found, ("refused", refused.number, None))
+        if not isinstance(found, cupdaisy.Receipt) or found.steps < (name != "delete"):
+            raise Differs(f"{name} is answered by {found}")
+        same(f"receipt of {name}", (found.number, found.id), (self.model.edits, unit))
+        self.accepted([edit], [unit])
+        self.undo = undo or ("delete", unit)
+
+    def group(self):
+        edits = [self.drawn_edit() for _ in range(self.rng.choice((0, 1, 2, 3, 5)))]
+        found = answered(self.session.group, [asked(edit) for edit in edits])
+        try:
+            ids = self.model.group(edits)
+        except model.GroupRefused as refused:
+            words = str(refused).split(" ")
+            number, index = (int(words[2]), int(words[1])) if words[0] == "at" else (int(words[0]), None)
+            return same("group", found, ("refused", number, index))
+        if not isinstance(found, tuple) or isinstance(found[0], str):
+            raise Differs(f"a group is answered by {found}")
+        same("group", (found[0].number, found[0].index, found[1]), (self.model.edits, 0, ids))
+        self.accepted(edits, ids)
+
+    def load(self):
+        units = self.rng.choice(self.files)
+        begin = self.rng.choice((0, 0, self.rng.randrange(len(units))))
+        text = b"".join(units[begin:begin + self.rng.randint(1, 4)])
+        if self.rng.random() < 0.2:
+            text = text[:self.rng.randrange(len(text))] + self.rng.randbytes(1) + b"\1\2"
+        if len(self.model.stream) >= MOST_UNITS:
+            return
+        with tempfile.NamedTemporaryFile() as file:
+            file.write(text)
+            file.flush()
+            before = self.model.ids
+            words = model.loaded(self.model, file.name).split()
+        found = answered(self.session.load, text)
+        if "refused" in words:
+            index = int(words[1]) if words[0] == "unit" else 0
+            return same("load", found, ("refused", int(words[words.index("refused") + 1]), index))
+        if not isinstance(found, cupdaisy.LoadReceipt):
+            raise Differs(f"a load is answered by {found}")
+        count = int(words[1])
+        same("load", (found.number, found.units, found.first, found.index), (self.model.edits, count, before + 1, 0))
+        # The first unit of an empty stream is inserted first, each other one after the one before it.
+        texts = [b"".join(syntax.START + nal for nal in nals) for nals in syntax.cut(syntax.split(text))]
+        afters = [unit[0] for unit in self.model.stream][-count - 1:-1] if len(self.model.stream) > count else [None, *(
+            unit[0] for unit in self.model.stream[:-1])]
+        for after, each in zip(afters, texts):
+            before += 1
+            self.accepted([("first", each) if after is None else ("after", after, each)], [before])
+
+    def take(self):
+        due = self.model.due()
+        self.taken(answered(self.session.take), due, self.model.take())
+
+    def take_for(self):
+        unit = self.unit()
+        needed = self.model.needed(unit)
+        due = self.model.due(needed)
+        self.taken(answered(self.session.take_for, unit), due, self.model.take(needed))
+
+    def taken(self, found, due, taken):
+        same("take", (found.number, found.unit) if isinstance(found, cupdaisy.Job) else found, taken)
+        if taken is not None:
+            rows = {unit[0]: row for unit, row in zip(self.model.stream, self.model.rows)}
+            self.jobs[taken[0]] = taken[1], rows[taken[1]], {unit: row.key for unit, row in rows.items()}, due[1]
+
+    def settle_for(self):
+        """What a unit's picture needs is made; it is ready then, if none of it is out."""
+        unit = self.unit()
+        while (due := self.model.due(self.model.needed(unit))) is not None:
+            self.taken(answered(self.session.take_for, unit), due, self.model.take(self.model.needed(unit)))
+            number = max(self.jobs)
+            same("land", self.session.land(number), self.model.land(number) == "taken")
+            del self.jobs[number]
+
+    def drop(self):
+        unit = self.unit()
+        found = answered(self.session.drop, unit)
+        same("drop", found, {"dropped": True, "not held": False, "none": ("refused", 16, None)}[self.model.drop(unit)])
+
+    def clear(self):
+        self.session.clear_cache()
+        self.model.clear()
+
+    def job(self):
+        """The number of a job that is out, or now and then of none."""
+        return self.rng.choice([*self.jobs]) if self.jobs and self.rng.random() < 0.9 else self.rng.choice((0, 7777, 1))
+
+    def land(self):
+        number = self.job()
+        found, wanted = answered(self.session.land, number), self.model.land(number)
+        same("land", found, {"taken": True, "stale": False, "none": ("refused", 105, None)}[wanted])
+        self.jobs.pop(number, None)
+
+    def give(self):
+        number = self.job()
+        found, wanted = answered(self.session.give_back, number), self.model.leave(number)
+        same("give back", found, ("refused", 105, None) if wanted is None else None)
+        self.jobs.pop(number, None)
+
+    def settle(self):
+        while self.model.due():
+            self.take()
+            number = max(self.jobs)
+            same("land", self.session.land(number), self.model.land(number) == "taken")
+            del self.jobs[number]
+
+    def request(self, what, found, weights, text, wanted, timestamp, is_last):
+        """A request by the model's: what is told beside the controls, their digest form, and the references' timestamps."""
+        same(f"{what}, timestamp, hold and unit's begin", (found.timestamp, found.hold, found.unit_begins),
+             (timestamp, int(not is_last), len(syntax.START)))
+        same(f"{what}, bytes", (found.bytes, text), (len(wanted.text), wanted.text))
+        form, values = b"", {}
+        for control in kernel_structs.CONTROLS:
+            struct = weights if control == "pred_weights" else bytes(getattr(found, control))
+            form += b"" if control != "pred_weights" else b"\0" if weights is None else b"\1"
+            if struct is not None:
+                values[control], more = self.memory.read(f"v4l2_ctrl_h264_{control}", struct)
+                form += more
+        same(f"{what}, whether it has weights", found.has_weights, int(weights is not None))
+        same(f"{what}, digest form", form.hex(), wanted.form.hex())
+        named = wanted.line.split(" ")[11]
+        times = [int(entry.split(":")[0]) for entry in named.split(",")] if named != "-" else []
+        same(f"{what}, reference_ts", [entry["reference_ts"] for entry in values["decode_params"]["dpb"]],
+             times + [0] * (16 - len(times)))
+
+    def unit_requests(self):
+        valid = [(unit[0], row) for unit, row in zip(self.model.stream, self.model.rows) if row.key is not None]
+        if not valid:
+            return
+        unit, row = self.rng.choice(valid)
+        requests = row.outcome.requests
+        for place, wanted in enumerate(requests):
+            self.request(f"unit {unit} slice {place}", self.session.unit_request(unit, place),
+                         self.session.unit_weights(unit, place), self.session.unit_bytes(unit, place), wanted, 1000 * unit,
+                         place + 1 == len(requests))
+        same("a slice past the last", answered(self.session.unit_request, unit, len(requests)), ("refused", 106, None))
+
+    def job_requests(self):
+        """Those of a job that is out, as they were when it was taken."""
+        if not self.jobs:
+            return
+        number = self.rng.choice([*self.jobs])
+        unit, row, keys, key = self.jobs[number]
+        requests = row.outcome.requests
+        for place, wanted in enumerate(requests):
+            self.request(f"job {number} slice {place}", self.session.job_request(number, place),
+                         self.session.job_weights(number, place), self.session.job_bytes(number, place), wanted, 1000 * unit,
+                         place + 1 == len(requests))
+        found = self.session.job_input(number)
+        same(f"job {number}", (found.unit, found.slices), (unit, len(requests)))
+        same(f"job {number}, its picture", self.session.job_picture(number), self.model.pictures[key])
+        named = {1000 * each: self.model.pictures[keys[each]] for request in requests for each in request.entries
+                 if each is not None}
+        same(f"job {number}, its references", sorted(self.session.job_references(number)), sorted(named.items()))
+
+    def stream(self):
+        """The whole stream."""
+        same("ids", self.session.ids(), [unit[0] for unit in self.model.stream])
+        same("past the end", (self.session.id_at(len(self.model.stream)), self.session.unit_at(len(self.model.stream))),
+             (None, None))
+        for place, ((unit, _), row) in enumerate(zip(self.model.stream, self.model.rows)):
+            same("place", self.session.place(unit), place)
+            found, outcome = self.session.outcome(unit), row.outcome
+            if isinstance(outcome, fold.Plan):
+                self.plan(unit, row, found)
+            else:
+                kind, number = (cupdaisy.FAULT, outcome.number) if isinstance(outcome, fold.Fault) else (cupdaisy.EMPTY, 0)
+                same(f"outcome of {unit}", (found.kind, found.fault, found.slices), (kind, number, 0))
+                same(f"show {unit}", self.session.show(unit), None)
+                same(f"key of {unit}", answered(self.session.key, unit), ("refused", 107, None))
+
+    def keys_in_use(self):
+        """Which numbers of keys are in use, also of some that were."""
+        now = {self.keys[row.key] for row in self.model.rows if row.key is not None}
+        self.numbers |= now
+        for key in {*self.rng.sample(sorted(self.numbers), min(len(self.numbers), 8)), 0, 1 << 63}:
+            same(f"whether {key} is in use", self.session.in_use(key), key in now)
+
+    def plan(self, unit, row, found):
+        outcome = row.outcome
+        same(f"outcome of {unit}",
+             (found.kind, found.fault, found.top, found.bottom, found.order, found.begins_period, found.slices),
+             (cupdaisy.PLAN, 0, *outcome.counts, outcome.order, int(outcome.begins_period), len(outcome.requests)))
+        same(f"position of {unit}", self.session.position(unit), row.position)
+        same(f"unit at {row.position}", self.session.unit_at(row.position), unit)
+        same(f"show {unit}", self.session.show(unit), self.model.pictures[row.key] if row.key in self.model.held else None)
+        key = self.session.key(unit)
+        same(f"key of {unit}", key, self.keys.get(row.key, key))
+        self.keys[row.key] = key
+        others = {self.keys[other.key] for other in self.model.rows if other.key in self.keys and other.key != row.key}
+        if key in others:
+            raise Differs(f"unit {unit} has the key {key} of another picture")
+
+    def step(self):
+        in_use = {row.key for row in self.model.rows}
+        self.keys = {key: number for key, number in self.keys.items() if key in in_use}
+        kind = self.rng.choice(STEPS)
+        getattr(self, kind)()
+        self.stream()
+        self.keys_in_use()
+        self.unit_requests()
+        self.job_requests()
+
+
+def run(seed, steps, files, memory):
+    """Runs a session; where it differs, if it does."""
+    with cupdaisy.Session(CACHE) as session:
+        drawn = Drawn(random.Random(seed), files, memory, session)
+        for number in range(steps):
+            try:
+                drawn.step() if number else drawn.begin()
+            except (Differs, cupdaisy.Refused, kernel_structs.Differs) as fault:
+                return f"step {number}: {fault!r}"
+        found = session.journal()
+        return "" if found == drawn.journal else f"the journal has {found}, and not {drawn.journal}"
+
+
+def main():
+    parser = argparse.ArgumentParser(description=__doc__, formatter_class=argparse.RawTextHelpFormatter)
+    parser.add_argument("--sessions", type=int, default=10)
+    parser.add_argument("--steps", type=int, default=60)
+    parser.add_argument("--seed", type=int, default=0)
+    parser.add_argument("files", type=pathlib.Path, metavar="FILE", nargs="+")
+    options = parser.parse_args()
+    if not os.path.exists(kernel_structs.HEADER):
+        print(f"{kernel_structs.HEADER} isn't there: nothing was compared")
+        return 77
+    memory, failures = kernel_structs.Memory(pathlib.Path(kernel_structs.HEADER).read_text()), 0
+    files = [units_of(path) for path in options.files]
+    for seed in range(options.seed, options.seed + options.sessions):
+        wrong = run(seed, options.steps, files, memory)
+        failures += bool(wrong)
+        if wrong:
+            print(f"seed {seed}: {wrong}", flush=True)
+    print(f"{options.sessions} sessions of {options.steps} steps, {failures} failures")
+    return 1 if failures else 0
+
+
+if __name__ == "__main__":
+    sys.exit(main())

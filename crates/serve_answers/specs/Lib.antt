@@ -1,0 +1,3 @@
+pub mod JobAnswers
+pub mod Replies
+pub mod UnitAnswers

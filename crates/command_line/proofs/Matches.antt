@@ -1,5 +1,5 @@
 -- What the matches of a command line are read as.
-use Rattle.std.proofs.Common.{◌≡◌, ◌∙◌, ◌≤◌, ℕ, Bool, cond, true, false, refl, sym, ap, arith, List, Option, Some, None, option_map, Result, Ok, Err, codes}
+use Rattle.std.proofs.Common.{◌≡◌, ◌∙◌, ◌≤◌, ◌<◌, ◌^◌, ℕ, Bool, cond, true, false, refl, sym, ap, arith, List, Option, Some, None, option_map, Result, Ok, Err, codes}
 use Rattle.std.specs.Prelude.{option_and_then}
 use Rattle.std.specs.Str.Parse.{ParsesUnsigned, digits_value, without_leading_plus}
 use Rattle.clap.specs.Values.{Accepts}
@@ -9,7 +9,7 @@ use Rattle.clap.specs.declared.builder.ValueParser.TheVariants.{Unsigned}
 use Rattle.clap.specs.declared.parser.matches.Found.{Found}
 use Rattle.clap.proofs.ValueTestLemmas.{Accepts-accepts, accepts-Accepts}
 use Rattle.clap.proofs.WalkLemmas.{first_value-rows, one_text-rows}
-use Rattle.command_line.specs.CommandLine.{Wanted, audit, audit_in, cache_in, has_flag, is_true, number_in, number_of, plan, plan_in, run, run_in, several, workers_in}
+use Rattle.command_line.specs.CommandLine.{Wanted, audit, audit_in, cache_in, draw, draw_in, from_in, has_flag, is_true, number_in, number_of, plan, plan_in, run, run_in, several, units_in, workers_in}
 
 -- the plan of a name, as JSON or not
 abbrev plan_with : Bool → Text → Wanted
@@ -25,6 +25,22 @@ plan-read f name json is given =
 -- with no value of FILE nothing is planned
 pub no-file : (f : Found) → None ≡ first_value f (codes "FILE") → None ≡ plan_in (rows_of f)
 no-file f none = ap (option_map (plan_with (has_flag (codes "json") (rows_of f)))) (none ∙ first_value-rows f (codes "FILE"))
+
+-- with no value of FILE nothing is drawn
+pub no-draw : (f : Found) → None ≡ first_value f (codes "FILE") → None ≡ draw_in (rows_of f)
+no-draw f none = ap (option_and_then (λ name. option_and_then (λ from.
+    option_map (draw name from) (units_in (rows_of f))) (from_in (rows_of f))))
+    (none ∙ first_value-rows f (codes "FILE"))
+
+-- with one it is drawn with what the options give
+pub draw-read : (f : Found) (name : Text) (from units : Option ℕ) → Some name ≡ first_value f (codes "FILE")
+    → from_in (rows_of f) ≡ from → units_in (rows_of f) ≡ units
+    → option_and_then (λ n. option_map (draw name n) units) from ≡ draw_in (rows_of f)
+draw-read f name from units file from_is is =
+    ap (λ (r : Option ℕ). option_and_then (λ n. option_map (draw name n) r) from) (sym is)
+    ∙ (ap (option_and_then (λ n. option_map (draw name n) (units_in (rows_of f)))) (sym from_is)
+    ∙ ap (option_and_then (λ t. option_and_then (λ n. option_map (draw t n) (units_in (rows_of f))) (from_in (rows_of f))))
+    (file ∙ first_value-rows f (codes "FILE")))
 
 -- whether `--hex` was given
 abbrev hex_of : Found → Bool
@@ -82,7 +98,7 @@ module _ (low high : ℕ) where
       go true e = absurd (bad (accepts-Accepts false (Unsigned low high) t e))
       go false e = refl
 
-module _ (E : Type 0) (G : List ℕ → Result ℕ E → Type 0) (only : (u : List ℕ) (x : Result ℕ E) → G u x → ParsesUnsigned 16 10 u x) (id : Text) (low high : ℕ) (small : high ≤ 65535) (f : Found) where
+module _ (bits : ℕ) (E : Type 0) (G : List ℕ → Result ℕ E → Type 0) (only : (u : List ℕ) (x : Result ℕ E) → G u x → ParsesUnsigned bits 10 u x) (id : Text) (low high : ℕ) (small : high < 2 ^ bits) (fits : high < 2 ^ 64) (f : Found) where
   at : (o : Option Text) → one_text f id ≡ o → number_of id low high (rows_of f) ≡ option_and_then (number_in low high) o
   at o is = ap (option_and_then (number_in low high)) (sym (one_text-rows f id) ∙ is)
 

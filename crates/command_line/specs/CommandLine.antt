@@ -14,9 +14,9 @@ use Rattle.clap.specs.declared.builder.ValueParser.TheVariants.{Signed}
 use Rattle.clap.specs.declared.error.ErrorKind.{ErrorKind}
 use Rattle.clap.specs.declared.error.ErrorKind.TheVariants.{DisplayHelp, DisplayVersion, MissingSubcommand, OutOfMemory}
 use Rattle.picture_cache.specs.Bounded.{most_room}
-use Rattle.command_line.specs.Bounds.{most_workers}
+use Rattle.command_line.specs.Bounds.{most_drawn, most_id, most_workers}
 use Rattle.command_line.specs.declared.asked.Asked.{Asked}
-use Rattle.command_line.specs.declared.asked.Asked.TheVariants.{Audit, Plan, Run}
+use Rattle.command_line.specs.declared.asked.Asked.TheVariants.{Audit, Draw, Plan, Run}
 
 -- a word that has to be there
 abbrev pub needed_rule : Text → Rule
@@ -38,6 +38,18 @@ flag_rule name = record (new_rule name) { long = Some name; action = Some SetTru
 -- `plan FILE [--json]`
 abbrev pub plan_app : App
 plan_app = with_rule (with_rule (new_app (codes "plan")) (needed_rule (codes "FILE"))) (flag_rule (codes "json"))
+
+-- `--from N`, an id, which is 1 where it isn't given
+abbrev pub from_rule : Rule
+from_rule = option_rule (codes "from") (Signed (pos 0) (pos most_id)) (codes "1")
+
+-- `--units N`, from 1 to 1000, and 60 where it isn't given
+abbrev pub units_rule : Rule
+units_rule = option_rule (codes "units") (Signed (pos 1) (pos most_drawn)) (codes "60")
+
+-- `draw FILE [--from N] [--units N]`
+abbrev pub draw_app : App
+draw_app = with_rule (with_rule (with_rule (new_app (codes "draw")) (needed_rule (codes "FILE"))) from_rule) units_rule
 
 -- `--workers N` of `run`, from 0 to 64, and 0 where it isn't given
 abbrev pub workers_rule : Rule
@@ -61,22 +73,25 @@ abbrev pub audit_app : App
 audit_app = with_rule (with_rule (with_rule (new_app (codes "audit")) (needed_rule (codes "SCRIPT")))
     some_workers_rule) cache_rule
 
--- `preview` with one of the three, or with `--version`
+-- `preview` with one of the four, or with `--version`
 abbrev pub preview_app : App
-preview_app = with_subcommand (with_subcommand (with_subcommand
+preview_app = with_subcommand (with_subcommand (with_subcommand (with_subcommand
     (on_top (λ s. record s { has_version = true; subcommand_required = true }) (new_app (codes "preview")))
-    plan_app.top) run_app.top) audit_app.top
+    plan_app.top) draw_app.top) run_app.top) audit_app.top
 
--- what is asked for: the plan of a file, as JSON or not; a run of a script, in one thread or beside so many workers, with so much room,
--- and with the hashes of pictures or without; or its audit, beside so many workers and with so much room
+-- what is asked for: the plan of a file, as JSON or not; a drawing of so many units of it, from an id on; a run of a script, in
+-- one thread or beside so many workers, with so much room, and with the hashes of pictures or without; or its audit, beside so
+-- many workers and with so much room
 pub data Wanted : Type 0 where
   plan : Text → Bool → Wanted
+  draw : Text → ℕ → ℕ → Wanted
   run : Text → Option ℕ → ℕ → Bool → Wanted
   audit : Text → ℕ → ℕ → Wanted
 
 -- the same, of the program's own type
 abbrev pub wanted_of : Asked → Wanted
 wanted_of (Plan file json) = plan file.now json
+wanted_of (Draw file choice) = draw file.now choice.from choice.units
 wanted_of (Run options workers) =
     run options.name.now (option_map (λ several. several.count) workers) options.cache options.hex
 wanted_of (Audit options workers) = audit options.name.now workers.count options.cache
@@ -98,6 +113,14 @@ cache_in rows = number_of (codes "cache") 1 most_room rows
 abbrev pub workers_in : ℕ → List Row → Option ℕ
 workers_in least rows = number_of (codes "workers") least most_workers rows
 
+-- the id of the first unit that is to be drawn
+abbrev pub from_in : List Row → Option ℕ
+from_in rows = number_of (codes "from") 0 most_id rows
+
+-- how many units are
+abbrev pub units_in : List Row → Option ℕ
+units_in rows = number_of (codes "units") 1 most_drawn rows
+
 -- so many workers, which are none for 0
 abbrev pub several : ℕ → Option ℕ
 several count = if count == 0 then None else Some count
@@ -115,6 +138,12 @@ has_flag name rows = is_true (first_of name rows)
 abbrev pub plan_in : List Row → Option Wanted
 plan_in rows = option_map (λ file. plan file (has_flag (codes "json") rows)) (first_of (codes "FILE") rows)
 
+-- what the words after `draw` ask for
+abbrev pub draw_in : List Row → Option Wanted
+draw_in rows = option_and_then (λ name. option_and_then (λ from.
+    option_map (λ units. draw name from units) (units_in rows))
+    (from_in rows)) (first_of (codes "FILE") rows)
+
 -- what the words after `run` ask for
 abbrev pub run_in : List Row → Option Wanted
 run_in rows = option_and_then (λ name. option_and_then (λ workers.
@@ -130,8 +159,9 @@ audit_in rows = option_and_then (λ name. option_and_then (λ workers.
 -- what a subcommand and the words after it ask for
 abbrev pub wanted_by : Text × List Row → Option Wanted
 wanted_by met = if bytes_eq met.0 (codes "plan") then plan_in met.1
+    else (if bytes_eq met.0 (codes "draw") then draw_in met.1
     else (if bytes_eq met.0 (codes "run") then run_in met.1
-    else (if bytes_eq met.0 (codes "audit") then audit_in met.1 else None))
+    else (if bytes_eq met.0 (codes "audit") then audit_in met.1 else None)))
 
 -- what is asked for where a subcommand may have been met
 abbrev pub wanted_from : Option (Text × List Row) → Option Wanted

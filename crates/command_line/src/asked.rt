@@ -3,6 +3,7 @@
 ghost use Rattle.std.specs.Prelude.{◌≤◌};
 ghost use Rattle.command_line.specs.Bounds.{most_workers};
 
+use draw_run::Choice;
 use script_run::Options;
 
 /// The most workers that may be asked for.
@@ -15,6 +16,11 @@ pub enum Asked<'a> {
     Plan {
         file: &'a str,
         json: bool,
+    },
+    /// A drawing of the chosen units of the stream in this file, `-` being the standard input.
+    Draw {
+        file: &'a str,
+        choice: Choice,
     },
     /// A run of the script that the options name, `-` being the standard input: in one thread, or beside workers.
     Run {

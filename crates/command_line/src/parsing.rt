@@ -4,14 +4,15 @@ ghost use Rattle.std.specs.Prelude.{◌≡◌, ◌≤◌, IfOk, IfSome, Some, co
 ghost use Rattle.clap.specs.Words.{FailsBy, app_of, found_of, rows_of, rule_of, subcommand_rows_of};
 ghost use Rattle.picture_cache.specs.Bounded.{most_room};
 ghost use Rattle.command_line.specs.Bounds.{most_workers};
-ghost use Rattle.command_line.specs.CommandLine.{audit_app, audit_in, cache_in, cache_rule, faults_of, flag_rule, has_flag, needed_rule};
+ghost use Rattle.command_line.specs.CommandLine.{audit_app, audit_in, cache_in, cache_rule, draw_app, draw_in, faults_of, flag_rule, from_in, from_rule, has_flag, needed_rule};
 ghost use Rattle.command_line.specs.CommandLine.{number_of, option_rule, plan_app, plan_in, preview_app, run_app, run_in, several};
-ghost use Rattle.command_line.specs.CommandLine.{wanted_from, wanted_in, wanted_of, workers_in};
+ghost use Rattle.command_line.specs.CommandLine.{units_in, units_rule, wanted_from, wanted_in, wanted_of, workers_in};
 
 use crate::asked::{Asked, MOST_WORKERS, Workers};
 use clap::builder::ValueParser;
 use clap::error::ErrorKind;
 use clap::{Arg, ArgAction, ArgMatches, Command, Error, value_parser};
+use draw_run::{Choice, MOST_DRAWN};
 use script_run::{MOST_ROOM, Options};
 use std::alloc::{AllocError, Global};
 use std::convert::AsStr;
@@ -19,6 +20,9 @@ use std::{env, io};
 
 /// What `--version` prints after the program's name.
 const VERSION: &str = "0.1.0";
+
+/// The greatest id of a unit.
+const MOST_ID: i64 = 4_294_967_295;
 
 /// The process's words, the program's name first. Words that aren't UTF-8 are InvalidData.
 pub fn words(rt: &HostRuntime) -> io::Result<Vec<String>> {
@@ -46,6 +50,7 @@ fn read_matches<'a>(matches: &ArgMatches<'a>) -> Option<Asked<'a>>
 {
     match matches.subcommand() {
         Some(("plan", plan)) => read_plan(plan),
+        Some(("draw", draw)) => read_draw(draw),
         Some(("run", run)) => read_run(run),
         Some(("audit", audit)) => read_audit(audit),
         _ => None,
@@ -59,6 +64,37 @@ fn read_plan<'a>(plan: &ArgMatches<'a>) -> Option<Asked<'a>>
     let file = plan.get_str("FILE")?;
     let json = has_flag(plan, "json");
     Some(Asked::Plan { file, json })
+}
+
+/// What the matches of `draw` ask for.
+fn read_draw<'a>(draw: &ArgMatches<'a>) -> Option<Asked<'a>>
+    ensures { option_map wanted_of result ≡ draw_in (rows_of (found_of draw.now)) }
+{
+    let file = draw.get_str("FILE")?;
+    let from = read_from(draw)?;
+    let units = read_units(draw)?;
+    let choice = Choice { from, units };
+    Some(Asked::Draw { file, choice })
+}
+
+/// The id of the first unit that is to be drawn.
+fn read_from(matches: &ArgMatches<'_>) -> Option<u32>
+    ensures { result ≡ from_in (rows_of (found_of matches.now)) }
+{
+    let from = matches.get_one::<u32>("from")?;
+    Some(from)
+}
+
+/// How many units are to be drawn.
+fn read_units(matches: &ArgMatches<'_>) -> Option<usize>
+    ensures number { result ≡ units_in (rows_of (found_of matches.now)) }
+    ensures range { IfSome result (λ units. units ≤ 1000) }
+{
+    let units = usize::from(matches.get_one::<u16>("units")?);
+    if units == 0 || units > MOST_DRAWN {
+        return None;
+    }
+    Some(units)
 }
 
 /// What the matches of `run` ask for.
@@ -146,6 +182,7 @@ fn preview_command<'a>(alloc: Global) -> Result<Command<'a>, AllocError>
         .bin_name("preview")?
         .subcommand_required(true)
         .subcommand(plan_command(alloc)?)?
+        .subcommand(draw_command(alloc)?)?
         .subcommand(run_command(alloc)?)?
         .subcommand(audit_command(alloc)?)
 }
@@ -168,6 +205,24 @@ fn plan_command<'a>(alloc: Global) -> Result<Command<'a>, AllocError>
         .about("Prints what a stateless decoder is asked for, unit by unit")
         .arg(file)?
         .arg(json)
+}
+
+/// The subcommand `draw`.
+fn draw_command<'a>(alloc: Global) -> Result<Command<'a>, AllocError>
+    ensures { IfOk result (λ command. app_of command ≡ draw_app) }
+{
+    let file = needed(
+        alloc,
+        "FILE",
+        "An H.264 byte stream; - is the standard input",
+    );
+    let from = from_option(alloc);
+    let units = units_option(alloc);
+    Command::new(alloc, "draw")
+        .about("Draws a stream as SVG: references, output order, periods and faults")
+        .arg(file)?
+        .arg(from)?
+        .arg(units)
 }
 
 /// The subcommand `run`.
@@ -203,6 +258,36 @@ fn audit_command<'a>(alloc: Global) -> Result<Command<'a>, AllocError>
         .arg(script)?
         .arg(workers)?
         .arg(cache)
+}
+
+/// `--from`.
+fn from_option<'a>(alloc: Global) -> Arg<'a>
+    ensures rule { rule_of result ≡ from_rule }
+    ensures local { result.global ≡ false }
+{
+    let ids = value_parser!(u32).range(0..=MOST_ID);
+    number_option(
+        alloc,
+        "from",
+        ids,
+        "1",
+        "The id of the first unit that is drawn",
+    )
+}
+
+/// `--units`.
+fn units_option<'a>(alloc: Global) -> Arg<'a>
+    ensures rule { rule_of result ≡ units_rule }
+    ensures local { result.global ≡ false }
+{
+    let few = value_parser!(u16).range(1..=MOST_DRAWN as i64);
+    number_option(
+        alloc,
+        "units",
+        few,
+        "60",
+        "How many units are drawn, 1 to 1000",
+    )
 }
 
 /// `--cache`.

@@ -30,7 +30,7 @@ WritesFront from units text old new =
     ⊎ ((document : List ℕ) × IsDrawn from units text document × AppendsFront old new document)
 
 -- what was written of a text whose drawing ended by this fault: nothing where it wasn't read, the whole line of its
--- refusal, or a front where memory is wanted or the writer refused
+-- refusal, or a front where memory runs out or the writer refused
 abbrev pub EndsBy : ℕ → ℕ → List ℕ → PlanFault → Type 0 → Option (List ℕ) → Option (List ℕ) → Type 0
 EndsBy from units text Unread refused old new = Keeps old new
 EndsBy from units text (Refused refusal) refused old new =

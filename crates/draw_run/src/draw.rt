@@ -21,7 +21,7 @@ use stream_layout::lay_out;
 use stream_svg::document;
 
 /// Draws the chosen units of the stream that the reader gives, or prints the stream's refusal. Where the reader fails or
-/// memory is wanted, `errors` is told; the reader has this name there.
+/// memory runs out, `errors` is told; the reader has this name there.
 pub fn draw_on<R: Read, W: Sink, E: Sink>(
     alloc: Global,
     name: &str,

@@ -13,7 +13,7 @@ use Rattle.script_run.specs.RunFaults.{fault_of_input}
 use Rattle.script_run.proofs.Told.{stops-unread}
 use Rattle.script_run.specs.Messages.{run_fault_text}
 use Rattle.pool_run.proofs.Told.{ends-unread, stops-unread as seat-stops-unread}
-use Rattle.command_line.specs.CommandLine.{audit, plan, run}
+use Rattle.command_line.specs.CommandLine.{audit, draw, plan, run}
 use Rattle.plan_json.proofs.Ends.{ends-unread as ends-unread-json}
 use Rattle.program.specs.Programs.{FailsAt, StopsScript, says_json}
 
@@ -44,6 +44,14 @@ module _ {T : Type 0} (files : Files) (standard : Option (List ℕ)) (told : Res
   plan_json-unopened name it tells =
       ends-unread-json says_json (text_named files standard name) name told refused old mute had has it tells
 
+  -- of a drawing
+  pub draw-unopened : (name : List ℕ) (from units : ℕ) (it : InputFault) → Tells told mute had has (input_fault_text name it)
+      → FailsAt files standard (draw name from units) told refused old old mute had has
+  draw-unopened name from units input.Unread tells =
+      (fault.Unread, some-all (text_named files standard name) (λ text. Keeps-refl old), tells)
+  draw-unopened name from units input.Memory tells =
+      (fault.Memory, some-all (text_named files standard name) (λ text. inl (Keeps-refl old)), tells)
+
   -- of a run
   pub run-unopened : (name : Bor (List ℕ)) (workers : Option ℕ) (room : ℕ) (hex : Bool) (it : InputFault)
       → Tells told mute had has (input_fault_text name.now it)
@@ -56,7 +64,7 @@ module _ {T : Type 0} (files : Files) (standard : Option (List ℕ)) (told : Res
     where
       unread : (workers : Option ℕ) (text : List ℕ)
           → StopsScript workers files name.now text room hex (fault_of_input name it) refused old old
-      unread None text = stops-unread files name text room hex it refused old
+      unread None text = stops-unread says_json files name text room hex it refused old
       unread (Some count) text = seat-stops-unread files name text hex it refused old
 
   -- of an audit

@@ -6,6 +6,7 @@ use Rattle.console_io.specs.Chunks.{AppendsFront}
 use Rattle.console_io.specs.Inputs.{Files, text_named}
 use Rattle.console_io.specs.Messages.{Tells, out_of_memory}
 use Rattle.console_io.specs.declared.chunks.PrintFault.{PrintFault}
+use Rattle.draw_run.specs.Drawings.{EndsBy as EndsDrawing, WritesDrawing}
 use Rattle.plan_json.specs.Ends.{FailsJson, WritesJson}
 use Rattle.plan_stream.specs.Faults.{plan_fault_text}
 use Rattle.plan_stream.specs.Plans.{EndsBy, WritesPlan}
@@ -18,7 +19,7 @@ use Rattle.script_run.specs.Running.{WritesScript}
 use Rattle.script_run.specs.Stops.{StopsBy}
 use Rattle.script_run.specs.declared.run_fault.RunFault.{RunFault}
 use Rattle.unit_json.specs.declared.json_line.JsonLine.{JsonLine}
-use Rattle.command_line.specs.CommandLine.{HasOne, IsRequest, Wanted, audit, faults_of, plan, run, wanted_in}
+use Rattle.command_line.specs.CommandLine.{HasOne, IsRequest, Wanted, audit, draw, faults_of, plan, run, wanted_in}
 
 -- nothing is known of the text that says a line as JSON
 abbrev pub says_json : JsonLine → List ℕ → Type 0
@@ -26,14 +27,14 @@ says_json line text = ⊤
 
 -- a script was run: by a session in one thread, or by a desk's only seat beside workers
 abbrev pub RunsScript : Option ℕ → Files → List ℕ → ℕ → Bool → Option (List ℕ) → Option (List ℕ) → Type 0
-RunsScript None files text room hex old new = WritesScript files text room hex old new
+RunsScript None files text room hex old new = WritesScript says_json files text room hex old new
 RunsScript (Some workers) files text room hex old new = WritesSeatScript files text hex old new
 
 -- a script wasn't run to its end by this fault
 abbrev pub StopsScript : Option ℕ → Files → List ℕ → List ℕ → ℕ → Bool → RunFault → Type 0
     → Option (List ℕ) → Option (List ℕ) → Type 0
 StopsScript None files name text room hex fault refused old new =
-    StopsBy files name text room hex fault refused old new
+    StopsBy says_json files name text room hex fault refused old new
 StopsScript (Some workers) files name text room hex fault refused old new =
     StopsSeatBy files name text hex fault refused old new
 
@@ -43,6 +44,8 @@ IsDone files standard (plan name false) old new =
     IfSome (text_named files standard name) (λ text. WritesPlan text old new)
 IsDone files standard (plan name true) old new =
     IfSome (text_named files standard name) (λ text. WritesJson says_json text old new)
+IsDone files standard (draw name from units) old new =
+    IfSome (text_named files standard name) (λ text. WritesDrawing from units text old new)
 IsDone files standard (run name workers room hex) old new =
     IfSome (text_named files standard name) (λ text. RunsScript workers files text room hex old new)
 IsDone files standard (audit name workers room) old new =
@@ -56,6 +59,9 @@ FailsAt files standard (plan name true) told refused old new mute had has =
 FailsAt files standard (plan name false) told refused old new mute had has =
     (fault : PlanFault) × IfSome (text_named files standard name) (λ text. EndsBy text fault refused old new)
     × Tells told mute had has (plan_fault_text name fault)
+FailsAt files standard (draw name from units) told refused old new mute had has =
+    (fault : PlanFault) × IfSome (text_named files standard name) (λ text. EndsDrawing from units text fault refused old new)
+    × Tells told mute had has (plan_fault_text name fault)
 FailsAt files standard (run name workers room hex) told refused old new mute had has =
     (fault : RunFault)
     × IfSome (text_named files standard name) (λ text.
@@ -64,7 +70,7 @@ FailsAt files standard (run name workers room hex) told refused old new mute had
 FailsAt files standard (audit name workers room) told refused old new mute had has =
     FailsAudit files name (text_named files standard name) told refused old new mute had has
 
--- memory was wanted for the words or for an answer to them: that was told, and nothing printed
+-- memory ran out for the words or for an answer to them: that was told, and nothing printed
 abbrev pub WantsMemory : {T : Type 0} → Result T PrintFault → Option (List ℕ) → Option (List ℕ)
     → Type 0 → Option (List ℕ) → Option (List ℕ) → Type 0
 WantsMemory told old new mute had has = Keeps old new × Tells told mute had has out_of_memory
@@ -83,7 +89,7 @@ Succeeds files standard words old new =
     ((wanted : Wanted) × AskFor words wanted × IsDone files standard wanted old new)
     ⊎ (HasOne IsRequest (faults_of words) × ((text : List ℕ) × Appends old new text))
 
--- what the words ask for failed, or memory was wanted, or help or the version wasn't printed whole
+-- what the words ask for failed, or memory ran out, or help or the version wasn't printed whole
 abbrev pub Fails : {T : Type 0} → Files → Option (List ℕ) → List Text → Result T PrintFault
     → Type 0 → Option (List ℕ) → Option (List ℕ) → Type 0 → Option (List ℕ) → Option (List ℕ) → Type 0
 Fails files standard words told refused old new mute had has =

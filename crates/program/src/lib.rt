@@ -1,7 +1,7 @@
 //! What `preview` does with a command line, on files, a standard input and two outputs.
 //!
-//! `run` does what the process's words ask for, and `run_on` what given words ask for: a plan (plan_stream), a script in one
-//! thread (script_run) or beside workers (pool_run), or an audit (pool_run). What opens, is read and is written is generic.
+//! `run` does what the process's words ask for, and `run_on` what given words ask for: a plan (plan_stream), a drawing (draw_run), a
+//! script in one thread (script_run) or beside workers (pool_run), or an audit (pool_run). What opens, is read and is written is generic.
 //! Above is preview, which has the process's own.
 #![tactic(auto)]
 

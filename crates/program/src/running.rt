@@ -6,7 +6,7 @@ ghost use Rattle.std.specs.declared.io.ErrorKind.TheVariants.{OutOfMemory};
 ghost use Rattle.std.specs.Io.KnownBytes.{Appends, Keeps};
 ghost use Rattle.clap.specs.Words.{kind_of};
 ghost use Rattle.console_io.specs.Messages.{Tells, not_text};
-ghost use Rattle.command_line.specs.CommandLine.{AreMistaken, IsMistake, IsRequest, audit, plan, run as run_of};
+ghost use Rattle.command_line.specs.CommandLine.{AreMistaken, IsMistake, IsRequest, audit, draw, plan, run as run_of};
 ghost use Rattle.program.specs.Programs.{FailsAt, Fails, IsDone, Succeeds, WantsMemory, WritesPart};
 
 use clap::Error;
@@ -16,6 +16,7 @@ use console_io::{
     Directory, Ended, Files, Sink, Status, open_input, say_input_fault, say_not_text,
     say_out_of_memory, write_bytes,
 };
+use draw_run::{Choice, draw_on};
 use plan_json::plan_json_on;
 use plan_stream::plan_on;
 use pool_run::{audit_with_workers, script_with_workers};
@@ -107,6 +108,9 @@ pub fn run_on<T: AsStr, D: Directory, I: Read + Drop, W: Sink, E: Sink>(
     match parse(alloc, words) {
         Ok(Asked::Plan { file, json }) => plan_as(
             threads, alloc, file, json, directory, standard, output, errors,
+        ),
+        Ok(Asked::Draw { file, choice }) => draw_named(
+            alloc, file, choice, directory, standard, output, errors,
         ),
         Ok(Asked::Run { options, workers }) => run_named(
             threads, alloc, options, workers, directory, standard, output, errors,
@@ -203,6 +207,34 @@ fn plan_named<D: Directory, I: Read + Drop, W: Sink, E: Sink>(
     }
 }
 
+/// Draws the chosen units of the stream that the name stands for.
+fn draw_named<D: Directory, I: Read + Drop, W: Sink, E: Sink>(
+    alloc: Global,
+    name: &str,
+    choice: Choice,
+    directory: &D,
+    standard: I,
+    output: &mut W,
+    errors: &mut E,
+) -> Ended
+    ensures done { result.status ≡ Status.Success
+        → Keeps (E.contents errors.old) (E.contents errors.new) }
+    ensures right { result.status ≡ Status.Success
+        → IsDone (D.bytes directory.now) (I.remaining standard)
+        (draw name.now choice.from choice.units) (W.contents output.old) (W.contents output.new) }
+    ensures fails { result.status ≡ Status.Failure
+        → FailsAt (D.bytes directory.now) (I.remaining standard)
+        (draw name.now choice.from choice.units) result.told (W.refuses output.new)
+        (W.contents output.old) (W.contents output.new)
+        (E.refuses errors.new) (E.contents errors.old) (E.contents errors.new) }
+    ensures usage { result.status ≢ Status.Usage }
+{
+    match open_input(directory, standard, name) {
+        Ok(mut input) => draw_on(alloc, name, choice, &mut input, output, errors),
+        Err(fault) => Ended::failed(say_input_fault(fault, name, errors)),
+    }
+}
+
 /// Runs the script that the options name, whose files the directory has: in one thread, or beside so many workers.
 fn run_named<D: Directory, I: Read + Drop, W: Sink, E: Sink>(
     threads: &(impl Threads + Wait + Sync),
@@ -238,6 +270,7 @@ fn run_named<D: Directory, I: Read + Drop, W: Sink, E: Sink>(
         None => script_on(
             threads,
             alloc,
+            &Json,
             options,
             &mut script,
             &mut files,

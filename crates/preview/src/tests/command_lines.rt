@@ -100,7 +100,7 @@ type Ran = (
     &'static str,
 );
 
-const RUNS: [Ran; 30] = [
+const RUNS: [Ran; 35] = [
     (&["plan", "a.264"], &P1, Success, LINES_OF_A, ""),
     (
         &["plan", "-"],
@@ -126,6 +126,29 @@ const RUNS: [Ran; 30] = [
     ),
     (&["plan", "folder"], &A, Failure, "", "cannot read folder\n"),
     (&["plan", "memory"], &A, Failure, "", "out of memory\n"),
+    (
+        &["draw", "-"],
+        b"no stream",
+        Failure,
+        "refused 1 Split\n",
+        "",
+    ),
+    (&["draw", "b.264"], &A, Failure, "", "cannot read b.264\n"),
+    (&["draw", "memory"], &A, Failure, "", "out of memory\n"),
+    (
+        &["run", "-"],
+        b"json 4294967297\n",
+        Success,
+        "{\"unit\":4294967297,\"none\":true}\n",
+        "",
+    ),
+    (
+        &["run", "--workers", "1", "-"],
+        b"show 1\njson 1\n",
+        Failure,
+        "",
+        "script fault at line 2\n",
+    ),
     (&["run", "a.script"], &P1, Success, LOADED_A, ""),
     (&["run", "-"], b"unit 7\n", Success, "unit 7 none\n", ""),
     (&["run", "b.script"], &A, Failure, "", "cannot read b.264\n"),
@@ -304,7 +327,7 @@ fn does_what_the_words_name(rt: HostRuntime) -> Result<(), Fail> {
 /// standard error, where the other one is empty.
 type Answer = (&'static [&'static str], Status, &'static str);
 
-const ANSWERS: [Answer; 30] = [
+const ANSWERS: [Answer; 38] = [
     (&[], Usage, "Usage: preview <COMMAND>"),
     (&["plan"], Usage, "<FILE>"),
     (&["plan", "a", "b"], Usage, "'b'"),
@@ -320,6 +343,30 @@ const ANSWERS: [Answer; 30] = [
         &["help", "plan"],
         Success,
         "Usage: preview plan [OPTIONS] <FILE>",
+    ),
+    (
+        &["draw", "a.264"],
+        Success,
+        "<title>unit 1 position 0 counts 0 0 requests 1\n",
+    ),
+    (
+        &["draw", "a.264", "--from", "2", "--units", "1000"],
+        Success,
+        "H.264 stream of 1 units: none is shown",
+    ),
+    (&["draw"], Usage, "<FILE>"),
+    (&["draw", "--units", "0", "a.264"], Usage, "'0'"),
+    (&["draw", "--units", "1001", "a.264"], Usage, "'1001'"),
+    (&["draw", "--from", "-1", "a.264"], Usage, "'-1'"),
+    (
+        &["draw", "--from", "4294967296", "a.264"],
+        Usage,
+        "'4294967296'",
+    ),
+    (
+        &["draw", "--help"],
+        Success,
+        "Usage: preview draw [OPTIONS] <FILE>",
     ),
     (&["run"], Usage, "<SCRIPT>"),
     (&["run", "--hex", "a", "--hex"], Usage, "'--hex'"),
@@ -460,9 +507,10 @@ fn cuts_errors(
 }
 
 /// The words of a run that fails, and what is told of it.
-const MESSAGES: [(&[&str], &str); 4] = [
+const MESSAGES: [(&[&str], &str); 5] = [
     (&["preview", "plan", "b.264"], "cannot read b.264\n"),
     (&["preview", "plan", "memory"], "out of memory\n"),
+    (&["preview", "draw", "b.264"], "cannot read b.264\n"),
     (&["preview", "run", "b.script"], "cannot read b.264\n"),
     (&["preview", "run", "-"], "script fault at line 2\n"),
 ];

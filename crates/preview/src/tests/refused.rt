@@ -10,6 +10,7 @@ use script_run::{Options, script_on};
 use std::process::Abort;
 use std::sync::Wait;
 use std::thread::Threads;
+use unit_json::Json;
 
 /// A stream of A and P1, and its lines.
 const STREAM: &[u8] = &[
@@ -27,7 +28,7 @@ fn front(room: &[u8], left: usize) -> &[u8] {
     room.split_at(room.len().saturating_sub(left)).0
 }
 
-/// Whether it ended so and wrote this, or memory was wanted, told of, and nothing printed.
+/// Whether it ended so and wrote this, or memory ran out, told of, and nothing printed.
 fn is_told_or_out_of_memory(
     status: Status,
     output: &[u8],
@@ -41,7 +42,7 @@ fn is_told_or_out_of_memory(
     }
 }
 
-/// Whether the stream is planned so, or memory was wanted.
+/// Whether the stream is planned so, or memory ran out.
 fn plans_or_wants_memory(
     rt: &(impl Abort + AllocGlobal + Threads + Sync),
     text: &[u8],
@@ -72,7 +73,7 @@ fn refused_empty_unit(rt: HostRuntime) {
     assert!(rt; plans_or_wants_memory(&rt, SETS, wanted));
 }
 
-/// Whether a command line that names no file ends so, or memory was wanted.
+/// Whether a command line that names no file ends so, or memory ran out.
 fn is_unread_or_wants_memory(rt: &(impl Abort + AllocGlobal + Threads + Wait + Sync)) -> bool {
     let (mut output, mut errors) = ([0u8; 512], [0u8; 64]);
     let (mut writer, mut teller) = (output.as_mut_slice(), errors.as_mut_slice());
@@ -99,7 +100,7 @@ fn refused_command_line(rt: HostRuntime) {
     assert!(rt; is_unread_or_wants_memory(&rt));
 }
 
-/// Whether what a script wrote is its lines, or an edit wanted memory, or the run did.
+/// Whether what a script wrote is its lines, or an edit ran out of memory, or the run did.
 fn is_run_or_out_of_memory(status: Status, output: &[u8], errors: &[u8]) -> bool {
     let lines = b"loaded 1\nedit 2 id 2\nedit 3 id 1\nunit 2 fault 1 MissingPps\n".as_slice();
     if errors == b"out of memory\n".as_slice() {
@@ -111,7 +112,7 @@ fn is_run_or_out_of_memory(status: Status, output: &[u8], errors: &[u8]) -> bool
         && (output == lines || text.contains("refused 15 Memory\n"))
 }
 
-/// Whether a script is run, or memory was wanted.
+/// Whether a script is run, or memory ran out.
 fn runs_or_wants_memory(rt: &(impl Abort + AllocGlobal + Threads + Sync)) -> bool {
     let (mut output, mut errors) = ([0u8; 512], [0u8; 64]);
     let (mut writer, mut teller) = (output.as_mut_slice(), errors.as_mut_slice());
@@ -129,6 +130,7 @@ fn runs_or_wants_memory(rt: &(impl Abort + AllocGlobal + Threads + Sync)) -> boo
     let ended = script_on(
         rt,
         rt.alloc(),
+        &Json,
         options,
         &mut script.as_slice(),
         &mut source,

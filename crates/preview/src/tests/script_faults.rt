@@ -9,6 +9,7 @@ use std::alloc::AllocError;
 use std::process::Abort;
 use std::test::Fail;
 use std::thread::Threads;
+use unit_json::Json;
 
 /// Lines that are no command.
 const WRONG: [&str; 52] = [
@@ -141,6 +142,7 @@ fn is_told(
     let ended = script_on(
         rt,
         rt.alloc(),
+        &Json,
         options,
         &mut reader,
         &mut source,

@@ -12,6 +12,7 @@ use std::alloc::{AllocError, Global};
 use std::process::Abort;
 use std::test::Fail;
 use std::thread::Threads;
+use unit_json::Json;
 
 /// The insertion of A as the first unit.
 pub(super) const INSERT_A: &str =
@@ -85,6 +86,7 @@ fn ends_with(
     let ended = script_on(
         rt,
         rt.alloc(),
+        &Json,
         options,
         &mut &*script,
         &mut source,
@@ -148,13 +150,16 @@ const SCRIPTS: [Script; 13] = [
             INSERT_A,
             "insert after 1 00 00 01 67 42 00 0A DB 79\n",
             "insert after 2 00 00 01 41 9A 23\n",
-            "unit 2\nshow 2\nunit 3\nsettle\nshow 2\nshow 3\n",
+            "unit 2\njson 2\nshow 2\nunit 3\njson 3\njson 4\nsettle\nshow 2\nshow 3\n",
             "replace 2 00 00 01 67 42 00 0A DA 79\n",
             "unit 3\nunit 2\ntake\ntake\nsettle\nshow 2\n",
         ],
         &[
             "edit 1 id 1\nedit 2 id 2\nedit 3 id 3\n",
-            "unit 2 no picture\nshow 2 empty\nunit 3 fault 9 SpsChange\n",
+            "unit 2 no picture\n{\"unit\":2,\"no_picture\":true}\nshow 2 empty\n",
+            "unit 3 fault 9 SpsChange\n",
+            "{\"unit\":3,\"fault\":{\"number\":9,\"name\":\"SpsChange\"}}\n",
+            "{\"unit\":4,\"none\":true}\n",
             "settled\nshow 2 empty\nshow 3 fault 9 SpsChange\n",
             "edit 4 id 2\n",
             "unit 3 position 1 counts 2 2 requests 1\n",
@@ -327,6 +332,7 @@ fn run_to(
     let ended = script_on(
         rt,
         rt.alloc(),
+        &Json,
         options,
         &mut reader,
         &mut source,

@@ -1,0 +1,13 @@
+use Rattle.std.proofs.Common.{ap, option_map, sym, Some, None, ◌∙◌}
+use Rattle.clap.specs.Words.{found_of}
+use Rattle.command_line.specs.CommandLine.{wanted_of}
+use Rattle.command_line.proofs.Matches.{draw-read, no-draw}
+use Rattle.command_line.proofs.parsing.read_draw.Goals as goal
+
+pub returns-in_err-file : goal.returns-in_err-file
+returns-in_err-file c = ap (option_map wanted_of) c.from_residual.ensures ∙ no-draw (found_of c.args.draw.now) c.in_err-file.ensures
+
+pub returns : goal.returns
+returns c =
+    draw-read (found_of c.args.draw.now) _ (Some c.in_ok-from.from) (Some c.in_ok-units.units) c.in_ok-file.ensures
+    (sym c.in_ok-from.ensures) (sym c.in_ok-units.ensures.number)

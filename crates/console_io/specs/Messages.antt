@@ -12,7 +12,7 @@ abbrev pub Tells : {T : Type 0} → Result T PrintFault → Type 0 → Option (L
 Tells told refused old new message = MatchResult told (λ _. Appends old new message)
     (λ fault. (fault ≡ print.Unwritten) × refused × AppendsFront old new message)
 
--- that memory is wanted
+-- that memory ran out
 abbrev pub out_of_memory : List ℕ
 out_of_memory = codes "out of memory\n"
 

@@ -7,7 +7,7 @@ use crate::chunks::{PrintFault, write_bytes};
 use crate::input::InputFault;
 use crate::sink::Sink;
 
-/// Says that memory is wanted.
+/// Says that memory ran out.
 pub fn say_out_of_memory<E: Sink>(errors: &mut E) -> Result<(), PrintFault>
     ensures { Tells result (E.refuses errors.new) (E.contents errors.old) (E.contents errors.new)
         out_of_memory }

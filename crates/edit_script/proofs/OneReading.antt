@@ -30,6 +30,7 @@ group-no-command (command.Edit edit) is = absurd (cc)
 group-no-command (command.Group edits) is = is
 group-no-command (command.Load path) is = absurd (cc)
 group-no-command (command.Unit number) is = absurd (cc)
+group-no-command (command.Json number) is = absurd (cc)
 group-no-command command.Take is = absurd (cc)
 group-no-command (command.Land number) is = absurd (cc)
 group-no-command (command.GiveBack number) is = absurd (cc)

@@ -80,6 +80,7 @@ IsCommand words (command.Edit edit) = edit_of words ≡ Some edit
 IsCommand words (command.Group edits) = ⊥
 IsCommand words (command.Load path) = path_of words ≡ Some path.now
 IsCommand words (command.Unit number) = number_after (codes "unit") words ≡ Some number
+IsCommand words (command.Json number) = number_after (codes "json") words ≡ Some number
 IsCommand words command.Take = are_alone (codes "take") words ≡ true
 IsCommand words (command.Land number) = number_after (codes "land") words ≡ Some number
 IsCommand words (command.GiveBack number) = number_after (codes "give") words ≡ Some number
@@ -89,7 +90,8 @@ IsCommand words (command.Show number) = number_after (codes "show") words ≡ So
 -- the words are no command
 abbrev pub IsNoCommand : List (List ℕ) → Type 0
 IsNoCommand words = (edit_of words ≡ None) × (path_of words ≡ None)
-    × (number_after (codes "unit") words ≡ None) × (are_alone (codes "take") words ≡ false)
+    × (number_after (codes "unit") words ≡ None) × (number_after (codes "json") words ≡ None)
+    × (are_alone (codes "take") words ≡ false)
     × (number_after (codes "land") words ≡ None) × (number_after (codes "give") words ≡ None)
     × (are_alone (codes "settle") words ≡ false) × (number_after (codes "show") words ≡ None)
 

@@ -123,7 +123,7 @@ IsScript text commands =
 abbrev pub HasFirstWrong : List ℕ → ℕ → Type 0
 HasFirstWrong text number = (numbered : List (ℕ × Command)) × AreRead (read_lines text) numbered (Some number)
 
--- an answer for a text: the commands that it is a script of, or its first wrong line, or that memory is wanted
+-- an answer for a text: the commands that it is a script of, or its first wrong line, or that memory ran out
 abbrev pub IsReadAs : List ℕ → Result (Vec Command) ScriptFault → Type 0
 IsReadAs text (Ok commands) = IsScript text commands.items
 IsReadAs text (Err (Line number)) = HasFirstWrong text number

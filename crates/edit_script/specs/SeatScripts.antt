@@ -48,7 +48,7 @@ abbrev pub HasFirstWrongForSeat : List ℕ → ℕ → Type 0
 HasFirstWrongForSeat text number = IsWrongForAll text number ⊎ IsNoneOfSeat text number
 
 -- an answer for a text: the commands that it is a seat's script of, or its first line that is wrong for a seat, or that
--- memory is wanted
+-- memory runs out
 abbrev pub IsReadForSeat : List ℕ → Result (Vec SeatCommand) ScriptFault → Type 0
 IsReadForSeat text (Ok commands) = IsSeatScript text commands.items
 IsReadForSeat text (Err (Line number)) = HasFirstWrongForSeat text number

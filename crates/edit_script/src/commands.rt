@@ -24,6 +24,8 @@ pub enum Command<'a> {
     Load { path: &'a str },
     /// The lines of the unit of this number.
     Unit { number: u64 },
+    /// The line of JSON of the unit of this number.
+    Json { number: u64 },
     /// A picture to decode, as a job.
     Take,
     /// The result of the job of this number.
@@ -104,6 +106,9 @@ fn read_pair<'a>(alloc: Global, name: &'a str, word: &'a str) -> Result<Command<
     match name {
         "load" => Ok(Command::Load { path: word }),
         "unit" => Ok(Command::Unit {
+            number: read_given(word)?,
+        }),
+        "json" => Ok(Command::Json {
             number: read_given(word)?,
         }),
         "land" => Ok(Command::Land {

@@ -33,8 +33,10 @@ pub(crate) fn for_seat<'a>(command: Command<'a>) -> Option<SeatCommand<'a>>
         Command::Load { path } => Some(SeatCommand::Load { path }),
         Command::Settle => Some(SeatCommand::Settle),
         Command::Show { number } => Some(SeatCommand::Show { number }),
-        Command::Unit { .. } | Command::Take | Command::Land { .. } | Command::GiveBack { .. } => {
-            None
-        }
+        Command::Unit { .. }
+        | Command::Json { .. }
+        | Command::Take
+        | Command::Land { .. }
+        | Command::GiveBack { .. } => None,
     }
 }

@@ -29,7 +29,7 @@ fn new_session(alloc: Global) -> Result<Session, ConfigFault>
     Session::new(alloc, Config { cache: 64 })
 }
 
-/// A session with an empty stream, made again where memory is wanted.
+/// A session with an empty stream, made again where memory runs out.
 fn empty_session(rt: &(impl Abort + AllocGlobal)) -> Session
     ensures { result ≡ empty 64 }
 {
@@ -49,7 +49,7 @@ fn new_runner(alloc: Global) -> Result<Runner, ConfigFault>
     Runner::new(alloc, Config { cache: 64 })
 }
 
-/// A runner with an empty stream, made again where memory is wanted.
+/// A runner with an empty stream, made again where memory runs out.
 fn empty_runner(rt: &(impl Abort + AllocGlobal)) -> Runner
     ensures { result ≡ empty 64 }
 {

@@ -12,7 +12,7 @@ use std::alloc::AllocError;
 /// Appends the digest form of the controls: 2,040 bytes, or 2,812 where there are weights. Room is reserved once.
 ///
 /// The form is this project's own: the members in order, without gaps and without reference_ts, little-endian, signed
-/// ones in two's complement, flags by Linux's numbers. Memory is wanted only where the room isn't there.
+/// ones in two's complement, flags by Linux's numbers. Memory runs out only where the room isn't there.
 pub fn digest_form(controls: &Controls, form: &mut Vec<u8>) -> Result<(), AllocError>
     ensures written { OnOk result (form.new.items ≡ form.old.items ++ digest_form controls.now) }
     ensures size { OnOk result (vec_len form.new ≡ vec_len form.old + digest_size controls.now) }

@@ -1,4 +1,4 @@
--- What `?` answers where the work wants memory.
+-- What `?` answers where the work runs out of memory.
 use Rattle.std.proofs.Common.{◌≡◌, Result, Ok, Err, ap, IsErrAnd}
 use Rattle.m2m_queues.specs.declared.fault.QueueFault.{QueueFault}
 use Rattle.m2m_queues.specs.declared.fault.QueueFault.TheVariants.{Memory}

@@ -102,7 +102,7 @@ module _ {C S : Type 0} (works : S → Given C → S → Type 0) (old new : Mach
     pub left : new ≡ old
     pub untouched : after ≡ before
 
-  -- the work on the next slice wanted memory
+  -- the work on the next slice ran out of memory
   pub record WantsMemory : Type 0 where
     pub id : ℕ
     pub controls : C

@@ -30,7 +30,7 @@ pub ends-print : {T : Type 0} (text lines : List ℕ) (old new : Option (List �
 ends-print text lines old new refuses print.Memory is front told = inr (lines, is, front)
 ends-print text lines old new refuses print.Unwritten is front told = (told refl, inr (lines, inl is, front))
 
--- nothing of the line of its refusal where memory is wanted, or a front of it
+-- nothing of the line of its refusal where memory runs out, or a front of it
 pub ends-refusal : {T : Type 0} (text lines : List ℕ) (old new : Option (List ℕ)) (refuses : Type 0) (fault : PrintFault)
     → IsRefused text lines → AppendsFront old new lines → (IsErrOf {T = T} (Err fault) print.Unwritten → refuses)
     → (IsErrOf {T = T} (Err fault) print.Memory → Keeps old new) → EndsBy text (fault_of_print fault) refuses old new

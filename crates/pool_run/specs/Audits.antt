@@ -36,7 +36,7 @@ abbrev pub WritesDisagrees : Files → List ℕ → Option (List ℕ) → Option
 WritesDisagrees files text old new =
     (seat : ℕ) × (number : ℕ) × WritesVerdict files text (Disagrees seat number) old new
 
--- no audit comes of a text: its run ends before it does, or memory is wanted
+-- no audit comes of a text: its run ends before it does, or memory runs out
 abbrev pub StopsAudit : Files → List ℕ → RunFault → Type 0
 StopsAudit files text fault = StopsText files text false fault ⊥ None None
 

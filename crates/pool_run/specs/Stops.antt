@@ -13,7 +13,7 @@ use Rattle.script_run.specs.declared.run_fault.RunFault.{RunFault}
 use Rattle.script_run.specs.declared.run_fault.RunFault.TheVariants.{Unread, Script, Memory}
 use Rattle.pool_run.specs.Running.{Answers, IsNew}
 
--- why a command isn't answered; that no worker is left while pictures are due is told as want of memory is
+-- why a command isn't answered; that no worker is left while pictures are due is told as lack of memory is
 abbrev pub IsCommandFault : SeatCommand → RunFault → Type 0
 IsCommandFault (seat.Edit edit) fault = fault ≡ Memory
 IsCommandFault (seat.Group edits) fault = fault ≡ Memory
@@ -26,7 +26,7 @@ abbrev pub StopsAt : Files → Bool → Seat → List SeatCommand → RunFault �
 StopsAt files hex from commands fault refused old new =
     StopsAmong (Answers files hex) IsCommandFault from commands fault refused old new
 
--- the commands aren't run to their end: a thread can't be started, which is told as want of memory is, or they stop
+-- the commands aren't run to their end: a thread can't be started, which is told as lack of memory is, or they stop
 abbrev pub StopsRun : Files → Bool → Seat → List SeatCommand → RunFault → Type 0 → Option (List ℕ) → Option (List ℕ) → Type 0
 StopsRun files hex from commands fault refused old new =
     ((fault ≡ Memory) × Keeps old new) ⊎ StopsAt files hex from commands fault refused old new

@@ -97,7 +97,7 @@ fn group_desk<R: Wait>(
 }
 
 /// Waits until no unit is pending, and gives the line that says so. Where all workers have ended before, by a job that
-/// one couldn't decode or take, memory was wanted or job numbers are spent.
+/// one couldn't decode or take, memory ran out or job numbers are spent.
 fn settle<R: Wait>(rt: &R, alloc: Global, desk: &Desk, seat: &Seat) -> Result<String, AllocError>
     ensures { IfOk result (λ line. Settles (string_bytes line)) }
 {

@@ -53,7 +53,7 @@ pub fn script_with_workers<R: Threads + Wait + Sync, I: Read, S: Source + Drop, 
 /// Runs the script that the reader gives, whose files the source gives, by the one seat of a desk of its own, while a
 /// worker for each gate decodes in a thread. Each line that is a command is answered by one write. Why the run ends before
 /// the script does is told to `errors`; a thread that can't be started, and workers that have all ended while pictures
-/// are due, are told as want of memory is.
+/// are due, are told as lack of memory is.
 pub fn script_with<R, D, I, S, W, E>(
     rt: &R,
     alloc: Global,

@@ -56,7 +56,7 @@ fn other_p_text(frame_num: usize) -> [u8; 7] {
     [0, 0, 1, 0x41, first, second, 0x80]
 }
 
-/// The access unit of a text that is one, unless memory is wanted.
+/// The access unit of a text that is one, unless memory runs out.
 fn unit(rt: &(impl Abort + AllocGlobal), text: &[u8]) -> Result<Shared<HashedUnit>, AllocError> {
     match read_unit(rt.alloc(), text) {
         Ok(unit) => Ok(Shared::new(rt.alloc(), HashedUnit::of(unit))?),
@@ -237,7 +237,7 @@ fn a_position_takes_few_comparisons(rt: HostRuntime) -> Result<(), Fail> {
     Ok(())
 }
 
-/// Whether a deletion that is refused for want of memory leaves the stream and what becomes of its units as they were, and
+/// Whether a deletion that is refused for lack of memory leaves the stream and what becomes of its units as they were, and
 /// one that isn't leaves the picture behind it without the one before.
 fn holds_where_refused(rt: &(impl Abort + AllocGlobal)) -> Result<bool, AllocError> {
     let mut folded = Folded::new(rt.alloc())?;

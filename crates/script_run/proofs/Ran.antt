@@ -5,17 +5,19 @@ use Rattle.edit_script.specs.declared.commands.Command.{Command}
 use Rattle.edit_script.specs.declared.commands.Command.TheVariants as command
 use Rattle.console_io.specs.Inputs.{Files}
 use Rattle.script_run.specs.Running.{Answers}
+use Rattle.unit_json.specs.declared.json_line.JsonLine.{JsonLine}
 
-module _ (files : Files) (hex : Bool) where
+module _ (says : JsonLine → List ℕ → Type 0) (files : Files) (hex : Bool) where
   -- an answer by others that agree by name is one by these
   pub Answers-same : (others : Files) → ((name : List ℕ) → others name ≡ files name)
       → (old : Machine) (it : Command) (lines : List ℕ) (new : Machine)
-      → Answers others hex old it lines new → Answers files hex old it lines new
+      → Answers says others hex old it lines new → Answers says files hex old it lines new
   Answers-same others same old (command.Edit edit) lines new answers = answers
   Answers-same others same old (command.Group edits) lines new answers = answers
   Answers-same others same old (command.Load path) lines new answers =
       (answers.0, rw (same path.now) at answers.1, answers.2)
   Answers-same others same old (command.Unit number) lines new answers = answers
+  Answers-same others same old (command.Json number) lines new answers = answers
   Answers-same others same old command.Take lines new answers = answers
   Answers-same others same old (command.Land number) lines new answers = answers
   Answers-same others same old (command.GiveBack number) lines new answers = answers

@@ -8,12 +8,13 @@ use Rattle.console_io.specs.declared.input.InputFault.{InputFault}
 use Rattle.console_io.specs.declared.input.InputFault.TheVariants as input
 use Rattle.script_run.specs.RunFaults.{fault_of_input}
 use Rattle.script_run.specs.Stops.{StopsBy}
+use Rattle.unit_json.specs.declared.json_line.JsonLine.{JsonLine}
 
 -- it can't be read, or there is no memory for it
-pub stops-unread : (files : Files) (name : Bor (List ℕ)) (text : List ℕ) (room : ℕ) (hex : Bool) (fault : InputFault) (R : Type 0)
-    (a : Option (List ℕ)) → StopsBy files name.now text room hex (fault_of_input name fault) R a a
-stops-unread files name text room hex input.Unread R a = inl (name, refl, refl, Keeps-refl a)
-stops-unread files name text room hex input.Memory R a = inr (inl (refl, Keeps-refl a))
+pub stops-unread : (says : JsonLine → List ℕ → Type 0) (files : Files) (name : Bor (List ℕ)) (text : List ℕ) (room : ℕ) (hex : Bool) (fault : InputFault) (R : Type 0)
+    (a : Option (List ℕ)) → StopsBy says files name.now text room hex (fault_of_input name fault) R a a
+stops-unread says files name text room hex input.Unread R a = inl (name, refl, refl, Keeps-refl a)
+stops-unread says files name text room hex input.Memory R a = inr (inl (refl, Keeps-refl a))
 
 -- an error by `?` is what the error below is turned into
 pub err-all : {T E : Type 0} (result : Result T E) (from : E → Type 0) {P : E → Type 0} → IsErrAnd result from

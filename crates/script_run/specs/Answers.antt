@@ -8,10 +8,12 @@ use Rattle.edit_engine.specs.declared.replies.Reply.TheVariants as replies
 use Rattle.edit_engine.specs.declared.replies.UnitReport.{UnitReport}
 use Rattle.stream_edits.specs.Names.{name_of}
 use Rattle.stream_edits.specs.Numbers.{number_of}
+use Rattle.unit_json.specs.JsonLines.{unit_line, no_unit_line as no_unit_json}
+use Rattle.unit_json.specs.declared.json_line.JsonLine.{JsonLine}
 use Rattle.unit_lines.specs.UnitLines.{outcome_lines}
 use Rattle.edit_script.specs.Words.{id_of}
 use Rattle.script_run.specs.GroupLines.{group_answer_line}
-use Rattle.script_run.specs.JobLines.{taken_line, landed_line, given_line}
+use Rattle.script_run.specs.JobLines.{taken_line, landed_line, given_line, dropped_line, cleared_line}
 use Rattle.script_run.specs.ShownLines.{shown_line}
 
 -- the line of an accepted edit
@@ -42,6 +44,11 @@ abbrev pub report_lines : ℕ → Result UnitReport NoSuchUnit → List ℕ
 report_lines number (Ok report) = outcome_lines (id_of number) report.position report.outcome
 report_lines number (Err none) = no_unit_line number
 
+-- the same as a line of JSON
+abbrev pub report_json : ℕ → Result UnitReport NoSuchUnit → JsonLine
+report_json number (Ok report) = unit_line (id_of number) report.position report.outcome
+report_json number (Err none) = no_unit_json number
+
 -- the lines of a session's reply, which name the number that was asked for; pictures have digits where they are asked
 -- for. That all numbers of jobs were given has no line: it ends the run
 abbrev pub reply_lines : Bool → ℕ → Reply → Option (List ℕ)
@@ -50,6 +57,10 @@ reply_lines hex number (replies.Group answer) = Some (group_answer_line answer)
 reply_lines hex number (replies.Unit report) = Some (report_lines number report)
 reply_lines hex number (replies.Take (Ok job)) = Some (taken_line job)
 reply_lines hex number (replies.Take (Err refused)) = None
+reply_lines hex number (replies.TakeFor (Ok job)) = Some (taken_line job)
+reply_lines hex number (replies.TakeFor (Err refused)) = None
 reply_lines hex number (replies.Land answer) = Some (landed_line number answer)
 reply_lines hex number (replies.GiveBack answer) = Some (given_line number answer)
 reply_lines hex number (replies.Show shown) = Some (shown_line hex number shown)
+reply_lines hex number (replies.Dropped dropping) = Some (dropped_line number dropping)
+reply_lines hex number replies.Cleared = Some cleared_line

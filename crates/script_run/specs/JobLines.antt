@@ -5,6 +5,8 @@ use Rattle.picture_store.specs.declared.answers.Landing.TheVariants as landing
 use Rattle.picture_store.specs.declared.answers.Returning.{Returning}
 use Rattle.picture_store.specs.declared.answers.Returning.TheVariants as returning
 use Rattle.edit_engine.specs.declared.refusals.NotOut.{NotOut}
+use Rattle.edit_engine.specs.declared.showing.Dropping.{Dropping}
+use Rattle.edit_engine.specs.declared.showing.Dropping.TheVariants as dropping
 use Rattle.edit_engine.specs.declared.replies.TakenJob.{TakenJob}
 
 -- the line of a job that was taken, or that no picture is due
@@ -35,6 +37,21 @@ returning_word (Err none) = codes "none"
 abbrev pub given_line : ℕ → Result Returning NotOut → List ℕ
 given_line number answer =
     codes "give " ++ (decimal number ++ (codes " " ++ (returning_word answer ++ codes "\n")))
+
+-- what came of dropping a unit's picture, in words
+abbrev pub dropping_words : Dropping → List ℕ
+dropping_words dropping.Dropped = codes "dropped"
+dropping_words dropping.NotHeld = codes "not held"
+dropping_words dropping.NoSuchUnit = codes "none"
+
+-- the line of what came of dropping the picture of the unit of a number
+abbrev pub dropped_line : ℕ → Dropping → List ℕ
+dropped_line number answer =
+    codes "drop " ++ (decimal number ++ (codes " " ++ (dropping_words answer ++ codes "\n")))
+
+-- the line that no picture is cached any more
+abbrev pub cleared_line : List ℕ
+cleared_line = codes "cleared\n"
 
 -- the line of pictures that were all decoded
 abbrev pub settled_line : List ℕ

@@ -31,12 +31,13 @@ fault_of_script script.Memory = Memory
 abbrev pub IsLoadFault : Bor (List ℕ) → RunFault → Type 0
 IsLoadFault name fault = (fault ≡ Memory) ⊎ (fault ≡ Unread name)
 
--- why a command isn't answered; that all numbers of jobs were given is told as want of memory is
+-- why a command isn't answered; that all numbers of jobs were given is told as lack of memory is
 abbrev pub IsCommandFault : Command → RunFault → Type 0
 IsCommandFault (command.Edit edit) fault = fault ≡ Memory
 IsCommandFault (command.Group edits) fault = fault ≡ Memory
 IsCommandFault (command.Load path) fault = IsLoadFault path fault
 IsCommandFault (command.Unit number) fault = fault ≡ Memory
+IsCommandFault (command.Json number) fault = fault ≡ Memory
 IsCommandFault command.Take fault = fault ≡ Memory
 IsCommandFault (command.Land number) fault = fault ≡ Memory
 IsCommandFault (command.GiveBack number) fault = fault ≡ Memory

@@ -1,5 +1,5 @@
 -- The run of a script's commands on a session, and what it writes (docs/OUTPUT.md).
-use Rattle.std.specs.Prelude.{◌≡◌, ℕ, ◌-◌, ◌≤◌, ◌++◌, Bool, List, [], ◌∷◌, length, Ok, Err, Option, Some, None, IfSome, ◌⊎◌}
+use Rattle.std.specs.Prelude.{◌≡◌, ℕ, ◌-◌, ◌≤◌, ◌++◌, Bool, List, [], ◌∷◌, length, Result, Ok, Err, Option, Some, None, IfSome, ◌⊎◌}
 use Rattle.annexb.specs.ByteStream.{joined}
 use Rattle.stream_edits.specs.declared.edits.Edit.TheVariants.{Insert}
 use Rattle.stream_edits.specs.declared.edits.Place.{Place}
@@ -10,17 +10,20 @@ use Rattle.edit_engine.specs.declared.commands.Command.{Command as Told}
 use Rattle.edit_engine.specs.declared.commands.Command.TheVariants as told
 use Rattle.edit_engine.specs.declared.replies.Reply.{Reply}
 use Rattle.edit_engine.specs.declared.replies.Reply.TheVariants as replies
+use Rattle.edit_engine.specs.declared.refusals.NoSuchUnit.{NoSuchUnit}
 use Rattle.edit_engine.specs.declared.replies.TakenJob.{TakenJob}
+use Rattle.edit_engine.specs.declared.replies.UnitReport.{UnitReport}
 use Rattle.stream_edits.specs.Streams.{last_of}
 use Rattle.edit_engine.specs.Machines.{Machine, empty}
 use Rattle.edit_engine.specs.Runs.{Answers as Replies}
 use Rattle.stream_edits.specs.Streams.{Stream}
-use Rattle.script_run.specs.Answers.{refused_line, loaded_line, reply_lines}
+use Rattle.script_run.specs.Answers.{refused_line, loaded_line, reply_lines, report_json}
 use Rattle.script_run.specs.JobLines.{settled_line}
 use Rattle.script_run.specs.Sequences.{AreAnswered, AreWritten}
 use Rattle.script_run.specs.Settling.{Settles}
 use Rattle.console_io.specs.Inputs.{Files}
 use Rattle.access_unit.specs.Rooms.{IsStream, IsStreamRefused, most_units}
+use Rattle.unit_json.specs.declared.json_line.JsonLine.{JsonLine}
 use Rattle.unit_lines.specs.Refusals.{refusal_text}
 use Rattle.edit_script.specs.Scripts.{IsScript}
 use Rattle.edit_script.specs.Words.{id_of}
@@ -67,32 +70,40 @@ abbrev pub Follows : Bool → Machine → Told → ℕ → List ℕ → Machine 
 Follows hex old told number lines new =
     (reply : Reply) × Replies old told reply new × (reply_lines hex number reply ≡ Some lines)
 
--- a command is answered by the lines, and leads from one state of the session to the other
-abbrev pub Answers : Files → Bool → Machine → Command → List ℕ → Machine → Type 0
-Answers files hex old (command.Edit edit) lines new = Follows hex old (told.Edit edit) 0 lines new
-Answers files hex old (command.Group edits) lines new = Follows hex old (told.Group edits) 0 lines new
-Answers files hex old (command.Load path) lines new =
-    (text : List ℕ) × IfSome (files path.now) (λ bytes. text ≡ bytes) × Loads old text lines new
-Answers files hex old (command.Unit number) lines new = Follows hex old (told.Unit (id_of number)) number lines new
-Answers files hex old command.Take lines new = Follows hex old told.Take 0 lines new
-Answers files hex old (command.Land number) lines new = Follows hex old (told.Land number) number lines new
-Answers files hex old (command.GiveBack number) lines new = Follows hex old (told.GiveBack number) number lines new
-Answers files hex old command.Settle lines new =
-    (jobs : List TakenJob) × Settles old jobs new × (lines ≡ settled_line)
-Answers files hex old (command.Show number) lines new = Follows hex old (told.Show (id_of number)) number lines new
+module _ (says : JsonLine → List ℕ → Type 0) where
+  -- the session reports what becomes of the unit of a number, and a text says it as JSON
+  abbrev pub SaysUnit : Machine → ℕ → List ℕ → Machine → Type 0
+  SaysUnit old number text new =
+      (report : Result UnitReport NoSuchUnit) × Replies old (told.Unit (id_of number)) (replies.Unit report) new
+      × says (report_json number report) text
 
--- the commands are answered one after the other, by these lines in all
-abbrev pub Runs : Files → Bool → Machine → List Command → List ℕ → Machine → Type 0
-Runs files hex from commands lines to = AreAnswered (Answers files hex) from commands lines to
+  -- a command is answered by the lines, and leads from one state of the session to the other
+  abbrev pub Answers : Files → Bool → Machine → Command → List ℕ → Machine → Type 0
+  Answers files hex old (command.Edit edit) lines new = Follows hex old (told.Edit edit) 0 lines new
+  Answers files hex old (command.Group edits) lines new = Follows hex old (told.Group edits) 0 lines new
+  Answers files hex old (command.Load path) lines new =
+      (text : List ℕ) × IfSome (files path.now) (λ bytes. text ≡ bytes) × Loads old text lines new
+  Answers files hex old (command.Unit number) lines new = Follows hex old (told.Unit (id_of number)) number lines new
+  Answers files hex old (command.Json number) lines new = SaysUnit old number lines new
+  Answers files hex old command.Take lines new = Follows hex old told.Take 0 lines new
+  Answers files hex old (command.Land number) lines new = Follows hex old (told.Land number) number lines new
+  Answers files hex old (command.GiveBack number) lines new = Follows hex old (told.GiveBack number) number lines new
+  Answers files hex old command.Settle lines new =
+      (jobs : List TakenJob) × Settles old jobs new × (lines ≡ settled_line)
+  Answers files hex old (command.Show number) lines new = Follows hex old (told.Show (id_of number)) number lines new
 
--- the lines that answer the commands were written
-abbrev pub WritesRun : Files → Bool → Machine → List Command → Machine → Option (List ℕ) → Option (List ℕ) → Type 0
-WritesRun files hex from commands to old new = AreWritten (Answers files hex) from commands to old new
+  -- the commands are answered one after the other, by these lines in all
+  abbrev pub Runs : Files → Bool → Machine → List Command → List ℕ → Machine → Type 0
+  Runs files hex from commands lines to = AreAnswered (Answers files hex) from commands lines to
 
--- the text is a script, and what answers its commands was written: they were run from the empty stream, for a cache
--- of this room, and pictures have their digits or not
-pub record WritesScript (files : Files) (text : List ℕ) (room : ℕ) (hex : Bool) (old new : Option (List ℕ)) : Type 0 where
-  pub commands : List Command
-  pub last : Machine
-  pub read : IsScript text commands
-  pub answered : WritesRun files hex (empty room) commands last old new
+  -- the lines that answer the commands were written
+  abbrev pub WritesRun : Files → Bool → Machine → List Command → Machine → Option (List ℕ) → Option (List ℕ) → Type 0
+  WritesRun files hex from commands to old new = AreWritten (Answers files hex) from commands to old new
+
+  -- the text is a script, and what answers its commands was written: they were run from the empty stream, for a cache
+  -- of this room, and pictures have their digits or not
+  pub record WritesScript (files : Files) (text : List ℕ) (room : ℕ) (hex : Bool) (old new : Option (List ℕ)) : Type 0 where
+    pub commands : List Command
+    pub last : Machine
+    pub read : IsScript text commands
+    pub answered : WritesRun files hex (empty room) commands last old new

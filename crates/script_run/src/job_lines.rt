@@ -1,9 +1,9 @@
 //! The lines that answer commands about jobs (docs/OUTPUT.md).
 
 ghost use Rattle.std.specs.Prelude.{◌≡◌, Some};
-ghost use Rattle.script_run.specs.JobLines.{given_line, landed_line, landing_word, returning_word, taken_line};
+ghost use Rattle.script_run.specs.JobLines.{dropped_line, dropping_words, given_line, landed_line, landing_word, returning_word, taken_line};
 
-use edit_engine::{Landing, NotOut, Returning, TakenJob};
+use edit_engine::{Dropping, Landing, NotOut, Returning, TakenJob};
 use std::fmt;
 use std::fmt::{Display, Formatter, Write};
 
@@ -69,5 +69,29 @@ fn returning_word(answer: Result<Returning, NotOut>) -> &'static str
     match answer {
         Ok(Returning::Returned) => "back",
         Ok(Returning::Foreign) | Err(NotOut) => "none",
+    }
+}
+
+/// The line of what came of dropping the picture of the unit of a number.
+#[derive(Drop)]
+pub struct DroppedLine(pub u64, pub Dropping);
+
+impl Display for DroppedLine {
+    ghost output = { λ line. Some (dropped_line line.0 line.1) };
+
+    fn fmt<W: Write>(&self, f: &mut Formatter<W>) -> fmt::Result {
+        let (number, words) = (self.0, dropping_words(self.1));
+        writeln!(f, "drop {number} {words}")
+    }
+}
+
+/// What came of dropping a unit's picture, in words.
+fn dropping_words(answer: Dropping) -> &'static str
+    ensures { result.now ≡ dropping_words answer }
+{
+    match answer {
+        Dropping::Dropped => "dropped",
+        Dropping::NotHeld => "not held",
+        Dropping::NoSuchUnit => "none",
     }
 }

@@ -2,17 +2,17 @@
 
 ghost use Rattle.std.specs.Prelude.{◌≡◌, ◌≢◌, ℕ, List, IfErr, IfOk, IfSome, OnOk, Some, string_bytes};
 ghost use Rattle.std.specs.Io.KnownBytes.{Keeps};
-ghost use Rattle.script_run.specs.Answers.{reply_lines, report_lines};
+ghost use Rattle.script_run.specs.Answers.{reply_lines, report_json, report_lines};
 ghost use Rattle.console_io.specs.Messages.{Tells};
 ghost use Rattle.script_run.specs.Messages.{run_fault_text};
 ghost use Rattle.script_run.specs.RunFaults.{IsCommandFault};
 ghost use Rattle.script_run.specs.declared.run_fault.RunFault.{RunFault};
-ghost use Rattle.script_run.specs.Running.{Answers, Follows, WritesRun, WritesScript};
+ghost use Rattle.script_run.specs.Running.{Answers, Follows, SaysUnit, WritesRun, WritesScript};
 ghost use Rattle.script_run.specs.Stops.{StopsAt, StopsBy, StopsText};
 
 use crate::answers::{AcceptedLine, NoUnitLine, RefusedLine};
 use crate::group_lines::{GroupLine, GroupRefusedLine};
-use crate::job_lines::{GivenLine, LandedLine, TakenLine};
+use crate::job_lines::{DroppedLine, GivenLine, LandedLine, TakenLine};
 use crate::loading::load;
 use crate::messages::say_run_fault;
 use crate::options::Options;
@@ -25,13 +25,16 @@ use edit_script::{Command, id_of_number, read_script};
 use std::alloc::{AllocError, Global};
 use std::io::Read;
 use std::thread::Threads;
+use unit_json::{Encoder, JsonLine};
 use unit_lines::UnitLines;
 
 /// Runs the script that the reader gives, whose files the source gives, on a session of its own. Each line that is a
-/// command is answered by one write. Why the run ends before the script does is told to `errors`.
-pub fn script_on<R: Read, S: Source, W: Sink, E: Sink>(
+/// command is answered by one write, and `json` by a line of this encoder. Why the run ends before the script does is told to
+/// `errors`.
+pub fn script_on<J: Encoder, R: Read, S: Source, W: Sink, E: Sink>(
     threads: &(impl Threads + Sync),
     alloc: Global,
+    encoder: &J,
     options: Options<'_>,
     reader: &mut R,
     source: &mut S,
@@ -42,12 +45,12 @@ pub fn script_on<R: Read, S: Source, W: Sink, E: Sink>(
         → Keeps (E.contents errors.old) (E.contents errors.new) }
     // What is written at success is a run of the script that was read.
     ensures answered { result.status ≡ Status.Success → IfSome (R.remaining reader.old) (λ text.
-        WritesScript (S.file source.old) text options.entry.cache options.entry.hex
+        WritesScript J.says (S.file source.old) text options.entry.cache options.entry.hex
         (W.contents writer.old) (W.contents writer.new)) }
     // At a failure it is what the fault that is told leaves of it.
     ensures stops { result.status ≡ Status.Failure → (fault : RunFault)
         × IfSome (R.remaining reader.old) (λ text.
-        StopsBy (S.file source.old) options.entry.name.now text options.entry.cache
+        StopsBy J.says (S.file source.old) options.entry.name.now text options.entry.cache
         options.entry.hex fault
         (W.refuses writer.new) (W.contents writer.old) (W.contents writer.new))
         × Tells result.told (E.refuses errors.new) (E.contents errors.old) (E.contents errors.new)
@@ -61,25 +64,34 @@ pub fn script_on<R: Read, S: Source, W: Sink, E: Sink>(
             return Ended::failed(say_run_fault(fault, errors));
         }
     };
-    match run_text(threads, alloc, options, text.as_slice(), source, writer) {
+    match run_text(
+        threads,
+        alloc,
+        encoder,
+        options,
+        text.as_slice(),
+        source,
+        writer,
+    ) {
         Ok(()) => Ended::done(),
         Err(fault) => Ended::failed(say_run_fault(fault, errors)),
     }
 }
 
 /// Runs the script of this text. Where a line is no command, nothing is run.
-fn run_text<'a, S: Source, W: Sink>(
+fn run_text<'a, J: Encoder, S: Source, W: Sink>(
     threads: &(impl Threads + Sync),
     alloc: Global,
+    encoder: &J,
     options: Options<'_>,
     text: &'a [u8],
     source: &mut S,
     writer: &mut W,
 ) -> Result<(), RunFault<'a>>
     ensures ok { OnOk result
-        (WritesScript (S.file source.old) text.now options.entry.cache
+        (WritesScript J.says (S.file source.old) text.now options.entry.cache
         options.entry.hex (W.contents writer.old) (W.contents writer.new)) }
-    ensures stops { IfErr result (λ fault. StopsText
+    ensures stops { IfErr result (λ fault. StopsText J.says
         (S.file source.old) text.now options.entry.cache options.entry.hex fault
         (W.refuses writer.new) (W.contents writer.old) (W.contents writer.new)) }
 {
@@ -89,14 +101,24 @@ fn run_text<'a, S: Source, W: Sink>(
     let Ok(mut runner) = Runner::new(alloc, Config { cache }) else {
         return Err(RunFault::Memory);
     };
-    run_commands(threads, alloc, commands, hex, &mut runner, source, writer)
+    run_commands(
+        threads,
+        alloc,
+        encoder,
+        commands,
+        hex,
+        &mut runner,
+        source,
+        writer,
+    )
 }
 
 /// Runs the commands one after the other, and writes what each one prints, pictures with digits where `hex` asks for
 /// them.
-fn run_commands<'a, S: Source, W: Sink>(
+fn run_commands<'a, J: Encoder, S: Source, W: Sink>(
     threads: &(impl Threads + Sync),
     alloc: Global,
+    encoder: &J,
     commands: Vec<Command<'a>>,
     hex: bool,
     runner: &mut Runner,
@@ -104,29 +126,30 @@ fn run_commands<'a, S: Source, W: Sink>(
     writer: &mut W,
 ) -> Result<(), RunFault<'a>>
     ensures ok { OnOk result
-        (WritesRun (S.file source.old) hex runner.old commands.entry.items runner.new
+        (WritesRun J.says (S.file source.old) hex runner.old commands.entry.items runner.new
         (W.contents writer.old) (W.contents writer.new)) }
-    ensures stops { IfErr result (λ fault. StopsAt
+    ensures stops { IfErr result (λ fault. StopsAt J.says
         (S.file source.old) hex runner.old commands.entry.items fault
         (W.refuses writer.new) (W.contents writer.old) (W.contents writer.new)) }
 {
     for command in commands {
-        let lines = run_command(threads, alloc, command, hex, runner, source)?;
+        let lines = run_command(threads, alloc, encoder, command, hex, runner, source)?;
         write_bytes(writer, lines.as_bytes())?;
     }
     Ok(())
 }
 
 /// Runs a command, and gives the lines that answer it.
-fn run_command<'a, S: Source>(
+fn run_command<'a, J: Encoder, S: Source>(
     threads: &(impl Threads + Sync),
     alloc: Global,
+    encoder: &J,
     command: Command<'a>,
     hex: bool,
     runner: &mut Runner,
     source: &mut S,
 ) -> Result<String, RunFault<'a>>
-    ensures ok { IfOk result (λ lines. Answers
+    ensures ok { IfOk result (λ lines. Answers J.says
         (S.file source.old) hex runner.old command.entry (string_bytes lines) runner.new) }
     ensures kept { (name : List ℕ) → S.file source.new name ≡ S.file source.old name }
     ensures named { IfErr result (IsCommandFault command.entry) }
@@ -139,6 +162,7 @@ fn run_command<'a, S: Source>(
             let told = Told::Unit(id_of_number(number));
             Ok(follow(alloc, runner, told, number, hex)?)
         }
+        Command::Json { number } => Ok(say_unit(alloc, encoder, runner, number)?),
         Command::Take => Ok(follow(alloc, runner, Told::Take, 0, hex)?),
         Command::Land { number } => Ok(follow(alloc, runner, Told::Land(number), number, hex)?),
         Command::GiveBack { number } => {
@@ -167,6 +191,41 @@ fn follow(
     reply_lines(alloc, number, hex, &reply)
 }
 
+/// Asks the session for the unit of this number, and gives the line of what it reports.
+fn say_unit<J: Encoder>(
+    alloc: Global,
+    encoder: &J,
+    runner: &mut Runner,
+    number: u64,
+) -> Result<String, AllocError>
+    ensures { IfOk result (λ line. SaysUnit J.says runner.old number
+        (string_bytes line) runner.new) }
+{
+    let reply = runner.step(Told::Unit(id_of_number(number)))?;
+    match &reply {
+        Reply::Unit(report) => encoder.encode(alloc, &json_line(alloc, number, report)?),
+        // A session that is asked for a unit replies with a report.
+        _ => Err(AllocError),
+    }
+}
+
+/// The line of JSON of what is reported of the unit of this number: what becomes of it, or that there is none.
+fn json_line(
+    alloc: Global,
+    number: u64,
+    report: &Result<UnitReport, NoSuchUnit>,
+) -> Result<JsonLine, AllocError>
+    ensures { IfOk result (λ line. line ≡ report_json number report.now) }
+{
+    match report {
+        Ok(report) => {
+            let id = id_of_number(number);
+            JsonLine::of_unit(alloc, id, report.position, &report.outcome)
+        }
+        Err(NoSuchUnit) => Ok(JsonLine::of_no_unit(number)),
+    }
+}
+
 /// The lines of a reply to what asks for this number.
 fn reply_lines(alloc: Global, number: u64, hex: bool, reply: &Reply) -> Result<String, AllocError>
     ensures { IfOk result (λ lines. reply_lines hex number reply.now ≡ Some (string_bytes lines)) }
@@ -177,12 +236,14 @@ fn reply_lines(alloc: Global, number: u64, hex: bool, reply: &Reply) -> Result<S
         Reply::Group(Ok(receipt)) => GroupLine(receipt).to_string(alloc),
         Reply::Group(Err(refused)) => GroupRefusedLine(*refused).to_string(alloc),
         Reply::Unit(report) => report_lines(alloc, number, report),
-        Reply::Take(Ok(job)) => TakenLine(*job).to_string(alloc),
-        // All numbers of jobs were given, which is told as want of memory is.
-        Reply::Take(Err(_)) => Err(AllocError),
+        Reply::Take(Ok(job)) | Reply::TakeFor(Ok(job)) => TakenLine(*job).to_string(alloc),
+        // All numbers of jobs were given, which is told as lack of memory is.
+        Reply::Take(Err(_)) | Reply::TakeFor(Err(_)) => Err(AllocError),
         Reply::Land(answer) => LandedLine(number, *answer).to_string(alloc),
         Reply::GiveBack(answer) => GivenLine(number, *answer).to_string(alloc),
         Reply::Show(shown) => shown_line(alloc, number, *shown, hex),
+        Reply::Dropped(dropping) => DroppedLine(number, *dropping).to_string(alloc),
+        Reply::Cleared => String::from_str(alloc, "cleared\n"),
     }
 }
 

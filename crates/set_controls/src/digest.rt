@@ -10,7 +10,7 @@ use std::alloc::AllocError;
 /// Appends the first 1,540 bytes of the digest form: SPS, PPS and SCALING_MATRIX, which the parameter sets decide.
 ///
 /// With what h264_controls' `slice_form` appends after it, it is the digest form: slices over one set have this part in
-/// common. Memory is wanted only where the room isn't there.
+/// common. Memory runs out only where the room isn't there.
 pub fn sets_form(sets: &SetControls, form: &mut Vec<u8>) -> Result<(), AllocError>
     ensures written { OnOk result (form.new.items ≡ form.old.items ++ sets_form sets.now) }
     ensures size { OnOk result (vec_len form.new ≡ vec_len form.old + 1540) }
@@ -22,7 +22,7 @@ pub fn sets_form(sets: &SetControls, form: &mut Vec<u8>) -> Result<(), AllocErro
     Ok(())
 }
 
-/// Appends the same bytes to a form that has room for them, so that no memory is wanted.
+/// Appends the same bytes to a form that has room for them, so that no memory is asked for.
 #[tactic(auto, unfolding(crate::specs::SetsForm::sets_form))]
 pub fn put_sets(sets: &SetControls, form: &mut Vec<u8>)
     requires { vec_len form.old + 1540 ≤ vec_capacity form.old }

@@ -49,7 +49,7 @@ impl Decoding {
         Ok(Decoding { queues, request })
     }
 
-    /// Decodes a slice of the frame whose CAPTURE buffer can take it. Where memory is wanted, the decoder is closed.
+    /// Decodes a slice of the frame whose CAPTURE buffer can take it. Where memory runs out, the decoder is closed.
     pub(crate) fn decode_slice(
         self,
         slice: &Request,

@@ -55,7 +55,7 @@ impl Device {
     }
 
     /// Decodes a job: a device without frames but the job's references runs its requests through the queues, one after
-    /// the other, and the picture is that of the done CAPTURE buffer. Where memory is wanted, the job is handed back.
+    /// the other, and the picture is that of the done CAPTURE buffer. Where memory runs out, the job is handed back.
     /// The device has no frames afterwards.
     pub fn decode(&mut self, alloc: Global, job: Job) -> Result<Finished, Undone>
         ensures done { IfOk result (λ finished. finished ≡ job) }

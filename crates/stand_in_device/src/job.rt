@@ -120,7 +120,7 @@ impl Finished {
     }
 }
 
-/// A job that wasn't decoded, for want of memory.
+/// A job that wasn't decoded, for lack of memory.
 #[derive(Debug)]
 pub struct Undone {
     pub job: Job,

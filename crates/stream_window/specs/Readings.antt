@@ -8,7 +8,7 @@ use Rattle.access_unit.specs.Coded.{HasRest}
 use Rattle.access_unit.specs.declared.refused.Refused.{Refused}
 use Rattle.access_unit.specs.declared.refused.Refused.TheVariants as refusals
 
--- a refusal of the text: memory is wanted, it has no NAL units, or those that it has are refused so, joined
+-- a refusal of the text: memory ran out, it has no NAL units, or those that it has are refused so, joined
 abbrev pub IsFrontRefused : List ℕ → Refused → Type 0
 IsFrontRefused text refusals.Memory = Unit {0}
 IsFrontRefused text refusals.Split = (units : List (List ℕ)) → ¬ HasUnits text units

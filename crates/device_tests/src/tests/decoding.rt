@@ -324,7 +324,7 @@ fn two_slices_hold_one_capture_buffer(rt: HostRuntime) {
     assert!(rt; states_of_two(rt.alloc()) == Ok((held, done)));
 }
 
-/// The picture of job 7 with this input: where memory is wanted the job comes back, and it is decoded again.
+/// The picture of job 7 with this input: where memory runs out the job comes back, and it is decoded again.
 fn decoded_again(alloc: Global, input: Input) -> Option<(u64, Picture)> {
     if !input.is_whole() {
         return None;
@@ -347,7 +347,7 @@ fn decoded_once_more(alloc: Global, device: &mut Device, undone: Undone) -> Opti
     }
 }
 
-/// Where memory is wanted the job comes back, and the same job decoded again gives its picture.
+/// Where memory runs out the job comes back, and the same job decoded again gives its picture.
 #[test]
 fn refused_decode_hands_the_job_back(rt: HostRuntime) {
     if let Ok(input) = input_of(rt.alloc(), &[Slice::P(Some(0))], true) {

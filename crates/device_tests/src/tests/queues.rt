@@ -23,7 +23,7 @@ type Calls = &'static [(Call, Answer)];
 /// begins that one's frame.
 type Worked = (u32, u32, u64, usize, bool);
 
-/// Whether the work wants memory, calls, and what was worked on after them.
+/// Whether the work runs out of memory, calls, and what was worked on after them.
 type Stretch = (bool, Calls, Option<Worked>);
 
 /// How many buffers the queues of an example have, and its calls.
@@ -152,7 +152,7 @@ const INCOMPLETE: &[Stretch] = &[(
     None,
 )];
 
-/// Work that wants memory leaves the queues as they were.
+/// Work that runs out of memory leaves the queues as they were.
 const WANTING: &[Stretch] = &[
     (false, TWO_FRAMES, None),
     (

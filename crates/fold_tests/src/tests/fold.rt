@@ -34,7 +34,7 @@ const P1: [u8; 6] = [0, 0, 1, 0x41, 0x9A, 0x23];
 /// A P picture with frame_num 2.
 const P2: [u8; 6] = [0, 0, 1, 0x41, 0x9A, 0x43];
 
-/// The access unit of a text that is one, unless memory is wanted.
+/// The access unit of a text that is one, unless memory runs out.
 pub(super) fn unit(rt: &(impl Abort + AllocGlobal), text: &[u8]) -> Result<Unit, AllocError> {
     match read_unit(rt.alloc(), text) {
         Ok(unit) => Ok(unit),
@@ -235,7 +235,7 @@ fn tells_faults(rt: HostRuntime) -> Result<(), Fail> {
 
 #[test]
 fn refused_scratch(rt: HostRuntime) {
-    // The units want memory too.
+    // The units take memory too.
     if let Ok(stream) = stream(&rt, &[&A, &P1]) {
         if let Ok(outcomes) = scratch(rt.alloc(), &stream) {
             assert!(rt; outcomes.len() == 2);

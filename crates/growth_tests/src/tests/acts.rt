@@ -1,4 +1,4 @@
-//! Commands of a runner. Where memory is wanted nothing is changed, and the command is followed again.
+//! Commands of a runner. Where memory runs out nothing is changed, and the command is followed again.
 
 use super::seen::seen;
 use super::streams::{
@@ -36,7 +36,7 @@ pub(super) enum Act {
     Gives(u64),
     GivesNone(u64),
     Show(u32, Shown),
-    /// Ready with this picture, which was put into the cache; pending where that wanted memory.
+    /// Ready with this picture, which was put into the cache; pending where that ran out of memory.
     Cached(u32, Picture),
 }
 
@@ -219,7 +219,7 @@ pub(super) fn is_reply(reply: &Reply, act: Act) -> bool {
     }
 }
 
-/// Follows the command, once more where memory is wanted.
+/// Follows the command, once more where memory runs out.
 fn step(
     rt: &(impl Abort + AllocGlobal),
     runner: &mut Runner,

@@ -1,4 +1,4 @@
-//! Steps of the fold over streams, and keys of their pictures. Where memory is wanted, each call is made again, and has
+//! Steps of the fold over streams, and keys of their pictures. Where memory runs out, each call is made again, and has
 //! its answer then.
 
 use super::row_holds;
@@ -12,7 +12,7 @@ use pictures::AuId;
 use request_core::{State, Steps, step};
 use std::alloc::{AllocError, Global};
 
-/// Makes a step of the fold; where memory is wanted none is counted.
+/// Makes a step of the fold; where memory runs out none is counted.
 fn step_again(
     alloc: Global,
     state: &State,
@@ -42,7 +42,7 @@ fn intern(
     }
 }
 
-/// Interns the key of requests; where memory is wanted, the keys are as they were.
+/// Interns the key of requests; where memory runs out, the keys are as they were.
 fn intern_again(
     alloc: Global,
     keys: &mut Keys<Works, Sha256Fingerprint>,

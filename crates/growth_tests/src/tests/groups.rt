@@ -1,4 +1,4 @@
-//! Groups of edits. Where memory is wanted nothing is changed and no id is spent, and the call is made again.
+//! Groups of edits. Where memory runs out nothing is changed and no id is spent, and the call is made again.
 
 use super::seen::seen;
 use super::{empty_session, row_holds};
@@ -31,12 +31,12 @@ const GROUPS: [(&[Told], Result<&[u32], usize>); 4] = [
     (&[Replace(4, P2), Replace(4, P1)], Ok(&[4, 4])),
 ];
 
-/// The edits of a row, made again where memory is wanted.
+/// The edits of a row, made again where memory runs out.
 fn edits_again(alloc: Global, told: &[Told]) -> Result<Vec<Edit>, AllocError> {
     edits_of(alloc, told).or_else(|_: AllocError| edits_of(alloc, told))
 }
 
-/// Makes the group, once more where memory is wanted.
+/// Makes the group, once more where memory runs out.
 fn group(
     rt: &(impl Abort + AllocGlobal),
     session: &mut Session,

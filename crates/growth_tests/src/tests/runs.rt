@@ -1,5 +1,5 @@
-//! Runs of commands. An edit that wants memory is answered so, and is as if it weren't among the commands; any other want
-//! of memory ends the run, and the run is made again.
+//! Runs of commands. An edit that runs out of memory is answered so, and is as if it weren't among the commands; any other
+//! lack of memory ends the run, and the run is made again.
 
 use super::acts::{Act, SCRIPTS, command_of, is_reply};
 use super::row_holds;
@@ -37,12 +37,12 @@ fn are_replies(replies: &[Reply], acts: &[Act]) -> bool {
     replies.len() == acts.len()
 }
 
-/// An edit wanted memory.
+/// An edit ran out of memory.
 fn is_memory(reply: &Reply) -> bool {
     matches!(reply, Reply::Edit(Err(EditRefused::Memory)))
 }
 
-/// Which of the replies says that memory is wanted.
+/// Which of the replies says that memory ran out.
 fn place_of_memory(replies: &[Reply]) -> Option<usize> {
     for (place, reply) in replies.iter().enumerate() {
         if is_memory(reply) {
@@ -81,7 +81,7 @@ fn are_others(
     Ok(others_left.next().is_none())
 }
 
-/// The replies are those to the acts; where one says that memory is wanted, the others are those of a run without its
+/// The replies are those to the acts; where one says that memory ran out, the others are those of a run without its
 /// command.
 fn answer(alloc: Global, acts: &[Act], replies: &[Reply]) -> Result<bool, Fail> {
     let Some(left) = place_of_memory(replies) else {
@@ -92,7 +92,7 @@ fn answer(alloc: Global, acts: &[Act], replies: &[Reply]) -> Result<bool, Fail> 
     are_others(alloc, replies, left, &others)
 }
 
-/// A run of the acts' commands, once more where it ends for want of memory, replies so.
+/// A run of the acts' commands, once more where it ends for lack of memory, replies so.
 fn runs(alloc: Global, acts: &[Act], commands: &[Command]) -> Result<bool, Fail> {
     let replies = match replies_to(alloc, commands) {
         Ok(replies) => replies,

@@ -1,4 +1,4 @@
-//! Edits, jobs and results of a session. Where memory is wanted nothing is changed, and the call is made again.
+//! Edits, jobs and results of a session. Where memory runs out nothing is changed, and the call is made again.
 
 use super::seen::seen;
 use super::streams::{STREAMS, Stream};
@@ -12,7 +12,7 @@ use stand_in_device::{Device, Undone};
 use std::alloc::AllocGlobal;
 use std::process::Abort;
 
-/// Makes the edit, once more where memory is wanted.
+/// Makes the edit, once more where memory runs out.
 pub(super) fn edit(
     rt: &impl Abort,
     session: &mut Session,
@@ -49,7 +49,7 @@ fn inserts(rt: &impl Abort, session: &mut Session, stream: &Stream) -> bool {
     true
 }
 
-/// Takes a job that is due, where memory was wanted before.
+/// Takes a job that is due, where memory ran out before.
 fn take_once_more(session: &mut Session) -> Option<Job> {
     match session.take() {
         Ok(job) => job,
@@ -57,7 +57,7 @@ fn take_once_more(session: &mut Session) -> Option<Job> {
     }
 }
 
-/// Takes a job that is due, once more where memory is wanted.
+/// Takes a job that is due, once more where memory runs out.
 fn take(rt: &impl Abort, session: &mut Session) -> Option<Job> {
     let before = seen(session);
     match session.take() {
@@ -69,7 +69,7 @@ fn take(rt: &impl Abort, session: &mut Session) -> Option<Job> {
     }
 }
 
-/// Decodes a job; where memory is wanted it is handed back, and the same device decodes it again.
+/// Decodes a job; where memory runs out it is handed back, and the same device decodes it again.
 fn decode(rt: &(impl Abort + AllocGlobal), job: Job) -> Finished {
     let mut device = Device::new(rt.alloc());
     match device.decode(rt.alloc(), job) {
@@ -78,7 +78,7 @@ fn decode(rt: &(impl Abort + AllocGlobal), job: Job) -> Finished {
             Ok(finished) => finished,
             Err(Undone { job, cause: _ }) => {
                 let _ = job.into_parts();
-                panic!(rt; "memory is wanted again");
+                panic!(rt; "memory ran out again");
             }
         },
     }

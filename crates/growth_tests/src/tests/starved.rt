@@ -13,7 +13,7 @@ use stand_in_device::{Device, Undone};
 use std::alloc::{AllocError, AllocGlobal, Global};
 use std::process::Abort;
 
-/// Makes the edit; where memory is wanted nothing is changed.
+/// Makes the edit; where memory runs out nothing is changed.
 fn edit(rt: &impl Abort, session: &mut Session, told: Told) -> Result<(), AllocError> {
     let before = seen(session);
     match session.edit(edit_of(told)) {
@@ -25,7 +25,7 @@ fn edit(rt: &impl Abort, session: &mut Session, told: Told) -> Result<(), AllocE
     }
 }
 
-/// Takes a job; where memory is wanted nothing is changed.
+/// Takes a job; where memory runs out nothing is changed.
 fn take(rt: &impl Abort, session: &mut Session) -> Result<Option<Job>, AllocError> {
     let before = seen(session);
     match session.take() {
@@ -77,7 +77,7 @@ fn settle(rt: &(impl Abort + AllocGlobal), session: &mut Session) -> Result<(), 
 }
 
 /// Inserts the units of a stream and decodes them, so far as there is memory; whether each has its picture, if it has one,
-/// or memory was wanted.
+/// or memory ran out.
 fn lives(rt: &(impl Abort + AllocGlobal), session: &mut Session, stream: &Stream) -> bool {
     if insert(rt, session, stream).is_err() || settle(rt, session).is_err() {
         return true;

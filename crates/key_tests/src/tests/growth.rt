@@ -7,7 +7,7 @@ use std::alloc::{AllocError, AllocGlobal};
 use std::process::Abort;
 use std::test::Fail;
 
-/// Interns a row again that wanted memory, which left so many keys.
+/// Interns a row again that ran out of memory, which left so many keys.
 fn intern_again(
     rt: &(impl Abort + AllocGlobal),
     keys: &mut Keys<Number, Sha256Fingerprint>,
@@ -19,7 +19,7 @@ fn intern_again(
     intern(rt, keys, number, entries)
 }
 
-/// Interns the rows; a row that wants memory leaves the keys as they were, and is interned again.
+/// Interns the rows; a row that runs out of memory leaves the keys as they were, and is interned again.
 fn intern_through(
     rt: &(impl Abort + AllocGlobal),
     keys: &mut Keys<Number, Sha256Fingerprint>,
@@ -37,7 +37,7 @@ fn intern_through(
     Ok(ids)
 }
 
-/// Whether a sweep that wants memory leaves the keys as they were; made again, it keeps row 9 and what is below it.
+/// Whether a sweep that runs out of memory leaves the keys as they were; made again, it keeps row 9 and what is below it.
 fn sweeps_through(
     keys: &mut Keys<Number, Sha256Fingerprint>,
     ids: &[KeyId],

@@ -75,7 +75,7 @@ fn complete<C: Drop>(requests: &mut Slab<Request<C>>, id: usize)
 impl<C: Drop> Queues<C> {
     /// Runs the oldest queued request, on the CAPTURE buffer that is held for its frame or else on the oldest queued
     /// one. A CAPTURE buffer that is held for another frame is done before that, or, where no other is queued, done
-    /// instead. Where the work wants memory, the queues are as they were.
+    /// instead. Where the work runs out of memory, the queues are as they were.
     pub fn run_one<S: SliceWork<C>>(&mut self, work: &mut S) -> Result<RunOne, QueueFault>
         ensures { RunsOne S.works self.old self.new work.old work.new result }
     {

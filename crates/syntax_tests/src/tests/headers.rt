@@ -289,7 +289,7 @@ fn commands_and_operations(rt: HostRuntime) -> Result<(), Fail> {
     Ok(())
 }
 
-/// The header of the first unit, or want of memory.
+/// The header of the first unit, or lack of memory.
 fn is_long_header(alloc: Global, nals: &[Nal<'_>], sps: &Sps, pps: &Pps) -> bool {
     match nals.first() {
         Some(nal) => match summary_of(alloc, nal, sps, pps) {

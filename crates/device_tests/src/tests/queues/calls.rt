@@ -49,7 +49,7 @@ pub(super) struct Slice {
     pub(super) target: Target,
 }
 
-/// Work that remembers its last slice, and may want memory.
+/// Work that remembers its last slice, and may run out of memory.
 #[derive(Drop)]
 pub(in crate::tests) struct Recorder {
     pub(super) slices: u32,

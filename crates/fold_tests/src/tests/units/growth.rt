@@ -17,7 +17,7 @@ fn has_seven_bytes(slice: &SharedNal) -> bool {
     }
 }
 
-/// The first unit, or the want of memory.
+/// The first unit, or the lack of memory.
 fn is_first_unit(read: &Result<Unit, Refused>) -> bool {
     match read {
         Err(refused) => *refused == Refused::Memory,

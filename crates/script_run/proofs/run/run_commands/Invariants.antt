@@ -5,7 +5,7 @@ use Rattle.script_run.proofs.run.run_commands.Given as goal
 
 abbrev pub invariant-loop-command : goal.invariant-loop-command
 invariant-loop-command g l = record {
-  ran : WritesRun (g.S.Source.file l.fn.source) l.hex l.fn.runner l.yielded l.runner
+  ran : WritesRun g.J.Encoder.says (g.S.Source.file l.fn.source) l.hex l.fn.runner l.yielded l.runner
       (g.W.Write.contents l.fn.writer) (g.W.Write.contents l.writer);
   kept : (name : List ℕ) → g.S.Source.file l.source name ≡ g.S.Source.file l.fn.source name;
   left : l.fn.commands.items ≡ l.yielded ++ into_iter_items l.command-iterator;

@@ -11,6 +11,8 @@ STREAMS = {
     "large": ("1280x720", 250, 40, "--bitrate 65000 --bframes 2 --ref 2 --slices 4"),
     "large, of fewer bits": ("1280x720", 250, 40, "--bitrate 6500 --bframes 2 --ref 2 --slices 4"),
 }
+# A minute, for bench/many.
+CLIP = {"clip": ("320x240", 1_500, 6, "--bitrate 430 --bframes 2 --ref 2")}
 LARGE_AND_FEW = "large", "large, of fewer bits"
 
 
@@ -21,7 +23,7 @@ def encoded(name, folder):
         return file
     if not shutil.which("ffmpeg") or not shutil.which("x264"):
         return None
-    size, units, noise, settings = STREAMS[name]
+    size, units, noise, settings = {**STREAMS, **CLIP}[name]
     drawn = f"testsrc2=size={size}:rate=25,noise=alls={noise}:allf=t"
     source = f"ffmpeg -v error -f lavfi -i {drawn} -frames:v {units} -pix_fmt yuv420p -f rawvideo -".split()
     coder = (f"x264 --quiet --demuxer raw --input-res {size} --fps 25 --preset veryfast --keyint {PERIOD}"
@@ -50,3 +52,10 @@ def units_of(file):
         has_slice = has_slice or kind in (1, 5)
         at = following
     return [*units, text[begin:]]
+
+
+def units_file(file, folder):
+    """A file with the units of a stream, each behind its length, as bench/units.h reads it."""
+    path = folder / "units"
+    path.write_bytes(b"".join(len(unit).to_bytes(4, "little") + unit for unit in units_of(file)))
+    return path

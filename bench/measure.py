@@ -43,6 +43,14 @@ def program():
     return subprocess.run([TOP / "tools" / "program"], stdout=subprocess.PIPE, text=True, check=True).stdout.rstrip("\n")
 
 
+def compiled(name, library, folder):
+    """The program bench/NAME.c, linked with the archive of the C interface."""
+    flags = "-std=c99 -O2 -Wall -Wextra -Wpedantic -Wconversion -Werror -pthread".split()
+    command = ["gcc", *flags, f"-I{TOP}/include", TOP / "bench" / f"{name}.c", library, "-o", folder / name]
+    subprocess.run(command, check=True)
+    return folder / name
+
+
 def once(command, output, log):
     """Seconds and peak bytes of one run, its standard output in a file, its standard error in another.
 

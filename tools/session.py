@@ -113,26 +113,54 @@ class Session:
                 raise Open("which of several pictures the full cache drops")
             self.cached.pop()
 
-    def due(self):
-        """The earliest unit whose picture is due, and its key."""
+    def named(self, row):
+        """The ids of the units that a valid unit's lists name."""
+        return {named for request in row.outcome.requests for named in request.entries if named is not None}
+
+    def needed(self, unit_id):
+        """The ids of the units that the picture of one needs: pending ones that it names, and those that these name."""
+        rows, found, left = {unit[0]: row for unit, row in zip(self.stream, self.rows)}, set(), [unit_id]
+        while left:
+            each = left.pop()
+            row = rows.get(each)
+            if row is not None and row.key is not None and row.key not in self.held and each not in found:
+                found.add(each)
+                left += self.named(row)
+        return found
+
+    def due(self, among=None):
+        """The earliest unit whose picture is due, among those of some ids if any are given, and its key."""
         out = {job.key for job in self.out}
         keys = {unit[0]: row.key for unit, row in zip(self.stream, self.rows)}
         for (unit_id, _), row in zip(self.stream, self.rows):
-            if row.key is None or row.key in self.held or row.key in out:
+            if row.key is None or row.key in self.held or row.key in out or among is not None and unit_id not in among:
                 continue
-            entries = {keys[named] for request in row.outcome.requests for named in request.entries
-                       if named is not None}
-            if entries <= self.held:
+            if {keys[named] for named in self.named(row)} <= self.held:
                 return unit_id, row.key
         return None
 
-    def take(self):
-        found = self.due()
+    def take(self, among=None):
+        """The number and the unit of a job that goes out, of a needed one of some ids if any are given."""
+        found = self.due(among)
         if found is None:
             return None
         self.jobs += 1
         self.out.append(Job(self.jobs, found[1]))
         return self.jobs, found[0]
+
+    def drop(self, unit_id):
+        """The picture of a unit is gone: dropped, not held, or none."""
+        at = self.place(unit_id)
+        if at is None:
+            return "none"
+        if self.rows[at].key not in self.held:
+            return "not held"
+        self.held.remove(self.rows[at].key)
+        return "dropped"
+
+    def clear(self):
+        """No picture is cached any more."""
+        self.cached = []
 
     def leave(self, number):
         """The job of this number, which is out no more, or None."""
@@ -235,7 +263,7 @@ def command_of(line):
             return "replace", number_of(number), bytes_of(digits)
         case ["load", path]:
             return "load", path
-        case [("delete" | "unit" | "show" | "land" | "give") as name, number]:
+        case [("delete" | "unit" | "json" | "show" | "land" | "give") as name, number]:
             return name, number_of(number)
         case [("take" | "settle" | "group" | "end") as name]:
             return name,
@@ -252,6 +280,8 @@ def answer(session, with_hex, name, operands):
         return [loaded(session, *operands)]
     if name == "unit":
         return unit_lines(session, *operands)
+    if name == "json":
+        return [json_line(session, *operands)]
     if name == "show":
         return [shown(session, with_hex, *operands)]
     if name == "take":
@@ -318,6 +348,19 @@ def unit_lines(session, unit_id):
     top, bottom = outcome.counts
     return [f"unit {unit_id} position {position} counts {top} {bottom} requests {len(outcome.requests)}\n",
             *(request.line + "\n" for request in outcome.requests)]
+
+
+def json_line(session, unit_id):
+    """The JSON of a unit that isn't valid or isn't there; that of a valid one isn't modelled."""
+    at = session.place(unit_id)
+    if at is None:
+        return f'{{"unit":{unit_id},"none":true}}\n'
+    outcome, _, _ = session.rows[at]
+    if isinstance(outcome, Empty):
+        return f'{{"unit":{unit_id},"no_picture":true}}\n'
+    if isinstance(outcome, Plan):
+        raise NotImplementedError(f"the JSON of a valid unit, {unit_id}")
+    return f'{{"unit":{unit_id},"fault":{{"number":{outcome.number},"name":"{outcome}"}}}}\n'
 
 
 def shown(session, with_hex, unit_id):

@@ -1,5 +1,6 @@
 # The C interface: the static library, its header, its pkg-config file and manual pages.
-#     make                     builds the library into build/, where it is missing or older than its sources; it is proved first
+#     make                     puts the library into build/, where it is missing or older than its sources: that of dist/ where
+#                              that was built of these sources, else one that is proved and built first
 #     make install PREFIX=..   puts program, library, header, pkg-config file and manual pages below PREFIX (/usr/local)
 #     make check               builds and runs the tests in C and C++: under AddressSanitizer and UndefinedBehaviorSanitizer,
 #                              and under valgrind where it is there
@@ -24,9 +25,9 @@ all: $(library) build/cupdaisy.pc
 # tools/build-library proves what it builds; heap.c is added to the archive.
 $(library): $(sources) c/heap.c
 	mkdir -p build
-	tools/build-library cupdaisy
+	found=$$(tools/dist --find x86_64-linux/libcupdaisy.a) || { tools/build-library cupdaisy && found=$(archive); } \
+	    && cp "$$found" build/new.a
 	$(CC) -std=c99 $(WARNINGS) -O2 -fPIC -c c/heap.c -o build/heap.o
-	cp $(archive) build/new.a
 	ar qcD build/new.a build/heap.o
 	ranlib -D build/new.a
 	mv build/new.a $@

@@ -1,4 +1,4 @@
--- The units of a stream were accepted, so that what becomes of each can be decoded.
+-- The units of a stream were accepted, so that the outcome of each can be decoded.
 use Rattle.std.proofs.Common.{◌≡◌, ℕ, List, []}
 use Rattle.std.specs.List.{zip}
 use Rattle.std.proofs.lemmas.List.Elements.{All-nil}
@@ -14,7 +14,7 @@ use Rattle.stream_edits.specs.Journals.{edits_of}
 use Rattle.stream_edits.proofs.Accepted.{accepted-replayed}
 use Rattle.stream_edits.proofs.Grouped.{accepted-all}
 
--- the units of the stream after edits of one that edits lead to, with what becomes of them
+-- the units of the stream after edits of one that edits lead to, with their outcomes
 pub decodable-after : (journal : List (List Edit)) (old : Register) (edits : List Edit) (about : List ℕ) (new : Register) (ids : List ℕ)
     (outcomes : List Outcome)
     → Replays no_units (edits_of journal) old → MakesAll old edits about new → ids ≡ ids_of new.stream → outcomes ≡ outcomes_of new.stream

@@ -54,7 +54,7 @@ module _ (journal : List (List Edit)) (register : Register) (store : StoreValue)
       (length-stored register.stream store is ∙ sym (length-folded register.stream store is)) outcome in
       (found.0, key_found is stands found.0 found.1, awaited found.0 found.1)
 
-  -- what becomes of the unit
+  -- the unit's outcome
   outcome_found : IsOf register.stream store → place_of register.stream id ≡ Some place → (outcome : Outcome)
       → slice_get store.outcomes place ≡ Some outcome → outcome_in register.stream id ≡ Some outcome
   outcome_found is stands outcome found =

@@ -34,7 +34,7 @@ abbrev pub empty : ℕ → Machine
 empty room =
     record { room = room; journal = []; register = no_units; numbers = []; held = []; cached = []; out = []; jobs = 0 }
 
--- the pictures of the units, as they are stored: those of the stream's ids and of what becomes of each unit
+-- the pictures of the units, as they are stored: those of the stream's ids and of each unit's outcome
 abbrev pub store_of : Machine → StoreValue
 store_of machine = record {
   ids = ids_of machine.register.stream;

@@ -5,7 +5,7 @@ use Rattle.request_core.specs.Fold.{outcomes_of}
 use Rattle.output_order.specs.OutputOrder.{positions_of}
 use Rattle.stream_edits.specs.Streams.{Stream, place_of}
 
--- what becomes of the unit that has the id
+-- the outcome of the unit that has the id
 abbrev pub outcome_in : Stream → ℕ → Option Outcome
 outcome_in stream id = option_and_then (slice_get (outcomes_of stream)) (place_of stream id)
 

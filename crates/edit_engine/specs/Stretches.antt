@@ -13,7 +13,7 @@ ids_between change stream from to =
     ids_of (take (at_of change - from) (drop from stream)) ++ ids_of (units_of change)
     ++ ids_of (take (to - rest_from change) (drop (rest_from change) stream))
 
--- with the stretch the units are those of the changed stream, each with what becomes of it
+-- with the stretch the units are those of the changed stream, each with its outcome
 pub record IsStretchOf (change : Change) (stream : Stream) (stretch : Stretch) : Type 0 where
   pub is_stretch : IsStretch stretch (ids_of stream)
   pub ids_are : ids_with stretch (ids_of stream) ≡ ids_of (stream_after change stream)

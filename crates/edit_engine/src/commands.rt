@@ -14,7 +14,7 @@ pub enum Command {
     Edit(Edit),
     /// To make these edits together, as one step.
     Group(Vec<Edit>),
-    /// To say what becomes of the unit of this id.
+    /// To say the outcome of the unit of this id.
     Unit(AuId),
     /// To give a picture to decode.
     Take,

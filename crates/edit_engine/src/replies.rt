@@ -14,7 +14,7 @@ pub enum Reply {
     Edit(Result<Receipt, EditRefused>),
     /// The group's receipt, or why it is refused.
     Group(Result<GroupReceipt, GroupRefused>),
-    /// What becomes of the unit.
+    /// The unit's outcome.
     Unit(Result<UnitReport, NoSuchUnit>),
     /// The job, `None` where no picture is due, or that all numbers of jobs were given.
     Take(Result<Option<TakenJob>, TakeRefused>),
@@ -40,7 +40,7 @@ pub struct TakenJob {
     pub unit: AuId,
 }
 
-/// What becomes of a unit, and its position in output order where it is valid.
+/// A unit's outcome, and its position in output order where it is valid.
 #[derive(Debug)]
 pub struct UnitReport {
     pub outcome: Outcome,

@@ -17,7 +17,7 @@ use Rattle.needed_units.specs.Needed.{IsValid, Lists, Names}
 use Rattle.needed_units.proofs.Lookups.{last_known}
 use Rattle.needed_units.proofs.UnitAt.{IsAt, unit_at}
 
--- the key of a unit, by what becomes of it
+-- the key of a unit, by its outcome
 pub key_there : (units : List (ℕ × Outcome)) (at id : ℕ) (outcome : Outcome) → slice_get units at ≡ Some (id, outcome)
     → slice_get (keys_of units) at ≡ Some (key_of_outcome (known_after [] (take at units)) outcome)
 key_there units at id outcome is =

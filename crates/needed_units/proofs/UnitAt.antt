@@ -37,7 +37,7 @@ unit_at known (first ∷ units) (suc at) within =
       },
     )
 
--- what becomes of the unit
+-- the unit's outcome
 pub second_at : (ids : List ℕ) (outcomes : List Outcome) (at : ℕ) (unit : ℕ × Outcome) (outcome : Outcome)
     → slice_get (zip ids outcomes) at ≡ Some unit → outcome ≡ slice_index_or outcomes at outcome → at < length outcomes
     → unit.1 ≡ outcome

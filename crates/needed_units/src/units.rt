@@ -8,7 +8,7 @@ use picture_keys::Works;
 use pictures::AuId;
 use stand_in_device::Picture;
 
-/// The units of a stream column by column: their ids, what becomes of them and the numbers of their keys; and beside them
+/// The units of a stream column by column: their ids, their outcomes and the numbers of their keys; and beside them
 /// the keys, and the pictures that are held.
 #[derive(Drop)]
 pub struct Units<'a, F: Fingerprint<Works>> {

@@ -11,7 +11,7 @@ pub record UnitNumbers : Type 0 where
   pub numbers : Numbers
   pub found : List (Option ℕ)
 
--- they are those of the keys of these units, each with its id and what becomes of it, after those whose keys are known
+-- they are those of the keys of these units, each with its id and its outcome, after those whose keys are known
 pub record Follow (keys : KeyMap (List Work)) (known : Known) (units : List (ℕ × Outcome)) (found : UnitNumbers) : Type 0 where
   pub numbered : AreNumbered keys found.numbers (known_after known units)
   pub stand : AllStandFor keys found.found (keys_after known units)

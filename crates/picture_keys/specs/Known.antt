@@ -30,7 +30,7 @@ abbrev pub known_with : Known → ℕ → Option Key → Known
 known_with known id None = known
 known_with known id (Some key) = (id, key) ∷ known
 
--- the keys that are known after units, each with its id and what becomes of it
+-- the keys that are known after units, each with its id and its outcome
 abbrev pub known_after : Known → List (ℕ × Outcome) → Known
 known_after known [] = known
 known_after known (unit ∷ units) = known_after (known_with known unit.0 (key_of_outcome known unit.1)) units

@@ -271,7 +271,7 @@ module _ (keys : Trees) (ids : List ℕ) (outcomes : List Outcome) (found : List
           jobs = All-push (IsJobRight keys) out (record { number = next; key = number; input = input }) kept.jobs right;
         })
 
-    -- what becomes of the unit is what is stored at its place
+    -- the unit's outcome is what is stored at its place
     pub outcome_same : (outcome : Outcome) → outcome ≡ slice_index_or outcomes at outcome → unit.0.1 ≡ outcome
     outcome_same outcome there =
         second_at ids outcomes at unit.0 outcome unit.1.got there

@@ -13,7 +13,7 @@ pub record OutValue : Type 0 where
   pub key : Key
   pub input : InputValue
 
--- the ids of a stream's units, what becomes of them, and the number of each unit's key; how many pictures may be
+-- the ids of a stream's units, their outcomes, and the number of each unit's key; how many pictures may be
 -- cached; the keys whose pictures are held, those whose pictures are cached, the one put last first; the jobs that are
 -- out; and how many numbers of jobs were given
 pub record StoreValue : Type 0 where
@@ -30,7 +30,7 @@ pub record StoreValue : Type 0 where
 abbrev pub empty : ℕ → StoreValue
 empty room = record { ids = []; outcomes = []; numbers = []; room = room; held = []; cached = []; out = []; given = 0 }
 
--- the units, each with its id and what becomes of it
+-- the units, each with its id and its outcome
 abbrev pub units_of : StoreValue → List (ℕ × Outcome)
 units_of store = zip store.ids store.outcomes
 

@@ -17,6 +17,6 @@ pub record IsStretch (stretch : Stretch) (ids : List ℕ) : Type 0 where
 abbrev pub ids_with : Stretch → List ℕ → List ℕ
 ids_with stretch ids = replaced stretch.from stretch.to stretch.ids.items ids
 
--- what becomes of its units
+-- the outcomes of its units
 abbrev pub outcomes_with : Stretch → List Outcome → List Outcome
 outcomes_with stretch outcomes = replaced stretch.from stretch.to stretch.outcomes.items outcomes

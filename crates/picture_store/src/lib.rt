@@ -1,7 +1,7 @@
 //! The pictures of a stream's units: which are held, which wait, which are cached after their keys went out of use, and
 //! the jobs that are out.
 //!
-//! `PictureStore` knows a stream by its units' ids and what becomes of each. `refit` takes a stretch of it that changed,
+//! `PictureStore` knows a stream by its units' ids and the outcome of each. `refit` takes a stretch of it that changed,
 //! and finds the keys of its units and of those after it whose keys may have changed with it: a picture whose key stays in
 //! use stays held. `take` gives the job of the earliest picture that can be decoded, `take_for` that of the earliest which a
 //! unit needs, `land` takes its result, late or twice, `give_back` the job undone, `picture` shows what is held, and

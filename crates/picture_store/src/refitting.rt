@@ -67,7 +67,7 @@ fn go_over<F: Fingerprint<Works>>(
     Ok(())
 }
 
-/// What is kept of the units of a stream, column by column: their ids, what becomes of them, and the numbers of their keys.
+/// What is kept of the units of a stream, column by column: their ids, their outcomes, and the numbers of their keys.
 #[derive(Clone, Copy, Debug)]
 struct Columns<'a> {
     ids: &'a [AuId],

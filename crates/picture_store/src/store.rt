@@ -16,6 +16,8 @@ ghost use Rattle.picture_store.specs.Pending.{IsAnyOutBy, IsDueAt, IsPending};
 ghost use Rattle.picture_store.specs.TakingFor.{AnswersDrop, TellsGiven, TellsTakeFor};
 ghost use Rattle.picture_store.specs.Stretches.{IsStretch, ids_with, outcomes_with};
 
+mod counts;
+
 use crate::answers::{JobAt, Landing, Returning};
 use crate::due::{earliest_due, first_due, first_to_do, is_awaited};
 use crate::inputs::input_of;
@@ -40,7 +42,7 @@ use std::alloc::{AllocError, Global};
 use std::marker::Model;
 use vec_ranges::replace_range;
 
-/// The pictures of a stream's units. Clauses see the units, each with its id and what becomes of it; the keys whose
+/// The pictures of a stream's units. Clauses see the units, each with its id and its outcome; the keys whose
 /// pictures are held, and those whose pictures are cached after they went out of use; and the jobs that are out.
 #[derive(Debug)]
 pub struct PictureStore {
@@ -137,7 +139,7 @@ impl PictureStore {
         self.ids.as_slice()
     }
 
-    /// What becomes of each unit, in the order of the stream.
+    /// Each unit's outcome, in the order of the stream.
     pub fn outcomes(&self) -> &[Shared<HashedOutcome>]
         ensures { result.now ≡ self.now.outcomes }
     {

@@ -5,13 +5,14 @@ mod groups;
 mod hands;
 mod jobs;
 mod looks;
+mod needs;
 mod plain;
 mod pool;
 mod told;
 mod trees;
 
 use drawing::draw;
-use edit_engine::{Config, Landing, Session};
+use edit_engine::{Config, Dropping, Landing, Session};
 use hands::Hands;
 use looks::{Names, agree};
 use plain::Plain;
@@ -36,6 +37,10 @@ struct Counts {
     stale: u32,
     foreign: u32,
     restored: u32,
+    dropped: u32,
+    not_held: u32,
+    /// Jobs that were taken for a unit while an earlier one of the stream was due.
+    jumped: u32,
     /// Commands after which a unit has no picture.
     empty: u32,
 }
@@ -51,6 +56,8 @@ impl Counts {
             Answer::Landed(Landing::Taken) => &mut self.taken,
             Answer::Landed(Landing::Stale) => &mut self.stale,
             Answer::Landed(Landing::Foreign) => &mut self.foreign,
+            Answer::Dropped(Dropping::Dropped) => &mut self.dropped,
+            Answer::Dropped(Dropping::NotHeld) => &mut self.not_held,
             _ => return,
         };
         *counted = counted.saturating_add(1);
@@ -72,7 +79,10 @@ impl Counts {
             && self.taken > 250
             && self.stale > 40
             && self.foreign > 100
-            && self.restored > 50
+            && self.restored > 30
+            && self.dropped > 100
+            && self.not_held > 200
+            && self.jumped > 20
             && self.empty > 50
     }
 }
@@ -142,6 +152,7 @@ impl List {
             }
         }
         counts.restored = counts.restored.saturating_add(self.plain.cached.restored);
+        counts.jumped = counts.jumped.saturating_add(self.plain.jumped);
         Ok(true)
     }
 }
@@ -171,6 +182,9 @@ fn lists_agree(alloc: Global, seed: u64, room: u16) -> Result<bool, AllocError> 
         stale: 0,
         foreign: 0,
         restored: 0,
+        dropped: 0,
+        not_held: 0,
+        jumped: 0,
         empty: 0,
     };
     for _ in 0..LISTS {

@@ -93,6 +93,11 @@ impl Cached {
         Ok(())
     }
 
+    /// Drops all keys.
+    pub(super) fn clear(&mut self) {
+        self.groups.clear();
+    }
+
     /// Keeps as much of a group as there is room for; the room that is left.
     fn add(&mut self, group: Group, room: usize) -> Result<usize, AllocError> {
         let Group { trees, kept } = group;

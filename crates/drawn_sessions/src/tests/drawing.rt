@@ -8,13 +8,16 @@ use test_builders::Draws;
 
 /// Draws a command.
 pub(super) fn draw(draws: &mut Draws, plain: &Plain) -> Told {
-    match draws.below(16) {
+    match draws.below(20) {
         0..=3 => Told::Edit(draw_change(draws, plain)),
         4 => Told::Group(draw_group(draws, plain)),
-        5..=9 => Told::Take,
+        5..=6 => Told::Take,
+        7..=10 => Told::TakeFor(draw_id(draws, plain)),
+        11..=12 => Told::Drop(draw_id(draws, plain)),
+        13 if draws.below(4) == 0 => Told::ClearCache,
         // Where no job is out, mostly one is taken.
-        10..=14 if plain.out.is_empty() && draws.below(8) > 0 => Told::Take,
-        10..=14 => {
+        13..=18 if plain.out.is_empty() && draws.below(8) > 0 => draw_taking(draws, plain),
+        13..=18 => {
             let (number, of) = draw_job(draws, plain);
             Told::Land(number, of)
         }
@@ -22,6 +25,14 @@ pub(super) fn draw(draws: &mut Draws, plain: &Plain) -> Told {
             let (number, of) = draw_job(draws, plain);
             Told::Give(number, of)
         }
+    }
+}
+
+/// Draws a taking, mostly for a unit.
+fn draw_taking(draws: &mut Draws, plain: &Plain) -> Told {
+    match draws.below(3) {
+        0 => Told::Take,
+        _ => Told::TakeFor(draw_id(draws, plain)),
     }
 }
 

@@ -4,6 +4,7 @@ use super::jobs::Given;
 use super::told::{Answer, MOST_TOGETHER, Told};
 use edit_engine::{
     EditRefused, Finished, GroupReceipt, GroupRefused, Job, Landing, Receipt, Returning, Session,
+    TakeRefused,
 };
 use pictures::AuId;
 use stand_in_device::{Device, Input, Undone};
@@ -29,7 +30,14 @@ impl Hands {
                 let edited = self.session.edit_group(group.edits(alloc)?);
                 Ok(answer_of_group(edited, self.session.last().units))
             }
-            Told::Take => self.take(),
+            Told::Take => {
+                let taken = self.session.take();
+                self.keep(taken)
+            }
+            Told::TakeFor(id) => {
+                let taken = self.session.take_for(AuId::new(id));
+                self.keep(taken)
+            }
             Told::Land(number, of) => match self.job(alloc, number, of)? {
                 Some(job) => {
                     let finished = decoded(alloc, &mut self.device, job)?;
@@ -41,12 +49,17 @@ impl Hands {
                 Some(job) => Ok(Answer::GivenBack(self.session.give_back(job))),
                 None => Ok(Answer::GivenBack(Returning::Foreign)),
             },
+            Told::Drop(id) => Ok(Answer::Dropped(self.session.drop_picture(AuId::new(id)))),
+            Told::ClearCache => {
+                self.session.clear_cache();
+                Ok(Answer::Cleared)
+            }
         }
     }
 
-    /// Takes a job, and keeps its input.
-    fn take(&mut self) -> Result<Answer, AllocError> {
-        match self.session.take() {
+    /// Keeps the input of a job that was taken.
+    fn keep(&mut self, taken: Result<Option<Job>, TakeRefused>) -> Result<Answer, AllocError> {
+        match taken {
             Ok(Some(job)) => {
                 let (number, input) = job.into_parts();
                 let timestamp = timestamp_of(&input);

@@ -22,10 +22,15 @@ pub(super) struct Given {
 impl Plain {
     /// Gives the job of the earliest unit whose key is due, under the next number.
     pub(super) fn take(&mut self, alloc: Global) -> Result<Answer, AllocError> {
-        let Some(key) = self.due(alloc)? else {
+        let due = self.first_due(alloc, &self.keys)?;
+        self.give(alloc, due)
+    }
+
+    /// Gives the job of a unit with this key under the next number, if there is one.
+    pub(super) fn give(&mut self, alloc: Global, due: Option<Key>) -> Result<Answer, AllocError> {
+        let Some(Key { id, tree }) = due else {
             return Ok(Answer::NotTaken);
         };
-        let Key { id, tree } = key;
         let given = self.given_of(alloc, id, tree)?;
         self.given.push(given)?;
         let number = self.jobs();
@@ -51,9 +56,9 @@ impl Plain {
         }
     }
 
-    /// The first key that is due.
-    fn due(&self, alloc: Global) -> Result<Option<Key>, AllocError> {
-        for key in &self.keys {
+    /// The first of these keys that is due.
+    pub(super) fn first_due(&self, alloc: Global, keys: &[Key]) -> Result<Option<Key>, AllocError> {
+        for key in keys {
             if self.is_due(alloc, *key)? {
                 return Ok(Some(*key));
             }
@@ -75,7 +80,7 @@ impl Plain {
     }
 
     /// The requests of the unit of an id.
-    fn requests_of(&self, id: AuId) -> &[Request] {
+    pub(super) fn requests_of(&self, id: AuId) -> &[Request] {
         match self.outcome(id) {
             Some(Outcome::Plan(plan)) => plan.requests.as_slice(),
             _ => &[],

@@ -10,11 +10,11 @@ use outcomes::Outcome;
 use pictures::AuId;
 use std::alloc::{AllocError, Global};
 
-/// A stream under edits, what becomes of its units, and of their pictures.
+/// A stream under edits, the outcomes of its units, and of their pictures.
 #[derive(Drop)]
 pub(super) struct Plain {
     pub(super) units: Vec<(AuId, Unit)>,
-    /// What becomes of the units, folded anew after each edit, with the keys of the valid ones.
+    /// The outcomes of the units, folded anew after each edit, with the keys of the valid ones.
     pub(super) outcomes: Vec<Outcome>,
     pub(super) positions: Vec<Option<usize>>,
     pub(super) seen: Seen,
@@ -24,6 +24,8 @@ pub(super) struct Plain {
     /// All jobs that were given, and the numbers of those that are out.
     pub(super) given: Vec<Given>,
     pub(super) out: Vec<u64>,
+    /// How many jobs were taken for a unit while an earlier one of the stream was due.
+    pub(super) jumped: u32,
     /// The text of each id that was given, as a place of the pool.
     pub(super) texts: Vec<usize>,
     /// For each accepted edit, also of a group, the one that undoes it.
@@ -48,6 +50,7 @@ impl Plain {
             cached: Cached::new(alloc, usize::from(room)),
             given: Vec::new(alloc),
             out: Vec::new(alloc),
+            jumped: 0,
             texts: Vec::new(alloc),
             undoing: Vec::new(alloc),
             journaled: 0,
@@ -65,8 +68,14 @@ impl Plain {
             Told::Edit(change) => self.edit(alloc, session, change),
             Told::Group(group) => self.edit_group(alloc, session, group),
             Told::Take => self.take(alloc),
+            Told::TakeFor(id) => self.take_for(alloc, AuId::new(id)),
             Told::Land(number, of) => Ok(Answer::Landed(self.land(number, of)?)),
             Told::Give(number, of) => Ok(Answer::GivenBack(self.give_back(number, of))),
+            Told::Drop(id) => Ok(Answer::Dropped(self.drop_picture(AuId::new(id)))),
+            Told::ClearCache => {
+                self.cached.clear();
+                Ok(Answer::Cleared)
+            }
         }
     }
 
@@ -75,7 +84,7 @@ impl Plain {
         self.units.iter().position(|unit| unit.0 == id)
     }
 
-    /// What becomes of the unit of an id.
+    /// The outcome of the unit of an id.
     pub(super) fn outcome(&self, id: AuId) -> Option<&Outcome> {
         self.outcomes.get(self.place_of(id)?)
     }

@@ -1,7 +1,7 @@
 //! What a session is told, and what it answers.
 
 use super::pool::text_at;
-use edit_engine::{Edit, Landing, Place, Returning};
+use edit_engine::{Dropping, Edit, Landing, Place, Returning};
 use pictures::AuId;
 use std::alloc::{AllocError, Global};
 
@@ -73,8 +73,11 @@ pub(super) enum Told {
     Edit(Change),
     Group(EditGroup),
     Take,
+    TakeFor(u32),
     Land(u64, u64),
     Give(u64, u64),
+    Drop(u32),
+    ClearCache,
 }
 
 /// What a command is answered.
@@ -93,6 +96,8 @@ pub(super) enum Answer {
     NotTaken,
     Landed(Landing),
     GivenBack(Returning),
+    Dropped(Dropping),
+    Cleared,
     /// What no model answers.
     Wrong,
 }

@@ -18,22 +18,22 @@ below_or (suc k) (suc n) low =
     elim (below_or k n (omega (arith, low))) [ inl less ↦ inl (omega (arith, less)) | inr same ↦ inr (ap suc same) ]
 
 -- one receipt more agrees
-pub FirstAgree-more : (journal : List (List Edit)) (lower : List SeatBook) (book : List SeatReceipt) (n : ℕ) (receipt : SeatReceipt)
-    → slice_get book n ≡ Some receipt → Agrees journal lower (take n book) receipt → FirstAgree journal lower book n
-    → FirstAgree journal lower book (n + 1)
-FirstAgree-more journal lower book n receipt stands agrees first at other low there =
+pub FirstAgree-more : (journal : List (List Edit)) (books : List SeatBook) (seat : ℕ) (book : List SeatReceipt) (n : ℕ)
+    (receipt : SeatReceipt) → slice_get book n ≡ Some receipt → Agrees journal books seat (take n book) receipt
+    → FirstAgree journal books seat book n → FirstAgree journal books seat book (n + 1)
+FirstAgree-more journal books seat book n receipt stands agrees first at other low there =
     elim (below_or at n low) [
       | inl before ↦ first at other before there
       | inr here ↦
           let same : receipt ≡ other =
           some_same receipt other (sym stands ∙ subst (λ (k : ℕ). slice_get book k ≡ Some other) here there) in
-          subst (λ (k : ℕ). Agrees journal lower (take k book) other) (sym here)
-          (subst (λ (r : SeatReceipt). Agrees journal lower (take n book) r) same agrees)
+          subst (λ (k : ℕ). Agrees journal books seat (take k book) other) (sym here)
+          (subst (λ (r : SeatReceipt). Agrees journal books seat (take n book) r) same agrees)
     ]
 
 -- one book more agrees
 pub FirstBooksAgree-more : (journal : List (List Edit)) (books : List SeatBook) (n : ℕ) (book : SeatBook)
-    → slice_get books n ≡ Some book → BookAgrees journal (take n books) book → FirstBooksAgree journal books n
+    → slice_get books n ≡ Some book → BookAgrees journal books n book → FirstBooksAgree journal books n
     → FirstBooksAgree journal books (n + 1)
 FirstBooksAgree-more journal books n book stands agrees first at other low there =
     elim (below_or at n low) [
@@ -41,8 +41,8 @@ FirstBooksAgree-more journal books n book stands agrees first at other low there
       | inr here ↦
           let same : book ≡ other =
           some_same book other (sym stands ∙ subst (λ (k : ℕ). slice_get books k ≡ Some other) here there) in
-          subst (λ (k : ℕ). BookAgrees journal (take k books) other) (sym here)
-          (subst (λ (b : SeatBook). BookAgrees journal (take n books) b) same agrees)
+          subst (λ (k : ℕ). BookAgrees journal books k other) (sym here)
+          (subst (λ (b : SeatBook). BookAgrees journal books n b) same agrees)
     ]
 
 -- the first receipts with the next one

@@ -15,14 +15,16 @@ use Rattle.edit_engine.specs.Jobs.{AnswersLand, IsFirstWith, TellsTake}
 use Rattle.edit_engine.specs.Kept.{machine_of}
 use Rattle.edit_engine.specs.Machines.{Machine, store_of}
 use Rattle.edit_engine.specs.Showing.{HasKey}
+use Rattle.seat_books.specs.declared.book.SeatBook.{SeatBook}
+use Rattle.seat_books.specs.declared.number_set.NumberSet.{NumberSet}
 use Rattle.seat_books.specs.declared.receipts.SeatReceipt.{SeatReceipt}
 use Rattle.seat_books.specs.declared.replay.Replay.{Replay}
 use Rattle.seat_books.specs.Books.{IsInUse, LeadTo, length_in}
-use Rattle.seat_books.specs.Following.{AreReady, IsReplayed, Stays, reach}
+use Rattle.seat_books.specs.Following.{AreGone, AreReady, IsReplayed, Stays, reach}
 use Rattle.seat_books.specs.Sets.{has}
 use Rattle.seat_books.proofs.Fronts.{IsFront-same}
 use Rattle.seat_books.proofs.Numbers.{first_has, same_number, same_numbers}
-use Rattle.seat_books.proofs.Readies.{AreReady-decoded}
+use Rattle.seat_books.proofs.Readies.{AreGone-same, AreReady-decoded}
 
 -- the only element of a list
 lone : {X : Type 0} (x y : X) → Contains (x ∷ []) y → y ≡ x
@@ -141,13 +143,14 @@ module _ (before mid new : Machine) (id : ℕ) (job : JobValue) (told : TellsTak
       }
 
 -- the unit's key was forgotten, its picture was decoded, and the result lands
-pub IsReplayed-decoded : (journal : List (List Edit)) (earlier : List SeatReceipt) (old new : Replay) (mid : Machine) (id : ℕ)
-    (job : JobValue) (landing : Landing) → (told : TellsTake old.session (Ok (Some (id, job))) mid)
+pub IsReplayed-decoded : (journal : List (List Edit)) (books : List SeatBook) (seat : ℕ) (earlier : List SeatReceipt)
+    (old new : Replay) (mid : Machine) (id : ℕ) (job : JobValue) (landing : Landing) → new.seat ≡ old.seat
+    → new.gone ≡ old.gone → (told : TellsTake old.session (Ok (Some (id, job))) mid)
     → ((key : Key) → HasKey mid.register.stream id key → (number : ℕ) × IsNumberOf (store_of mid) key number
     × AreOneToOne (store_of mid) (store_of mid)
     × ((other : ℕ) → has new.ready other ≡ cond (eqb number other) false (has old.ready other)))
-    → AnswersLand mid job landing new.session → IsReplayed journal earlier old → IsReplayed journal earlier new
-IsReplayed-decoded journal earlier old new mid id job landing told forgets lands_so replayed =
+    → AnswersLand mid job landing new.session → IsReplayed journal books seat earlier old → IsReplayed journal books seat earlier new
+IsReplayed-decoded journal books seat earlier old new mid id job landing own gone_is told forgets lands_so replayed =
     let none : old.session.out ≡ [] = replayed.bare.out_none in
     let out : OutValue = given old.session mid id job told none in
     let landed : Landed old.session new.session out.key = lands old.session mid new.session id job told none landing lands_so in
@@ -157,6 +160,7 @@ IsReplayed-decoded journal earlier old new mid id job landing told forgets lands
     let forgot = forgets out.key (given_has old.session mid id job told none journal (reach old) leads) in
     let same : reach old ≡ reach new = ap length (sym landed.stays.journal_stays) in
     record {
+      own = own ∙ replayed.own;
       made = IsFront-same journal old.session new.session landed.stays.journal_stays landed.stays.register_stays replayed.made;
       passed = subst (λ (n : ℕ). All (λ (receipt : SeatReceipt). length_in receipt ≤ n) earlier) same replayed.passed;
       bare = record {
@@ -170,11 +174,16 @@ IsReplayed-decoded journal earlier old new mid id job landing told forgets lands
         out_none = landed.out_none;
       };
       ready =
-          subst (λ (n : ℕ). AreReady journal earlier n new.session new.ready) same
-          (AreReady-decoded journal earlier (reach old) old.session new.session old.ready new.ready out.key forgot.0
+          subst (λ (n : ℕ). AreReady journal books seat earlier n new.session new.ready) same
+          (AreReady-decoded journal books seat earlier (reach old) old.session new.session old.ready new.ready out.key forgot.0
           landed.stays.register_stays landed.stays.numbers_stay
           (same_number old.session mid taken.register_stays taken.numbers_stay out.key forgot.0 forgot.1) landed.awaited landed.held
           (same_numbers old.session mid taken.register_stays taken.numbers_stay forgot.2) forgot.3 replayed.ready);
+      gone =
+          subst (λ (n : ℕ). AreGone journal books seat n new.session new.gone) same
+          (AreGone-same journal books seat (reach old) old.session new.session new.gone landed.stays.register_stays
+          landed.stays.numbers_stay
+          (subst (λ (set : NumberSet). AreGone journal books seat (reach old) old.session set) (sym gone_is) replayed.gone));
     }
 
 -- the session after that
@@ -211,10 +220,10 @@ Stays-same old new same = record {
   numbers_stay = ap (λ (machine : Machine). machine.numbers) same;
 }
 
-pub IsReplayed-same : (journal : List (List Edit)) (earlier : List SeatReceipt) (old : Replay) (new : Machine) → new ≡ old.session
-    → IsReplayed journal earlier old → IsReplayed journal earlier (record old { session = new })
-IsReplayed-same journal earlier old new same replayed =
-    subst (λ (machine : Machine). IsReplayed journal earlier (record old { session = machine })) (sym same) replayed
+pub IsReplayed-same : (journal : List (List Edit)) (books : List SeatBook) (seat : ℕ) (earlier : List SeatReceipt) (old : Replay) (new : Machine) → new ≡ old.session
+    → IsReplayed journal books seat earlier old → IsReplayed journal books seat earlier (record old { session = new })
+IsReplayed-same journal books seat earlier old new same replayed =
+    subst (λ (machine : Machine). IsReplayed journal books seat earlier (record old { session = machine })) (sym same) replayed
 
 -- what stays so twice
 pub Stays-both : (a b c : Machine) → Stays a b → Stays b c → Stays a c

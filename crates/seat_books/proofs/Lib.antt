@@ -1,11 +1,16 @@
 pub mod Alike
 pub mod Unique
 pub mod Numbers
+pub mod Pushed
+pub mod Gone
+pub mod Tabled
+pub mod Lost
 pub mod Readies
 pub mod Fronts
 pub mod Made
 pub mod Decoded
 pub mod Checked
 pub mod Audited
+pub mod Dropped
 pub mod Noting
 pub mod Shown

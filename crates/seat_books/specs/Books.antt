@@ -1,10 +1,12 @@
 -- Books of seats, and when they agree with a journal.
-use Rattle.std.specs.Prelude.{◌≡◌, ℕ, ◌+◌, ◌<◌, ◌≤◌, ◌==◌, Bool, false, List, [], ◌∷◌, Some, None, length, take, slice_get, All, Contains}
+use Rattle.std.specs.Prelude.{◌≡◌, ◌⊎◌, ℕ, ◌+◌, ◌<◌, ◌≤◌, ◌==◌, Bool, false, List, [], ◌∷◌, Some, None, length, take, slice_get, option_and_then, All, Contains}
 use Rattle.std.specs.List.{list_any}
 use Rattle.outcomes.specs.declared.outcome.Outcome.TheVariants as outcomes
 use Rattle.picture_keys.specs.Keys.{Key}
 use Rattle.picture_keys.specs.KeyPictures.{picture_of_key}
 use Rattle.stream_edits.specs.declared.edits.Edit.{Edit}
+use Rattle.edit_engine.specs.declared.showing.Dropping.{Dropping}
+use Rattle.edit_engine.specs.declared.showing.Dropping.TheVariants as dropping
 use Rattle.edit_engine.specs.declared.showing.Shown.{Shown}
 use Rattle.edit_engine.specs.declared.showing.Shown.TheVariants as shown
 use Rattle.stream_edits.specs.Streams.{Stream, place_of}
@@ -22,12 +24,14 @@ abbrev pub length_in : SeatReceipt → ℕ
 length_in (receipts.Edit edit id n) = n
 length_in (receipts.Group group n) = n
 length_in (receipts.Show id answer n) = n
+length_in (receipts.Drop id answer n) = n
 
 -- whether the receipt is of the edit or group that made the journal so long
 abbrev pub is_edit_of : ℕ → SeatReceipt → Bool
 is_edit_of n (receipts.Edit edit id m) = m == n
 is_edit_of n (receipts.Group group m) = m == n
 is_edit_of n (receipts.Show id answer m) = false
+is_edit_of n (receipts.Drop id answer m) = false
 
 -- whether one of the books has a receipt of that edit or group
 abbrev pub is_noted : List SeatBook → ℕ → Bool
@@ -74,54 +78,103 @@ ShowsReady journal n key (receipts.Show id (shown.Ready picture) from) =
     HasKeyAfter journal from id key × StaysInUse journal key from n
 ShowsReady journal n key _ = ⊥
 
--- one of the receipts is of such a picture
-abbrev pub WasReady : List (List Edit) → List SeatReceipt → ℕ → Key → Type 0
-WasReady journal earlier n key =
-    (receipt : SeatReceipt) × Contains earlier receipt × ShowsReady journal n key receipt
+-- the receipt is of a picture that was dropped, of a unit with the key
+abbrev pub DropsKey : List (List Edit) → Key → SeatReceipt → Type 0
+DropsKey journal key (receipts.Drop id dropping.Dropped n) = HasKeyAfter journal n id key
+DropsKey journal key _ = ⊥
+
+-- the book of another seat has such a receipt, with a length from one number to another
+pub record IsDroppedElsewhere (journal : List (List Edit)) (books : List SeatBook) (seat : ℕ) (key : Key) (from to : ℕ)
+    : Type 0 where
+  pub other : ℕ
+  pub book : SeatBook
+  pub receipt : SeatReceipt
+  pub apart : other ≡ seat → ⊥
+  pub stands : slice_get books other ≡ Some book
+  pub among : Contains book.receipts.items receipt
+  pub drops : DropsKey journal key receipt
+  pub above : from ≤ length_in receipt
+  pub below : length_in receipt ≤ to
+
+-- one of the earlier receipts of the seat is of such a picture, which no receipt after it drops, nor one of another seat
+pub record WasReady (journal : List (List Edit)) (books : List SeatBook) (seat : ℕ) (earlier : List SeatReceipt) (n : ℕ)
+    (key : Key) : Type 0 where
+  pub at : ℕ
+  pub receipt : SeatReceipt
+  pub stands : slice_get earlier at ≡ Some receipt
+  pub shows : ShowsReady journal n key receipt
+  pub kept : (later : ℕ) (other : SeatReceipt) → at < later → slice_get earlier later ≡ Some other
+      → DropsKey journal key other → ⊥
+  pub nowhere : IsDroppedElsewhere journal books seat key (length_in receipt) n → ⊥
 
 -- the answer of a show is possible after so many entries, which lead to the stream: the picture of the unit's key; that a
--- valid unit waits, whose key isn't one that was shown ready before and stayed in use; the unit's fault; that the
--- unit has no picture; or that there is no such unit
-abbrev pub IsPossible : List (List Edit) → List SeatReceipt → ℕ → Stream → ℕ → Shown → Type 0
-IsPossible journal earlier n stream id (shown.Ready picture) =
+-- valid unit waits, whose key isn't one that was shown ready before and stayed in use, undropped; the unit's fault; that
+-- the unit has no picture; or that there is no such unit
+abbrev pub IsPossible : List (List Edit) → List SeatBook → ℕ → List SeatReceipt → ℕ → Stream → ℕ → Shown → Type 0
+IsPossible journal books seat earlier n stream id (shown.Ready picture) =
     (key : Key) × HasKey stream id key × (picture ≡ picture_of_key key)
-IsPossible journal earlier n stream id shown.Pending =
-    (key : Key) × HasKey stream id key × (WasReady journal earlier n key → ⊥)
-IsPossible journal earlier n stream id (shown.Fault fault) = outcome_in stream id ≡ Some (outcomes.Fault fault)
-IsPossible journal earlier n stream id shown.Empty = outcome_in stream id ≡ Some outcomes.Empty
-IsPossible journal earlier n stream id shown.NoSuchUnit = place_of stream id ≡ None
+IsPossible journal books seat earlier n stream id shown.Pending =
+    (key : Key) × HasKey stream id key × (WasReady journal books seat earlier n key → ⊥)
+IsPossible journal books seat earlier n stream id (shown.Fault fault) =
+    outcome_in stream id ≡ Some (outcomes.Fault fault)
+IsPossible journal books seat earlier n stream id shown.Empty = outcome_in stream id ≡ Some outcomes.Empty
+IsPossible journal books seat earlier n stream id shown.NoSuchUnit = place_of stream id ≡ None
+
+-- the unit that has the id is there and isn't valid
+abbrev pub HasNoKey : Stream → ℕ → Type 0
+HasNoKey stream id = option_and_then (slice_get (keys_in stream)) (place_of stream id) ≡ Some None
+
+-- the answer of a drop is possible after so many entries, which lead to the stream: that the picture of a valid unit was
+-- dropped; that no picture was held of one that isn't valid, or that may be shown pending; or that there is no such unit
+abbrev pub IsDropPossible : List (List Edit) → List SeatBook → ℕ → List SeatReceipt → ℕ → Stream → ℕ → Dropping → Type 0
+IsDropPossible journal books seat earlier n stream id dropping.Dropped = (key : Key) × HasKey stream id key
+IsDropPossible journal books seat earlier n stream id dropping.NotHeld =
+    HasNoKey stream id ⊎ IsPossible journal books seat earlier n stream id shown.Pending
+IsDropPossible journal books seat earlier n stream id dropping.NoSuchUnit = place_of stream id ≡ None
 
 -- the receipt of a show agrees, after the earlier receipts of its book: its length is that of the journal at most, and
 -- not below those of earlier receipts, and after so many entries its answer is possible
-pub record ShowAgrees (journal : List (List Edit)) (earlier : List SeatReceipt) (id : ℕ) (answer : Shown) (n : ℕ)
-    : Type 0 where
+pub record ShowAgrees (journal : List (List Edit)) (books : List SeatBook) (seat : ℕ) (earlier : List SeatReceipt) (id : ℕ)
+    (answer : Shown) (n : ℕ) : Type 0 where
   pub register : Register
   pub leads : LeadTo journal n register
   pub later : All (λ receipt. length_in receipt ≤ n) earlier
-  pub possible : IsPossible journal earlier n register.stream id answer
+  pub possible : IsPossible journal books seat earlier n register.stream id answer
 
--- a receipt agrees with the journal, after the books of lower seats and the earlier receipts of its own
-abbrev pub Agrees : List (List Edit) → List SeatBook → List SeatReceipt → SeatReceipt → Type 0
-Agrees journal lower earlier (receipts.Edit edit id n) = EditAgrees journal lower earlier (edit ∷ []) (id ∷ []) n
-Agrees journal lower earlier (receipts.Group group n) = EditAgrees journal lower earlier group.edits group.ids n
-Agrees journal lower earlier (receipts.Show id answer n) = ShowAgrees journal earlier id answer n
+-- the receipt of a drop agrees in the same way
+pub record DropAgrees (journal : List (List Edit)) (books : List SeatBook) (seat : ℕ) (earlier : List SeatReceipt) (id : ℕ)
+    (answer : Dropping) (n : ℕ) : Type 0 where
+  pub register : Register
+  pub leads : LeadTo journal n register
+  pub later : All (λ receipt. length_in receipt ≤ n) earlier
+  pub possible : IsDropPossible journal books seat earlier n register.stream id answer
 
--- the first receipts of a book, so many, agree after the books of lower seats
-abbrev pub FirstAgree : List (List Edit) → List SeatBook → List SeatReceipt → ℕ → Type 0
-FirstAgree journal lower book n =
+-- a receipt of the seat, counted from 0, agrees with the journal, beside the books of all seats and after the earlier
+-- receipts of its own
+abbrev pub Agrees : List (List Edit) → List SeatBook → ℕ → List SeatReceipt → SeatReceipt → Type 0
+Agrees journal books seat earlier (receipts.Edit edit id n) =
+    EditAgrees journal (take seat books) earlier (edit ∷ []) (id ∷ []) n
+Agrees journal books seat earlier (receipts.Group group n) =
+    EditAgrees journal (take seat books) earlier group.edits group.ids n
+Agrees journal books seat earlier (receipts.Show id answer n) = ShowAgrees journal books seat earlier id answer n
+Agrees journal books seat earlier (receipts.Drop id answer n) = DropAgrees journal books seat earlier id answer n
+
+-- the first receipts of the seat's book, so many, agree
+abbrev pub FirstAgree : List (List Edit) → List SeatBook → ℕ → List SeatReceipt → ℕ → Type 0
+FirstAgree journal books seat book n =
     (at : ℕ) (receipt : SeatReceipt) → at < n → slice_get book at ≡ Some receipt
-    → Agrees journal lower (take at book) receipt
+    → Agrees journal books seat (take at book) receipt
 
--- a book agrees after those of lower seats: each receipt does
-abbrev pub BookAgrees : List (List Edit) → List SeatBook → SeatBook → Type 0
-BookAgrees journal lower book =
-    FirstAgree journal lower book.receipts.items (length book.receipts.items)
+-- the seat's book agrees: each receipt does
+abbrev pub BookAgrees : List (List Edit) → List SeatBook → ℕ → SeatBook → Type 0
+BookAgrees journal books seat book =
+    FirstAgree journal books seat book.receipts.items (length book.receipts.items)
 
 -- the books of the first seats, so many, agree with the journal
 abbrev pub FirstBooksAgree : List (List Edit) → List SeatBook → ℕ → Type 0
 FirstBooksAgree journal books n =
     (at : ℕ) (book : SeatBook) → at < n → slice_get books at ≡ Some book
-    → BookAgrees journal (take at books) book
+    → BookAgrees journal books at book
 
 -- the books of the seats, in their order, agree with the journal
 abbrev pub BooksAgree : List (List Edit) → List SeatBook → Type 0

@@ -40,6 +40,6 @@ fn note_receipt(noted: &mut NumberSet, receipt: &SeatReceipt) -> Result<(), Allo
 {
     match receipt {
         SeatReceipt::Edit { length, .. } | SeatReceipt::Group { length, .. } => noted.add(*length),
-        SeatReceipt::Show { .. } => Ok(()),
+        SeatReceipt::Show { .. } | SeatReceipt::Drop { .. } => Ok(()),
     }
 }

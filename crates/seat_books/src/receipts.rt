@@ -4,7 +4,7 @@ ghost use Rattle.std.specs.Prelude.{◌≡◌, IfOk};
 ghost use Rattle.seat_books.specs.Books.{length_in};
 
 use crate::noted_group::NotedGroup;
-use edit_engine::{Edit, Shown};
+use edit_engine::{Dropping, Edit, Shown};
 use pictures::AuId;
 use std::alloc::AllocError;
 
@@ -12,11 +12,28 @@ use std::alloc::AllocError;
 #[derive(Debug, Drop)]
 pub enum SeatReceipt {
     /// An edit of its own that was accepted, and the id that it was answered.
-    Edit { edit: Edit, id: AuId, length: u64 },
+    Edit {
+        edit: Edit,
+        id: AuId,
+        length: u64,
+    },
     /// A group of edits of its own that was accepted, and the ids that it was answered.
-    Group { group: NotedGroup, length: u64 },
+    Group {
+        group: NotedGroup,
+        length: u64,
+    },
     /// What it was shown of the unit of the id.
-    Show { id: AuId, shown: Shown, length: u64 },
+    Show {
+        id: AuId,
+        shown: Shown,
+        length: u64,
+    },
+    /// What came of dropping the picture of the unit of the id.
+    Drop {
+        id: AuId,
+        answer: Dropping,
+        length: u64,
+    },
 }
 
 impl SeatReceipt {
@@ -27,7 +44,8 @@ impl SeatReceipt {
         match self {
             SeatReceipt::Edit { length, .. }
             | SeatReceipt::Group { length, .. }
-            | SeatReceipt::Show { length, .. } => *length,
+            | SeatReceipt::Show { length, .. }
+            | SeatReceipt::Drop { length, .. } => *length,
         }
     }
 
@@ -48,6 +66,11 @@ impl SeatReceipt {
             SeatReceipt::Show { id, shown, length } => Ok(SeatReceipt::Show {
                 id: *id,
                 shown: *shown,
+                length: *length,
+            }),
+            SeatReceipt::Drop { id, answer, length } => Ok(SeatReceipt::Drop {
+                id: *id,
+                answer: *answer,
                 length: *length,
             }),
         }

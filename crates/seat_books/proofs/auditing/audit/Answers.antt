@@ -1,4 +1,4 @@
-use Rattle.std.proofs.Common.{◌≡◌, length, take, Some, refl}
+use Rattle.std.proofs.Common.{◌≡◌, length, Some, refl}
 use Rattle.std.specs.Prelude.{slice_get}
 use Rattle.std.proofs.lemmas.Option.{slice_get_read}
 use Rattle.seat_books.proofs.Noting.{AreNoted-more}
@@ -14,7 +14,7 @@ returns-in-Some-clause-err c = record {
       slice_get_read c.args.books.now (length c.args.books.now) c.loop-at.at c.index-books-at.result refl c.loop-at-test.true
       c.index-books-at.is;
   before = c.loop-at.invariant.agreed;
-  fault = (rw c.in-Some.is at c.in_ok-number.ensures) (take c.loop-at.at c.args.books.now) c.loop-at.invariant.noted;
+  fault = (rw c.in-Some.is at c.in_ok-number.ensures) c.args.books.now c.loop-at.invariant.noted c.in_ok-drops.ensures;
 }
 
 pub loop-at-preserved : goal.loop-at-preserved
@@ -25,7 +25,7 @@ loop-at-preserved c =
     record {
       agreed =
           FirstBooksAgree-more c.args.journal.now c.args.books.now c.loop-at.at c.index-books-at.result stands
-          ((rw c.in_default.is at c.in_ok-number.ensures) (take c.loop-at.at c.args.books.now) c.loop-at.invariant.noted)
+          ((rw c.in_default.is at c.in_ok-number.ensures) c.args.books.now c.loop-at.invariant.noted c.in_ok-drops.ensures)
           c.loop-at.invariant.agreed;
       noted =
           AreNoted-more c.args.books.now c.loop-at.at c.index-books-at.result c.loop-at.noted c.note.new.noted stands

@@ -1,4 +1,4 @@
-use Rattle.std.proofs.Common.{◌≡◌, ℕ, true, cond, ap, sym, ◌∙◌, subst, refl, eqb, rules}
+use Rattle.std.proofs.Common.{◌≡◌, ℕ, true, cond, ap, sym, ◌∙◌, subst, eqb, rules}
 use Rattle.std.specs.Prelude.{Contains}
 use Rattle.picture_keys.specs.Keys.{Key}
 use Rattle.picture_keys.specs.KeyPictures.{picture_of_key}
@@ -14,15 +14,10 @@ use Rattle.seat_books.proofs.Numbers.{number_of_unit, one_key, same_number, same
 use Rattle.seat_books.proofs.replay.Replay.shows.Goals as goal
 
 pub returns : goal.returns
-returns c = λ journal earlier replayed.
+returns c = λ journal books seat earlier replayed.
     let old : Replay = c.args.self.now in
     let mid : Replay = c.settle.new.self in
-    let new : Replay = record {
-      alloc = c.settle.new.self.alloc;
-      session = c.settle.new.self.session;
-      device = c.settle.new.self.device;
-      ready = c.add.new.self;
-    } in
+    let new : Replay = c.add_ready.new.self in
     let number : ℕ = c.in-Ok-Some.key in
     let value = rw c.in-Ok-Some.field-0-is at c.in-Ok-Some.ensures.value in
     let key : Key = value.0 in
@@ -38,8 +33,11 @@ returns c = λ journal earlier replayed.
     let held : Contains mid.session.held key = subst (λ (k : Key). Contains mid.session.held k) same_key made.2 in
     let yes : c.same_picture.result ≡ true = search (rules, not_false) in
     let same : c.in-Ready.made ≡ c.args.picture = c.same_picture.ensures.0 yes in
-    let added : (other : ℕ) → has new.ready other ≡ cond (eqb number other) true (has mid.ready other) =
-    subst (λ (k : ℕ). (other : ℕ) → has new.ready other ≡ cond (eqb k other) true (has mid.ready other)) c.number.ensures
-    c.in_ok-add.ensures in
-    Sees-ready journal earlier old mid new c.args.id number key c.args.picture stays refl added has_key numbered held
-    (sym same ∙ (made.3 ∙ ap picture_of_key same_key)) one (c.in_ok-settle.ensures.follows journal earlier replayed)
+    let added : (other : ℕ) → has new.ready other
+    ≡ cond (has mid.gone number) (has mid.ready other) (cond (eqb number other) true (has mid.ready other)) =
+    subst (λ (k : ℕ). (other : ℕ) → has new.ready other
+    ≡ cond (has mid.gone k) (has mid.ready other) (cond (eqb k other) true (has mid.ready other))) c.number.ensures
+    c.in_ok-add_ready.ensures.ready in
+    Sees-ready journal books seat earlier old mid new c.args.id number key c.args.picture stays c.add_ready.ensures.own
+    c.add_ready.ensures.session c.add_ready.ensures.gone added has_key numbered held
+    (sym same ∙ (made.3 ∙ ap picture_of_key same_key)) one (c.in_ok-settle.ensures.follows journal books seat earlier replayed)

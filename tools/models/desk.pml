@@ -16,13 +16,17 @@
  *                told; its workers land and take again in one critical section, and take one job while another has none
  *   CHAIN        each picture refers to the one before it; else 1 and 2 refer to 0, 3 to 1 and 2, and 4 to none
  *   CHANCES      how many waits may end by themselves; 1 where not told
+ *   WANTED       told with COUNTED: seats say which picture is wanted first and whether the rest is decoded too, and wait for single
+ *                pictures. There are two workers then and three pictures, each of which refers to the one before it. More seats
+ *                than there is room for don't wait for pictures here
  *   CLAIM        the claim at the end, for a search for acceptance cycles, in place of what is watched in each state
  *   LOST_WAKEUP  a planted error, by its number
  *
  * Explored whole, with no error, seconds of one processor: one job at a time, 4,340,652 states in 38 s; that with CHAIN,
- * 4,372,723 in 27 s; two jobs, 10,963,139 in 115 s and 1.1 GB. The claim with CHANCES 0, of the model before it had the step
- * after 2^63 jobs: one job, 3,956,191 states in 81 s; two, 9,987,838 in 254 s and 1.2 GB. COUNTED for one job, before its closing
- * and its first look went by what it counts: 10,507,842 in 71 s. As it stands COUNTED hasn't been explored to its end yet.
+ * 4,372,723 in 27 s; two jobs, 10,963,139 in 115 s and 1.1 GB. COUNTED for one job, 7,751,042; for two with CHANCES 0,
+ * 3,883,996. The claim with CHANCES 0: one job, 3,861,113 in 103 s; COUNTED, 5,548,965 in 149 s; two jobs, of the model before it
+ * had the step after 2^63 jobs, 9,987,838 in 254 s and 1.2 GB.
+ * WANTED: 8,154,836 in 68 s; with CHANCES 0, 2,390,530 in 16 s.
  */
 #ifndef JOBS
 #define JOBS 1
@@ -35,10 +39,15 @@
 #endif
 #define WORKERS 3
 #define SEATS 2
+#ifdef WANTED
+#define CHAIN
+#define ALL 7     /* the set of all three pictures */
+#else
 #define ALL 31    /* the set of all five pictures */
+#endif
 
 mtype = { looks, asleep, woken, has_lock, busy, tells_on, counts, tells_both, tells_job_due, tells_settled, ended,
-          free, sleeps, settles, closes, gone, unlocked };
+          free, sleeps, settles, closes, gone, unlocked, edited };
 
 mtype worker[WORKERS] = looks;
 mtype seat[SEATS] = free;
@@ -48,9 +57,19 @@ mtype owner = free;
 byte pending, out;      /* sets of pictures */
 byte stale;
 bool closed;
+#ifdef WANTED
+byte ended_workers = 1;
+#else
 byte ended_workers;
+#endif
 #ifdef COUNTED
 byte told_workers, told_seats;
+#endif
+
+#ifdef WANTED
+byte listed;            /* the pictures that are wanted first */
+bool rest = true;       /* whether the others are decoded too */
+byte waited[SEATS];     /* the picture for which each seat waits, if for one */
 #endif
 
 byte has[WORKERS];      /* each worker's jobs */
@@ -71,6 +90,20 @@ byte chances = CHANCES;
 #define BLOCKED (((pending & 1) -> 6 : 0) | ((pending & 6) -> 8 : 0))
 #endif
 #define DUE (pending & ~out & ~BLOCKED & ALL)
+
+/* wanted_units, taking.rt: what a worker may take, first what is due for a wanted picture; and when nobody needs more. */
+#ifdef WANTED
+#define WANTED_SET (listed | waited[0] | waited[1])
+#define WITH_BELOW(set) ((set) | ((set) >> 1 & pending))
+#define URGENT (DUE & WITH_BELOW(WITH_BELOW(WANTED_SET & pending)))
+#define GIVEN (URGENT -> URGENT : (rest -> DUE : 0))
+#define RESTED (!rest && !(pending & WANTED_SET) && !out && !stale)
+#define WAITS_FOR_ONE waited[_pid - WORKERS]
+#else
+#define GIVEN DUE
+#define RESTED false
+#define WAITS_FOR_ONE false
+#endif
 
 /* Workers who sleep differ by nothing, so it's the first of them that is woken: the others would do what it does. */
 inline job_due_notify_one() {
@@ -124,11 +157,11 @@ inline tell(place, after) {
 /* PictureStore::take, where it gives a job. */
 inline take() {
     if
-    :: DUE & 1 -> out = out | 1
-    :: DUE & 2 -> out = out | 2
-    :: DUE & 4 -> out = out | 4
-    :: DUE & 8 -> out = out | 8
-    :: DUE & 16 -> out = out | 16
+    :: GIVEN & 1 -> out = out | 1
+    :: GIVEN & 2 -> out = out | 2
+    :: GIVEN & 4 -> out = out | 4
+    :: GIVEN & 8 -> out = out | 8
+    :: GIVEN & 16 -> out = out | 16
     fi;
     has[_pid]++
 }
@@ -205,18 +238,47 @@ inline tell_settled() {
 #endif
 }
 
+#ifdef WANTED
+/* Desk::come_back: a worker that brings results wakes the seats that wait, where one of them does for a single picture. */
+inline tell_one_picture() {
+#if LOST_WAKEUP != 12
+    if
+    :: told_seats < SLEEPING_SEATS -> told_seats = SLEEPING_SEATS; settled_notify_all()
+    :: else
+    fi
+#else
+    skip
+#endif
+}
+
+/* Desk::settle_for, where a seat begins to wait: it wakes a worker. */
+inline tell_wait() {
+#if LOST_WAKEUP != 13
+    if
+    :: told_workers < SLEEPING_WORKERS -> told_workers++; job_due_notify_one()
+    :: else
+    fi
+#else
+    skip
+#endif
+}
+#endif
+
 /* working.rt: next_job, from where the lock is taken up to where it's let go of or the worker waits. */
 inline next_job(is_first_look) {
     if
     :: closed -> worker[_pid] = counts
-    :: !closed && DUE -> worker[_pid] = counts      /* take refuses */
-    :: !closed && DUE ->
+    :: !closed && GIVEN -> worker[_pid] = counts    /* take refuses */
+    :: !closed && GIVEN ->
         do
-        :: DUE && HAS_ROOM -> take()
+        :: GIVEN && HAS_ROOM -> take()
         :: has[_pid] -> break
         od;
         tell_on()
-    :: !closed && !DUE ->
+#ifdef WANTED
+    :: !closed && WANTED_SET -> worker[_pid] = counts   /* memory runs out for what a wanted picture needs */
+#endif
+    :: !closed && !GIVEN ->
         if :: is_first_look -> tell_settled() :: else fi;
 #if LOST_WAKEUP == 9
         worker[_pid] = unlocked
@@ -237,6 +299,12 @@ inline end_worker() {
 
 /* working.rt: worker */
 active [WORKERS] proctype Worker() {
+#ifdef WANTED
+    if
+    :: atomic { _pid == 2 -> worker[_pid] = ended; goto end }
+    :: _pid != 2
+    fi;
+#endif
     do
     :: atomic { worker[_pid] == looks -> next_job(true) }
     :: atomic { worker[_pid] == woken ->
@@ -255,6 +323,9 @@ active [WORKERS] proctype Worker() {
         :: has[_pid] -> give_back(); worker[_pid] = counts
         :: !has[_pid] -> break
         od;
+#ifdef WANTED
+        if :: worker[_pid] == busy && (waited[0] || waited[1]) -> tell_one_picture() :: else fi;
+#endif
         if
 #ifdef COUNTED
         :: worker[_pid] == busy -> worker[_pid] = has_lock; next_job(true)
@@ -289,6 +360,13 @@ end: false
 
 #define SEAT seat[_pid - WORKERS]
 
+/* Who changes what is wanted wakes as one who edits does. */
+#if LOST_WAKEUP == 14
+#define WAKES_FOR_WANTED skip
+#else
+#define WAKES_FOR_WANTED tell(SEAT, free)
+#endif
+
 /* What an edit makes of the pictures of a stretch: their keys are others, or come back. */
 inline edit(stretch) {
     if
@@ -310,6 +388,13 @@ inline close(place, after) {
 #endif
 }
 
+/* The claim has to see each edit, also one after which nobody is woken. */
+#ifdef CLAIM
+#define AFTER_AN_EDIT edited
+#else
+#define AFTER_AN_EDIT free
+#endif
+
 /* seat.rt: what a seat calls of a desk; show and last take the lock and wake nobody. */
 active [SEATS] proctype Seat() {
     do
@@ -318,26 +403,31 @@ active [SEATS] proctype Seat() {
         :: edit(1)
         :: edit(2)
         :: edit(4)
-        :: edit(8)
-        :: edit(16)
         :: edit(3)
         :: edit(6)
+        :: edit(7)
+#ifndef WANTED
+        :: edit(8)
+        :: edit(16)
         :: edit(12)
         :: edit(24)
-        :: edit(7)
         :: edit(14)
         :: edit(28)
         :: edit(15)
         :: edit(30)
         :: edit(31)
+        :: d_step { stale && !(out & 8) -> stale--; out = out | 8; pending = pending | 8 }
+        :: d_step { stale && !(out & 16) -> stale--; out = out | 16; pending = pending | 16 }
+#endif
         :: d_step { stale && !(out & 1) -> stale--; out = out | 1; pending = pending | 1 }
         :: d_step { stale && !(out & 2) -> stale--; out = out | 2; pending = pending | 2 }
         :: d_step { stale && !(out & 4) -> stale--; out = out | 4; pending = pending | 4 }
-        :: d_step { stale && !(out & 8) -> stale--; out = out | 8; pending = pending | 8 }
-        :: d_step { stale && !(out & 16) -> stale--; out = out | 16; pending = pending | 16 }
         :: true
         fi;
-        tell(SEAT, free) }
+        tell(SEAT, AFTER_AN_EDIT) }
+#ifdef CLAIM
+    :: atomic { SEAT == edited -> SEAT = free }
+#endif
     :: atomic { SEAT == tells_both ->        /* Desk::tell_edit */
 #if LOST_WAKEUP != 1
         job_due_notify_one();
@@ -349,12 +439,12 @@ active [SEATS] proctype Seat() {
         settled_notify_all();
 #endif
         SEAT = free }
-    :: atomic { SEAT == free || SEAT == settles ->      /* Desk::settle; it looks at all pictures before it sleeps */
+    :: atomic { (SEAT == free || SEAT == settles) && !WAITS_FOR_ONE ->     /* Desk::settle; it looks at all pictures before it sleeps */
 #ifdef COUNTED
         if :: SEAT == settles -> told_seats = (told_seats -> told_seats - 1 : 0) :: else fi;
 #endif
         if
-        :: pending && ended_workers < WORKERS ->
+        :: pending && !RESTED && ended_workers < WORKERS ->
 #if LOST_WAKEUP == 8
             SEAT = unlocked
 #else
@@ -364,6 +454,31 @@ active [SEATS] proctype Seat() {
         fi }
 #if LOST_WAKEUP == 8
     :: atomic { SEAT == unlocked -> SEAT = sleeps }
+#endif
+#ifdef WANTED
+    :: atomic { SEAT == free ->         /* Desk::want, rest */
+        if
+        :: listed -> listed = 0
+        :: listed = 1
+        :: listed = 2
+        :: listed = 4
+        :: rest = !rest
+        fi;
+        WAKES_FOR_WANTED }
+    :: atomic { SEAT == free && pending && ended_workers < WORKERS ->      /* Desk::settle_for */
+        if
+        :: pending & 1 -> WAITS_FOR_ONE = 1
+        :: pending & 2 -> WAITS_FOR_ONE = 2
+        :: pending & 4 -> WAITS_FOR_ONE = 4
+        fi;
+        tell_wait();
+        SEAT = sleeps }
+    :: atomic { SEAT == settles && WAITS_FOR_ONE ->
+        told_seats = (told_seats -> told_seats - 1 : 0);
+        if
+        :: pending & WAITS_FOR_ONE && ended_workers < WORKERS -> SEAT = sleeps
+        :: else -> WAITS_FOR_ONE = 0; SEAT = free
+        fi }
 #endif
     :: atomic { SEAT == free && !closed -> close(SEAT, free) }
     :: atomic { SEAT == closes ->
@@ -406,7 +521,7 @@ end:
 /* Nobody sleeps whom nobody will wake. While a worker sleeps and a picture is due, somebody is to look or to wake one; */
 #define IS_LOOKED_FOR (SOME_WORKER(looks) || SOME_WORKER(woken) || SOME_WORKER(tells_on) || SOME_WORKER(counts) \
     || SOME_WORKER(tells_both) || SOME_WORKER(tells_job_due) || SOME_SEAT(tells_both) || SOME_SEAT(tells_job_due))
-#define WORKERS_ARE_WOKEN (!SOME_WORKER(asleep) || !DUE || closed || IS_LOOKED_FOR)
+#define WORKERS_ARE_WOKEN (!SOME_WORKER(asleep) || !GIVEN || closed || IS_LOOKED_FOR)
 /* while one sleeps and the desk is closed, somebody is to wake it; */
 #define CLOSING_IS_TOLD (!SOME_WORKER(asleep) || !closed || SOME_SEAT(closes) || owner == closes || IS_CLOSED_OTHERWISE)
 #ifdef COUNTED
@@ -418,7 +533,16 @@ end:
 /* and while a seat sleeps that needn't wait any more, somebody is to wake it. */
 #define IS_TOLD (SOME_WORKER(looks) || SOME_WORKER(counts) || SOME_WORKER(tells_both) || SOME_WORKER(tells_settled) \
     || SOME_SEAT(tells_both) || SOME_SEAT(tells_settled))
+#ifdef WANTED
+/* A worker that is to look tells seats that wait for a single picture only where it brings one. */
+#define IS_TOLD_OF_ONE (SOME_WORKER(counts) || SOME_WORKER(tells_both) || SOME_WORKER(tells_settled) \
+    || SOME_SEAT(tells_both) || SOME_SEAT(tells_settled))
+#define IS_WOKEN(at) (seat[at] != sleeps || (waited[at] -> (pending & waited[at] && ended_workers < WORKERS) || IS_TOLD_OF_ONE \
+    : (pending && !RESTED && ended_workers < WORKERS) || IS_TOLD))
+#define SEATS_ARE_WOKEN (IS_WOKEN(0) && IS_WOKEN(1))
+#else
 #define SEATS_ARE_WOKEN (!SOME_SEAT(sleeps) || (pending && ended_workers < WORKERS) || IS_TOLD)
+#endif
 /* Each job that is out is a worker's. */
 #define JOBS_ARE_OUT (COUNT(out) + stale == has[0] + has[1] + has[2] && !(out & ~pending))
 
@@ -427,7 +551,7 @@ end:
  * can go on does at some time. */
 #define WAITS (seat[0] == sleeps || seat[0] == settles)
 #define ALL_ENDED (worker[0] == ended && worker[1] == ended && worker[2] == ended)
-#define EDITS (seat[1] == tells_both)
+#define EDITS (seat[1] == tells_both || seat[1] == tells_job_due || seat[1] == tells_settled || seat[1] == edited)
 ltl settle_and_close_end { ([]<> (!WAITS || EDITS)) && ([]<> (!closed || ALL_ENDED)) }
 #else
 active proctype Watch() {

@@ -13,7 +13,7 @@ use Rattle.decode_pool.specs.declared.tally.Counts.{Counts}
 use Rattle.decode_pool.specs.declared.tally.Tally.{Tally}
 use Rattle.decode_pool.specs.declared.state.bringing.Next.{Next}
 use Rattle.decode_pool.specs.declared.state.bringing.Next.TheVariants as next
-use Rattle.decode_pool.specs.Batches.{GivesBackAll, LandsAll, TakesAll, TakesNext, TakesNone}
+use Rattle.decode_pool.specs.Batches.{GivesBackAll, LandsAll, TakesAll, TakesSome, TakesNone}
 use Rattle.decode_pool.specs.Counts.{GivesBackIn, HasMore, LandsIn, TakesIn}
 
 -- the results in hand land where the first does and then the others do
@@ -78,10 +78,10 @@ take_none from refused to (inr stays) = inr stays.1
 -- what a worker does next that is given no more jobs
 pub next_after : (from : Machine) (jobs : List JobValue) (then to : Machine) (result : Next) → TakesAll from jobs then
     → TakesNone then to → (jobs ≡ [] → result ≡ next.Ends) → (jobs ≢ [] → result ≡ next.DecodesLast)
-    → TakesNext from jobs result to
+    → TakesSome from jobs result to
 next_after from [] then to result taken none ends decodes =
-    subst (λ (it : Next). TakesNext from [] it to) (sym (ends refl))
+    subst (λ (it : Next). TakesSome from [] it to) (sym (ends refl))
     (refl, subst (λ (machine : Machine). TakesNone machine to) taken none)
 next_after from (job ∷ jobs) then to result taken none ends decodes =
-    subst (λ (it : Next). TakesNext from (job ∷ jobs) it to) (sym (decodes (λ same. cc)))
+    subst (λ (it : Next). TakesSome from (job ∷ jobs) it to) (sym (decodes (λ same. cc)))
     ((λ same. cc), (then, taken, inr none))

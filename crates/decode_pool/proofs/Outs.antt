@@ -3,6 +3,7 @@ use Rattle.std.proofs.Common.{Bool, true, false, ◌≡◌, ◌⊎◌, ℕ, ◌+
 use Rattle.std.specs.Prelude.{slice_get, option_map, remove, Contains, Result, Ok, Err}
 use Rattle.std.proofs.lemmas.Bool.{cases_lt}
 use Rattle.std.proofs.lemmas.Option.{slice_get_within, slice_get-map}
+use Rattle.std.specs.declared.alloc.AllocError.{AllocError}
 use Rattle.stand_in_device.specs.Jobs.{JobValue}
 use Rattle.picture_keys.specs.Keys.{Key}
 use Rattle.picture_keys.specs.Known.{key_of, known_after}
@@ -19,13 +20,17 @@ use Rattle.stream_edits.specs.declared.group_refused.GroupRefused.{GroupRefused}
 use Rattle.stream_edits.specs.declared.receipts.GroupReceipt.{GroupReceipt}
 use Rattle.stream_edits.specs.declared.receipts.Receipt.{Receipt}
 use Rattle.stream_edits.specs.declared.refusals.EditRefused.{EditRefused}
+use Rattle.edit_engine.specs.declared.showing.Dropping.{Dropping}
+use Rattle.edit_engine.specs.declared.showing.Dropping.TheVariants as dropping
 use Rattle.edit_engine.specs.Grouping.{AnswersGroup}
 use Rattle.edit_engine.specs.Machines.{Machine, AnswersEdit, empty, store_of}
 use Rattle.edit_engine.specs.Jobs.{AnswersTake, AnswersLand, AnswersGiveBack}
+use Rattle.edit_engine.specs.Needing.{AnswersTakeFor}
+use Rattle.wanted_units.specs.Taking.{AnswersTakeFirst}
 use Rattle.decode_pool.specs.Jobs.{JobsDiffer}
 use Rattle.decode_pool.specs.declared.tally.Tally.{Tally}
-use Rattle.decode_pool.specs.Counts.{TakesIn}
-use Rattle.decode_pool.specs.Seats.{AnswersEditIn}
+use Rattle.decode_pool.specs.Counts.{TakesFirstIn, TakesIn}
+use Rattle.decode_pool.specs.Seats.{AnswersDropIn, AnswersEditIn}
 use Rattle.decode_pool.proofs.Lists.{StoodAt, among, get_push, get_remove_above, get_remove_below}
 
 -- before the first edit none is out
@@ -156,6 +161,52 @@ taken_differ old new (Err take.Memory) answers apart =
     same_differ old new (ap (λ (store : StoreValue). store.out) answers.0.2)
     (ap (λ (store : StoreValue). store.given) answers.0.2) apart
 
+-- after a worker asks for a job for a unit
+taken_for_differ : (old new : Machine) (id : ℕ) (answer : Result (Option JobValue) TakeRefused)
+    → AnswersTakeFor old id answer new → JobsDiffer old → JobsDiffer new
+taken_for_differ old new id (Ok (Some job)) answers apart =
+    let gives : pictures.Gives (store_of old) answers.1.at job (store_of new) = answers.1.takes.gives in
+    let more : OutValue = record {
+      number = job.number;
+      key = key_of (known_after [] gives.before) gives.plan.requests;
+      input = job.input;
+    } in
+    more_differ old new more (record { number = gives.number_is; free = gives.due.free })
+    (ap (λ (store : StoreValue). store.out) gives.new_is) (ap (λ (store : StoreValue). store.given) gives.new_is) apart
+taken_for_differ old new id (Ok None) answers apart =
+    same_differ old new (ap (λ (machine : Machine). machine.out) answers.1)
+    (ap (λ (machine : Machine). machine.jobs) answers.1) apart
+taken_for_differ old new id (Err take.JobsSpent) answers apart =
+    same_differ old new (ap (λ (machine : Machine). machine.out) answers.2)
+    (ap (λ (machine : Machine). machine.jobs) answers.2) apart
+taken_for_differ old new id (Err take.Memory) answers apart =
+    same_differ old new (ap (λ (machine : Machine). machine.out) answers)
+    (ap (λ (machine : Machine). machine.jobs) answers) apart
+
+-- after a worker asks for a job for the first of several ids
+first_differ : (old new : Machine) (ids : List ℕ) (answer : Result (Option JobValue) TakeRefused)
+    → AnswersTakeFirst old ids answer new → JobsDiffer old → JobsDiffer new
+first_differ old new ids (Ok None) answers apart =
+    same_differ old new (ap (λ (machine : Machine). machine.out) answers.1)
+    (ap (λ (machine : Machine). machine.jobs) answers.1) apart
+first_differ old new ids (Ok (Some job)) answers apart =
+    taken_for_differ old new answers.id (Ok (Some job)) answers.answers apart
+first_differ old new ids (Err refused) answers apart =
+    taken_for_differ old new answers.id (Err refused) answers.answers apart
+
+-- after a worker asks for one more in hand for the first of several ids
+pub took_first_differ : (old new : Machine) (ids : List ℕ) (before : Tally) (answer : Result Bool TakeRefused) (after : Tally)
+    → TakesFirstIn old ids before answer new after → JobsDiffer old → JobsDiffer new
+took_first_differ old new ids before (Ok true) after takes apart =
+    first_differ old new ids (Ok (Some takes.0)) takes.1 apart
+took_first_differ old new ids before (Ok false) after takes apart = first_differ old new ids (Ok None) takes.0 apart
+took_first_differ old new ids before (Err refused) after takes apart =
+    elim takes.0 [
+      | inl answers ↦ first_differ old new ids (Err refused) answers apart
+      | inr stays ↦ same_differ old new (ap (λ (machine : Machine). machine.out) stays.1)
+          (ap (λ (machine : Machine). machine.jobs) stays.1) apart
+    ]
+
 -- after a worker asks for one more in hand
 pub took_differ : (old new : Machine) (before : Tally) (answer : Result Bool TakeRefused) (after : Tally)
     → TakesIn old before answer new after → JobsDiffer old → JobsDiffer new
@@ -219,3 +270,24 @@ group_differ old new edits (Ok receipt) made apart =
 group_differ old new edits (Err refused) made apart =
     same_differ old new (ap (λ (machine : Machine). machine.out) made.1)
     (ap (λ (machine : Machine). machine.jobs) made.1) apart
+
+-- after a seat drops a picture
+pub dropped_differ : (old new : Machine) (id : ℕ) (answer : Result Dropping AllocError)
+    → AnswersDropIn old id answer new → JobsDiffer old → JobsDiffer new
+dropped_differ old new id (Ok dropping.Dropped) answers apart =
+    same_differ old new (ap (λ (store : StoreValue). store.out) answers.2.4)
+    (ap (λ (store : StoreValue). store.given) answers.2.4) apart
+dropped_differ old new id (Ok dropping.NotHeld) answers apart =
+    same_differ old new (ap (λ (store : StoreValue). store.out) answers.2.1)
+    (ap (λ (store : StoreValue). store.given) answers.2.1) apart
+dropped_differ old new id (Ok dropping.NoSuchUnit) answers apart =
+    same_differ old new (ap (λ (machine : Machine). machine.out) answers.1)
+    (ap (λ (machine : Machine). machine.jobs) answers.1) apart
+dropped_differ old new id (Err wanted) answers apart =
+    same_differ old new (ap (λ (machine : Machine). machine.out) answers)
+    (ap (λ (machine : Machine). machine.jobs) answers) apart
+
+-- after the cache is cleared
+pub cleared_differ : (old new : Machine) → new ≡ record old { cached = [] } → JobsDiffer old → JobsDiffer new
+cleared_differ old new same apart =
+    same_differ old new (ap (λ (machine : Machine). machine.out) same) (ap (λ (machine : Machine). machine.jobs) same) apart

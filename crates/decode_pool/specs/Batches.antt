@@ -1,11 +1,13 @@
 -- Several steps of a session, one after the other, while a worker has the lock.
-use Rattle.std.specs.Prelude.{◌≡◌, ◌≢◌, ◌⊎◌, List, [], ◌∷◌, None, Some, Ok, Err}
+use Rattle.std.specs.Prelude.{◌≡◌, ◌≢◌, ◌⊎◌, List, [], ◌∷◌, false, true, None, Some, Ok, Err}
 use Rattle.stand_in_device.specs.Jobs.{JobValue}
 use Rattle.picture_store.specs.declared.answers.Landing.{Landing}
 use Rattle.picture_store.specs.declared.answers.Returning.{Returning}
 use Rattle.picture_store.specs.declared.refusals.TakeRefused.{TakeRefused}
 use Rattle.edit_engine.specs.Machines.{Machine}
 use Rattle.edit_engine.specs.Jobs.{AnswersGiveBack, AnswersLand, AnswersTake}
+use Rattle.wanted_units.specs.Taking.{AnswersTakeFirst, NoneDue}
+use Rattle.wanted_units.specs.Wanted.{Wants, urgent}
 use Rattle.decode_pool.specs.declared.tally.Counts.{Counts}
 use Rattle.decode_pool.specs.declared.state.bringing.Next.{Next}
 use Rattle.decode_pool.specs.declared.state.bringing.Next.TheVariants as next
@@ -37,9 +39,31 @@ TakesNone from to = ((refused : TakeRefused) × AnswersTake from (Err refused) t
 
 -- what a worker does next that took these jobs one after the other: it decodes them, as many as it may have or as there
 -- are; or none is due, and it sleeps; or it ends
-abbrev pub TakesNext : Machine → List JobValue → Next → Machine → Type 0
-TakesNext from jobs next.Decodes to = (jobs ≢ []) × TakesAll from jobs to
-TakesNext from jobs next.DecodesLast to = (jobs ≢ [])
+abbrev pub TakesSome : Machine → List JobValue → Next → Machine → Type 0
+TakesSome from jobs next.Decodes to = (jobs ≢ []) × TakesAll from jobs to
+TakesSome from jobs next.DecodesLast to = (jobs ≢ [])
     × ((then : Machine) × TakesAll from jobs then × (AnswersTake then (Ok None) to ⊎ TakesNone then to))
-TakesNext from jobs next.Sleeps to = (jobs ≡ []) × AnswersTake from (Ok None) to
-TakesNext from jobs next.Ends to = (jobs ≡ []) × TakesNone from to
+TakesSome from jobs next.Sleeps to = (jobs ≡ []) × AnswersTake from (Ok None) to
+TakesSome from jobs next.Ends to = (jobs ≡ []) × TakesNone from to
+
+-- what a worker does next that asks for the wanted ids alone: it decodes the job of the first for which a needed unit is due;
+-- or none is due for any and the rest isn't wanted, and it sleeps; or one is due and can't be taken, or the session isn't
+-- asked, and it ends
+abbrev pub TakesUrgent : Machine → Wants → List JobValue → Next → Machine → Type 0
+TakesUrgent from wants jobs next.Decodes to =
+    (job : JobValue) × (jobs ≡ job ∷ []) × AnswersTakeFirst from (urgent wants) (Ok (Some job)) to
+TakesUrgent from wants jobs next.DecodesLast to = ⊥
+TakesUrgent from wants jobs next.Sleeps to =
+    (jobs ≡ []) × (wants.rest ≡ false) × AnswersTakeFirst from (urgent wants) (Ok None) to
+TakesUrgent from wants jobs next.Ends to =
+    (jobs ≡ []) × (((refused : TakeRefused) × AnswersTakeFirst from (urgent wants) (Err refused) to) ⊎ (to ≡ from))
+
+-- no needed unit is due for any wanted id, the rest is wanted, and a worker takes some of that
+pub record TakesRest (from : Machine) (wants : Wants) (jobs : List JobValue) (step : Next) (to : Machine) : Type 0 where
+  pub none_due : NoneDue from (urgent wants)
+  pub wanted : wants.rest ≡ true
+  pub takes : TakesSome from jobs step to
+
+-- what a worker does next: what is wanted first, and the rest only where no needed unit is due for that
+abbrev pub TakesNext : Machine → Wants → List JobValue → Next → Machine → Type 0
+TakesNext from wants jobs step to = TakesUrgent from wants jobs step to ⊎ TakesRest from wants jobs step to

@@ -1,5 +1,5 @@
 -- What a worker has in hand and counts.
-use Rattle.std.specs.Prelude.{◌≡◌, ◌⊎◌, ◌+◌, [], ◌∷◌, ◌++◌, Bool, true, false, None, Some, Result, Ok, Err}
+use Rattle.std.specs.Prelude.{◌≡◌, ◌⊎◌, ℕ, ◌+◌, List, [], ◌∷◌, ◌++◌, Bool, true, false, Option, None, Some, Result, Ok, Err}
 use Rattle.stand_in_device.specs.Jobs.{JobValue}
 use Rattle.picture_store.specs.declared.answers.Landing.{Landing}
 use Rattle.picture_store.specs.declared.answers.Landing.TheVariants as landings
@@ -9,6 +9,7 @@ use Rattle.picture_store.specs.declared.refusals.TakeRefused.{TakeRefused}
 use Rattle.picture_store.specs.declared.refusals.TakeRefused.TheVariants as refusals
 use Rattle.edit_engine.specs.Machines.{Machine}
 use Rattle.edit_engine.specs.Jobs.{AnswersGiveBack, AnswersLand, AnswersTake}
+use Rattle.wanted_units.specs.Taking.{AnswersTakeFirst}
 use Rattle.decode_pool.specs.declared.tally.Counts.{Counts}
 use Rattle.decode_pool.specs.declared.tally.Tally.{Tally}
 
@@ -16,13 +17,13 @@ use Rattle.decode_pool.specs.declared.tally.Tally.{Tally}
 abbrev pub none_brought : Counts
 none_brought = record { taken = 0; stale = 0; foreign = 0; returned = 0 }
 
--- a result is counted by what becomes of it
+-- a result is counted by its outcome
 abbrev pub with_landing : Landing → Counts → Counts
 with_landing landings.Taken counts = record counts { taken = counts.taken + 1 }
 with_landing landings.Stale counts = record counts { stale = counts.stale + 1 }
 with_landing landings.Foreign counts = record counts { foreign = counts.foreign + 1 }
 
--- a job that is given back is counted by what becomes of it
+-- a job that is given back is counted by its outcome
 abbrev pub with_returning : Returning → Counts → Counts
 with_returning returnings.Returned counts = record counts { returned = counts.returned + 1 }
 with_returning returnings.Foreign counts = record counts { foreign = counts.foreign + 1 }
@@ -39,6 +40,12 @@ pub record HasMore (old : Tally) (job : JobValue) (new : Tally) : Type 0 where
   pub results : new.results.items ≡ old.results.items
   pub counts : new.counts ≡ old.counts
 
+-- a worker has the job in hand that a session answered, and tells whether it did
+abbrev pub Keeps : Tally → Result (Option JobValue) TakeRefused → Result Bool TakeRefused → Tally → Type 0
+Keeps old (Ok (Some job)) kept new = (kept ≡ Ok true) × HasMore old job new
+Keeps old (Ok None) kept new = (kept ≡ Ok false) × IsSame old new
+Keeps old (Err refused) kept new = (kept ≡ Err refused) × IsSame old new
+
 -- a worker asks a session for a job, and has the one that it is given in hand; or there is none, or the session refuses,
 -- or there is no room in hand and the session isn't asked, and nothing changes in hand
 abbrev pub TakesIn : Machine → Tally → Result Bool TakeRefused → Machine → Tally → Type 0
@@ -46,6 +53,14 @@ TakesIn from old (Ok true) to new = (job : JobValue) × AnswersTake from (Ok (So
 TakesIn from old (Ok false) to new = AnswersTake from (Ok None) to × IsSame old new
 TakesIn from old (Err refused) to new =
     (AnswersTake from (Err refused) to ⊎ ((refused ≡ refusals.Memory) × (to ≡ from))) × IsSame old new
+
+-- the same of a worker that asks for a job for the first of these ids for which a needed unit is due
+abbrev pub TakesFirstIn : Machine → List ℕ → Tally → Result Bool TakeRefused → Machine → Tally → Type 0
+TakesFirstIn from ids old (Ok true) to new =
+    (job : JobValue) × AnswersTakeFirst from ids (Ok (Some job)) to × HasMore old job new
+TakesFirstIn from ids old (Ok false) to new = AnswersTakeFirst from ids (Ok None) to × IsSame old new
+TakesFirstIn from ids old (Err refused) to new =
+    (AnswersTakeFirst from ids (Err refused) to ⊎ ((refused ≡ refusals.Memory) × (to ≡ from))) × IsSame old new
 
 -- the first result in hand lands in a session, and is counted
 pub record LandsIn (from : Machine) (old : Tally) (landing : Landing) (to : Machine) (new : Tally) : Type 0 where

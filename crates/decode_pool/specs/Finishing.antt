@@ -54,6 +54,7 @@ abbrev pub is_edit : SeatReceipt → Bool
 is_edit (receipts.Edit edit id n) = true
 is_edit (receipts.Group group n) = true
 is_edit (receipts.Show id answer n) = false
+is_edit (receipts.Drop id answer n) = false
 
 -- how many edits and groups the books have
 abbrev pub edits_in : List SeatBook → ℕ

@@ -4,3 +4,4 @@ pub mod Counts
 pub mod Batches
 pub mod Seats
 pub mod Finishing
+pub mod Visits

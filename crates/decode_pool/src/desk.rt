@@ -1,14 +1,16 @@
 //! A desk: a session under a lock.
 
-ghost use Rattle.std.specs.Prelude.{◌≡◌, ◌≤◌, [], IfOk};
-ghost use Rattle.decode_pool.specs.Seats.{AreNew, WaitsForOne};
+ghost use Rattle.std.specs.Prelude.{◌≡◌, ◌<◌, ◌≤◌, ◌↔◌, [], length, IfOk, IsErr};
+ghost use Rattle.decode_pool.specs.Seats.{AreNew, WaitsForOne, WaitsForUnit};
 
 use crate::seat::Seat;
 use crate::state::{Settled, State};
 use crate::tally::Tally;
 use edit_engine::Config;
+use pictures::AuId;
 use std::alloc::{AllocError, Global};
 use std::sync::{Condvar, Mutex, MutexGuard, Wait};
+use wanted_units::TooManyWanted;
 
 /// A session that threads share: seats edit it and ask, workers decode. One lock is round all of it, which is held for a
 /// call of the session and no longer.
@@ -17,8 +19,10 @@ pub struct Desk {
     pub(crate) state: Mutex<State>,
     /// Told where a job may be due, of which one worker is woken. A worker that takes one tells it on.
     pub(crate) job_due: Condvar,
-    /// Told where no unit may be pending any more, or a worker has ended.
+    /// Told where no unit may be pending any more, or not one that is waited for or wanted, or a worker has ended.
     pub(crate) settled: Condvar,
+    /// Told where the session may have another picture to show.
+    pub(crate) changed: Condvar,
     pub(crate) room: u16,
     pub(crate) workers: usize,
     pub(crate) seats: usize,
@@ -44,6 +48,7 @@ impl Desk {
             state: Mutex::new(State::open(alloc, config)?),
             job_due: Condvar::new(),
             settled: Condvar::new(),
+            changed: Condvar::new(),
             room: config.cache,
             workers,
             seats,
@@ -51,19 +56,25 @@ impl Desk {
         Ok((desk, new_seats(alloc, seats)?))
     }
 
-    /// Closes the desk: each worker brings the jobs that it has, if it has some, and ends. Seats may go on.
+    /// Closes the desk: each worker brings the jobs that it has, if it has some, and ends, and nobody waits for news. Seats
+    /// may go on.
     pub fn close<R: Wait>(&self, rt: &R) {
         let mut state = self.state.lock(rt);
         state.status.closed = true;
-        let wakes = state.status.workers.tell_all();
+        let wakes_workers = state.status.workers.tell_all();
+        let wakes_watchers = state.status.watchers.tell_all();
         drop(state);
-        if wakes {
+        if wakes_workers {
             self.job_due.notify_all();
+        }
+        if wakes_watchers {
+            self.changed.notify_all();
         }
     }
 
-    /// Waits until no unit is pending, or until no worker is left though one is. Units are looked at from the first one
-    /// that was pending before, and from the first of all once none is left.
+    /// Waits until no unit is pending; or all that is wanted is done, where the rest isn't wanted; or until no worker is left
+    /// though one is pending. Units are looked at from the first one that was pending before, and from the first of all once
+    /// none is left.
     pub(crate) fn settle<R: Wait>(&self, rt: &R) -> Settled
         ensures { WaitsForOne result }
     {
@@ -83,18 +94,94 @@ impl Desk {
         unreachable!()
     }
 
-    /// Wakes whom an edit or the end of a worker may concern: a worker that sleeps, as a job may be due, and each seat that
-    /// waits, as no unit may be pending any more. It lets the lock go first.
+    /// Waits until the unit of the id isn't pending, or until no worker is left though it is. Meanwhile the unit is wanted
+    /// before all others, but for those that other threads have waited for longer. Where there is no room for one more that
+    /// waits, it waits for room too.
+    pub(crate) fn settle_for<R: Wait>(&self, rt: &R, id: AuId) -> Settled
+        ensures { WaitsForUnit id result }
+    {
+        let mut is_wanted = false;
+        let mut state = self.state.lock(rt);
+        for _ in rt.forever() {
+            if let Some(settled) = state.settled_for(id, self.workers) {
+                if is_wanted {
+                    self.want_no_more(state, id);
+                }
+                return settled;
+            }
+            if !is_wanted {
+                is_wanted = state.status.wanted.wait_for(id);
+                if state.status.workers.tell_one() {
+                    self.job_due.notify_one();
+                }
+            }
+            state.status.seats.fall_asleep();
+            state = self.settled.wait(rt, state);
+            state.status.seats.awake();
+        }
+        unreachable!()
+    }
+
+    /// A thread waits no more for the unit of the id. It wakes those for which there was no room.
+    fn want_no_more(&self, state: MutexGuard<'_, State>, id: AuId) {
+        let mut state = state;
+        let wakes = state.status.wanted.is_full() && state.status.seats.tell_all();
+        state.status.wanted.wait_no_more(id);
+        drop(state);
+        if wakes {
+            self.settled.notify_all();
+        }
+    }
+
+    /// Makes these the ids that are wanted first, in order of urgency. Where they are too many, nothing changes.
+    pub(crate) fn want<R: Wait>(&self, rt: &R, ids: &[AuId]) -> Result<(), TooManyWanted>
+        ensures { IsErr result ↔ (64 < length ids.now) }
+    {
+        let mut state = self.state.lock(rt);
+        state.status.wanted.list(ids)?;
+        self.tell(state);
+        Ok(())
+    }
+
+    /// Makes the rest of the stream wanted or not.
+    pub(crate) fn rest<R: Wait>(&self, rt: &R, rest: bool) {
+        let mut state = self.state.lock(rt);
+        state.status.wanted.set_rest(rest);
+        self.tell(state);
+    }
+
+    /// Wakes whom a change of the stream or of what is wanted, or the end of a worker may concern: a worker that sleeps, as a
+    /// job may be due; each seat that waits, as what it waits for may be there; and who waits for news. It lets the lock go first.
     pub(crate) fn tell(&self, state: MutexGuard<'_, State>) {
         let mut state = state;
         let wakes_worker = state.status.workers.tell_one();
         let wakes_seats = state.status.seats.tell_all();
+        let wakes_watchers = state.status.tell_news();
         drop(state);
         if wakes_worker {
             self.job_due.notify_one();
         }
         if wakes_seats {
             self.settled.notify_all();
+        }
+        if wakes_watchers {
+            self.changed.notify_all();
+        }
+    }
+
+    /// A worker comes back, and brings all results that it has in hand. It wakes the seats that wait for single units, of which
+    /// one may be there, and who waits for news.
+    pub(crate) fn come_back(&self, state: &mut State, tally: &mut Tally)
+        ensures results { tally.new.results.items ≡ [] }
+        ensures jobs { tally.new.jobs.items ≡ tally.old.jobs.items }
+    {
+        let brings = tally.results() > 0;
+        state.come_back(tally);
+        if brings && state.status.wanted.is_any_waited_for() && state.status.seats.tell_all() {
+            self.settled.notify_all();
+        }
+        if brings && state.status.tell_news() {
+            self.changed.notify_all();
         }
     }
 

@@ -5,14 +5,14 @@ ghost use Rattle.stream_edits.specs.Groups.{IsSized};
 ghost use Rattle.stream_edits.specs.Streams.{last_of};
 ghost use Rattle.edit_engine.specs.Grouping.{AnswersGroup};
 ghost use Rattle.edit_engine.specs.Showing.{Shows};
-ghost use Rattle.decode_pool.specs.Seats.{AnswersEditIn, EditsGroupOne, EditsOne, IsLastOfOne, NotesEdit, NotesGroup, NotesShow, ShowsOne, WaitsForOne};
+ghost use Rattle.decode_pool.specs.Seats.{AnswersDropIn, AnswersEditIn, DropsOne, EditsGroupOne, EditsOne, IsLastOfOne, NotesDrop, NotesEdit, NotesGroup, NotesShow, ShowsOne, WaitsForOne};
 
 use crate::desk::Desk;
 use crate::group_note::GroupNote;
 use crate::state::Settled;
 use edit_engine::{
-    Edit, EditRefused, GroupReceipt, GroupRefused, Last, ReadEdit, ReadGroup, Receipt, Session,
-    Shown,
+    Dropping, Edit, EditRefused, GroupReceipt, GroupRefused, Last, ReadEdit, ReadGroup, Receipt,
+    Session, Shown,
 };
 use pictures::AuId;
 use seat_books::{SeatBook, SeatReceipt};
@@ -140,6 +140,24 @@ impl Seat {
         Ok(shown)
     }
 
+    /// Drops the picture of the unit that has the id, of a session that is lent, and notes what comes of that. The place in
+    /// the book is made first: where memory for it is refused, the session isn't asked.
+    pub fn drop_picture_in(
+        &mut self,
+        session: &mut Session,
+        id: AuId,
+    ) -> Result<Dropping, AllocError>
+        ensures session { AnswersDropIn session.old id result session.new }
+        ensures book { NotesDrop self.old id result (length session.new.journal) self.new }
+    {
+        self.book.receipts.reserve(1)?;
+        let answer = session.drop_picture(id);
+        let length = session.journal().len() as u64;
+        let receipt = SeatReceipt::Drop { id, answer, length };
+        self.book.receipts.push_reserved(receipt);
+        Ok(answer)
+    }
+
     /// Edits the desk's session as `edit_in` does, while no one else does. The edit's text is read before that, so that
     /// others don't wait for it; an edit that is refused for its text asks no session.
     pub fn edit<R: Wait>(&mut self, rt: &R, desk: &Desk, edit: Edit) -> Result<Receipt, EditRefused>
@@ -202,6 +220,27 @@ impl Seat {
         desk.state.lock(rt).show(self, id)
     }
 
+    /// Drops the picture of the unit that has the id, of the desk's session, as `drop_picture_in` does. A job for it may be
+    /// due again then.
+    pub fn drop_picture<R: Wait>(
+        &mut self,
+        rt: &R,
+        desk: &Desk,
+        id: AuId,
+    ) -> Result<Dropping, AllocError>
+        ensures { DropsOne self.old id result self.new }
+    {
+        let mut state = desk.state.lock(rt);
+        let answer = state.drop_picture(self, id);
+        desk.tell(state);
+        answer
+    }
+
+    /// Drops the pictures that the desk's session caches. It takes no memory, and isn't noted.
+    pub fn clear_cache<R: Wait>(&self, rt: &R, desk: &Desk) {
+        desk.state.lock(rt).clear_cache();
+    }
+
     /// How many units the desk's stream has, and the id of the last one.
     pub fn last<R: Wait>(&self, rt: &R, desk: &Desk) -> Last
         ensures { IsLastOfOne result }
@@ -209,8 +248,8 @@ impl Seat {
         desk.state.lock(rt).last()
     }
 
-    /// Waits until no unit of the desk's stream is pending, or until no worker is left though one is: as many have ended
-    /// as the desk was opened for.
+    /// Waits until no unit of the desk's stream is pending; or one is, but the rest isn't wanted, no wanted unit is pending and
+    /// no job is out; or until no worker is left though one is pending: as many have ended as the desk was opened for.
     pub fn settle<R: Wait>(&self, rt: &R, desk: &Desk) -> Settled
         ensures { WaitsForOne result }
     {

@@ -7,11 +7,13 @@ ghost use Rattle.edit_engine.specs.Grouping.{AnswersGroup};
 ghost use Rattle.edit_engine.specs.Machines.{empty};
 ghost use Rattle.edit_engine.specs.Showing.{Shows};
 ghost use Rattle.decode_pool.specs.Jobs.{JobsDiffer};
-ghost use Rattle.decode_pool.specs.Counts.{GivesBackIn, LandsIn, TakesIn};
-ghost use Rattle.decode_pool.specs.Seats.{AnswersEditIn, IsReached, NotesEdit, NotesGroup, NotesShow};
+ghost use Rattle.wanted_units.specs.Wanted.{urgent};
+ghost use Rattle.decode_pool.specs.Counts.{GivesBackIn, LandsIn, TakesFirstIn, TakesIn};
+ghost use Rattle.decode_pool.specs.Seats.{AnswersDropIn, AnswersEditIn, IsReached, NotesDrop, NotesEdit, NotesGroup, NotesShow};
 
 mod bringing;
 mod settling;
+mod visiting;
 
 use crate::group_note::GroupNote;
 use crate::seat::Seat;
@@ -19,8 +21,8 @@ use crate::status::Status;
 use crate::tally::Tally;
 pub(crate) use bringing::Next;
 use edit_engine::{
-    Config, EditRefused, GroupReceipt, GroupRefused, Landing, Last, ReadEdit, ReadGroup, Receipt,
-    Returning, Session, Shown, TakeRefused,
+    Config, Dropping, EditRefused, GroupReceipt, GroupRefused, Landing, Last, ReadEdit, ReadGroup,
+    Receipt, Returning, Session, Shown, TakeRefused,
 };
 use pictures::AuId;
 pub use settling::Settled;
@@ -112,6 +114,25 @@ impl State {
         seat.show_in(&self.session, id)
     }
 
+    /// A seat drops the picture of a unit.
+    pub(crate) fn drop_picture(&mut self, seat: &mut Seat, id: AuId) -> Result<Dropping, AllocError>
+        ensures reached { IsReached self.old.session }
+        ensures session { AnswersDropIn self.old.session id result self.new.session }
+        ensures book { NotesDrop seat.old id result (length self.new.session.journal) seat.new }
+        ensures status { self.new.status ≡ self.old.status }
+    {
+        let _ = self.session.journal();
+        seat.drop_picture_in(&mut self.session, id)
+    }
+
+    /// Drops the pictures that are cached.
+    pub(crate) fn clear_cache(&mut self)
+        ensures session { self.new.session ≡ record self.old.session { cached = [] } }
+        ensures status { self.new.status ≡ self.old.status }
+    {
+        self.session.clear_cache();
+    }
+
     /// The end of the stream.
     pub(crate) fn last(&self) -> Last
         ensures reached { IsReached self.now.session }
@@ -128,6 +149,16 @@ impl State {
         ensures status { self.new.status ≡ self.old.status }
     {
         tally.take_in(&mut self.session)
+    }
+
+    /// A worker takes a job for the first wanted id for which a needed unit is due, if there is one: whether it has one more
+    /// in hand.
+    pub(crate) fn take_first(&mut self, tally: &mut Tally) -> Result<bool, TakeRefused>
+        requires { tally.old.count < 2 ^ 63 }
+        ensures session { TakesFirstIn self.old.session (urgent self.old.status.wanted) tally.old result self.new.session tally.new }
+        ensures status { self.new.status ≡ self.old.status }
+    {
+        tally.take_first_in(&self.status.wanted, &mut self.session)
     }
 
     /// A worker brings the first result that it has in hand.

@@ -1,6 +1,9 @@
 //! What the threads of a desk do.
 
 ghost use Rattle.std.specs.Prelude.{◌≡◌, ◌+◌, ◌<◌, ◌≤◌, MatchBool, false, true};
+ghost use Rattle.wanted_units.specs.Wanted.{all_units};
+
+use wanted_units::Wanted;
 
 /// Threads that sleep, and how many of them were told to wake up and haven't yet. One that awakes without that counts as
 /// told, so that nobody who was told is counted when all are awake.
@@ -65,24 +68,30 @@ impl Sleepers {
 }
 
 /// What the threads of a desk do: whether the desk is closed, how many workers have ended, how many have jobs or results
-/// in hand, and who sleeps.
-#[derive(Clone, Copy, Debug, Drop)]
+/// in hand, who sleeps, and what seats want first.
+#[derive(Debug, Drop)]
 pub(crate) struct Status {
     pub(crate) closed: bool,
     pub(crate) ended: usize,
     pub(crate) at_work: usize,
     /// The workers that sleep until a job is due.
     pub(crate) workers: Sleepers,
-    /// The seats that sleep until no unit is pending.
+    /// The seats that sleep until units aren't pending any more.
     pub(crate) seats: Sleepers,
+    pub(crate) wanted: Wanted,
+    /// How often the session may have got another picture to show, by an edit or a result.
+    pub(crate) news: u64,
+    /// Those who sleep until that happens.
+    pub(crate) watchers: Sleepers,
 }
 
 impl Status {
-    /// The desk is open, and no worker has come yet.
+    /// The desk is open, no worker has come yet, and the whole stream is wanted.
     pub(crate) fn new() -> Status
         ensures open { result.closed ≡ false }
         ensures ended { result.ended ≡ 0 }
         ensures at_work { result.at_work ≡ 0 }
+        ensures wanted { result.wanted ≡ all_units }
     {
         Status {
             closed: false,
@@ -90,7 +99,16 @@ impl Status {
             at_work: 0,
             workers: Sleepers::none(),
             seats: Sleepers::none(),
+            wanted: Wanted::new(),
+            news: 0,
+            watchers: Sleepers::none(),
         }
+    }
+
+    /// The session may have another picture to show. Whether some sleep whom that is to wake.
+    pub(crate) fn tell_news(&mut self) -> bool {
+        self.news = self.news.wrapping_add(1);
+        self.watchers.tell_all()
     }
 
     /// Whether all others of so many workers have something in hand or have ended.

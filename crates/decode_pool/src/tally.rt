@@ -1,12 +1,14 @@
 //! What a worker has in hand, and what it counts.
 
-ghost use Rattle.std.specs.Prelude.{◌≡◌, ◌≢◌, ◌+◌, ◌<◌, ◌++◌, ◌^◌, [], length, true};
+ghost use Rattle.std.specs.Prelude.{◌≡◌, ◌≢◌, ◌+◌, ◌<◌, ◌++◌, ◌^◌, [], length, true, OnOk};
+ghost use Rattle.std.specs.VecDeque.{deque_capacity, deque_len};
 
 use crate::gate::Gate;
 use edit_engine::{Finished, Job, Landing, Returning, Session, TakeRefused};
 use stand_in_device::Undone;
-use std::alloc::Global;
+use std::alloc::{AllocError, Global};
 use std::collections::VecDeque;
+use wanted_units::Wanted;
 
 /// What became of the jobs that a worker took. Each of them is counted here once: there was none that was neither brought
 /// nor given back.
@@ -55,7 +57,8 @@ pub(crate) struct Tally {
 }
 
 impl Tally {
-    ghost use Rattle.decode_pool.specs.Counts.{GivesBackIn, LandsIn, TakesIn, none_brought};
+    ghost use Rattle.wanted_units.specs.Wanted.{urgent};
+    ghost use Rattle.decode_pool.specs.Counts.{GivesBackIn, IsSame, Keeps, LandsIn, TakesFirstIn, TakesIn, none_brought};
 
     /// Before the first job.
     pub(crate) fn new(alloc: Global) -> Tally
@@ -103,8 +106,41 @@ impl Tally {
         requires { self.old.count < 2 ^ 63 }
         ensures { TakesIn session.old self.old result session.new self.new }
     {
-        self.jobs.reserve(1)?;
-        match session.take() {
+        self.make_room()?;
+        let answer = session.take();
+        self.keep(answer)
+    }
+
+    /// Takes a job of a session for the first wanted id for which a needed unit is due; whether there was one.
+    pub(crate) fn take_first_in(
+        &mut self,
+        wanted: &Wanted,
+        session: &mut Session,
+    ) -> Result<bool, TakeRefused>
+        requires { self.old.count < 2 ^ 63 }
+        ensures { TakesFirstIn session.old (urgent wanted.now) self.old result session.new self.new }
+    {
+        self.make_room()?;
+        let answer = wanted.take_first(session);
+        self.keep(answer)
+    }
+
+    /// Makes room in hand for one job more.
+    fn make_room(&mut self) -> Result<(), AllocError>
+        ensures room { OnOk result (deque_len self.new.jobs < deque_capacity self.new.jobs) }
+        ensures same { IsSame self.old self.new }
+        ensures count { self.new.count ≡ self.old.count }
+    {
+        self.jobs.reserve(1)
+    }
+
+    /// Has the job in hand that a session answered, for which there is room; whether it answered one.
+    fn keep(&mut self, answer: Result<Option<Job>, TakeRefused>) -> Result<bool, TakeRefused>
+        requires room { deque_len self.old.jobs < deque_capacity self.old.jobs }
+        requires few { self.old.count < 2 ^ 63 }
+        ensures { Keeps self.old answer result self.new }
+    {
+        match answer {
             Ok(Some(job)) => {
                 self.jobs.push_back_reserved(job);
                 self.count += 1;
@@ -156,7 +192,7 @@ impl Tally {
         }
     }
 
-    /// Brings the first result in hand to a session, and counts what becomes of it.
+    /// Brings the first result in hand to a session, and counts its outcome.
     pub(crate) fn land_in(&mut self, session: &mut Session) -> Landing
         requires { self.old.results.items ≢ [] }
         ensures session { LandsIn session.old self.old result session.new self.new }

@@ -3,11 +3,13 @@ ghost use Rattle.edit_engine.specs.Machines.{empty};
 
 mod at_once;
 mod books;
+mod drops;
 mod ends;
 mod gates;
 mod groups;
 mod three_seats;
 mod two_workers;
+mod wanted;
 
 use bytes::Bytes;
 use decode_pool::{Desk, Seat, finish};

@@ -2,7 +2,7 @@
 
 ghost use Rattle.std.specs.Prelude.{◌≡◌, ◌≢◌, ◌<◌, []};
 ghost use Rattle.decode_pool.specs.declared.state.bringing.Next.TheVariants.{DecodesLast};
-ghost use Rattle.decode_pool.specs.Batches.{GivesBackAll, LandsAll, TakesNext};
+ghost use Rattle.decode_pool.specs.Batches.{GivesBackAll, LandsAll, TakesNext, TakesSome};
 
 use super::State;
 use crate::tally::Tally;
@@ -13,13 +13,13 @@ const MOST_JOBS: u64 = 1 << 63;
 /// What a worker does next.
 #[derive(Clone, Copy, Debug, PartialEq, Eq)]
 pub(crate) enum Next {
-    /// It has as many jobs in hand as it may take at once: more may be due.
+    /// It has as many jobs in hand as it may take at once, or one that is wanted first: more may be due.
     Decodes,
     /// It has all jobs in hand that it could take.
     DecodesLast,
-    /// No job is due.
+    /// No job is due for what is wanted first, and none of the rest either or that isn't wanted.
     Sleeps,
-    /// The desk is closed, a job is due and can't be taken, or 2^63 jobs were taken.
+    /// The desk is closed, a job is due and can't be taken or memory runs out, or 2^63 jobs were taken.
     Ends,
 }
 
@@ -36,35 +36,54 @@ impl State {
         self.land_all(tally);
     }
 
-    /// A worker that has no job in hand takes its next ones: one, where others of so many workers have none, else up to so
-    /// many.
+    /// A worker that has no job in hand takes its next one for what is wanted first. Where no job is due for that, it takes of
+    /// the rest, if that is wanted: one, where others of so many workers have none, else up to so many.
     pub(crate) fn take_next(&mut self, tally: &mut Tally, most: usize, workers: usize) -> Next
         requires none { tally.old.jobs.items ≡ [] }
         requires some { 0 < most }
-        ensures taken { TakesNext self.old.session tally.new.jobs.items result self.new.session }
+        ensures taken { TakesNext self.old.session self.old.status.wanted tally.new.jobs.items result self.new.session }
         ensures results { tally.new.results.items ≡ tally.old.results.items }
         ensures counts { tally.new.counts ≡ tally.old.counts }
+        ensures wanted { self.new.status.wanted ≡ self.old.status.wanted }
     {
         let are_busy = self.status.are_others_at_work(workers);
-        let next = self.take_some(tally, if are_busy { most } else { 1 });
+        let next = self.take_urgent(tally, if are_busy { most } else { 1 });
         if tally.jobs() > 0 {
             self.status.at_work = self.status.at_work.saturating_add(1);
         }
         next
     }
 
-    /// A worker that has no job in hand takes so many, or as many as are due, each by a step of the session.
-    pub(crate) fn take_some(&mut self, tally: &mut Tally, most: usize) -> Next
+    /// A worker that has no job in hand takes one for the first wanted id for which a needed unit is due, by a step of the
+    /// session. Where there is none such, it takes up to so many of the rest, if that is wanted.
+    fn take_urgent(&mut self, tally: &mut Tally, most: usize) -> Next
         requires none { tally.old.jobs.items ≡ [] }
         requires some { 0 < most }
-        ensures taken { TakesNext self.old.session tally.new.jobs.items result self.new.session }
+        ensures taken { TakesNext self.old.session self.old.status.wanted tally.new.jobs.items result self.new.session }
         ensures results { tally.new.results.items ≡ tally.old.results.items }
         ensures counts { tally.new.counts ≡ tally.old.counts }
         ensures status { self.new.status ≡ self.old.status }
     {
-        if self.status.closed {
+        if self.status.closed || tally.count() >= MOST_JOBS {
             return Next::Ends;
         }
+        match self.take_first(tally) {
+            Ok(true) => Next::Decodes,
+            Ok(false) if self.status.wanted.is_rest_wanted() => self.take_some(tally, most),
+            Ok(false) => Next::Sleeps,
+            Err(_) => Next::Ends,
+        }
+    }
+
+    /// A worker that has no job in hand takes so many, or as many as are due, each by a step of the session.
+    pub(crate) fn take_some(&mut self, tally: &mut Tally, most: usize) -> Next
+        requires none { tally.old.jobs.items ≡ [] }
+        requires some { 0 < most }
+        ensures taken { TakesSome self.old.session tally.new.jobs.items result self.new.session }
+        ensures results { tally.new.results.items ≡ tally.old.results.items }
+        ensures counts { tally.new.counts ≡ tally.old.counts }
+        ensures status { self.new.status ≡ self.old.status }
+    {
         for _at in 0..most {
             if tally.count() >= MOST_JOBS {
                 return unless_in_hand(tally, Next::Ends);

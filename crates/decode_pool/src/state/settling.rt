@@ -1,26 +1,32 @@
 //! Whether units of a session are pending.
 
-ghost use Rattle.std.specs.Prelude.{◌≡◌, MatchOption};
-ghost use Rattle.decode_pool.specs.Seats.{AreSettledFrom, IsPendingAt, IsReached, IsSettledBy};
+ghost use Rattle.std.specs.Prelude.{◌≡◌, IfOk, MatchOption};
+ghost use Rattle.decode_pool.specs.Seats.{AreSettledFrom, IsPendingAt, IsReached, IsSettledBy, IsSettledForBy, WaitsForOne};
 
 use super::State;
 use edit_engine::Shown;
+use pictures::AuId;
 
 /// What a seat that waits for a desk's pictures is answered.
 #[derive(Clone, Copy, Debug, PartialEq, Eq)]
 pub enum Settled {
-    /// No unit is pending.
+    /// No unit is pending, or not the one that was waited for.
     Done,
-    /// A unit is pending, and as many workers have ended as the desk was opened for.
+    /// A unit is pending, or the one that was waited for, and as many workers have ended as the desk was opened for.
     Idle,
+    /// A unit is pending, but the rest of the stream isn't wanted, no wanted unit is pending and no job is out. A wait for one
+    /// unit doesn't end so.
+    Rested,
 }
 
 impl State {
-    /// How a wait ends that began to look at the units from a place on, or found none pending there: no unit is pending, or
-    /// one is and as many workers have ended. Else the place of a pending unit, from which on is looked next.
+    /// How a wait ends that began to look at the units from a place on, or found none pending there: no unit is pending; or
+    /// one is, but all that is wanted is done; or as many workers have ended. Else the place of a pending unit, from which on
+    /// is looked next.
     pub(crate) fn settled(&self, from: usize, workers: usize) -> Result<Settled, usize>
         ensures reached { IsReached self.now.session }
-        ensures settled { IsSettledBy self.now.session self.now.status.ended workers result }
+        ensures settled { IsSettledBy self.now.session self.now.status workers result }
+        ensures told { IfOk result WaitsForOne }
     {
         let pending = match self.first_pending(from) {
             None if from > 0 => self.first_pending(0),
@@ -28,9 +34,22 @@ impl State {
         };
         match pending {
             None => Ok(Settled::Done),
+            Some(_) if self.status.wanted.is_at_rest(&self.session) => Ok(Settled::Rested),
             Some(_) if self.status.ended >= workers => Ok(Settled::Idle),
             Some(at) => Err(at),
         }
+    }
+
+    /// How a wait for the unit of an id ends: it isn't pending, or as many workers have ended. None while it goes on.
+    pub(crate) fn settled_for(&self, id: AuId, workers: usize) -> Option<Settled>
+        ensures reached { IsReached self.now.session }
+        ensures settled { IsSettledForBy self.now.session id self.now.status.ended workers result }
+    {
+        let _ = self.session.journal();
+        if self.session.show(id) != Shown::Pending {
+            return Some(Settled::Done);
+        }
+        (self.status.ended >= workers).then_some(Settled::Idle)
     }
 
     /// The place of the first pending unit, from a place on.

@@ -1,8 +1,8 @@
 //! Audits of books that no desk keeps, against the journal of five edits.
 
 use super::{A, P1, P1X, PICTURE_OF_A, after, empty_session, first, replace, row_holds};
-use Note::{Edits, Shows};
-use edit_engine::{Edit, Picture, Session, Shown};
+use Note::{Drops, Edits, Shows};
+use edit_engine::{Dropping, Edit, Picture, Session, Shown};
 use outcomes::ValidityFault;
 use pictures::AuId;
 use seat_books::{AuditFault, SeatBook, SeatReceipt, audit};
@@ -27,20 +27,22 @@ const SPS: &[u8] = &[0, 0, 1, 0x67, 0x42, 0x00, 0x0A, 0xDA, 0x79];
 
 /// What a book notes.
 #[derive(Clone, Copy)]
-enum Note {
+pub(super) enum Note {
     /// The edit of this number, with an id and a length.
     Edits(u32, u32, u64),
     /// What is shown of a unit, with a length.
     Shows(u32, Shown, u64),
+    /// What comes of dropping a unit's picture, with a length.
+    Drops(u32, Dropping, u64),
 }
 
 /// The picture of A.
-const READY: Shown = Shown::Ready(Picture {
+pub(super) const READY: Shown = Shown::Ready(Picture {
     digest: PICTURE_OF_A,
 });
 
 /// The picture of P1 after A, by hashlib of Python.
-const READY_P1: Shown = Shown::Ready(Picture {
+pub(super) const READY_P1: Shown = Shown::Ready(Picture {
     digest: [
         0x6B, 0xC6, 0xC0, 0x8C, 0xF1, 0xBA, 0xA8, 0x6F, 0x62, 0x95, 0x0D, 0xB2, 0xC1, 0xAC, 0xFA,
         0xAC, 0x24, 0x91, 0x2A, 0x0B, 0x56, 0xA8, 0xE0, 0xE6, 0xAC, 0x08, 0xD3, 0x02, 0xE2, 0xB4,
@@ -54,7 +56,7 @@ const INVENTED: Shown = Shown::Ready(Picture { digest: [0; 32] });
 const FAULT: Shown = Shown::Fault(ValidityFault::NoIdr);
 
 /// The books of seats, and the seat and number of the first receipt that disagrees.
-type Row = (&'static [&'static [Note]], Option<(usize, usize)>);
+pub(super) type Row = (&'static [&'static [Note]], Option<(usize, usize)>);
 
 const ROWS: [Row; 26] = [
     (&[], None),
@@ -142,6 +144,11 @@ fn receipt_of(note: Note) -> SeatReceipt {
             shown,
             length,
         },
+        Drops(id, answer, length) => SeatReceipt::Drop {
+            id: AuId::new(id),
+            answer,
+            length,
+        },
     }
 }
 
@@ -155,7 +162,7 @@ fn book_of(alloc: Global, notes: &[Note]) -> Result<SeatBook, AllocError> {
 }
 
 /// The audit of the books of a row answers as the row says.
-fn is_audited(alloc: Global, session: &Session, row: &Row) -> Result<bool, AllocError> {
+pub(super) fn is_audited(alloc: Global, session: &Session, row: &Row) -> Result<bool, AllocError> {
     let mut books = Vec::new(alloc);
     for notes in row.0 {
         books.push(book_of(alloc, *notes)?)?;
@@ -168,7 +175,7 @@ fn is_audited(alloc: Global, session: &Session, row: &Row) -> Result<bool, Alloc
 }
 
 /// A session with the five edits.
-fn session_of_five(rt: &(impl Abort + AllocGlobal)) -> Session {
+pub(super) fn session_of_five(rt: &(impl Abort + AllocGlobal)) -> Session {
     let mut session = empty_session(rt);
     for number in 1..6 {
         if session.edit(edit_of(number)).is_err() {

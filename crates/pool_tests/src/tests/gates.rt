@@ -17,7 +17,7 @@ use std::time::Clock;
 
 /// A gate that hands each job back.
 #[derive(Drop)]
-struct HandsBack;
+pub(super) struct HandsBack;
 
 impl Gate for HandsBack {
     fn decode(&mut self, _alloc: Global, job: Job) -> Result<Finished, Undone> {

@@ -11,6 +11,8 @@ MOST_UNITS, MOST_IDS, MOST_EDITS = 65536, 4294967295, 1024
 
 
 EDITS = "first", "after", "replace", "delete"
+# The commands that are none without workers, and those that are none beside them.
+OF_WORKERS, OF_JOBS = ("want", "rest"), ("unit", "json", "take", "land", "give")
 
 
 class Open(Exception):
@@ -185,9 +187,9 @@ class Ran(NamedTuple):
 
 
 def run(text, room, with_hex):
-    """What a script prints, what it says on standard error, and its status."""
+    """What a script without workers prints, what it says on standard error, and its status."""
     try:
-        commands = commands_of(text)
+        commands = commands_of(text, OF_WORKERS)
     except WrongLine as wrong:
         return Ran("", f"script fault at line {wrong}\n", 1)
     session, lines = Session(room), []
@@ -199,8 +201,8 @@ def run(text, room, with_hex):
     return Ran("".join(lines), "", 0)
 
 
-def commands_of(text):
-    """The commands of a script."""
+def commands_of(text, none):
+    """The commands of a script in which those of some names are none."""
     lines = [(number, line) for number, line in enumerate(text.split(b"\n"), 1)
              if line and not line.startswith(b"#")]
     commands = []
@@ -209,7 +211,7 @@ def commands_of(text):
         command = command_at(number, line)
         if command == ("group",):
             command = "group", group_of(number, lines)
-        elif command == ("end",):
+        elif command == ("end",) or command[0] in none:
             raise WrongLine(number)
         commands.append(command)
     return commands
@@ -263,10 +265,14 @@ def command_of(line):
             return "replace", number_of(number), bytes_of(digits)
         case ["load", path]:
             return "load", path
-        case [("delete" | "unit" | "json" | "show" | "land" | "give") as name, number]:
+        case [("delete" | "unit" | "json" | "show" | "land" | "give" | "take" | "settle" | "drop") as name, number]:
             return name, number_of(number)
-        case [("take" | "settle" | "group" | "end") as name]:
+        case [("take" | "settle" | "clear" | "group" | "end") as name]:
             return name,
+        case ["want", *numbers]:
+            return "want", [number_of(number) for number in numbers]
+        case ["rest", ("on" | "off") as switch]:
+            return "rest", switch
     raise Wrong
 
 
@@ -285,15 +291,25 @@ def answer(session, with_hex, name, operands):
     if name == "show":
         return [shown(session, with_hex, *operands)]
     if name == "take":
-        taken = session.take()
+        taken = session.take(among_of(session, operands))
         return ["job {} unit {}\n".format(*taken) if taken else "job none\n"]
+    if name == "drop":
+        return [f"drop {operands[0]} {session.drop(operands[0])}\n"]
+    if name == "clear":
+        session.clear()
+        return ["cleared\n"]
     if name == "land":
         return [f"land {operands[0]} {session.land(operands[0])}\n"]
     if name == "give":
         return [f"give {operands[0]} {'back' if session.leave(operands[0]) else 'none'}\n"]
-    while taken := session.take():
+    while taken := session.take(among_of(session, operands)):
         session.land(taken[0])
     return ["settled\n"]
+
+
+def among_of(session, operands):
+    """The ids of the units that one of an id needs, as `take` and `settle` go by them; none where no id is given."""
+    return session.needed(*operands) if operands else None
 
 
 def edit_line(session, edit):

@@ -32,10 +32,16 @@ group-no-command (command.Load path) is = absurd (cc)
 group-no-command (command.Unit number) is = absurd (cc)
 group-no-command (command.Json number) is = absurd (cc)
 group-no-command command.Take is = absurd (cc)
+group-no-command (command.TakeFor number) is = absurd (cc)
 group-no-command (command.Land number) is = absurd (cc)
 group-no-command (command.GiveBack number) is = absurd (cc)
 group-no-command command.Settle is = absurd (cc)
+group-no-command (command.SettleFor number) is = absurd (cc)
 group-no-command (command.Show number) is = absurd (cc)
+group-no-command (command.Drop number) is = absurd (cc)
+group-no-command command.Clear is = absurd (cc)
+group-no-command (command.Want ids) is = absurd (cc)
+group-no-command (command.Rest rest) is = absurd (cc)
 
 -- a line that is a command begins no group
 pub no-group : (line : List ℕ) (it : Command) → IsLine line it → ¬ IsGroupLine line

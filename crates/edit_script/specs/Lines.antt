@@ -41,7 +41,7 @@ IsInside line (inside.Edit edit) = IsEditLine line edit
 IsInside line inside.End = IsEndLine line
 IsInside line inside.Wrong = ((edit : Edit) → ¬ IsEditLine line edit) × ¬ IsEndLine line
 
--- what stands at the front of the lines: a command, which so many of them are, or none
+-- what stands at the start of the lines: a command, which so many of them are, or none
 abbrev pub IsFront : List (ℕ × List ℕ) → Front → Type 0
 IsFront lines (front.Command number command count) =
     AreCommand (take count lines) number command × (0 < count) × (count ≤ length lines)

@@ -1,13 +1,11 @@
 -- The lines of a script, and the commands that they are (docs/OUTPUT.md).
-use Rattle.std.specs.Prelude.{◌≡◌, ℕ, ◌+◌, ◌==◌, ◌||◌, ◌⊎◌, not, true, ⊤, Bool, List, [], ◌∷◌, ◌++◌, codes, length, map, slice_index, Option, Some, None, Result, Ok, Err}
+use Rattle.std.specs.Prelude.{◌≡◌, ℕ, ◌+◌, ◌==◌, ◌||◌, ◌⊎◌, not, true, Bool, List, [], ◌∷◌, ◌++◌, codes, length, map, slice_index, Option, Some, None}
 use Rattle.std.specs.Global.{Vec}
 use Rattle.std.specs.List.{filter, slice_split, AllZip}
 use Rattle.std.specs.Str.{IsUtf8}
 use Rattle.stream_edits.specs.declared.edits.Edit.{Edit}
 use Rattle.edit_script.specs.declared.commands.Command.{Command}
 use Rattle.edit_script.specs.declared.commands.Command.TheVariants.{Group}
-use Rattle.edit_script.specs.declared.script.ScriptFault.{ScriptFault}
-use Rattle.edit_script.specs.declared.script.ScriptFault.TheVariants.{Line, Memory}
 use Rattle.edit_script.specs.Words.{words_of}
 use Rattle.edit_script.specs.Commands.{IsCommand, are_alone, edit_of}
 
@@ -102,7 +100,7 @@ pub record IsUnclosedAt (lines : List (ℕ × List ℕ)) (number : ℕ) : Type 0
   pub begins : IsGroupLine first
   pub edited : AreEdits inside edits
 
--- no command stands at the front of the lines, and the line of this number is to blame
+-- no command stands at the start of the lines, and the line of this number is to blame
 abbrev pub IsWrongAt : List (ℕ × List ℕ) → ℕ → Type 0
 IsWrongAt lines number = IsNoCommandAt lines number ⊎ IsNoEditAt lines number ⊎ IsUnclosedAt lines number
 
@@ -118,13 +116,3 @@ AreRead lines (command ∷ commands) wrong =
 abbrev pub IsScript : List ℕ → List Command → Type 0
 IsScript text commands =
     (numbered : List (ℕ × Command)) × AreRead (read_lines text) numbered None × (commands ≡ map (λ it. it.1) numbered)
-
--- the text is no script, and its first wrong line has this number
-abbrev pub HasFirstWrong : List ℕ → ℕ → Type 0
-HasFirstWrong text number = (numbered : List (ℕ × Command)) × AreRead (read_lines text) numbered (Some number)
-
--- an answer for a text: the commands that it is a script of, or its first wrong line, or that memory ran out
-abbrev pub IsReadAs : List ℕ → Result (Vec Command) ScriptFault → Type 0
-IsReadAs text (Ok commands) = IsScript text commands.items
-IsReadAs text (Err (Line number)) = HasFirstWrong text number
-IsReadAs text (Err Memory) = ⊤

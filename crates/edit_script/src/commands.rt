@@ -1,10 +1,10 @@
 //! The command that the words of a script's line are (docs/OUTPUT.md).
 
-ghost use Rattle.std.specs.Prelude.{◌≡◌, ◌∷◌, [], map, IfOk, None, Some, MatchResult, option_map};
+ghost use Rattle.std.specs.Prelude.{◌≡◌, ◌∷◌, [], IfOk, None, Some, MatchResult, option_map};
 ghost use Rattle.std.specs.Char.{is_ascii_digit};
 ghost use Rattle.std.specs.List.{list_all};
 ghost use Rattle.edit_script.specs.Words.{has_number, id_of, number_of, hex_of, texts_of, fault_of};
-ghost use Rattle.edit_script.specs.Commands.{edit_of, insertion_of, IsHexAnswer, IsEditAnswer, IsCommandAnswer};
+ghost use Rattle.edit_script.specs.Commands.{edit_of, ids_of_words, insertion_of, switch_of, wanted_of, IsHexAnswer, IsIdsAnswer, IsEditAnswer, IsCommandAnswer};
 ghost use Rattle.edit_script.specs.declared.commands.LineFault.TheVariants.{Memory};
 
 use bytes::Bytes;
@@ -28,14 +28,26 @@ pub enum Command<'a> {
     Json { number: u64 },
     /// A picture to decode, as a job.
     Take,
+    /// A picture to decode that the unit of this number needs.
+    TakeFor { number: u64 },
     /// The result of the job of this number.
     Land { number: u64 },
     /// The job of this number, given back undone.
     GiveBack { number: u64 },
     /// All pictures that are due, decoded one after the other.
     Settle,
+    /// The picture of the unit of this number, and those that it needs before it.
+    SettleFor { number: u64 },
     /// What is shown of the unit of this number.
     Show { number: u64 },
+    /// The picture of the unit of this number, which is to be there no more.
+    Drop { number: u64 },
+    /// The cached pictures, which are to be there no more.
+    Clear,
+    /// The pictures of the units of these ids before all others.
+    Want(Vec<AuId>),
+    /// Whether the rest of the stream is decoded too.
+    Rest(bool),
 }
 
 /// Why a line isn't read as a command.
@@ -82,33 +94,52 @@ pub fn read_command<'a>(alloc: Global, words: &[&'a str]) -> Result<Command<'a>,
     ensures { IsCommandAnswer (texts_of words.now) result }
 {
     match words {
+        [name, ids @ ..] if *name == "want" => Ok(Command::Want(read_ids(alloc, ids)?)),
+        _ => read_other(alloc, words),
+    }
+}
+
+/// The command that words are that want no unit.
+fn read_other<'a>(alloc: Global, words: &[&'a str]) -> Result<Command<'a>, LineFault>
+    requires { wanted_of (texts_of words.now) ≡ None }
+    ensures { IsCommandAnswer (texts_of words.now) result }
+{
+    match words {
+        [] => Err(LineFault::Wrong),
         [name] => read_alone(*name),
         [name, word] => read_pair(alloc, *name, *word),
         _ => Ok(Command::Edit(read_edit(alloc, words)?)),
     }
 }
 
-/// The command that a word alone is.
+/// The command that a word alone is that wants no unit.
 fn read_alone<'a>(name: &str) -> Result<Command<'a>, LineFault>
+    requires { wanted_of (name.now ∷ []) ≡ None }
     ensures { IsCommandAnswer (name.now ∷ []) result }
 {
     match name {
         "take" => Ok(Command::Take),
         "settle" => Ok(Command::Settle),
+        "clear" => Ok(Command::Clear),
         _ => Err(LineFault::Wrong),
     }
 }
 
-/// The command that two words are.
+/// The command that two words are that want no unit.
 fn read_pair<'a>(alloc: Global, name: &'a str, word: &'a str) -> Result<Command<'a>, LineFault>
+    requires { wanted_of (name.now ∷ word.now ∷ []) ≡ None }
     ensures { IsCommandAnswer (name.now ∷ word.now ∷ []) result }
 {
     match name {
         "load" => Ok(Command::Load { path: word }),
+        "rest" => Ok(Command::Rest(read_switch(word)?)),
         "unit" => Ok(Command::Unit {
             number: read_given(word)?,
         }),
         "json" => Ok(Command::Json {
+            number: read_given(word)?,
+        }),
+        "take" => Ok(Command::TakeFor {
             number: read_given(word)?,
         }),
         "land" => Ok(Command::Land {
@@ -117,11 +148,40 @@ fn read_pair<'a>(alloc: Global, name: &'a str, word: &'a str) -> Result<Command<
         "give" => Ok(Command::GiveBack {
             number: read_given(word)?,
         }),
+        "settle" => Ok(Command::SettleFor {
+            number: read_given(word)?,
+        }),
         "show" => Ok(Command::Show {
+            number: read_given(word)?,
+        }),
+        "drop" => Ok(Command::Drop {
             number: read_given(word)?,
         }),
         _ => Ok(Command::Edit(read_edit(alloc, &[name, word])?)),
     }
+}
+
+/// Whether a word says that something is on.
+fn read_switch(word: &str) -> Result<bool, LineFault>
+    ensures { MatchResult result (λ on. switch_of word.now ≡ Some on)
+        (λ fault. (fault ≡ LineFault.Wrong) × (switch_of word.now ≡ None)) }
+{
+    match word {
+        "on" => Ok(true),
+        "off" => Ok(false),
+        _ => Err(LineFault::Wrong),
+    }
+}
+
+/// The ids that words are.
+fn read_ids(alloc: Global, words: &[&str]) -> Result<Vec<AuId>, LineFault>
+    ensures { IsIdsAnswer (ids_of_words (texts_of words.now)) result }
+{
+    let mut ids = Vec::new(alloc);
+    for word in words {
+        ids.push(read_id(word)?)?;
+    }
+    Ok(ids)
 }
 
 /// The edit that the words of a line ask for.

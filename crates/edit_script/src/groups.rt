@@ -1,4 +1,4 @@
-//! The command at the front of a script's lines: a line alone, or a group (docs/OUTPUT.md).
+//! The command at the start of a script's lines: a line alone, or a group (docs/OUTPUT.md).
 
 ghost use Rattle.std.specs.Prelude.{◌<◌, ◌∷◌, ℕ, List, length, IfOk};
 ghost use Rattle.edit_script.specs.Lines.{numbered_of, IsFront};
@@ -8,7 +8,7 @@ use crate::commands::Command;
 use crate::lines::{Inside, Outside, read_inside, read_outside};
 use std::alloc::{AllocError, Global};
 
-/// What stands at the front of the lines that are left.
+/// What stands at the start of the lines that are left.
 #[derive(Drop)]
 pub(crate) enum Front<'a> {
     /// This command. The first of its lines has this number, and there are so many.
@@ -23,7 +23,7 @@ pub(crate) enum Front<'a> {
     },
 }
 
-/// What stands at the front of lines.
+/// What stands at the start of lines.
 pub(crate) fn read_front<'a>(
     alloc: Global,
     lines: &[(usize, &'a [u8])],

@@ -1,22 +1,29 @@
 //! Scripts of edits: a command a line, or a group of edits, as docs/OUTPUT.md has them.
 //!
-//! `read_script` answers the commands of a text, or the first line that is wrong; `read_seat_script` those of a script that
-//! a seat runs, in which commands about jobs and about what becomes of units are wrong. Both rest on one reading of the
-//! text; by the law `one_reading` any other has its commands and its wrong line in the same places. Below is stream_edits,
-//! whose edits the commands are; above, script_run, which runs the former, and pool_run, which runs the latter.
+//! `read_session_script` answers the commands of a script that runs on a session alone, or the first line that is wrong;
+//! `read_seat_script` those of one that a seat runs while workers decode, and `read_edit_script` those of one that has edits
+//! alone. In each of them commands of the other kinds are wrong: a session alone has no workers to tell what is wanted, and
+//! beside workers nobody takes jobs. All rest on one reading of the text; by the law `one_reading` any other has its commands
+//! and its wrong line in the same places. Below is stream_edits, whose edits the commands are; above, script_run, which runs
+//! the first, pool_run, which runs the second, and draw_edits, which makes the third.
 #![tactic(auto)]
 
 mod commands;
+mod edit_commands;
+mod edit_only_script;
 mod groups;
+mod kinds;
 mod laws;
 mod lines;
 mod reading;
 mod script;
 mod seat_commands;
-mod seat_script;
+mod session_commands;
 
 pub use commands::{Command, id_of_number};
+pub use edit_commands::EditCommand;
+pub use edit_only_script::read_edit_script;
 pub use laws::one_reading;
-pub use script::{ScriptFault, read_script};
-pub use seat_commands::SeatCommand;
-pub use seat_script::read_seat_script;
+pub use script::ScriptFault;
+pub use seat_commands::{SeatCommand, read_seat_script};
+pub use session_commands::{SessionCommand, read_session_script};

@@ -1,10 +1,13 @@
-//! The commands of a script that a seat runs (docs/OUTPUT.md).
+//! Scripts that a seat runs while workers decode (docs/OUTPUT.md).
 
-ghost use Rattle.std.specs.Prelude.{◌≡◌, MatchOption};
-ghost use Rattle.edit_script.specs.SeatScripts.{as_command};
-ghost use Rattle.edit_script.specs.declared.seat_commands.SeatCommand.{SeatCommand as Seats};
+ghost use Rattle.edit_script.specs.Kinds.{IsReadAs};
+ghost use Rattle.edit_script.specs.SeatScripts.{of_seat};
 
 use crate::commands::Command;
+use crate::kinds::{Kind, read_kind};
+use crate::script::ScriptFault;
+use pictures::AuId;
+use std::alloc::Global;
 use stream_edits::Edit;
 
 /// What a script asks of a seat. Jobs are the workers' then, and of a unit a seat is shown the picture alone.
@@ -18,25 +21,51 @@ pub enum SeatCommand<'a> {
     Load { path: &'a str },
     /// All pictures that are due.
     Settle,
+    /// The picture of the unit of this number.
+    SettleFor { number: u64 },
     /// What is shown of the unit of this number.
     Show { number: u64 },
+    /// The picture of the unit of this number, which is to be there no more.
+    Drop { number: u64 },
+    /// The cached pictures, which are to be there no more.
+    Clear,
+    /// The pictures of the units of these ids before all others.
+    Want(Vec<AuId>),
+    /// Whether workers do the rest of the stream too.
+    Rest(bool),
 }
 
-/// The command as one of a seat's, if it is.
-pub(crate) fn for_seat<'a>(command: Command<'a>) -> Option<SeatCommand<'a>>
-    ensures { MatchOption result ((it : Seats) → ¬ (as_command it ≡ command.entry))
-        (λ it. as_command it ≡ command.entry) }
-{
-    match command {
-        Command::Edit(edit) => Some(SeatCommand::Edit(edit)),
-        Command::Group(edits) => Some(SeatCommand::Group(edits)),
-        Command::Load { path } => Some(SeatCommand::Load { path }),
-        Command::Settle => Some(SeatCommand::Settle),
-        Command::Show { number } => Some(SeatCommand::Show { number }),
-        Command::Unit { .. }
-        | Command::Json { .. }
-        | Command::Take
-        | Command::Land { .. }
-        | Command::GiveBack { .. } => None,
+impl<'a> Kind<'a> for SeatCommand<'a> {
+    ghost as_command = { of_seat };
+
+    fn of_command(command: Command<'a>) -> Option<SeatCommand<'a>> {
+        match command {
+            Command::Edit(edit) => Some(SeatCommand::Edit(edit)),
+            Command::Group(edits) => Some(SeatCommand::Group(edits)),
+            Command::Load { path } => Some(SeatCommand::Load { path }),
+            Command::Settle => Some(SeatCommand::Settle),
+            Command::SettleFor { number } => Some(SeatCommand::SettleFor { number }),
+            Command::Show { number } => Some(SeatCommand::Show { number }),
+            Command::Drop { number } => Some(SeatCommand::Drop { number }),
+            Command::Clear => Some(SeatCommand::Clear),
+            Command::Want(ids) => Some(SeatCommand::Want(ids)),
+            Command::Rest(rest) => Some(SeatCommand::Rest(rest)),
+            Command::Unit { .. }
+            | Command::Json { .. }
+            | Command::Take
+            | Command::TakeFor { .. }
+            | Command::Land { .. }
+            | Command::GiveBack { .. } => None,
+        }
     }
+}
+
+/// The commands of a script that a seat runs, or its first line that is wrong, or is a command that is none of a seat's.
+pub fn read_seat_script<'a>(
+    alloc: Global,
+    text: &'a [u8],
+) -> Result<Vec<SeatCommand<'a>>, ScriptFault>
+    ensures { IsReadAs of_seat text.now result }
+{
+    read_kind(alloc, text)
 }

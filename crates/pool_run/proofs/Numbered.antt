@@ -52,7 +52,12 @@ module _ (files : Files) (hex : Bool) where
         | inr refused ↦ ap (λ (s : Seat). s.number) refused.3
       ]
   answer-keeps old seat.Settle lines new answers = ap (λ (s : Seat). s.number) answers.1
+  answer-keeps old (seat.SettleFor number) lines new answers = ap (λ (s : Seat). s.number) answers.1
   answer-keeps old (seat.Show number) lines new answers = answers.1.3.0
+  answer-keeps old (seat.Drop number) lines new answers = answers.1.4.0
+  answer-keeps old seat.Clear lines new answers = ap (λ (s : Seat). s.number) answers.1
+  answer-keeps old (seat.Want ids) lines new answers = ap (λ (s : Seat). s.number) answers.1
+  answer-keeps old (seat.Rest rest) lines new answers = ap (λ (s : Seat). s.number) answers.1
 
   -- a run
   pub run-keeps : (from : Seat) (commands : List SeatCommand) (lines : List ℕ) (to : Seat)

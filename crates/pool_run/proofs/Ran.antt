@@ -16,4 +16,9 @@ module _ (files : Files) (hex : Bool) where
   Answers-same others same old (seat.Load path) lines new answers =
       (answers.0, rw (same path.now) at answers.1, answers.2)
   Answers-same others same old seat.Settle lines new answers = answers
+  Answers-same others same old (seat.SettleFor number) lines new answers = answers
   Answers-same others same old (seat.Show number) lines new answers = answers
+  Answers-same others same old (seat.Drop number) lines new answers = answers
+  Answers-same others same old seat.Clear lines new answers = answers
+  Answers-same others same old (seat.Want ids) lines new answers = answers
+  Answers-same others same old (seat.Rest rest) lines new answers = answers

@@ -40,7 +40,7 @@ WritesDisagrees files text old new =
 abbrev pub StopsAudit : Files → List ℕ → RunFault → Type 0
 StopsAudit files text fault = StopsText files text false fault ⊥ None None
 
--- the audit of a text ends by this fault: none comes of it and nothing was written, or the writer took a front of the
+-- the audit of a text ends by this fault: none comes of it and nothing was written, or the writer took a prefix of the
 -- line and then refused
 abbrev pub EndsAudit : Files → List ℕ → RunFault → Type 0 → Option (List ℕ) → Option (List ℕ) → Type 0
 EndsAudit files text fault refused old new =

@@ -2,3 +2,4 @@ pub mod Running
 pub mod Stops
 pub mod Verdicts
 pub mod Audits
+pub mod WantedLines

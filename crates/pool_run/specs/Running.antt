@@ -12,8 +12,9 @@ use Rattle.stream_edits.specs.declared.receipts.Last.{Last}
 use Rattle.stream_edits.specs.declared.receipts.Receipt.{Receipt}
 use Rattle.stream_edits.specs.declared.refusals.EditRefused.{EditRefused}
 use Rattle.stream_edits.specs.declared.refusals.EditRefused.TheVariants as refusals
+use Rattle.edit_engine.specs.declared.showing.Dropping.{Dropping}
 use Rattle.edit_engine.specs.declared.showing.Shown.{Shown}
-use Rattle.decode_pool.specs.Seats.{EditsGroupOne, EditsOne, IsLastOfOne, ShowsOne, WaitsForOne}
+use Rattle.decode_pool.specs.Seats.{DropsOne, EditsGroupOne, EditsOne, IsLastOfOne, ShowsOne, WaitsForOne, WaitsForUnit}
 use Rattle.decode_pool.specs.declared.seat.Seat.{Seat}
 use Rattle.decode_pool.specs.declared.state.settling.Settled.TheVariants as settled
 use Rattle.console_io.specs.Inputs.{Files}
@@ -24,10 +25,11 @@ use Rattle.edit_script.specs.declared.seat_commands.SeatCommand.{SeatCommand}
 use Rattle.edit_script.specs.declared.seat_commands.SeatCommand.TheVariants as seat
 use Rattle.script_run.specs.Answers.{edit_line, refused_line, loaded_line}
 use Rattle.script_run.specs.GroupLines.{group_answer_line}
-use Rattle.script_run.specs.JobLines.{settled_line}
+use Rattle.script_run.specs.JobLines.{cleared_line, dropped_line, settled_line}
 use Rattle.script_run.specs.Running.{place_after}
 use Rattle.script_run.specs.Sequences.{AreAnswered, AreWritten}
 use Rattle.script_run.specs.ShownLines.{shown_line}
+use Rattle.pool_run.specs.WantedLines.{rest_line, want_line}
 
 -- a desk's only seat, which has noted nothing
 abbrev pub IsNew : Seat → Type 0
@@ -42,14 +44,23 @@ abbrev pub EditsGroup : Seat → List Edit → List ℕ → Seat → Type 0
 EditsGroup old edits line new =
     (answer : Result GroupReceipt GroupRefused) × EditsGroupOne old edits answer new × (line ≡ group_answer_line answer)
 
--- no unit was pending, and the line says so
+-- no unit was pending, or all that is wanted was done while the rest isn't decoded, and the line says so
 abbrev pub Settles : List ℕ → Type 0
-Settles line = WaitsForOne settled.Done × (line ≡ settled_line)
+Settles line = (WaitsForOne settled.Done ⊎ WaitsForOne settled.Rested) × (line ≡ settled_line)
+
+-- the unit of the number wasn't pending, and the line says so
+abbrev pub SettlesFor : ℕ → List ℕ → Type 0
+SettlesFor number line = WaitsForUnit (id_of number) settled.Done × (line ≡ settled_line)
 
 -- the seat is shown the unit of the number, and the line is that of its answer
 abbrev pub ShowsLine : Bool → Seat → ℕ → List ℕ → Seat → Type 0
 ShowsLine hex old number line new =
     (answer : Shown) × ShowsOne old (id_of number) (Ok answer) new × (line ≡ shown_line hex number answer)
+
+-- the seat drops the picture of the unit of the number, and the line is that of its answer
+abbrev pub Drops : Seat → ℕ → List ℕ → Seat → Type 0
+Drops old number line new =
+    (answer : Dropping) × DropsOne old (id_of number) (Ok answer) new × (line ≡ dropped_line number answer)
 
 -- a unit is inserted after the last one by an edit of the seat; or there is no memory for its text, and nothing is done
 abbrev pub InsertsLast : Seat → List (List ℕ) → Result Receipt EditRefused → Seat → Type 0
@@ -83,7 +94,12 @@ Answers files hex old (seat.Group edits) lines new = EditsGroup old edits.items 
 Answers files hex old (seat.Load path) lines new =
     (text : List ℕ) × IfSome (files path.now) (λ bytes. text ≡ bytes) × Loads old text lines new
 Answers files hex old seat.Settle lines new = Settles lines × (new ≡ old)
+Answers files hex old (seat.SettleFor number) lines new = SettlesFor number lines × (new ≡ old)
 Answers files hex old (seat.Show number) lines new = ShowsLine hex old number lines new
+Answers files hex old (seat.Drop number) lines new = Drops old number lines new
+Answers files hex old seat.Clear lines new = (lines ≡ cleared_line) × (new ≡ old)
+Answers files hex old (seat.Want ids) lines new = (lines ≡ want_line ids.items) × (new ≡ old)
+Answers files hex old (seat.Rest rest) lines new = (lines ≡ rest_line rest) × (new ≡ old)
 
 -- the commands are answered one after the other, by these lines in all
 abbrev pub Runs : Files → Bool → Seat → List SeatCommand → List ℕ → Seat → Type 0

@@ -19,7 +19,12 @@ IsCommandFault (seat.Edit edit) fault = fault ≡ Memory
 IsCommandFault (seat.Group edits) fault = fault ≡ Memory
 IsCommandFault (seat.Load path) fault = IsLoadFault path fault
 IsCommandFault seat.Settle fault = fault ≡ Memory
+IsCommandFault (seat.SettleFor number) fault = fault ≡ Memory
 IsCommandFault (seat.Show number) fault = fault ≡ Memory
+IsCommandFault (seat.Drop number) fault = fault ≡ Memory
+IsCommandFault seat.Clear fault = fault ≡ Memory
+IsCommandFault (seat.Want ids) fault = fault ≡ Memory
+IsCommandFault (seat.Rest rest) fault = fault ≡ Memory
 
 -- the commands stop at one of them: those before it were answered, and that was written
 abbrev pub StopsAt : Files → Bool → Seat → List SeatCommand → RunFault → Type 0 → Option (List ℕ) → Option (List ℕ) → Type 0

@@ -1,7 +1,8 @@
 -- What the audit of a seat's book comes to (docs/OUTPUT.md).
-use Rattle.std.specs.Prelude.{◌≡◌, ◌⊎◌, ℕ, ◌+◌, ◌++◌, Bool, not, List, [], ◌∷◌, length, codes, count_by, decimal}
+use Rattle.std.specs.Prelude.{◌≡◌, ◌⊎◌, ℕ, ◌+◌, ◌++◌, Bool, true, false, List, [], ◌∷◌, length, codes, count_by, decimal}
 use Rattle.stream_edits.specs.declared.edits.Edit.{Edit}
 use Rattle.seat_books.specs.declared.receipts.SeatReceipt.{SeatReceipt}
+use Rattle.seat_books.specs.declared.receipts.SeatReceipt.TheVariants as receipts
 use Rattle.decode_pool.specs.Finishing.{HasFault, IsFinished, LacksBook, is_edit}
 use Rattle.decode_pool.specs.declared.seat.Seat.{Seat}
 use Rattle.pool_run.specs.declared.verdict.Verdict.{Verdict}
@@ -16,7 +17,8 @@ verdict_line (Disagrees seat number) =
 
 -- whether the receipt is of a unit that was shown
 abbrev pub is_show : SeatReceipt → Bool
-is_show receipt = not (is_edit receipt)
+is_show (receipts.Show id answer n) = true
+is_show receipt = false
 
 -- a session's journal bears out the book of its desk's one seat, which has so many edits, a group counting as one, and so
 -- many shows

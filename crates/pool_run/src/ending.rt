@@ -56,7 +56,7 @@ fn shows_in(book: &SeatBook) -> usize
 {
     book.receipts
         .iter()
-        .filter(|receipt| !is_edit(*receipt))
+        .filter(|receipt| is_show(*receipt))
         .count()
 }
 
@@ -68,4 +68,11 @@ fn is_edit(receipt: &SeatReceipt) -> bool
         receipt,
         SeatReceipt::Edit { .. } | SeatReceipt::Group { .. }
     )
+}
+
+/// Whether the receipt is of a unit that was shown.
+fn is_show(receipt: &SeatReceipt) -> bool
+    ensures { result ≡ is_show receipt.now }
+{
+    matches!(receipt, SeatReceipt::Show { .. })
 }

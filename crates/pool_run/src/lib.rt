@@ -18,6 +18,7 @@ mod opening;
 mod run;
 mod threads;
 mod verdict;
+mod wanted_lines;
 
 pub use audit::{audit_with, audit_with_workers};
 pub use run::{script_with, script_with_workers};

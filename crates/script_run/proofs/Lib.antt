@@ -1,3 +1,4 @@
 pub mod Sequenced
 pub mod Ran
 pub mod Told
+pub mod Waits

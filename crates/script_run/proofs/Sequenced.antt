@@ -47,7 +47,7 @@ module _ {S C : Type 0} (answers : S → C → List ℕ → S → Type 0) where
       stops = inl (stopped, ran.2);
     }
 
-    -- they were answered, and the writer takes a front of the answer of this one
+    -- they were answered, and the writer takes a prefix of the answer of this one
     pub stops-within : (c : Option (List ℕ)) (all : List C) (it : C) (rest : List C) → all ≡ commands ++ it ∷ rest
         → (lines : List ℕ) (to : S) → answers between it lines to → AppendsFront b c lines
         → (fault : RunFault) → fault ≡ Unwritten → (R : Type 0) → R → StopsAmong answers is_fault from all fault R a c

@@ -2,8 +2,8 @@
 use Rattle.std.specs.Prelude.{◌≡◌, ℕ, List, ◌⊎◌}
 use Rattle.std.specs.Borrow.{Bor}
 use Rattle.console_io.specs.declared.chunks.PrintFault.{PrintFault}
-use Rattle.edit_script.specs.declared.commands.Command.{Command}
-use Rattle.edit_script.specs.declared.commands.Command.TheVariants as command
+use Rattle.edit_script.specs.declared.session_commands.SessionCommand.{SessionCommand}
+use Rattle.edit_script.specs.declared.session_commands.SessionCommand.TheVariants as command
 use Rattle.console_io.specs.declared.chunks.PrintFault.TheVariants as print
 use Rattle.console_io.specs.declared.input.InputFault.{InputFault}
 use Rattle.console_io.specs.declared.input.InputFault.TheVariants as input
@@ -32,14 +32,18 @@ abbrev pub IsLoadFault : Bor (List ℕ) → RunFault → Type 0
 IsLoadFault name fault = (fault ≡ Memory) ⊎ (fault ≡ Unread name)
 
 -- why a command isn't answered; that all numbers of jobs were given is told as lack of memory is
-abbrev pub IsCommandFault : Command → RunFault → Type 0
+abbrev pub IsCommandFault : SessionCommand → RunFault → Type 0
 IsCommandFault (command.Edit edit) fault = fault ≡ Memory
 IsCommandFault (command.Group edits) fault = fault ≡ Memory
 IsCommandFault (command.Load path) fault = IsLoadFault path fault
 IsCommandFault (command.Unit number) fault = fault ≡ Memory
 IsCommandFault (command.Json number) fault = fault ≡ Memory
 IsCommandFault command.Take fault = fault ≡ Memory
+IsCommandFault (command.TakeFor number) fault = fault ≡ Memory
 IsCommandFault (command.Land number) fault = fault ≡ Memory
 IsCommandFault (command.GiveBack number) fault = fault ≡ Memory
 IsCommandFault command.Settle fault = fault ≡ Memory
+IsCommandFault (command.SettleFor number) fault = fault ≡ Memory
 IsCommandFault (command.Show number) fault = fault ≡ Memory
+IsCommandFault (command.Drop number) fault = fault ≡ Memory
+IsCommandFault command.Clear fault = fault ≡ Memory

@@ -25,10 +25,10 @@ use Rattle.console_io.specs.Inputs.{Files}
 use Rattle.access_unit.specs.Rooms.{IsStream, IsStreamRefused, most_units}
 use Rattle.unit_json.specs.declared.json_line.JsonLine.{JsonLine}
 use Rattle.unit_lines.specs.Refusals.{refusal_text}
-use Rattle.edit_script.specs.Scripts.{IsScript}
+use Rattle.edit_script.specs.SessionScripts.{IsSessionScript}
 use Rattle.edit_script.specs.Words.{id_of}
-use Rattle.edit_script.specs.declared.commands.Command.{Command}
-use Rattle.edit_script.specs.declared.commands.Command.TheVariants as command
+use Rattle.edit_script.specs.declared.session_commands.SessionCommand.{SessionCommand}
+use Rattle.edit_script.specs.declared.session_commands.SessionCommand.TheVariants as command
 use Rattle.access_unit.specs.declared.room.Refusal.{Refusal}
 
 -- after the unit of this id, or first where there is none
@@ -71,14 +71,14 @@ Follows hex old told number lines new =
     (reply : Reply) × Replies old told reply new × (reply_lines hex number reply ≡ Some lines)
 
 module _ (says : JsonLine → List ℕ → Type 0) where
-  -- the session reports what becomes of the unit of a number, and a text says it as JSON
+  -- the session reports the unit's outcome of a number, and a text says it as JSON
   abbrev pub SaysUnit : Machine → ℕ → List ℕ → Machine → Type 0
   SaysUnit old number text new =
       (report : Result UnitReport NoSuchUnit) × Replies old (told.Unit (id_of number)) (replies.Unit report) new
       × says (report_json number report) text
 
   -- a command is answered by the lines, and leads from one state of the session to the other
-  abbrev pub Answers : Files → Bool → Machine → Command → List ℕ → Machine → Type 0
+  abbrev pub Answers : Files → Bool → Machine → SessionCommand → List ℕ → Machine → Type 0
   Answers files hex old (command.Edit edit) lines new = Follows hex old (told.Edit edit) 0 lines new
   Answers files hex old (command.Group edits) lines new = Follows hex old (told.Group edits) 0 lines new
   Answers files hex old (command.Load path) lines new =
@@ -86,24 +86,29 @@ module _ (says : JsonLine → List ℕ → Type 0) where
   Answers files hex old (command.Unit number) lines new = Follows hex old (told.Unit (id_of number)) number lines new
   Answers files hex old (command.Json number) lines new = SaysUnit old number lines new
   Answers files hex old command.Take lines new = Follows hex old told.Take 0 lines new
+  Answers files hex old (command.TakeFor number) lines new = Follows hex old (told.TakeFor (id_of number)) number lines new
   Answers files hex old (command.Land number) lines new = Follows hex old (told.Land number) number lines new
   Answers files hex old (command.GiveBack number) lines new = Follows hex old (told.GiveBack number) number lines new
   Answers files hex old command.Settle lines new =
-      (jobs : List TakenJob) × Settles old jobs new × (lines ≡ settled_line)
+      (jobs : List TakenJob) × Settles None old jobs new × (lines ≡ settled_line)
+  Answers files hex old (command.SettleFor number) lines new =
+      (jobs : List TakenJob) × Settles (Some (id_of number)) old jobs new × (lines ≡ settled_line)
   Answers files hex old (command.Show number) lines new = Follows hex old (told.Show (id_of number)) number lines new
+  Answers files hex old (command.Drop number) lines new = Follows hex old (told.Drop (id_of number)) number lines new
+  Answers files hex old command.Clear lines new = Follows hex old told.ClearCache 0 lines new
 
   -- the commands are answered one after the other, by these lines in all
-  abbrev pub Runs : Files → Bool → Machine → List Command → List ℕ → Machine → Type 0
+  abbrev pub Runs : Files → Bool → Machine → List SessionCommand → List ℕ → Machine → Type 0
   Runs files hex from commands lines to = AreAnswered (Answers files hex) from commands lines to
 
   -- the lines that answer the commands were written
-  abbrev pub WritesRun : Files → Bool → Machine → List Command → Machine → Option (List ℕ) → Option (List ℕ) → Type 0
+  abbrev pub WritesRun : Files → Bool → Machine → List SessionCommand → Machine → Option (List ℕ) → Option (List ℕ) → Type 0
   WritesRun files hex from commands to old new = AreWritten (Answers files hex) from commands to old new
 
   -- the text is a script, and what answers its commands was written: they were run from the empty stream, for a cache
   -- of this room, and pictures have their digits or not
   pub record WritesScript (files : Files) (text : List ℕ) (room : ℕ) (hex : Bool) (old new : Option (List ℕ)) : Type 0 where
-    pub commands : List Command
+    pub commands : List SessionCommand
     pub last : Machine
-    pub read : IsScript text commands
+    pub read : IsSessionScript text commands
     pub answered : WritesRun files hex (empty room) commands last old new

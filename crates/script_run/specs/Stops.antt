@@ -4,8 +4,8 @@ use Rattle.std.specs.Borrow.{Bor}
 use Rattle.std.specs.Io.KnownBytes.{Keeps}
 use Rattle.console_io.specs.Inputs.{Files}
 use Rattle.edit_engine.specs.Machines.{Machine, empty}
-use Rattle.edit_script.specs.Scripts.{HasFirstWrong, IsScript}
-use Rattle.edit_script.specs.declared.commands.Command.{Command}
+use Rattle.edit_script.specs.SessionScripts.{HasFirstWrongForSession, IsSessionScript}
+use Rattle.edit_script.specs.declared.session_commands.SessionCommand.{SessionCommand}
 use Rattle.script_run.specs.Running.{Answers}
 use Rattle.script_run.specs.RunFaults.{IsCommandFault}
 use Rattle.script_run.specs.Sequences.{StopsAmong}
@@ -15,17 +15,17 @@ use Rattle.unit_json.specs.declared.json_line.JsonLine.{JsonLine}
 
 module _ (says : JsonLine → List ℕ → Type 0) where
   -- the commands stop at one of them: those before it were answered, and that was written
-  abbrev pub StopsAt : Files → Bool → Machine → List Command → RunFault → Type 0 → Option (List ℕ) → Option (List ℕ) → Type 0
+  abbrev pub StopsAt : Files → Bool → Machine → List SessionCommand → RunFault → Type 0 → Option (List ℕ) → Option (List ℕ) → Type 0
   StopsAt files hex from commands fault refused old new =
       StopsAmong (Answers says files hex) IsCommandFault from commands fault refused old new
 
-  -- a text isn't run to its end: there is no memory for its commands, this line is the first that is no command, or its
-  -- commands stop
+  -- a text isn't run to its end: there is no memory for its commands, this line is the first that is no command of a
+  -- session, or its commands stop
   abbrev pub StopsText : Files → List ℕ → ℕ → Bool → RunFault → Type 0 → Option (List ℕ) → Option (List ℕ) → Type 0
   StopsText files text room hex fault refused old new =
       ((fault ≡ Memory) × Keeps old new)
-      ⊎ ((number : ℕ) × HasFirstWrong text number × (fault ≡ Script number) × Keeps old new)
-      ⊎ ((commands : List Command) × IsScript text commands
+      ⊎ ((number : ℕ) × HasFirstWrongForSession text number × (fault ≡ Script number) × Keeps old new)
+      ⊎ ((commands : List SessionCommand) × IsSessionScript text commands
       × StopsAt files hex (empty room) commands fault refused old new)
 
   -- the script of this name and text isn't run to its end by this fault: it can't be read, or its text isn't run

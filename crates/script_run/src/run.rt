@@ -21,7 +21,7 @@ use crate::settling::settle;
 use crate::shown_lines::shown_line;
 use console_io::{Ended, Sink, Source, Status, whole_input, write_bytes};
 use edit_engine::{Command as Told, Config, NoSuchUnit, Reply, Runner, UnitReport};
-use edit_script::{Command, id_of_number, read_script};
+use edit_script::{SessionCommand as Command, id_of_number, read_session_script};
 use std::alloc::{AllocError, Global};
 use std::io::Read;
 use std::thread::Threads;
@@ -78,7 +78,7 @@ pub fn script_on<J: Encoder, R: Read, S: Source, W: Sink, E: Sink>(
     }
 }
 
-/// Runs the script of this text. Where a line is no command, nothing is run.
+/// Runs the script of this text. Where a line is no command of a session, nothing is run.
 fn run_text<'a, J: Encoder, S: Source, W: Sink>(
     threads: &(impl Threads + Sync),
     alloc: Global,
@@ -95,7 +95,7 @@ fn run_text<'a, J: Encoder, S: Source, W: Sink>(
         (S.file source.old) text.now options.entry.cache options.entry.hex fault
         (W.refuses writer.new) (W.contents writer.old) (W.contents writer.new)) }
 {
-    let commands = read_script(alloc, text)?;
+    let commands = read_session_script(alloc, text)?;
     let (cache, hex) = (options.cache, options.hex);
     // The options are in range.
     let Ok(mut runner) = Runner::new(alloc, Config { cache }) else {
@@ -155,22 +155,35 @@ fn run_command<'a, J: Encoder, S: Source>(
     ensures named { IfErr result (IsCommandFault command.entry) }
 {
     match command {
+        Command::Load { path } => load(threads, alloc, path, runner, source),
+        Command::Json { number } => Ok(say_unit(alloc, encoder, runner, number)?),
+        Command::Settle => Ok(settle(alloc, runner, None)?),
+        Command::SettleFor { number } => {
+            let unit = Some(id_of_number(number));
+            Ok(settle(alloc, runner, unit)?)
+        }
         Command::Edit(edit) => Ok(follow(alloc, runner, Told::Edit(edit), 0, hex)?),
         Command::Group(edits) => Ok(follow(alloc, runner, Told::Group(edits), 0, hex)?),
-        Command::Load { path } => load(threads, alloc, path, runner, source),
-        Command::Unit { number } => {
-            let told = Told::Unit(id_of_number(number));
+        Command::Take => Ok(follow(alloc, runner, Told::Take, 0, hex)?),
+        Command::Clear => Ok(follow(alloc, runner, Told::ClearCache, 0, hex)?),
+        Command::TakeFor { number } => {
+            let told = Told::TakeFor(id_of_number(number));
             Ok(follow(alloc, runner, told, number, hex)?)
         }
-        Command::Json { number } => Ok(say_unit(alloc, encoder, runner, number)?),
-        Command::Take => Ok(follow(alloc, runner, Told::Take, 0, hex)?),
         Command::Land { number } => Ok(follow(alloc, runner, Told::Land(number), number, hex)?),
         Command::GiveBack { number } => {
             Ok(follow(alloc, runner, Told::GiveBack(number), number, hex)?)
         }
-        Command::Settle => Ok(settle(alloc, runner)?),
+        Command::Unit { number } => {
+            let told = Told::Unit(id_of_number(number));
+            Ok(follow(alloc, runner, told, number, hex)?)
+        }
         Command::Show { number } => {
             let told = Told::Show(id_of_number(number));
+            Ok(follow(alloc, runner, told, number, hex)?)
+        }
+        Command::Drop { number } => {
+            let told = Told::Drop(id_of_number(number));
             Ok(follow(alloc, runner, told, number, hex)?)
         }
     }
@@ -209,7 +222,7 @@ fn say_unit<J: Encoder>(
     }
 }
 
-/// The line of JSON of what is reported of the unit of this number: what becomes of it, or that there is none.
+/// The line of JSON of what is reported of the unit of this number: its outcome, or that there is none.
 fn json_line(
     alloc: Global,
     number: u64,
@@ -247,7 +260,7 @@ fn reply_lines(alloc: Global, number: u64, hex: bool, reply: &Reply) -> Result<S
     }
 }
 
-/// The lines of what is reported of the unit of this number: what becomes of it, or that there is none.
+/// The lines of what is reported of the unit of this number: its outcome, or that there is none.
 fn report_lines(
     alloc: Global,
     number: u64,

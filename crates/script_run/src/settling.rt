@@ -1,47 +1,114 @@
-//! `settle`: jobs taken and landed one after the other.
+//! `settle`: jobs taken and landed one after the other, all that are due or those that a unit needs.
 
-ghost use Rattle.std.specs.Prelude.{◌≡◌, List, IfOk, string_bytes};
+ghost use Rattle.std.specs.Prelude.{◌≡◌, ◌≤◌, List, Some, IfOk, IsErrOf, OnOk, string_bytes};
+ghost use Rattle.picture_store.specs.Jobs.{most_jobs};
+ghost use Rattle.edit_engine.specs.Needing.{IsAnyOutFor, IsPendingIn};
 ghost use Rattle.edit_engine.specs.declared.replies.TakenJob.{TakenJob};
 ghost use Rattle.script_run.specs.JobLines.{settled_line};
 ghost use Rattle.script_run.specs.Settling.{LandsNext, Settles, Takes};
+ghost use Rattle.script_run.specs.declared.settling.Stopped.TheVariants.{Memory};
 
-use edit_engine::{Command as Told, Reply, Runner, TakenJob};
+use edit_engine::{Command as Told, Reply, Runner, TakeRefused, TakenJob};
+use pictures::AuId;
 use std::alloc::{AllocError, Global};
 
-/// Takes jobs and lands their results, one after the other, until no picture is due, and gives the line that says so.
-/// Jobs that are out stay out.
-pub fn settle(alloc: Global, runner: &mut Runner) -> Result<String, AllocError>
-    ensures { IfOk result (λ line. (jobs : List TakenJob) × Settles runner.old jobs runner.new
+/// Why jobs aren't taken and landed to the end.
+#[derive(Clone, Copy, Debug, PartialEq, Eq)]
+pub enum Stopped {
+    /// A growth was refused.
+    Memory,
+    /// A picture is due, and all numbers of jobs were given.
+    JobsSpent,
+}
+
+impl From<AllocError> for Stopped {
+    ghost from_gives = { λ _ stopped. stopped ≡ Memory };
+
+    fn from(_error: AllocError) -> Stopped {
+        Stopped::Memory
+    }
+}
+
+/// Takes jobs for the unit that has the id and lands their results, one after the other, until none of the pictures that
+/// it needs is due. Jobs that are out stay out; where none of them is of a picture that the unit needs, its own is there at
+/// the end.
+pub fn settle_for(runner: &mut Runner, id: AuId) -> Result<(), Stopped>
+    ensures settles { OnOk result ((jobs : List TakenJob)
+        × Settles (Some id) runner.old jobs runner.new) }
+    ensures there { OnOk result ((IsAnyOutFor runner.old id → ⊥)
+        → IsPendingIn runner.new id → ⊥) }
+    ensures spent { IsErrOf result Stopped.JobsSpent → most_jobs ≤ runner.new.jobs }
+{
+    settle_jobs(runner, Some(id))
+}
+
+/// Takes and lands all jobs, or those for the unit that has the id, and gives the line that says so.
+pub(crate) fn settle(
+    alloc: Global,
+    runner: &mut Runner,
+    unit: Option<AuId>,
+) -> Result<String, AllocError>
+    ensures { IfOk result (λ line. (jobs : List TakenJob) × Settles unit runner.old jobs runner.new
         × (string_bytes line ≡ settled_line)) }
 {
+    let settled = match unit {
+        Some(id) => settle_for(runner, id),
+        None => settle_jobs(runner, None),
+    };
+    match settled {
+        Ok(()) => String::from_str(alloc, "settled\n"),
+        Err(_) => Err(AllocError),
+    }
+}
+
+/// Takes jobs, all or those for the unit that has the id, and lands their results, one after the other, until no picture is
+/// due.
+fn settle_jobs(runner: &mut Runner, unit: Option<AuId>) -> Result<(), Stopped>
+    ensures settles { OnOk result ((jobs : List TakenJob)
+        × Settles unit runner.old jobs runner.new) }
+    ensures spent { IsErrOf result Stopped.JobsSpent → most_jobs ≤ runner.new.jobs }
+{
     for _ in 0..u64::MAX {
-        if !land_next(runner)? {
-            return String::from_str(alloc, "settled\n");
+        if !land_next(runner, unit)? {
+            return Ok(());
         }
     }
     // As many jobs were given as there are numbers.
-    Err(AllocError)
+    Err(Stopped::JobsSpent)
 }
 
 /// Takes the job of the picture that is due, if one is, and lands its result. Whether one was due.
-fn land_next(runner: &mut Runner) -> Result<bool, AllocError>
-    ensures { IfOk result (λ was_due. LandsNext runner.old was_due runner.new) }
+fn land_next(runner: &mut Runner, unit: Option<AuId>) -> Result<bool, Stopped>
+    ensures lands { IfOk result (λ was_due. LandsNext unit runner.old was_due runner.new) }
+    ensures spent { IsErrOf result Stopped.JobsSpent → runner.new.jobs ≡ most_jobs }
 {
-    let Some(job) = take_next(runner)? else {
+    let Some(job) = take_next(runner, unit)? else {
         return Ok(false);
     };
     drop(runner.step(Told::Land(job.number))?);
-    Ok(true)
+    match runner.input(job.number) {
+        None => Ok(true),
+        // No number is given twice.
+        Some(_) => Err(Stopped::Memory),
+    }
 }
 
 /// Takes the job of the picture that is due, if one is.
-fn take_next(runner: &mut Runner) -> Result<Option<TakenJob>, AllocError>
-    ensures { IfOk result (λ job. Takes runner.old job runner.new) }
+fn take_next(runner: &mut Runner, unit: Option<AuId>) -> Result<Option<TakenJob>, Stopped>
+    ensures takes { IfOk result (λ job. Takes unit runner.old job runner.new) }
+    ensures spent { IsErrOf result Stopped.JobsSpent → runner.new.jobs ≡ most_jobs }
 {
-    let reply = runner.step(Told::Take)?;
+    let told = match unit {
+        Some(id) => Told::TakeFor(id),
+        None => Told::Take,
+    };
+    let reply = runner.step(told)?;
     match &reply {
-        Reply::Take(Ok(job)) => Ok(*job),
-        // All numbers of jobs were given.
-        _ => Err(AllocError),
+        Reply::Take(Ok(job)) | Reply::TakeFor(Ok(job)) => Ok(*job),
+        Reply::Take(Err(TakeRefused::JobsSpent)) | Reply::TakeFor(Err(TakeRefused::JobsSpent)) => {
+            Err(Stopped::JobsSpent)
+        }
+        // There is no other reply.
+        _ => Err(Stopped::Memory),
     }
 }

@@ -1,9 +1,9 @@
 use Rattle.std.proofs.Common.{inr}
 use Rattle.std.specs.Vec.Iter.{into_iter_items}
-use Rattle.edit_script.proofs.seat_script.read_seat_script.Goals as goal
+use Rattle.edit_script.proofs.kinds.read_kind.Goals as goal
 
-pub returns-in-None-for_seat : goal.returns-in-None-for_seat
-returns-in-None-for_seat c =
+pub returns-in-None-of_command : goal.returns-in-None-of_command
+returns-in-None-of_command g c =
     let before = c.loop-number in
     inr (record {
       before = before.yielded;
@@ -12,6 +12,6 @@ returns-in-None-for_seat c =
       after = into_iter_items c.next.new.self;
       wrong = c.in_ok-numbered.field-0.wrong;
       read = rw c.in-Some.ensures.steps.0 at before.invariant.read;
-      of_seat = before.invariant.of_seat;
-      none = c.in-None-for_seat.ensures;
+      of_kind = before.invariant.of_kind;
+      none = c.in-None-of_command.ensures;
     })

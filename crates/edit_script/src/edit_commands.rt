@@ -1,0 +1,29 @@
+//! The commands of a script that edits a stream and does nothing else (docs/OUTPUT.md).
+
+ghost use Rattle.std.specs.Prelude.{◌≡◌, MatchOption};
+ghost use Rattle.edit_script.specs.EditScripts.{command_of};
+ghost use Rattle.edit_script.specs.declared.edit_commands.EditCommand.{EditCommand as Edits};
+
+use crate::commands::Command;
+use stream_edits::Edit;
+
+/// What a line of a script of edits asks for, or the lines of a group.
+#[derive(Debug, Drop)]
+pub enum EditCommand {
+    /// An edit of the stream.
+    Edit(Edit),
+    /// These edits, all of them or none.
+    Group(Vec<Edit>),
+}
+
+/// The command as one of edits, if it is.
+pub(crate) fn for_edits(command: Command<'_>) -> Option<EditCommand>
+    ensures { MatchOption result ((it : Edits) → ¬ (command_of it ≡ command.entry))
+        (λ it. command_of it ≡ command.entry) }
+{
+    match command {
+        Command::Edit(edit) => Some(EditCommand::Edit(edit)),
+        Command::Group(edits) => Some(EditCommand::Group(edits)),
+        _ => None,
+    }
+}

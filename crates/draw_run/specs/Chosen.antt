@@ -7,7 +7,7 @@ use Rattle.unit_lines.specs.UnitLines.{outcome_lines}
 use Rattle.plan_stream.specs.Streams.{numbered_from}
 use Rattle.draw_run.specs.declared.folded.KeptUnit.{KeptUnit}
 
--- units with ids from this one on, by what becomes of each
+-- units with ids from this one on, by the outcome of each
 abbrev pub kept_from : ℕ → List Outcome → List KeptUnit
 kept_from id [] = []
 kept_from id (outcome ∷ outcomes) = record { id = id; outcome = outcome } ∷ kept_from (id + 1) outcomes
@@ -26,7 +26,7 @@ position_in positions id =
 abbrev pub kept_lines : List (Option ℕ) → KeptUnit → List ℕ
 kept_lines positions unit = outcome_lines unit.id (position_in positions unit.id) unit.outcome
 
--- the lines of so many units from an id on, by what becomes of all units
+-- the lines of so many units from an id on, by the outcomes of all units
 abbrev pub lines_by : ℕ → ℕ → List Outcome → List (List ℕ)
 lines_by from units outcomes = map (kept_lines (positions_of outcomes)) (chosen from units (kept_from 1 outcomes))
 

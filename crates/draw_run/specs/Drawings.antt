@@ -22,7 +22,7 @@ pub record IsDrawn (from units : ℕ) (text document : List ℕ) : Type 0 where
 abbrev pub WritesDrawing : ℕ → ℕ → List ℕ → Option (List ℕ) → Option (List ℕ) → Type 0
 WritesDrawing from units text old new = (document : List ℕ) × IsDrawn from units text document × Appends old new document
 
--- nothing was written, or a front of the line of the text's refusal or of a document of the text
+-- nothing was written, or a prefix of the line of the text's refusal or of a document of the text
 abbrev pub WritesFront : ℕ → ℕ → List ℕ → Option (List ℕ) → Option (List ℕ) → Type 0
 WritesFront from units text old new =
     Keeps old new
@@ -30,7 +30,7 @@ WritesFront from units text old new =
     ⊎ ((document : List ℕ) × IsDrawn from units text document × AppendsFront old new document)
 
 -- what was written of a text whose drawing ended by this fault: nothing where it wasn't read, the whole line of its
--- refusal, or a front where memory runs out or the writer refused
+-- refusal, or a prefix where memory runs out or the writer refused
 abbrev pub EndsBy : ℕ → ℕ → List ℕ → PlanFault → Type 0 → Option (List ℕ) → Option (List ℕ) → Type 0
 EndsBy from units text Unread refused old new = Keeps old new
 EndsBy from units text (Refused refusal) refused old new =

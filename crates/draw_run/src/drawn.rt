@@ -1,7 +1,8 @@
-//! What is drawn of units, by what becomes of each.
+//! What is drawn of units, by the outcome of each.
 
 ghost use Rattle.std.specs.Prelude.{◌≡◌, ◌≤◌, IfOk, vec_len, length, map};
 ghost use Rattle.stream_svg.specs.Captions.{lines_of};
+ghost use Rattle.stream_svg.specs.Documents.{AreUnmarked};
 ghost use Rattle.draw_run.specs.Chosen.{kept_lines, position_in};
 
 use crate::folded::KeptUnit;
@@ -10,7 +11,7 @@ use header_types::SliceType;
 use outcomes::{Outcome, Plan};
 use pictures::AuId;
 use std::alloc::{AllocError, Global};
-use stream_layout::{DrawnUnit, Kind, Picture, RefList, Reference, SliceTypes};
+use stream_layout::{DrawnUnit, EditMark, Kind, Picture, RefList, Reference, SliceTypes};
 use stream_svg::Caption;
 use unit_lines::UnitLines;
 
@@ -20,12 +21,13 @@ pub(crate) fn drawn_units(
     kept: &[KeptUnit],
     positions: &[Option<usize>],
 ) -> Result<Vec<DrawnUnit>, AllocError>
-    ensures { IfOk result (λ units. vec_len units ≡ length kept.now) }
+    ensures count { IfOk result (λ units. vec_len units ≡ length kept.now) }
+    ensures unmarked { IfOk result (λ units. AreUnmarked units.items) }
 {
     let mut units = Vec::new(alloc);
     for unit in kept {
         let position = position_of(positions, unit.id);
-        units.push(drawn_unit(alloc, unit.id, &unit.outcome, position)?)?;
+        units.push(drawn_unit(alloc, unit.id, &unit.outcome, position, None)?)?;
     }
     Ok(units)
 }
@@ -48,7 +50,6 @@ pub(crate) fn captions_of(
         };
         captions.push(Caption {
             lines: lines.to_string(alloc)?,
-            mark: None,
         })?;
     }
     Ok(captions)
@@ -65,13 +66,16 @@ fn position_of(positions: &[Option<usize>], id: AuId) -> Option<usize>
     }
 }
 
-/// What is drawn of a unit.
-fn drawn_unit(
+/// What is drawn of a unit, of which this is what edits did to it.
+pub fn drawn_unit(
     alloc: Global,
     id: AuId,
     outcome: &Outcome,
     position: Option<usize>,
-) -> Result<DrawnUnit, AllocError> {
+    mark: Option<EditMark>,
+) -> Result<DrawnUnit, AllocError>
+    ensures { IfOk result (λ unit. unit.mark ≡ mark) }
+{
     let (kind, references) = match outcome {
         Outcome::Plan(plan) => (
             Kind::Picture(picture_of(plan, position)),
@@ -84,6 +88,7 @@ fn drawn_unit(
         id,
         kind,
         references,
+        mark,
     })
 }
 

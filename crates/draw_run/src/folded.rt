@@ -17,7 +17,7 @@ use std::alloc::{AllocError, Global};
 #[derive(Drop)]
 pub(crate) struct Folded {
     pub(crate) state: State,
-    /// What becomes of each unit, without its requests.
+    /// Each unit's outcome, without its requests.
     pub(crate) outcomes: Vec<Outcome>,
     pub(crate) choice: Choice,
     /// The units that are drawn.

@@ -7,10 +7,10 @@ use std::alloc::{AllocError, Global};
 use std::process::Abort;
 use std::test::Fail;
 use stream_layout::{
-    DrawnUnit, Kind, Layout, Picture, Point, Rect, RefList, Reference, Shown, SliceTypes, arc_of,
-    boxes_are_apart, lay_out,
+    DrawnUnit, EditMark, Kind, Layout, Picture, PictureState, Point, Rect, RefList, Reference,
+    Shown, SliceTypes, arc_of, boxes_are_apart, lay_out,
 };
-use stream_svg::{Caption, EditMark, PictureState, document, escapes_are_read_back, push_escaped};
+use stream_svg::{Caption, document, escapes_are_read_back, push_escaped};
 
 const I: SliceTypes = SliceTypes {
     intra: true,
@@ -52,6 +52,31 @@ const KINDS: [Kind; 5] = [
     Kind::Empty,
 ];
 
+/// What edits did to the five units: the first one's picture stayed, the second one changed, and so did the fault, which has no
+/// picture.
+const MARKS: [EditMark; 5] = [
+    EditMark {
+        changed: false,
+        picture: Some(PictureState::Stayed),
+    },
+    EditMark {
+        changed: true,
+        picture: Some(PictureState::Pending),
+    },
+    EditMark {
+        changed: false,
+        picture: Some(PictureState::Pending),
+    },
+    EditMark {
+        changed: true,
+        picture: None,
+    },
+    EditMark {
+        changed: false,
+        picture: None,
+    },
+];
+
 /// By the place of a unit, the frames that its lists name: the list, the number of the frame's unit, and whether it is a
 /// long-term frame. Unit 9 isn't drawn.
 const REFERENCES: [(usize, RefList, u32, bool); 4] = [
@@ -69,6 +94,7 @@ fn units(alloc: Global) -> Result<Vec<DrawnUnit>, AllocError> {
             id: AuId::new(place as u32 + 1),
             kind: *kind,
             references: references(alloc, place)?,
+            mark: Some(MARKS[place]),
         })?;
     }
     Ok(units)
@@ -89,31 +115,15 @@ fn references(alloc: Global, place: usize) -> Result<Vec<Reference>, AllocError>
     Ok(references)
 }
 
-/// What is said of each of the units: their places, and that the first one's picture stayed and the second one's changed.
+/// What is said of each of the units: its place.
 fn captions(alloc: Global, count: usize) -> Result<Vec<Caption>, AllocError> {
     let mut captions = Vec::new(alloc);
     for place in 0..count {
         captions.push(Caption {
             lines: format!(in alloc; "<{place}>")?,
-            mark: mark_at(place),
         })?;
     }
     Ok(captions)
-}
-
-/// What edits did to the unit at a place.
-fn mark_at(place: usize) -> Option<EditMark> {
-    match place {
-        0 => Some(EditMark {
-            changed: false,
-            picture: Some(PictureState::Stayed),
-        }),
-        1 => Some(EditMark {
-            changed: true,
-            picture: Some(PictureState::Pending),
-        }),
-        _ => None,
-    }
 }
 
 /// The layout of the units.
@@ -244,7 +254,7 @@ fn arcs(rt: HostRuntime) -> Result<(), Fail> {
 }
 
 /// What the document of the five units has.
-const PARTS: [&str; 10] = [
+const PARTS: [&str; 14] = [
     "<svg xmlns=\"http://www.w3.org/2000/svg\" width=\"1100\" height=\"368\"",
     "aria-label=\"H.264 stream of 7 units: 5 from unit 1 on\"",
     "<title>&lt;3&gt;</title>",
@@ -253,8 +263,12 @@ const PARTS: [&str; 10] = [
     "<rect class=\"box b\" x=\"172\" y=\"82\" width=\"52\" height=\"44\" rx=\"3\"/>",
     "<path class=\"l0 far\" d=\"M132 126C132 145 96 145 96 126\"/>",
     "<path class=\"way\" d=\"M198 126V254L142 310\"/>",
-    "<circle class=\"pending\" cx=\"142\" cy=\"126\" r=\"4\"/>",
-    "<title>unit 3 position 1</title>",
+    "<g class=\"u stayed\"><title>&lt;0&gt;</title>",
+    "<g class=\"u changed pending\"><title>&lt;1&gt;</title>",
+    "<g class=\"u changed\"><title>&lt;3&gt;</title>",
+    "<rect class=\"hatch\" x=\"116\" y=\"82\" width=\"52\" height=\"44\" rx=\"3\"/>",
+    "<circle class=\"disc\" cx=\"142\" cy=\"119\" r=\"3\"/>",
+    "<g class=\"u pending\"><title>unit 3 position 1</title>",
 ];
 
 #[test]

@@ -19,4 +19,4 @@ pub use grid::{Grid, MOST_UNITS};
 pub use laws::boxes_are_apart;
 pub use layout::{Layout, lay_out};
 pub use output_row::Shown;
-pub use unit::{DrawnUnit, Kind, Picture, RefList, Reference, SliceTypes};
+pub use unit::{DrawnUnit, EditMark, Kind, Picture, PictureState, RefList, Reference, SliceTypes};

@@ -10,6 +10,26 @@ pub struct DrawnUnit {
     pub kind: Kind,
     /// The frames that its lists name, each once for each list.
     pub references: Vec<Reference>,
+    /// What edits did to it, where some were made.
+    pub mark: Option<EditMark>,
+}
+
+/// What edits did to a unit.
+#[derive(Clone, Copy, Debug, PartialEq, Eq)]
+pub struct EditMark {
+    /// Whether its outcome or its key isn't what it was, or it wasn't there. It is hatched then.
+    pub changed: bool,
+    /// What became of its picture, if it has one.
+    pub picture: Option<PictureState>,
+}
+
+/// What became of the picture of a unit.
+#[derive(Clone, Copy, Debug, PartialEq, Eq)]
+pub enum PictureState {
+    /// It is held.
+    Stayed,
+    /// It has to be decoded.
+    Pending,
 }
 
 /// What a unit is drawn as.

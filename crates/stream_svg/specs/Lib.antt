@@ -1,3 +1,3 @@
 pub mod Escapes
-pub mod Documents
 pub mod Captions
+pub mod Documents

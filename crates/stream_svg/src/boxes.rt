@@ -3,7 +3,6 @@
 ghost use Rattle.std.specs.Prelude.{◌<◌, ◌^◌};
 ghost use Rattle.stream_layout.specs.Boxes.{IsSmall};
 
-use crate::caption::{EditMark, PictureState};
 use crate::letters::{Letter, letters_of};
 use crate::page::Page;
 use std::alloc::AllocError;
@@ -95,30 +94,4 @@ fn width_of(number: usize) -> usize {
         1000..=9999 => 26,
         _ => 32,
     }
-}
-
-/// Writes what edits did to a unit over its box.
-pub(crate) fn write_mark(page: &mut Page, area: Rect, mark: EditMark) -> Result<(), AllocError>
-    requires { IsSmall area }
-{
-    if mark.changed {
-        let Rect {
-            x,
-            y,
-            width,
-            height,
-        } = area;
-        page.print(format_args!(
-            "<rect class=\"hatch\" x=\"{x}\" y=\"{y}\" width=\"{width}\" height=\"{height}\" rx=\"3\"/>"
-        ))?;
-    }
-    let Some(picture) = mark.picture else {
-        return Ok(());
-    };
-    let class = match picture {
-        PictureState::Stayed => "held",
-        PictureState::Pending => "pending",
-    };
-    let (x, y) = (area.x + area.width / 2, area.y + area.height);
-    page.print(format_args!("<circle class=\"{class}\" cx=\"{x}\" cy=\"{y}\" r=\"4\"/>"))
 }

@@ -7,6 +7,7 @@
 
 mod boxes;
 mod caption;
+mod edit_marks;
 mod escape;
 mod letters;
 mod lines;
@@ -14,6 +15,6 @@ mod page;
 mod style;
 mod writing;
 
-pub use caption::{Caption, EditMark, PictureState};
+pub use caption::Caption;
 pub use escape::{escapes_are_read_back, push_escaped};
 pub use writing::document;

@@ -3,9 +3,11 @@
 ghost use Rattle.std.specs.Prelude.{◌≡◌, ◌++◌, ℕ, List, OnOk};
 ghost use Rattle.stream_svg.specs.Documents.{opening_of};
 
+use crate::edit_marks::classes_of;
 use crate::escape::push_escaped;
 use std::alloc::{AllocError, Global};
 use std::fmt::Display;
+use stream_layout::EditMark;
 
 /// The bytes of a document so far.
 #[derive(Drop)]
@@ -31,11 +33,13 @@ impl Page {
         self.bytes.extend_from_slice(self.marks.as_bytes())
     }
 
-    /// Opens the shapes of a unit, with its lines as their title.
-    pub(crate) fn open(&mut self, lines: &str) -> Result<(), AllocError>
-        ensures { OnOk result (self.new.bytes.items ≡ self.old.bytes.items ++ opening_of lines.now) }
+    /// Opens the shapes of a unit, with the classes of its mark, and with its lines as their title.
+    pub(crate) fn open(&mut self, mark: Option<EditMark>, lines: &str) -> Result<(), AllocError>
+        ensures { OnOk result (self.new.bytes.items ≡ self.old.bytes.items ++ opening_of mark lines.now) }
     {
-        self.bytes.extend_from_slice(b"<g class=\"u\"><title>")?;
+        self.bytes.extend_from_slice(b"<g class=\"")?;
+        self.bytes.extend_from_slice(classes_of(mark).as_bytes())?;
+        self.bytes.extend_from_slice(b"\"><title>")?;
         push_escaped(&mut self.bytes, lines.as_bytes())?;
         self.bytes.extend_from_slice(b"</title>")?;
         Ok(())

@@ -22,10 +22,11 @@ text{font:11px ui-sans-serif,system-ui,sans-serif;fill:#1d2733}
 .begin{fill:none;stroke:#6b4fa0;stroke-width:1.5;stroke-dasharray:1 3;stroke-linecap:round}
 .why{font-weight:600;fill:#c7361b;paint-order:stroke;stroke:#fff;stroke-width:3px;pointer-events:none}
 .none{fill:#4a5560}
-.hatch{fill:url(#hatch);pointer-events:none}
-.rung{stroke:#14202b;stroke-opacity:.45;stroke-width:2}
-.held{fill:#14202b;stroke:#fff}
-.pending{fill:#fff;stroke:#14202b;stroke-width:1.5}
+.hatch,.disc,.diamond{display:none;pointer-events:none}
+.changed>.hatch{display:inline;fill:url(#hatch)}
+.rung{stroke:#14202b;stroke-opacity:.35;stroke-width:1.5}
+.stayed>.disc{display:inline;fill:#14202b;stroke:#fff}
+.pending>.diamond{display:inline;fill:#fff;stroke:#14202b;stroke-width:1.3}
 .u:hover .box{stroke:#14202b;stroke-width:2}
 .u:hover .l0,.u:hover .l1{stroke-width:2.5;stroke-opacity:1}
 @media (prefers-color-scheme:dark){
@@ -59,9 +60,9 @@ pub(crate) const LEGEND: &str = "<g transform=\"translate(16 14)\">
 
 /// What the legend has more where edits were made.
 pub(crate) const EDITS_LEGEND: &str =
-    "<rect class=\"p\" x=\"796\" width=\"16\" height=\"16\" rx=\"3\"/><rect class=\"hatch\" x=\"796\" width=\"16\" height=\"16\" rx=\"3\"/><text class=\"note\" x=\"818\" y=\"12\">changed</text>
-<circle class=\"held\" cx=\"882\" cy=\"8\" r=\"4\"/><text class=\"note\" x=\"892\" y=\"12\">picture stayed</text>
-<circle class=\"pending\" cx=\"990\" cy=\"8\" r=\"4\"/><text class=\"note\" x=\"1000\" y=\"12\">pending</text>
+    "<g class=\"changed\"><rect class=\"p\" x=\"796\" width=\"16\" height=\"16\" rx=\"3\"/><rect class=\"hatch\" x=\"796\" width=\"16\" height=\"16\" rx=\"3\"/><text class=\"note\" x=\"818\" y=\"12\">changed</text></g>
+<g class=\"stayed\"><rect class=\"p\" x=\"880\" width=\"16\" height=\"16\" rx=\"3\"/><circle class=\"disc\" cx=\"888\" cy=\"8\" r=\"3\"/><text class=\"note\" x=\"902\" y=\"12\">picture stayed</text></g>
+<g class=\"pending\"><rect class=\"p\" x=\"998\" width=\"16\" height=\"16\" rx=\"3\"/><path class=\"diamond\" d=\"M1006 4l4 4l-4 4l-4 -4z\"/><text class=\"note\" x=\"1020\" y=\"12\">pending</text></g>
 ";
 
 /// The end of the legend.

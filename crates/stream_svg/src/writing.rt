@@ -1,11 +1,12 @@
 //! The whole document.
 
 ghost use Rattle.std.specs.Prelude.{◌≡◌, ◌<◌, IfOk, OnOk, length, map};
-ghost use Rattle.stream_svg.specs.Documents.{HasTitles};
+ghost use Rattle.stream_svg.specs.Documents.{AreUnmarked, HasParts, HasTitles, openings_of};
 ghost use Rattle.stream_svg.specs.Captions.{lines_of};
 
-use crate::boxes::{write_fills, write_letters, write_mark, write_number};
+use crate::boxes::{write_fills, write_letters, write_number};
 use crate::caption::Caption;
+use crate::edit_marks::{classes_of, write_hatch, write_picture};
 use crate::lines::{write_arc, write_begin, write_way};
 use crate::page::Page;
 use crate::style::{EDITS_LEGEND, LEGEND, LEGEND_END, STYLE};
@@ -24,8 +25,10 @@ pub fn document(
 ) -> Result<Vec<u8>, AllocError>
     requires units { layout.now.grid.units ≡ length units.now }
     requires captions { length captions.now ≡ length units.now }
-    // Each unit's lines are the title of its shapes, in stream order.
-    ensures { IfOk result (λ document. HasTitles (map lines_of captions.now) document.items) }
+    // Each unit's shapes are opened with the classes of its mark and with its lines as their title, in stream order.
+    ensures openings { IfOk result (λ document. HasParts (openings_of units.now captions.now) document.items) }
+    ensures titles { AreUnmarked units.now
+        → IfOk result (λ document. HasTitles (map lines_of captions.now) document.items) }
 {
     let mut page = Page::new(alloc);
     write_beginning(&mut page, layout, units, total, edited)?;
@@ -161,13 +164,13 @@ fn write_units(
 ) -> Result<(), AllocError>
     requires units { grid.units ≡ length units.now }
     requires captions { length captions.now ≡ length units.now }
-    ensures { OnOk result (HasTitles (map lines_of captions.now) page.new.bytes.items) }
+    ensures { OnOk result (HasParts (openings_of units.now captions.now) page.new.bytes.items) }
 {
     let mut shapes = Page::new(alloc);
     for (place, caption) in captions.iter().enumerate() {
         shapes.clear();
-        write_shapes(&mut shapes, grid, units, caption, place)?;
-        page.open(caption.lines.as_str())?;
+        write_shapes(&mut shapes, grid, units, place)?;
+        page.open(units[place].mark, caption.lines.as_str())?;
         page.append(&shapes)?;
     }
     Ok(())
@@ -178,7 +181,6 @@ fn write_shapes(
     page: &mut Page,
     grid: Grid,
     units: &[DrawnUnit],
-    caption: &Caption,
     place: usize,
 ) -> Result<(), AllocError>
     requires units { grid.units ≡ length units.now }
@@ -188,11 +190,12 @@ fn write_shapes(
     let area = grid.stream_box(place);
     write_arcs(page, grid, units, place)?;
     write_fills(page, area, unit.kind)?;
-    if let Some(mark) = caption.mark {
-        write_mark(page, area, mark)?;
-    }
+    write_hatch(page, area, unit.mark)?;
     write_letters(page, area, unit.kind)?;
-    write_number(page, area, unit.kind, unit.id.number() as usize, 33)?;
+    // What became of the picture stands below the number.
+    let down = if unit.mark.is_some() { 28 } else { 33 };
+    write_number(page, area, unit.kind, unit.id.number() as usize, down)?;
+    write_picture(page, area, unit.mark)?;
     page.print("</g>\n")
 }
 
@@ -263,9 +266,12 @@ fn write_shown(
     requires { slot < grid.units }
 {
     let area = grid.output_box(slot);
-    let id = unit.id.number();
-    page.print(format_args!("<g class=\"u\"><title>unit {id} position {position}</title>"))?;
+    let (id, classes) = (unit.id.number(), classes_of(unit.mark));
+    page.print(format_args!(
+        "<g class=\"{classes}\"><title>unit {id} position {position}</title>"
+    ))?;
     write_fills(page, area, unit.kind)?;
+    write_hatch(page, area, unit.mark)?;
     write_number(page, area, unit.kind, position, 21)?;
     page.print("</g>\n")
 }

@@ -1,0 +1,5 @@
+mod Ends
+mod Inserted
+mod Landed
+mod Opened
+mod Rows

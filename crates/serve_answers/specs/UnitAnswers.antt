@@ -1,4 +1,4 @@
--- What becomes of a unit, as a result (docs/SERVER.md).
+-- A unit's outcome, as a result (docs/SERVER.md).
 use Rattle.std.specs.Prelude.{ℕ, Bool, true, false, Option}
 use Rattle.std.specs.Option.{unwrap_or}
 use Rattle.outcomes.specs.declared.outcome.Outcome.{Outcome}
@@ -18,7 +18,7 @@ brief_plan id position plan = record {
   counts = counts_json plan.counts;
 }
 
--- what becomes of a unit, with its controls or without
+-- a unit's outcome, with its controls or without
 abbrev pub unit_answer : ℕ → Option ℕ → Outcome → Bool → UnitAnswer
 unit_answer id position (outcomes.Plan plan) true = Line (unit_line id position (outcomes.Plan plan))
 unit_answer id position (outcomes.Plan plan) false = Brief (brief_plan id (unwrap_or position 0) plan)

@@ -31,7 +31,7 @@ pub enum Answer {
         ids: Listed<AuId>,
         steps: u64,
     },
-    /// What becomes of units.
+    /// The outcomes of units.
     Units(Listed<UnitAnswer>),
     /// The unit at an output position, if there is one.
     Found(Option<Found>),

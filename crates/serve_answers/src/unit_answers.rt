@@ -1,4 +1,4 @@
-//! What becomes of a unit, as `plan --json` prints it, with its controls or without.
+//! A unit's outcome, as `plan --json` prints it, with its controls or without.
 
 ghost use Rattle.std.specs.Prelude.{◌≡◌, IfOk};
 ghost use Rattle.serve_answers.specs.UnitAnswers.{unit_answer};
@@ -9,7 +9,7 @@ use serde::Serialize;
 use std::alloc::{AllocError, Global};
 use unit_json::{CountsJson, JsonLine};
 
-/// What becomes of a unit.
+/// A unit's outcome.
 #[derive(Debug, Drop, Serialize)]
 #[serde(untagged)]
 pub enum UnitAnswer {
@@ -29,7 +29,7 @@ pub struct BriefPlan {
 }
 
 impl UnitAnswer {
-    /// What becomes of a unit, which has a position where it is valid, with its controls or without.
+    /// A unit's outcome, which has a position where it is valid, with its controls or without.
     pub fn of(
         alloc: Global,
         id: AuId,

@@ -1,0 +1,109 @@
+//! A desk beside whose workers a server answers, and the writer that it shares with the thread that tells of pictures.
+
+ghost use Rattle.std.specs.Prelude.{◌≤◌, length};
+
+use crate::backend::{Asked, Backend};
+use crate::pen::Pen;
+use decode_pool::{Desk, Seat, TooManyWanted};
+use edit_engine::{
+    Config, Dropping, EditRefused, GroupReceipt, GroupRefused, ReadEdit, ReadGroup, Receipt,
+    Session,
+};
+use pictures::AuId;
+use serve_answers::Answer;
+use serve_messages::{Failure, Refusal};
+use std::alloc::{AllocError, Global};
+use std::io::Write;
+use std::sync::{Mutex, Wait};
+
+/// What the threads of a server share.
+#[derive(Drop)]
+pub(crate) struct Office<W> {
+    pub(crate) desk: Desk,
+    /// By it units are wanted. Its book stays empty.
+    pub(crate) seat: Seat,
+    /// The writer of lines, which one thread has at a time.
+    pub(crate) pen: Mutex<Pen<W>>,
+}
+
+impl<W: Write + Drop> Office<W> {
+    /// A desk with an empty stream for so many workers, and a writer.
+    pub(crate) fn open(
+        alloc: Global,
+        cache: u16,
+        workers: usize,
+        output: W,
+    ) -> Result<Office<W>, AllocError>
+        requires cache { (1 ≤ cache) × (cache ≤ 4096) }
+        requires workers { (1 ≤ workers) × (workers ≤ 64) }
+    {
+        let (desk, mut seats) = Desk::open(alloc, Config { cache }, workers, 1)?;
+        match seats.pop() {
+            Some(seat) => Ok(Office {
+                desk,
+                seat,
+                pen: Mutex::new(Pen::new(alloc, output)),
+            }),
+            None => Err(AllocError),
+        }
+    }
+}
+
+/// The session of a desk.
+#[derive(Drop)]
+pub(crate) struct AtDesk<'a, R: Wait> {
+    pub(crate) rt: &'a R,
+    pub(crate) desk: &'a Desk,
+    pub(crate) seat: &'a Seat,
+}
+
+impl<'a, R: Wait> Asked for AtDesk<'a, R> {
+    fn look<T, F: FnOnce(&Session) -> T>(&self, ask: F) -> T {
+        self.desk.look(self.rt, ask)
+    }
+}
+
+impl<'a, R: Wait> Backend for AtDesk<'a, R> {
+    fn edit(&mut self, read: ReadEdit) -> Result<Receipt, EditRefused> {
+        self.desk.edit_read(self.rt, read)
+    }
+
+    fn edit_group(&mut self, group: ReadGroup) -> Result<GroupReceipt, GroupRefused> {
+        self.desk.edit_group_read(self.rt, group)
+    }
+
+    fn drop_picture(&mut self, id: AuId) -> Dropping {
+        self.desk.drop_picture(self.rt, id)
+    }
+
+    fn clear_cache(&mut self) {
+        self.desk.clear_cache(self.rt);
+    }
+
+    fn want(&mut self, ids: &[AuId], rest: bool) -> Result<(), Failure> {
+        match self.seat.want(self.rt, self.desk, ids) {
+            Ok(()) => {
+                self.seat.rest(self.rt, self.desk, rest);
+                Ok(())
+            }
+            Err(TooManyWanted) => Err(Failure::Refused(Refusal::TooManyWanted)),
+        }
+    }
+
+    // The workers have the jobs.
+    fn has_jobs(&self) -> bool {
+        false
+    }
+
+    fn take(&mut self, _alloc: Global, _id: Option<AuId>) -> Result<Answer, Failure> {
+        Err(Failure::NoMethod)
+    }
+
+    fn land(&mut self, _number: u64) -> Result<Answer, Failure> {
+        Err(Failure::NoMethod)
+    }
+
+    fn give_back(&mut self, _number: u64) -> Result<Answer, Failure> {
+        Err(Failure::NoMethod)
+    }
+}

@@ -1,0 +1,205 @@
+//! The threads of a server with workers: one for each of these, one that tells of pictures, and that of the reader.
+
+ghost use Rattle.std.specs.Prelude.{◌≡◌, ◌≤◌, length, IfOk};
+
+use crate::end::ServeEnd;
+use crate::lines::{Lines, MOST_BYTES};
+use crate::office::{AtDesk, Office};
+use crate::server::Server;
+use crate::serving::serve_line;
+use console_io::Source;
+use decode_pool::{Gate, worker};
+use stand_in_device::Device;
+use std::alloc::{AllocError, Global};
+use std::io::{Read, Write};
+use std::sync::Wait;
+use std::thread;
+use std::thread::{Scope, Threads};
+
+/// Serves the messages of an input as `serve_with` does, beside so many workers with a device each.
+pub fn serve_with_workers<R, I, S, W>(
+    rt: &R,
+    alloc: Global,
+    cache: u16,
+    workers: usize,
+    input: I,
+    source: S,
+    output: &mut W,
+) -> ServeEnd
+where
+    R: Threads + Wait + Sync,
+    I: Read + Drop,
+    S: Source + Drop,
+    W: Write + Send,
+    requires cache { (1 ≤ cache) × (cache ≤ 4096) }
+    requires workers { (1 ≤ workers) × (workers ≤ 64) }
+{
+    match devices(alloc, workers) {
+        Ok(gates) => serve_with(rt, alloc, cache, gates, input, source, output),
+        Err(_) => ServeEnd::Memory,
+    }
+}
+
+/// So many devices.
+fn devices(alloc: Global, count: usize) -> Result<Vec<Device>, AllocError>
+    ensures { IfOk result (λ made. length made.items ≡ count) }
+{
+    let mut made = Vec::with_capacity(alloc, count)?;
+    for _ in 0..count {
+        made.push(Device::new(alloc))?;
+    }
+    Ok(made)
+}
+
+/// Serves the messages of an input while a worker for each gate decodes in a thread of its own. The files that are loaded
+/// are the source's.
+pub fn serve_with<R, D, I, S, W>(
+    rt: &R,
+    alloc: Global,
+    cache: u16,
+    gates: Vec<D>,
+    input: I,
+    source: S,
+    output: &mut W,
+) -> ServeEnd
+where
+    R: Threads + Wait + Sync,
+    D: Gate + Send + Drop,
+    I: Read + Drop,
+    S: Source + Drop,
+    W: Write + Send,
+    requires cache { (1 ≤ cache) × (cache ≤ 4096) }
+    requires workers { (1 ≤ length gates.items) × (length gates.items ≤ 64) }
+{
+    let Ok(lines) = Lines::of(alloc, input, MOST_BYTES) else {
+        return ServeEnd::Memory;
+    };
+    match Office::open(alloc, cache, gates.len(), output) {
+        Ok(office) => serve_beside(rt, alloc, &office, gates, lines, source),
+        Err(_) => ServeEnd::Memory,
+    }
+}
+
+/// Serves the messages of lines beside the threads of an office. However that ends, the desk is closed then, and the
+/// threads have ended.
+fn serve_beside<'a, R, D, I, S, W>(
+    rt: &'a R,
+    alloc: Global,
+    office: &'a Office<W>,
+    gates: Vec<D>,
+    lines: Lines<I>,
+    source: S,
+) -> ServeEnd
+where
+    R: Threads + Wait + Sync,
+    D: Gate + Send + Drop,
+    I: Read + Drop,
+    S: Source + Drop,
+    W: Write + Send + Drop,
+{
+    thread::scope(thread::scope_env(), rt, move |scope| -> ServeEnd {
+        let end = serve_among(scope, rt, alloc, office, gates, lines, source);
+        office.desk.close(rt);
+        end
+    })
+}
+
+/// Starts the threads, and serves where all of them could be started.
+fn serve_among<'s, E, R, D, I, S, W>(
+    scope: &Scope<'s, E>,
+    rt: &'s R,
+    alloc: Global,
+    office: &'s Office<W>,
+    gates: Vec<D>,
+    lines: Lines<I>,
+    source: S,
+) -> ServeEnd
+where
+    R: Threads + Wait + Sync,
+    D: Gate + Send + Drop + 's,
+    I: Read + Drop,
+    S: Source + Drop,
+    W: Write + Send + 's,
+{
+    for gate in gates {
+        if scope
+            .spawn(move || worker(rt, alloc, &office.desk, gate))
+            .is_err()
+        {
+            return ServeEnd::Memory;
+        }
+    }
+    if scope.spawn(move || tell_on(rt, office)).is_err() {
+        return ServeEnd::Memory;
+    }
+    serve_lines(rt, alloc, office, lines, source)
+}
+
+/// Tells of wanted units whenever the session may have another picture to show, until the desk is closed.
+fn tell_on<R: Wait, W: Write>(rt: &R, office: &Office<W>) {
+    let mut seen = 0;
+    for _ in rt.forever() {
+        match office.desk.news(rt, seen) {
+            Some(news) => {
+                seen = news;
+                tell(rt, office);
+            }
+            None => return,
+        }
+    }
+}
+
+/// Tells of wanted units as they are now. One that can't be told is told of later, or the next answer fails.
+fn tell<R: Wait, W: Write>(rt: &R, office: &Office<W>) {
+    let session = AtDesk {
+        rt,
+        desk: &office.desk,
+        seat: &office.seat,
+    };
+    let _ = office.pen.lock(rt).tell(&session);
+}
+
+/// Serves the messages of lines one after the other.
+fn serve_lines<R, I, S, W>(
+    rt: &R,
+    alloc: Global,
+    office: &Office<W>,
+    lines: Lines<I>,
+    source: S,
+) -> ServeEnd
+where
+    R: Threads + Wait + Sync,
+    I: Read + Drop,
+    S: Source + Drop,
+    W: Write,
+{
+    let backend = AtDesk {
+        rt,
+        desk: &office.desk,
+        seat: &office.seat,
+    };
+    let mut lines = lines;
+    let mut server = Server::new(alloc, backend, source);
+    for _ in 0..u64::MAX {
+        if let Err(end) = serve_next(rt, office, &mut server, &mut lines) {
+            return end;
+        }
+    }
+    ServeEnd::Done
+}
+
+/// Reads the next message and serves it, while no one else writes; or how the server ends.
+fn serve_next<R: Threads + Wait + Sync, I: Read + Drop, S: Source, W: Write>(
+    rt: &R,
+    office: &Office<W>,
+    server: &mut Server<AtDesk<'_, R>, S>,
+    lines: &mut Lines<I>,
+) -> Result<(), ServeEnd> {
+    match lines.next() {
+        Ok(line) => {
+            let mut pen = office.pen.lock(rt);
+            serve_line(rt, server, &mut pen, line)
+        }
+        Err(_) => Err(ServeEnd::Unread),
+    }
+}

@@ -1,0 +1,346 @@
+"""What `preview serve` answers (docs/SERVER.md), by the plain session of session.py.
+
+A `Server` takes lines and gives for each what has to come of it: messages as Python values. What the model leaves open equals
+each value that may be there: how many steps an edit makes, the controls of valid units, and how far workers are.
+"""
+import base64
+import binascii
+import json
+import re
+from typing import NamedTuple
+from unittest.mock import ANY
+
+import session
+import syntax
+from fold import Empty, Plan
+
+MOST_LINE, MOST_TOLD, MOST_WANTED, MOST_NUMBER, MOST_DEPTH = 64 << 20, 1000, 64, 1 << 64, 127
+MESSAGES = {-32700: "Parse error", -32600: "Invalid Request", -32601: "Method not found", -32602: "Invalid params"}
+JOBS = "take", "land", "give_back"
+FIRST = {"load": "path", "insert": "after", "delete": "id", "replace": "id", "group": "edits", "units": "from",
+         "find": "position", "show": "id", "want": "ids", "drop": "id", "take": "id", "land": "job", "give_back": "job",
+         "stats": None, "shutdown": None}
+NUMBER = re.compile(r"-?(0|[1-9][0-9]*)(\.[0-9]+)?([eE][+-]?[0-9]+)?")
+
+
+class Failed(Exception):
+    """A call is refused."""
+
+    def __init__(self, code, name=None, data=None):
+        super().__init__(name)
+        self.error = {"code": code, "message": name or MESSAGES[code]} | ({} if data is None else {"data": data})
+
+
+class Either:
+    """One of these."""
+
+    def __init__(self, *values):
+        self.values = values
+
+    def __eq__(self, other):
+        return other in self.values
+
+    def __repr__(self):
+        return " or ".join(map(repr, self.values))
+
+
+class Some(Either):
+    """Some of these, in their order."""
+
+    def __eq__(self, other):
+        left = iter(self.values)
+        return isinstance(other, list) and all(each in left for each in other)
+
+
+class Float(NamedTuple):
+    """A number that isn't digits alone."""
+    text: str
+
+
+def refused(refusal, data=None):
+    return Failed(refusal.number, str(refusal), data)
+
+
+def nesting(value):
+    """How deep arrays and objects lie in one another."""
+    inner = value.values() if isinstance(value, dict) else value if isinstance(value, list) else None
+    return 0 if inner is None else 1 + max(map(nesting, inner), default=0)
+
+
+def constant(_):
+    raise ValueError
+
+
+def value_of(line):
+    """The value of a line of JSON; ValueError where it is none."""
+    value = json.loads(line.decode(), parse_constant=constant, parse_float=Float)
+    json.dumps(value).encode()
+    if "\\u" in line.decode() and any(0xD800 <= ord(c) < 0xE000 for c in json.dumps(value, ensure_ascii=False)):
+        raise ValueError
+    if nesting(value) > MOST_DEPTH:
+        raise ValueError
+    return value
+
+
+def is_number(value):
+    return isinstance(value, int) and not isinstance(value, bool) and 0 <= value < MOST_NUMBER
+
+
+class Parameters:
+    """The parameters of a method, read in the order of the table."""
+
+    def __init__(self, values):
+        self.values = values
+
+    def read(self, name, is_right, usual=()):
+        """A parameter that is right; what is usual where it may be absent and is."""
+        if name not in self.values and usual != ():
+            return usual
+        if name not in self.values or not is_right(self.values[name]):
+            raise Failed(-32602, data=name)
+        return self.values[name]
+
+    def number(self, name):
+        return self.read(name, is_number)
+
+    def flag(self, name, usual):
+        return self.read(name, lambda value: isinstance(value, bool), usual)
+
+    def bytes(self, name):
+        text = self.read(name, lambda value: isinstance(value, str))
+        try:
+            found = base64.b64decode(text.encode("ascii"), validate=True)
+        except (UnicodeEncodeError, binascii.Error):
+            raise Failed(-32602, data=name) from None
+        if base64.b64encode(found).decode() != text:
+            raise Failed(-32602, data=name)
+        return found
+
+    def place(self):
+        return self.read("after", lambda value: value is None or is_number(value))
+
+
+def edit_of(name, parameters):
+    """The edit of a method, as session.py has it."""
+    if name == "insert":
+        after = parameters.place()
+        return ("first", parameters.bytes("bytes")) if after is None else ("after", after, parameters.bytes("bytes"))
+    number = parameters.number("id")
+    return (name, number, parameters.bytes("bytes")) if name == "replace" else (name, number)
+
+
+def entry_of(value):
+    """The edit of a group's entry."""
+    named = [name for name in ("insert", "delete", "replace") if isinstance(value, dict) and name in value]
+    if len(named) != 1 or not isinstance(value[named[0]], dict):
+        raise Failed(-32602, data="edits")
+    return edit_of(named[0], Parameters(value[named[0]]))
+
+
+class Server:
+    """A server beside so many workers."""
+
+    def __init__(self, workers, room=4096):
+        self.workers, self.session, self.wanted, self.is_over = workers, session.Session(room), {}, False
+        self.bytes, self.steps = 0, 0
+
+    def line(self, line):
+        """What comes of a line: its answer, or None where it isn't answered, and the notifications behind it."""
+        answer = self.answer(line)
+        return answer, [] if self.workers or self.is_over else self.news()
+
+    def answer(self, line):
+        if len(line) > MOST_LINE:
+            return failed(None, Failed(-32600))
+        try:
+            value = value_of(line)
+        except (ValueError, RecursionError):
+            return failed(None, Failed(-32700))
+        number = value.get("id") if isinstance(value, dict) else None
+        may_be = number is None or isinstance(number, (str, int, Float)) and not isinstance(number, bool)
+        if not isinstance(value, dict) or not may_be or value.get("jsonrpc") != "2.0" \
+                or not isinstance(value.get("method"), str) or not isinstance(value.get("params", {}), (dict, list)):
+            return failed(number if may_be else None, Failed(-32600))
+        try:
+            answer = {"jsonrpc": "2.0", "id": number, "result": self.call(value["method"], value.get("params", {}), "id" in value)}
+        except Failed as fault:
+            answer = failed(number, fault)
+        return answer if "id" in value else None
+
+    def call(self, name, parameters, is_answered):
+        """The result of a call."""
+        if name not in FIRST or self.workers and name in JOBS:
+            raise Failed(-32601)
+        if isinstance(parameters, list):
+            raise Failed(-32602, data=FIRST[name])
+        parameters = Parameters(parameters)
+        if name in ("insert", "delete", "replace"):
+            return self.edit(edit_of(name, parameters))
+        if name == "want":
+            return self.want(parameters, is_answered)
+        return getattr(self, name)(parameters)
+
+    def edit(self, edit):
+        try:
+            number = self.session.edit(edit)
+        except syntax.Refused as refusal:
+            raise refused(refusal) from None
+        self.bytes += size_of(edit)
+        return {"edit": self.session.edits, "id": number, "steps": ANY}
+
+    def group(self, parameters):
+        edits = parameters.read("edits", lambda value: isinstance(value, list))
+        try:
+            edits = [entry_of(value) for value in edits]
+        except Failed:
+            raise Failed(-32602, data="edits") from None
+        try:
+            about = self.session.group(edits)
+        except session.GroupRefused as refusal:
+            words = str(refusal).split(" ")
+            data = {"index": int(words[1])} if words[0] == "at" else None
+            raise Failed(int(words[-2]), words[-1], data) from None
+        self.bytes += sum(map(size_of, edits))
+        return {"edit": self.session.edits, "ids": about, "steps": ANY}
+
+    def load(self, parameters):
+        if ("path" in parameters.values) == ("bytes" in parameters.values):
+            raise Failed(-32602, data="path")
+        if "bytes" in parameters.values:
+            return self.load_text(parameters.bytes("bytes"))
+        path = parameters.read("path", lambda value: isinstance(value, str))
+        try:
+            with open(path.encode(), "rb") as file:
+                text = file.read()
+        except (OSError, ValueError):
+            raise Failed(23, "CannotRead") from None
+        return self.load_text(text)
+
+    def load_text(self, text):
+        try:
+            units = syntax.cut(syntax.split(text))
+        except syntax.Refused as refusal:
+            raise refused(refusal) from None
+        for index, nals in enumerate(units):
+            try:
+                syntax.Unit(nals)
+            except syntax.Refused as refusal:
+                raise refused(refusal, {"index": index}) from None
+        if len(self.session.stream) + len(units) > session.MOST_UNITS:
+            raise Failed(17, "StreamFull")
+        first = self.session.ids + 1
+        for nals in units:
+            text, stream = b"".join(syntax.START + nal for nal in nals), self.session.stream
+            self.edit(("after", stream[-1][0], text) if stream else ("first", text))
+        return {"units": len(units), "first": first, "last": self.session.ids}
+
+    def units(self, parameters):
+        begin, count = parameters.number("from"), parameters.read("count", lambda value: is_number(value) and value <= MOST_TOLD)
+        controls = parameters.flag("controls", False)
+        return [self.unit(at, controls) for at in range(len(self.session.stream))[begin:begin + count]]
+
+    def unit(self, at, controls):
+        number, (outcome, position, _) = self.session.stream[at][0], self.session.rows[at]
+        if isinstance(outcome, Empty):
+            return {"unit": number, "no_picture": True}
+        if not isinstance(outcome, Plan):
+            return {"unit": number, "fault": {"number": outcome.number, "name": str(outcome)}}
+        top, bottom = outcome.counts
+        return {"unit": number, "position": position, "begins_period": outcome.begins_period,
+                "counts": {"top": top, "bottom": bottom}} | ({"requests": ANY} if controls else {})
+
+    def find(self, parameters):
+        position = parameters.number("position")
+        for at, row in enumerate(self.session.rows):
+            if isinstance(row.outcome, Plan) and row.position == position:
+                return {"id": self.session.stream[at][0], "place": at}
+        return None
+
+    def picture(self, number):
+        """The picture of a unit that is there and valid, whether it is made or not."""
+        at = self.session.place(number)
+        key = None if at is None else self.session.rows[at].key
+        return None if key is None else self.session.pictures[key].hex()
+
+    def shown(self, number):
+        """What is shown of a unit that is there. Its picture may be ready beside workers."""
+        outcome, _, key = self.session.rows[self.session.place(number)]
+        if isinstance(outcome, Empty):
+            return {"state": "empty"}
+        if not isinstance(outcome, Plan):
+            return {"state": "fault", "number": outcome.number, "name": str(outcome)}
+        ready = {"state": "ready", "picture": self.picture(number)}
+        return ready if self.workers or key in self.session.held else {"state": "pending"}
+
+    def show(self, parameters):
+        number = parameters.number("id")
+        if self.session.place(number) is None:
+            raise Failed(16, "NoSuchUnit")
+        shown = self.shown(number)
+        return Either(shown, {"state": "pending"}) if self.workers and "picture" in shown else shown
+
+    def want(self, parameters, is_answered):
+        ids = parameters.read("ids", lambda value: isinstance(value, list) and all(map(is_number, value)))
+        parameters.flag("rest", True)
+        if len(ids) > MOST_WANTED:
+            raise Failed(22, "TooManyWanted")
+        self.wanted = dict.fromkeys(ids)
+        shown = {number: {"state": "none"} if self.session.place(number) is None else self.shown(number) for number in ids}
+        ready = [{"id": number, "picture": it["picture"]} for number, it in shown.items() if it["state"] == "ready"]
+        if is_answered and not self.workers:
+            self.wanted |= {told["id"]: told["picture"] for told in ready}
+        not_now = [number for number, it in shown.items() if it["state"] not in ("ready", "pending")]
+        return {"ready": Some(*ready) if self.workers else ready, "not_now": not_now}
+
+    def news(self):
+        """The notifications that are due, which count as told."""
+        told = []
+        for number, picture in self.wanted.items():
+            if self.session.place(number) is None:
+                continue
+            now = self.shown(number).get("picture")
+            if now not in (None, picture):
+                told.append({"jsonrpc": "2.0", "method": "ready", "params": {"id": number, "picture": now}})
+                self.wanted[number] = now
+        return told
+
+    def drop(self, parameters):
+        if "id" not in parameters.values:
+            self.session.clear()
+            return "cleared"
+        number = parameters.number("id")
+        answer = self.session.drop(number)
+        if answer == "none":
+            raise Failed(16, "NoSuchUnit")
+        return Either("dropped", "not held") if self.workers and self.picture(number) else answer
+
+    def take(self, parameters):
+        among = self.session.needed(parameters.number("id")) if "id" in parameters.values else None
+        taken = self.session.take(among)
+        if taken is None:
+            return None
+        return {"job": taken[0], "unit": taken[1], "requests": ANY, "references": ANY}
+
+    def land(self, parameters):
+        return self.session.land(parameters.number("job"))
+
+    def give_back(self, parameters):
+        return "back" if self.session.leave(parameters.number("job")) else "none"
+
+    def stats(self, _):
+        cached = sum(map(len, self.session.cached))
+        open_counts = {"held": ANY, "cached": ANY, "jobs_out": ANY}
+        counts = {"held": len(self.session.held), "cached": cached, "jobs_out": len(self.session.out)}
+        return {"units": len(self.session.stream), "edits": self.session.edits, **(open_counts if self.workers else counts),
+                "steps": ANY, "bytes": self.bytes}
+
+    def shutdown(self, _):
+        self.is_over = True
+
+
+def size_of(edit):
+    return len(edit[-1]) if isinstance(edit[-1], bytes) else 0
+
+
+def failed(number, fault):
+    return {"jsonrpc": "2.0", "id": number, "error": fault.error}

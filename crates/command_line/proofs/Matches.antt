@@ -4,12 +4,13 @@ use Rattle.std.specs.Prelude.{option_and_then}
 use Rattle.std.specs.Str.Parse.{ParsesUnsigned, digits_value, without_leading_plus}
 use Rattle.clap.specs.Values.{Accepts}
 use Rattle.clap.specs.ValueTests.{is_unsigned_in}
-use Rattle.clap.specs.Words.{ReadsOne, Text, first_value, one_of, one_text, rows_of}
+use Rattle.clap.specs.Words.{ReadsOne, Text, first_of, first_value, one_of, one_text, rows_of}
 use Rattle.clap.specs.declared.builder.ValueParser.TheVariants.{Unsigned}
 use Rattle.clap.specs.declared.parser.matches.Found.{Found}
 use Rattle.clap.proofs.ValueTestLemmas.{Accepts-accepts, accepts-Accepts}
 use Rattle.clap.proofs.WalkLemmas.{first_value-rows, one_text-rows}
-use Rattle.command_line.specs.CommandLine.{Wanted, audit, audit_in, cache_in, draw, draw_in, from_in, has_flag, is_true, number_in, number_of, plan, plan_in, run, run_in, several, units_in, workers_in}
+use Rattle.command_line.specs.Bounds.{most_id}
+use Rattle.command_line.specs.CommandLine.{Wanted, audit, audit_in, cache_in, draw_in, drawing, from_by, from_in, has_flag, is_true, number_in, number_of, plan, plan_in, run, run_in, several, units_in, workers_in}
 
 -- the plan of a name, as JSON or not
 abbrev plan_with : Bool → Text → Wanted
@@ -26,21 +27,37 @@ plan-read f name json is given =
 pub no-file : (f : Found) → None ≡ first_value f (codes "FILE") → None ≡ plan_in (rows_of f)
 no-file f none = ap (option_map (plan_with (has_flag (codes "json") (rows_of f)))) (none ∙ first_value-rows f (codes "FILE"))
 
+-- the script by which the stream is edited
+abbrev script_of : Found → Option Text
+script_of f = first_of (codes "edits") (rows_of f)
+
 -- with no value of FILE nothing is drawn
 pub no-draw : (f : Found) → None ≡ first_value f (codes "FILE") → None ≡ draw_in (rows_of f)
 no-draw f none = ap (option_and_then (λ name. option_and_then (λ from.
-    option_map (draw name from) (units_in (rows_of f))) (from_in (rows_of f))))
+    option_map (drawing name (script_of f) from) (units_in (rows_of f))) (from_in (rows_of f))))
     (none ∙ first_value-rows f (codes "FILE"))
 
 -- with one it is drawn with what the options give
-pub draw-read : (f : Found) (name : Text) (from units : Option ℕ) → Some name ≡ first_value f (codes "FILE")
+pub draw-read : (f : Found) (name : Text) (script : Option Text) (from : Option (Option ℕ)) (units : Option ℕ)
+    → Some name ≡ first_value f (codes "FILE") → script ≡ first_value f (codes "edits")
     → from_in (rows_of f) ≡ from → units_in (rows_of f) ≡ units
-    → option_and_then (λ n. option_map (draw name n) units) from ≡ draw_in (rows_of f)
-draw-read f name from units file from_is is =
-    ap (λ (r : Option ℕ). option_and_then (λ n. option_map (draw name n) r) from) (sym is)
-    ∙ (ap (option_and_then (λ n. option_map (draw name n) (units_in (rows_of f)))) (sym from_is)
-    ∙ ap (option_and_then (λ t. option_and_then (λ n. option_map (draw t n) (units_in (rows_of f))) (from_in (rows_of f))))
-    (file ∙ first_value-rows f (codes "FILE")))
+    → option_and_then (λ n. option_map (drawing name script n) units) from ≡ draw_in (rows_of f)
+draw-read f name script from units file edits from_is is =
+    ap (λ (s : Option Text). option_and_then (λ n. option_map (drawing name s n) units) from) (edits ∙ first_value-rows f (codes "edits"))
+    ∙ (ap (λ (r : Option ℕ). option_and_then (λ n. option_map (drawing name (script_of f) n) r) from) (sym is)
+    ∙ (ap (option_and_then (λ n. option_map (drawing name (script_of f) n) (units_in (rows_of f)))) (sym from_is)
+    ∙ ap (option_and_then (λ t. option_and_then (λ n. option_map (drawing t (script_of f) n) (units_in (rows_of f))) (from_in (rows_of f))))
+    (file ∙ first_value-rows f (codes "FILE"))))
+
+-- no id is given
+pub from-none : (f : Found) → None ≡ first_value f (codes "from") → Some None ≡ from_in (rows_of f)
+from-none f none = ap (λ (o : Option Text). from_by o (rows_of f)) (none ∙ first_value-rows f (codes "from"))
+
+-- one is
+pub from-some : (f : Found) (text : Text) → Some text ≡ first_value f (codes "from") → (id : Option ℕ)
+    → id ≡ number_of (codes "from") 0 most_id (rows_of f) → option_map (λ n. Some n) id ≡ from_in (rows_of f)
+from-some f text some id is =
+    ap (option_map (λ n. Some n)) is ∙ ap (λ (o : Option Text). from_by o (rows_of f)) (some ∙ first_value-rows f (codes "from"))
 
 -- whether `--hex` was given
 abbrev hex_of : Found → Bool

@@ -1,6 +1,6 @@
 -- The command line (docs/OUTPUT.md).
 use Rattle.std.specs.Prelude.{◌≡◌, ◌≢◌, ◌⊎◌, ◌==◌, ℕ, Bool, true, false, List, [], ◌∷◌, codes, pos, if◌then◌else◌}
-use Rattle.std.specs.Prelude.{Option, Some, None, is_some, option_map, option_and_then}
+use Rattle.std.specs.Prelude.{Option, Some, None, is_some, option_map, option_and_then, unwrap_or}
 use Rattle.std.specs.Str.{bytes_eq}
 use Rattle.std.specs.Str.Parse.{digits_value, without_leading_plus}
 use Rattle.clap.specs.ValueTests.{is_unsigned_in}
@@ -16,7 +16,7 @@ use Rattle.clap.specs.declared.error.ErrorKind.TheVariants.{DisplayHelp, Display
 use Rattle.picture_cache.specs.Bounded.{most_room}
 use Rattle.command_line.specs.Bounds.{most_drawn, most_id, most_workers}
 use Rattle.command_line.specs.declared.asked.Asked.{Asked}
-use Rattle.command_line.specs.declared.asked.Asked.TheVariants.{Audit, Draw, Plan, Run}
+use Rattle.command_line.specs.declared.asked.Asked.TheVariants.{Audit, Draw, DrawEdited, Plan, Run, Serve}
 
 -- a word that has to be there
 abbrev pub needed_rule : Text → Rule
@@ -39,17 +39,26 @@ flag_rule name = record (new_rule name) { long = Some name; action = Some SetTru
 abbrev pub plan_app : App
 plan_app = with_rule (with_rule (new_app (codes "plan")) (needed_rule (codes "FILE"))) (flag_rule (codes "json"))
 
--- `--from N`, an id, which is 1 where it isn't given
+-- `--from N`, an id
 abbrev pub from_rule : Rule
-from_rule = option_rule (codes "from") (Signed (pos 0) (pos most_id)) (codes "1")
+from_rule = record (new_rule (codes "from")) {
+  long = Some (codes "from");
+  value_names = 1;
+  parser = Some (Signed (pos 0) (pos most_id));
+}
+
+-- `--edits SCRIPT`, a name
+abbrev pub edits_rule : Rule
+edits_rule = record (new_rule (codes "edits")) { long = Some (codes "edits"); value_names = 1 }
 
 -- `--units N`, from 1 to 1000, and 60 where it isn't given
 abbrev pub units_rule : Rule
 units_rule = option_rule (codes "units") (Signed (pos 1) (pos most_drawn)) (codes "60")
 
--- `draw FILE [--from N] [--units N]`
+-- `draw FILE [--from N] [--units N] [--edits SCRIPT]`
 abbrev pub draw_app : App
-draw_app = with_rule (with_rule (with_rule (new_app (codes "draw")) (needed_rule (codes "FILE"))) from_rule) units_rule
+draw_app = with_rule (with_rule (with_rule (with_rule (new_app (codes "draw")) (needed_rule (codes "FILE")))
+    from_rule) units_rule) edits_rule
 
 -- `--workers N` of `run`, from 0 to 64, and 0 where it isn't given
 abbrev pub workers_rule : Rule
@@ -73,28 +82,41 @@ abbrev pub audit_app : App
 audit_app = with_rule (with_rule (with_rule (new_app (codes "audit")) (needed_rule (codes "SCRIPT")))
     some_workers_rule) cache_rule
 
--- `preview` with one of the four, or with `--version`
-abbrev pub preview_app : App
-preview_app = with_subcommand (with_subcommand (with_subcommand (with_subcommand
-    (on_top (λ s. record s { has_version = true; subcommand_required = true }) (new_app (codes "preview")))
-    plan_app.top) draw_app.top) run_app.top) audit_app.top
+-- that of `serve`, from 0 to 64, and 1 where it isn't given
+abbrev pub one_worker_rule : Rule
+one_worker_rule = option_rule (codes "workers") (Signed (pos 0) (pos most_workers)) (codes "1")
 
--- what is asked for: the plan of a file, as JSON or not; a drawing of so many units of it, from an id on; a run of a script, in
--- one thread or beside so many workers, with so much room, and with the hashes of pictures or without; or its audit, beside so
--- many workers and with so much room
+-- `serve [--workers N] [--cache N]`
+abbrev pub serve_app : App
+serve_app = with_rule (with_rule (new_app (codes "serve")) one_worker_rule) cache_rule
+
+-- `preview` with one of the five, or with `--version`
+abbrev pub preview_app : App
+preview_app = with_subcommand (with_subcommand (with_subcommand (with_subcommand (with_subcommand
+    (on_top (λ s. record s { has_version = true; subcommand_required = true }) (new_app (codes "preview")))
+    plan_app.top) draw_app.top) run_app.top) audit_app.top) serve_app.top
+
+-- what is asked for: the plan of a file, as JSON or not; a drawing of so many units of it, from an id on; one after a script's
+-- edits, of so many units from an id or from the first on; a run of a script, in one thread or beside so many workers, with so
+-- much room, and with the hashes of pictures or without; its audit, beside so many workers and with so much room; or a server,
+-- in one thread or beside so many workers, and with so much room
 pub data Wanted : Type 0 where
   plan : Text → Bool → Wanted
   draw : Text → ℕ → ℕ → Wanted
+  draw_edited : Text → Text → Option ℕ → ℕ → Wanted
   run : Text → Option ℕ → ℕ → Bool → Wanted
   audit : Text → ℕ → ℕ → Wanted
+  serve : Option ℕ → ℕ → Wanted
 
 -- the same, of the program's own type
 abbrev pub wanted_of : Asked → Wanted
 wanted_of (Plan file json) = plan file.now json
 wanted_of (Draw file choice) = draw file.now choice.from choice.units
+wanted_of (DrawEdited file script choice) = draw_edited file.now script.now choice.from choice.units
 wanted_of (Run options workers) =
     run options.name.now (option_map (λ several. several.count) workers) options.cache options.hex
 wanted_of (Audit options workers) = audit options.name.now workers.count options.cache
+wanted_of (Serve serving) = serve (option_map (λ several. several.count) serving.workers) serving.cache
 
 -- the number in these bounds that a text reads as
 abbrev pub number_in : ℕ → ℕ → Text → Option ℕ
@@ -113,9 +135,14 @@ cache_in rows = number_of (codes "cache") 1 most_room rows
 abbrev pub workers_in : ℕ → List Row → Option ℕ
 workers_in least rows = number_of (codes "workers") least most_workers rows
 
--- the id of the first unit that is to be drawn
-abbrev pub from_in : List Row → Option ℕ
-from_in rows = number_of (codes "from") 0 most_id rows
+-- the id of the first unit that is to be drawn, by the first value of `--from`, if it has one
+abbrev pub from_by : Option Text → List Row → Option (Option ℕ)
+from_by None rows = Some None
+from_by (Some text) rows = option_map (λ id. Some id) (number_of (codes "from") 0 most_id rows)
+
+-- the same, of all values
+abbrev pub from_in : List Row → Option (Option ℕ)
+from_in rows = from_by (first_of (codes "from") rows) rows
 
 -- how many units are
 abbrev pub units_in : List Row → Option ℕ
@@ -138,10 +165,15 @@ has_flag name rows = is_true (first_of name rows)
 abbrev pub plan_in : List Row → Option Wanted
 plan_in rows = option_map (λ file. plan file (has_flag (codes "json") rows)) (first_of (codes "FILE") rows)
 
+-- a drawing of a file's stream, from the unit 1 on where no id is given, or after a script's edits
+abbrev pub drawing : Text → Option Text → Option ℕ → ℕ → Wanted
+drawing name None from units = draw name (unwrap_or from 1) units
+drawing name (Some script) from units = draw_edited name script from units
+
 -- what the words after `draw` ask for
 abbrev pub draw_in : List Row → Option Wanted
 draw_in rows = option_and_then (λ name. option_and_then (λ from.
-    option_map (λ units. draw name from units) (units_in rows))
+    option_map (λ units. drawing name (first_of (codes "edits") rows) from units) (units_in rows))
     (from_in rows)) (first_of (codes "FILE") rows)
 
 -- what the words after `run` ask for
@@ -156,12 +188,18 @@ audit_in rows = option_and_then (λ name. option_and_then (λ workers.
     option_map (λ room. audit name workers room) (cache_in rows))
     (workers_in 1 rows)) (first_of (codes "SCRIPT") rows)
 
+-- what the words after `serve` ask for
+abbrev pub serve_in : List Row → Option Wanted
+serve_in rows =
+    option_and_then (λ workers. option_map (λ room. serve (several workers) room) (cache_in rows)) (workers_in 0 rows)
+
 -- what a subcommand and the words after it ask for
 abbrev pub wanted_by : Text × List Row → Option Wanted
 wanted_by met = if bytes_eq met.0 (codes "plan") then plan_in met.1
     else (if bytes_eq met.0 (codes "draw") then draw_in met.1
     else (if bytes_eq met.0 (codes "run") then run_in met.1
-    else (if bytes_eq met.0 (codes "audit") then audit_in met.1 else None)))
+    else (if bytes_eq met.0 (codes "audit") then audit_in met.1
+    else (if bytes_eq met.0 (codes "serve") then serve_in met.1 else None))))
 
 -- what is asked for where a subcommand may have been met
 abbrev pub wanted_from : Option (Text × List Row) → Option Wanted

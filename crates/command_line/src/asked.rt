@@ -1,8 +1,10 @@
 //! What a command line asks for.
 
 ghost use Rattle.std.specs.Prelude.{◌≤◌};
+ghost use Rattle.picture_cache.specs.Bounded.{most_room};
 ghost use Rattle.command_line.specs.Bounds.{most_workers};
 
+use draw_edits::EditedChoice;
 use draw_run::Choice;
 use script_run::Options;
 
@@ -22,6 +24,12 @@ pub enum Asked<'a> {
         file: &'a str,
         choice: Choice,
     },
+    /// A drawing of the chosen units of that stream after the edits of the script of this name, `-` being the standard input.
+    DrawEdited {
+        file: &'a str,
+        script: &'a str,
+        choice: EditedChoice,
+    },
     /// A run of the script that the options name, `-` being the standard input: in one thread, or beside workers.
     Run {
         options: Options<'a>,
@@ -32,6 +40,8 @@ pub enum Asked<'a> {
         options: Options<'a>,
         workers: Workers,
     },
+    /// A server.
+    Serve(Serving),
 }
 
 /// How many workers decode, each in a thread of its own.
@@ -40,4 +50,14 @@ pub struct Workers {
     /// 1 to `MOST_WORKERS`.
     pub count: usize,
     ghost in_range: { (1 ≤ count) × (count ≤ most_workers) },
+}
+
+/// With what a server is run.
+#[derive(Clone, Copy, Debug)]
+pub struct Serving {
+    /// The workers that decode; with none it is all one thread.
+    pub workers: Option<Workers>,
+    /// For how many pictures that no unit has the session has room, 1 to `MOST_ROOM`.
+    pub cache: u16,
+    ghost room: { (1 ≤ cache) × (cache ≤ most_room) },
 }

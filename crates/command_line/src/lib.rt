@@ -7,6 +7,7 @@
 
 mod asked;
 mod parsing;
+mod serving;
 
-pub use asked::{Asked, MOST_WORKERS, Workers};
+pub use asked::{Asked, MOST_WORKERS, Serving, Workers};
 pub use parsing::{parse, words};

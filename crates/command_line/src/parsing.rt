@@ -3,15 +3,17 @@
 ghost use Rattle.std.specs.Prelude.{◌≡◌, ◌≤◌, IfOk, IfSome, Some, codes, false, map, option_map};
 ghost use Rattle.clap.specs.Words.{FailsBy, app_of, found_of, rows_of, rule_of, subcommand_rows_of};
 ghost use Rattle.picture_cache.specs.Bounded.{most_room};
-ghost use Rattle.command_line.specs.Bounds.{most_workers};
-ghost use Rattle.command_line.specs.CommandLine.{audit_app, audit_in, cache_in, cache_rule, draw_app, draw_in, faults_of, flag_rule, from_in, from_rule, has_flag, needed_rule};
+ghost use Rattle.command_line.specs.Bounds.{most_id, most_workers};
+ghost use Rattle.command_line.specs.CommandLine.{audit_app, audit_in, cache_in, cache_rule, draw_app, draw_in, drawing, edits_rule, faults_of, flag_rule, from_in, from_rule, has_flag, needed_rule};
 ghost use Rattle.command_line.specs.CommandLine.{number_of, option_rule, plan_app, plan_in, preview_app, run_app, run_in, several};
 ghost use Rattle.command_line.specs.CommandLine.{units_in, units_rule, wanted_from, wanted_in, wanted_of, workers_in};
 
 use crate::asked::{Asked, MOST_WORKERS, Workers};
+use crate::serving::{read_serve, serve_command};
 use clap::builder::ValueParser;
 use clap::error::ErrorKind;
 use clap::{Arg, ArgAction, ArgMatches, Command, Error, value_parser};
+use draw_edits::EditedChoice;
 use draw_run::{Choice, MOST_DRAWN};
 use script_run::{MOST_ROOM, Options};
 use std::alloc::{AllocError, Global};
@@ -53,6 +55,7 @@ fn read_matches<'a>(matches: &ArgMatches<'a>) -> Option<Asked<'a>>
         Some(("draw", draw)) => read_draw(draw),
         Some(("run", run)) => read_run(run),
         Some(("audit", audit)) => read_audit(audit),
+        Some(("serve", serve)) => read_serve(serve),
         _ => None,
     }
 }
@@ -73,16 +76,46 @@ fn read_draw<'a>(draw: &ArgMatches<'a>) -> Option<Asked<'a>>
     let file = draw.get_str("FILE")?;
     let from = read_from(draw)?;
     let units = read_units(draw)?;
-    let choice = Choice { from, units };
-    Some(Asked::Draw { file, choice })
+    Some(drawing(file, draw.get_str("edits"), from, units))
 }
 
-/// The id of the first unit that is to be drawn.
-fn read_from(matches: &ArgMatches<'_>) -> Option<u32>
+/// A drawing of so many units, from an id on if one is given, after the edits of a script if one is.
+fn drawing<'a>(file: &'a str, script: Option<&'a str>, from: Option<u32>, units: usize) -> Asked<'a>
+    requires { units ≤ 1000 }
+    ensures { wanted_of result ≡ drawing file.entry.now (option_map (λ name. name.now) script.entry) from units }
+{
+    match script {
+        Some(script) => Asked::DrawEdited {
+            file,
+            script,
+            choice: EditedChoice { from, units },
+        },
+        None => Asked::Draw {
+            file,
+            choice: Choice {
+                from: from.unwrap_or(1),
+                units,
+            },
+        },
+    }
+}
+
+/// The id of the first unit that is to be drawn, if one is given.
+fn read_from(matches: &ArgMatches<'_>) -> Option<Option<u32>>
     ensures { result ≡ from_in (rows_of (found_of matches.now)) }
 {
-    let from = matches.get_one::<u32>("from")?;
-    Some(from)
+    match matches.get_str("from") {
+        Some(_) => Some(Some(read_id(matches)?)),
+        None => Some(None),
+    }
+}
+
+/// The id that is given by `--from`.
+fn read_id(matches: &ArgMatches<'_>) -> Option<u32>
+    ensures { result ≡ number_of (codes "from") 0 most_id (rows_of (found_of matches.now)) }
+{
+    let id = matches.get_one::<u32>("from")?;
+    Some(id)
 }
 
 /// How many units are to be drawn.
@@ -128,7 +161,7 @@ fn read_audit<'a>(audit: &ArgMatches<'a>) -> Option<Asked<'a>>
 }
 
 /// How many workers are asked for, of which there are so many at least.
-fn read_workers(matches: &ArgMatches<'_>, least: usize) -> Option<usize>
+pub(crate) fn read_workers(matches: &ArgMatches<'_>, least: usize) -> Option<usize>
     ensures number { result ≡ workers_in least (rows_of (found_of matches.now)) }
     ensures range { IfSome result (λ count. (least ≤ count) × (count ≤ most_workers)) }
 {
@@ -140,7 +173,7 @@ fn read_workers(matches: &ArgMatches<'_>, least: usize) -> Option<usize>
 }
 
 /// For how many pictures room is asked for.
-fn read_cache(matches: &ArgMatches<'_>) -> Option<u16>
+pub(crate) fn read_cache(matches: &ArgMatches<'_>) -> Option<u16>
     ensures number { result ≡ cache_in (rows_of (found_of matches.now)) }
     ensures range { IfSome result (λ room. (1 ≤ room) × (room ≤ most_room)) }
 {
@@ -152,7 +185,7 @@ fn read_cache(matches: &ArgMatches<'_>) -> Option<u16>
 }
 
 /// So many workers, which are none for 0.
-fn several(count: usize) -> Option<Workers>
+pub(crate) fn several(count: usize) -> Option<Workers>
     requires { count ≤ most_workers }
     ensures { option_map (λ workers. workers.count) result ≡ several count }
 {
@@ -184,7 +217,8 @@ fn preview_command<'a>(alloc: Global) -> Result<Command<'a>, AllocError>
         .subcommand(plan_command(alloc)?)?
         .subcommand(draw_command(alloc)?)?
         .subcommand(run_command(alloc)?)?
-        .subcommand(audit_command(alloc)?)
+        .subcommand(audit_command(alloc)?)?
+        .subcommand(serve_command(alloc)?)
 }
 
 /// The subcommand `plan`.
@@ -218,11 +252,13 @@ fn draw_command<'a>(alloc: Global) -> Result<Command<'a>, AllocError>
     );
     let from = from_option(alloc);
     let units = units_option(alloc);
+    let edits = edits_option(alloc);
     Command::new(alloc, "draw")
         .about("Draws a stream as SVG: references, output order, periods and faults")
         .arg(file)?
         .arg(from)?
-        .arg(units)
+        .arg(units)?
+        .arg(edits)
 }
 
 /// The subcommand `run`.
@@ -266,13 +302,24 @@ fn from_option<'a>(alloc: Global) -> Arg<'a>
     ensures local { result.global ≡ false }
 {
     let ids = value_parser!(u32).range(0..=MOST_ID);
-    number_option(
-        alloc,
-        "from",
-        ids,
-        "1",
-        "The id of the first unit that is drawn",
-    )
+    Arg::new(alloc, "from")
+        .long("from")
+        .value_name("N")
+        .value_parser(ids)
+        .help("The id of the first unit that is drawn; without it the stream's first")
+}
+
+/// `--edits`.
+fn edits_option<'a>(alloc: Global) -> Arg<'a>
+    ensures rule { rule_of result ≡ edits_rule }
+    ensures local { result.global ≡ false }
+{
+    Arg::new(alloc, "edits")
+        .long("edits")
+        .value_name("SCRIPT")
+        .help(
+            "Draws the stream after this script's edits, and what they changed; - is the standard input",
+        )
 }
 
 /// `--units`.
@@ -291,7 +338,7 @@ fn units_option<'a>(alloc: Global) -> Arg<'a>
 }
 
 /// `--cache`.
-fn cache_option<'a>(alloc: Global) -> Arg<'a>
+pub(crate) fn cache_option<'a>(alloc: Global) -> Arg<'a>
     ensures rule { rule_of result ≡ cache_rule }
     ensures local { result.global ≡ false }
 {
@@ -320,7 +367,7 @@ fn flag<'a>(alloc: Global, name: &'a str, help: &'a str) -> Arg<'a>
 }
 
 /// A number by `--name`, which is `usual` where it isn't given.
-fn number_option<'a>(
+pub(crate) fn number_option<'a>(
     alloc: Global,
     name: &'a str,
     parser: ValueParser<'a>,

@@ -2,11 +2,13 @@
 
 mod command_lines;
 mod controls;
+mod drawn_edits;
 mod examples;
 mod groups;
 mod jobs;
 mod limits;
 mod loads;
+mod needed;
 mod plans;
 mod refused;
 mod script_faults;

@@ -1,1 +1,2 @@
 pub mod Unopened
+mod Edited

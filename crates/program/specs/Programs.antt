@@ -4,8 +4,11 @@ use Rattle.std.specs.Io.KnownBytes.{Appends, Keeps}
 use Rattle.clap.specs.Words.{Text}
 use Rattle.console_io.specs.Chunks.{AppendsFront}
 use Rattle.console_io.specs.Inputs.{Files, text_named}
-use Rattle.console_io.specs.Messages.{Tells, out_of_memory}
+use Rattle.console_io.specs.Messages.{Tells, input_fault_text, out_of_memory}
 use Rattle.console_io.specs.declared.chunks.PrintFault.{PrintFault}
+use Rattle.console_io.specs.declared.input.InputFault.{InputFault}
+use Rattle.draw_edits.specs.Drawings.{EndsBy as EndsEdited, WritesEdited, edits_fault_text}
+use Rattle.draw_edits.specs.declared.fault.EditsFault.{EditsFault}
 use Rattle.draw_run.specs.Drawings.{EndsBy as EndsDrawing, WritesDrawing}
 use Rattle.plan_json.specs.Ends.{FailsJson, WritesJson}
 use Rattle.plan_stream.specs.Faults.{plan_fault_text}
@@ -19,7 +22,9 @@ use Rattle.script_run.specs.Running.{WritesScript}
 use Rattle.script_run.specs.Stops.{StopsBy}
 use Rattle.script_run.specs.declared.run_fault.RunFault.{RunFault}
 use Rattle.unit_json.specs.declared.json_line.JsonLine.{JsonLine}
-use Rattle.command_line.specs.CommandLine.{HasOne, IsRequest, Wanted, audit, draw, faults_of, plan, run, wanted_in}
+use Rattle.command_line.specs.CommandLine.{HasOne, IsRequest, Wanted, audit, draw, draw_edited, faults_of, plan, run, serve, wanted_in}
+use Rattle.serve_run.specs.Ends.{end_text}
+use Rattle.serve_run.specs.declared.end.ServeEnd.{ServeEnd}
 
 -- nothing is known of the text that says a line as JSON
 abbrev pub says_json : JsonLine → List ℕ → Type 0
@@ -38,18 +43,26 @@ StopsScript None files name text room hex fault refused old new =
 StopsScript (Some workers) files name text room hex fault refused old new =
     StopsSeatBy files name text hex fault refused old new
 
--- what is asked for was done, of what its name stands for
-abbrev pub IsDone : Files → Option (List ℕ) → Wanted → Option (List ℕ) → Option (List ℕ) → Type 0
-IsDone files standard (plan name false) old new =
-    IfSome (text_named files standard name) (λ text. WritesPlan text old new)
-IsDone files standard (plan name true) old new =
-    IfSome (text_named files standard name) (λ text. WritesJson says_json text old new)
-IsDone files standard (draw name from units) old new =
-    IfSome (text_named files standard name) (λ text. WritesDrawing from units text old new)
-IsDone files standard (run name workers room hex) old new =
-    IfSome (text_named files standard name) (λ text. RunsScript workers files text room hex old new)
-IsDone files standard (audit name workers room) old new =
-    IfSome (text_named files standard name) (λ text. WritesAgreed files text old new)
+-- what is asked for was done, of what its names stand for, and nothing was told; but of a drawing after edits, what was refused
+-- of these. Of what a server writes nothing is said. Of the second output it is said whether it refused, and what it had and has
+abbrev pub IsDone : {T : Type 0} → Files → Option (List ℕ) → Wanted → Result T PrintFault → Option (List ℕ) → Option (List ℕ)
+    → Type 0 → Option (List ℕ) → Option (List ℕ) → Type 0
+IsDone files standard (plan name false) told old new mute had has =
+    IfSome (text_named files standard name) (λ text. WritesPlan text old new) × Keeps had has
+IsDone files standard (plan name true) told old new mute had has =
+    IfSome (text_named files standard name) (λ text. WritesJson says_json text old new) × Keeps had has
+IsDone files standard (draw name from units) told old new mute had has =
+    IfSome (text_named files standard name) (λ text. WritesDrawing from units text old new) × Keeps had has
+IsDone files standard (draw_edited name script from units) told old new mute had has =
+    (refusals : List ℕ)
+    × IfSome (text_named files standard name) (λ text. IfSome (text_named files standard script) (λ edits.
+    WritesEdited from units text edits refusals old new))
+    × Tells told mute had has refusals
+IsDone files standard (run name workers room hex) told old new mute had has =
+    IfSome (text_named files standard name) (λ text. RunsScript workers files text room hex old new) × Keeps had has
+IsDone files standard (audit name workers room) told old new mute had has =
+    IfSome (text_named files standard name) (λ text. WritesAgreed files text old new) × Keeps had has
+IsDone files standard (serve workers room) told old new mute had has = Keeps had has
 
 -- it ended by a fault, which was told; of the two outputs it is said whether each refused, and what it had and has
 abbrev pub FailsAt : {T : Type 0} → Files → Option (List ℕ) → Wanted → Result T PrintFault
@@ -62,6 +75,13 @@ FailsAt files standard (plan name false) told refused old new mute had has =
 FailsAt files standard (draw name from units) told refused old new mute had has =
     (fault : PlanFault) × IfSome (text_named files standard name) (λ text. EndsDrawing from units text fault refused old new)
     × Tells told mute had has (plan_fault_text name fault)
+FailsAt files standard (draw_edited name script from units) told refused old new mute had has =
+    ((fault : EditsFault)
+    × IfSome (text_named files standard name) (λ text. IfSome (text_named files standard script) (λ edits.
+    EndsEdited from units text edits fault refused old new))
+    × Tells told mute had has (edits_fault_text fault))
+    ⊎ ((fault : InputFault) × Keeps old new
+    × (Tells told mute had has (input_fault_text name fault) ⊎ Tells told mute had has (input_fault_text script fault)))
 FailsAt files standard (run name workers room hex) told refused old new mute had has =
     (fault : RunFault)
     × IfSome (text_named files standard name) (λ text.
@@ -69,6 +89,8 @@ FailsAt files standard (run name workers room hex) told refused old new mute had
     × Tells told mute had has (run_fault_text fault)
 FailsAt files standard (audit name workers room) told refused old new mute had has =
     FailsAudit files name (text_named files standard name) told refused old new mute had has
+FailsAt files standard (serve workers room) told refused old new mute had has =
+    (end : ServeEnd) × Tells told mute had has (end_text end)
 
 -- memory ran out for the words or for an answer to them: that was told, and nothing printed
 abbrev pub WantsMemory : {T : Type 0} → Result T PrintFault → Option (List ℕ) → Option (List ℕ)
@@ -84,10 +106,11 @@ abbrev pub AskFor : List Text → Wanted → Type 0
 AskFor words wanted = (wanted_in words ≡ Some wanted) × (faults_of words ≡ [])
 
 -- what the words ask for was done, or they ask for help or the version, and a text was printed
-abbrev pub Succeeds : Files → Option (List ℕ) → List Text → Option (List ℕ) → Option (List ℕ) → Type 0
-Succeeds files standard words old new =
-    ((wanted : Wanted) × AskFor words wanted × IsDone files standard wanted old new)
-    ⊎ (HasOne IsRequest (faults_of words) × ((text : List ℕ) × Appends old new text))
+abbrev pub Succeeds : {T : Type 0} → Files → Option (List ℕ) → List Text → Result T PrintFault
+    → Option (List ℕ) → Option (List ℕ) → Type 0 → Option (List ℕ) → Option (List ℕ) → Type 0
+Succeeds files standard words told old new mute had has =
+    ((wanted : Wanted) × AskFor words wanted × IsDone files standard wanted told old new mute had has)
+    ⊎ (HasOne IsRequest (faults_of words) × ((text : List ℕ) × Appends old new text) × Keeps had has)
 
 -- what the words ask for failed, or memory ran out, or help or the version wasn't printed whole
 abbrev pub Fails : {T : Type 0} → Files → Option (List ℕ) → List Text → Result T PrintFault

@@ -6,9 +6,11 @@ ghost use Rattle.std.specs.declared.io.ErrorKind.TheVariants.{OutOfMemory};
 ghost use Rattle.std.specs.Io.KnownBytes.{Appends, Keeps};
 ghost use Rattle.clap.specs.Words.{kind_of};
 ghost use Rattle.console_io.specs.Messages.{Tells, not_text};
-ghost use Rattle.command_line.specs.CommandLine.{AreMistaken, IsMistake, IsRequest, audit, draw, plan, run as run_of};
+ghost use Rattle.command_line.specs.CommandLine.{AreMistaken, IsMistake, IsRequest, audit, draw, draw_edited, plan, run as run_of};
 ghost use Rattle.program.specs.Programs.{FailsAt, Fails, IsDone, Succeeds, WantsMemory, WritesPart};
 
+use crate::named_texts::named_texts;
+use crate::serving::serve_on;
 use clap::Error;
 use clap::error::ErrorKind;
 use command_line::{Asked, Workers, parse};
@@ -16,6 +18,7 @@ use console_io::{
     Directory, Ended, Files, Sink, Status, open_input, say_input_fault, say_not_text,
     say_out_of_memory, write_bytes,
 };
+use draw_edits::{EditedChoice, draw_edited};
 use draw_run::{Choice, draw_on};
 use plan_json::plan_json_on;
 use plan_stream::plan_on;
@@ -30,7 +33,7 @@ use std::thread::Threads;
 use unit_json::Json;
 
 /// Does what the process's words ask for, with these threads. Words that can't be read are a wrong command line.
-pub fn run<D: Directory, I: Read + Drop, W: Sink, E: Sink>(
+pub fn run<D: Directory, I: Read + Drop, W: Sink + Send, E: Sink>(
     threads: &(impl Threads + Wait + Sync),
     alloc: Global,
     words: io::Result<Vec<String>>,
@@ -39,12 +42,11 @@ pub fn run<D: Directory, I: Read + Drop, W: Sink, E: Sink>(
     output: &mut W,
     errors: &mut E,
 ) -> Ended
-    ensures done { result.status ≡ Status.Success
-        → Keeps (E.contents errors.old) (E.contents errors.new) }
-    // At success what the words ask for was done, on what they name.
+    // At success what the words ask for was done, on what they name, and nothing was told but of refused edits.
     ensures right { result.status ≡ Status.Success → IsOkAnd words (λ words.
-        Succeeds (D.bytes directory.now) (I.remaining standard) (map string_bytes words.items)
-        (W.contents output.old) (W.contents output.new)) }
+        Succeeds (D.bytes directory.now) (I.remaining standard) (map string_bytes words.items) result.told
+        (W.contents output.old) (W.contents output.new)
+        (E.refuses errors.new) (E.contents errors.old) (E.contents errors.new)) }
     ensures fails { result.status ≡ Status.Failure → MatchResult words (λ words.
         Fails (D.bytes directory.now) (I.remaining standard)
         (map string_bytes words.items) result.told
@@ -80,7 +82,7 @@ pub fn run<D: Directory, I: Read + Drop, W: Sink, E: Sink>(
 }
 
 /// Does what the words ask for, of which the first is the program's name.
-pub fn run_on<T: AsStr, D: Directory, I: Read + Drop, W: Sink, E: Sink>(
+pub fn run_on<T: AsStr, D: Directory, I: Read + Drop, W: Sink + Send, E: Sink>(
     threads: &(impl Threads + Wait + Sync),
     alloc: Global,
     words: &[T],
@@ -89,11 +91,10 @@ pub fn run_on<T: AsStr, D: Directory, I: Read + Drop, W: Sink, E: Sink>(
     output: &mut W,
     errors: &mut E,
 ) -> Ended
-    ensures done { result.status ≡ Status.Success
-        → Keeps (E.contents errors.old) (E.contents errors.new) }
     ensures right { result.status ≡ Status.Success
-        → Succeeds (D.bytes directory.now) (I.remaining standard) (map T.text words.now)
-        (W.contents output.old) (W.contents output.new) }
+        → Succeeds (D.bytes directory.now) (I.remaining standard) (map T.text words.now) result.told
+        (W.contents output.old) (W.contents output.new)
+        (E.refuses errors.new) (E.contents errors.old) (E.contents errors.new) }
     ensures fails { result.status ≡ Status.Failure
         → Fails (D.bytes directory.now) (I.remaining standard) (map T.text words.now) result.told
         (W.refuses output.new) (W.contents output.old) (W.contents output.new)
@@ -112,12 +113,24 @@ pub fn run_on<T: AsStr, D: Directory, I: Read + Drop, W: Sink, E: Sink>(
         Ok(Asked::Draw { file, choice }) => draw_named(
             alloc, file, choice, directory, standard, output, errors,
         ),
+        Ok(
+            Asked::DrawEdited {
+                file,
+                script,
+                choice,
+            },
+        ) => draw_edited_named(
+            threads, alloc, file, script, choice, directory, standard, output, errors,
+        ),
         Ok(Asked::Run { options, workers }) => run_named(
             threads, alloc, options, workers, directory, standard, output, errors,
         ),
         Ok(Asked::Audit { options, workers }) => audit_named(
             threads, alloc, options, workers, directory, standard, output, errors,
         ),
+        Ok(Asked::Serve(serving)) => {
+            serve_on(threads, alloc, serving, directory, standard, output, errors)
+        }
         Err(error) => answer(alloc, &error, output, errors),
     }
 }
@@ -133,11 +146,10 @@ fn plan_as<D: Directory, I: Read + Drop, W: Sink, E: Sink>(
     output: &mut W,
     errors: &mut E,
 ) -> Ended
-    ensures done { result.status ≡ Status.Success
-        → Keeps (E.contents errors.old) (E.contents errors.new) }
     ensures right { result.status ≡ Status.Success
         → IsDone (D.bytes directory.now) (I.remaining standard)
-        (plan name.now json) (W.contents output.old) (W.contents output.new) }
+        (plan name.now json) result.told (W.contents output.old) (W.contents output.new)
+        (E.refuses errors.new) (E.contents errors.old) (E.contents errors.new) }
     ensures fails { result.status ≡ Status.Failure
         → FailsAt (D.bytes directory.now) (I.remaining standard)
         (plan name.now json) result.told (W.refuses output.new) (W.contents output.old)
@@ -162,11 +174,10 @@ fn plan_json_named<D: Directory, I: Read + Drop, W: Sink, E: Sink>(
     output: &mut W,
     errors: &mut E,
 ) -> Ended
-    ensures done { result.status ≡ Status.Success
-        → Keeps (E.contents errors.old) (E.contents errors.new) }
     ensures right { result.status ≡ Status.Success
         → IsDone (D.bytes directory.now) (I.remaining standard)
-        (plan name.now true) (W.contents output.old) (W.contents output.new) }
+        (plan name.now true) result.told (W.contents output.old) (W.contents output.new)
+        (E.refuses errors.new) (E.contents errors.old) (E.contents errors.new) }
     ensures fails { result.status ≡ Status.Failure
         → FailsAt (D.bytes directory.now) (I.remaining standard)
         (plan name.now true) result.told (W.refuses output.new) (W.contents output.old)
@@ -189,11 +200,10 @@ fn plan_named<D: Directory, I: Read + Drop, W: Sink, E: Sink>(
     output: &mut W,
     errors: &mut E,
 ) -> Ended
-    ensures done { result.status ≡ Status.Success
-        → Keeps (E.contents errors.old) (E.contents errors.new) }
     ensures right { result.status ≡ Status.Success
         → IsDone (D.bytes directory.now) (I.remaining standard)
-        (plan name.now false) (W.contents output.old) (W.contents output.new) }
+        (plan name.now false) result.told (W.contents output.old) (W.contents output.new)
+        (E.refuses errors.new) (E.contents errors.old) (E.contents errors.new) }
     ensures fails { result.status ≡ Status.Failure
         → FailsAt (D.bytes directory.now) (I.remaining standard)
         (plan name.now false) result.told (W.refuses output.new) (W.contents output.old)
@@ -217,11 +227,10 @@ fn draw_named<D: Directory, I: Read + Drop, W: Sink, E: Sink>(
     output: &mut W,
     errors: &mut E,
 ) -> Ended
-    ensures done { result.status ≡ Status.Success
-        → Keeps (E.contents errors.old) (E.contents errors.new) }
     ensures right { result.status ≡ Status.Success
         → IsDone (D.bytes directory.now) (I.remaining standard)
-        (draw name.now choice.from choice.units) (W.contents output.old) (W.contents output.new) }
+        (draw name.now choice.from choice.units) result.told (W.contents output.old) (W.contents output.new)
+        (E.refuses errors.new) (E.contents errors.old) (E.contents errors.new) }
     ensures fails { result.status ≡ Status.Failure
         → FailsAt (D.bytes directory.now) (I.remaining standard)
         (draw name.now choice.from choice.units) result.told (W.refuses output.new)
@@ -232,6 +241,39 @@ fn draw_named<D: Directory, I: Read + Drop, W: Sink, E: Sink>(
     match open_input(directory, standard, name) {
         Ok(mut input) => draw_on(alloc, name, choice, &mut input, output, errors),
         Err(fault) => Ended::failed(say_input_fault(fault, name, errors)),
+    }
+}
+
+/// Draws the chosen units of the stream that the first name stands for, after the edits of the script that the second one does.
+fn draw_edited_named<D: Directory, I: Read + Drop, W: Sink, E: Sink>(
+    threads: &(impl Threads + Sync),
+    alloc: Global,
+    name: &str,
+    script: &str,
+    choice: EditedChoice,
+    directory: &D,
+    standard: I,
+    output: &mut W,
+    errors: &mut E,
+) -> Ended
+    ensures right { result.status ≡ Status.Success
+        → IsDone (D.bytes directory.now) (I.remaining standard)
+        (draw_edited name.now script.now choice.from choice.units) result.told
+        (W.contents output.old) (W.contents output.new)
+        (E.refuses errors.new) (E.contents errors.old) (E.contents errors.new) }
+    ensures fails { result.status ≡ Status.Failure
+        → FailsAt (D.bytes directory.now) (I.remaining standard)
+        (draw_edited name.now script.now choice.from choice.units) result.told (W.refuses output.new)
+        (W.contents output.old) (W.contents output.new)
+        (E.refuses errors.new) (E.contents errors.old) (E.contents errors.new) }
+    ensures usage { result.status ≢ Status.Usage }
+{
+    match named_texts(alloc, directory, standard, name, script) {
+        Ok((text, edits)) => {
+            let edits = edits.as_slice();
+            draw_edited(threads, alloc, choice, &text, edits, output, errors)
+        }
+        Err(unread) => Ended::failed(say_input_fault(unread.fault, unread.name, errors)),
     }
 }
 
@@ -246,13 +288,12 @@ fn run_named<D: Directory, I: Read + Drop, W: Sink, E: Sink>(
     output: &mut W,
     errors: &mut E,
 ) -> Ended
-    ensures done { result.status ≡ Status.Success
-        → Keeps (E.contents errors.old) (E.contents errors.new) }
     ensures right { result.status ≡ Status.Success
         → IsDone (D.bytes directory.now) (I.remaining standard)
         (run_of options.entry.name.now (option_map (λ workers. workers.count) workers)
         options.entry.cache options.entry.hex)
-        (W.contents output.old) (W.contents output.new) }
+        result.told (W.contents output.old) (W.contents output.new)
+        (E.refuses errors.new) (E.contents errors.old) (E.contents errors.new) }
     ensures fails { result.status ≡ Status.Failure
         → FailsAt (D.bytes directory.now) (I.remaining standard)
         (run_of options.entry.name.now (option_map (λ workers. workers.count) workers)
@@ -301,12 +342,11 @@ fn audit_named<D: Directory, I: Read + Drop, W: Sink, E: Sink>(
     output: &mut W,
     errors: &mut E,
 ) -> Ended
-    ensures done { result.status ≡ Status.Success
-        → Keeps (E.contents errors.old) (E.contents errors.new) }
     ensures right { result.status ≡ Status.Success
         → IsDone (D.bytes directory.now) (I.remaining standard)
         (audit options.entry.name.now workers.count options.entry.cache)
-        (W.contents output.old) (W.contents output.new) }
+        result.told (W.contents output.old) (W.contents output.new)
+        (E.refuses errors.new) (E.contents errors.old) (E.contents errors.new) }
     ensures fails { result.status ≡ Status.Failure
         → FailsAt (D.bytes directory.now) (I.remaining standard)
         (audit options.entry.name.now workers.count options.entry.cache) result.told

@@ -53,10 +53,10 @@ impl Directory for Folder {
 
 /// What a run on the words after the program's name writes on its output and on standard error.
 #[derive(Drop)]
-struct Written {
-    ended: Ended,
-    output: Vec<u8>,
-    errors: Vec<u8>,
+pub(super) struct Written {
+    pub(super) ended: Ended,
+    pub(super) output: Vec<u8>,
+    pub(super) errors: Vec<u8>,
 }
 
 /// The program's name and these words after it.
@@ -68,7 +68,7 @@ fn named<'a>(alloc: Global, words: &[&'a str]) -> Result<Vec<&'a str>, AllocErro
 }
 
 /// A run on the words after the program's name.
-fn run_with(
+pub(super) fn run_with(
     rt: &(impl Abort + AllocGlobal + Threads + Wait + Sync),
     words: &[&str],
     standard: &'static [u8],
@@ -100,7 +100,7 @@ type Ran = (
     &'static str,
 );
 
-const RUNS: [Ran; 35] = [
+const RUNS: [Ran; 40] = [
     (&["plan", "a.264"], &P1, Success, LINES_OF_A, ""),
     (
         &["plan", "-"],
@@ -202,6 +202,42 @@ const RUNS: [Ran; 35] = [
         "",
         "script fault at line 2\n",
     ),
+    // What is wanted first. Where the rest isn't decoded, nothing else is.
+    (
+        &["run", "--workers", "2", "-"],
+        WANTED,
+        Success,
+        DECODED,
+        "",
+    ),
+    (
+        &["audit", "-"],
+        WANTED,
+        Success,
+        "agreed 4 edits 6 shows\n",
+        "",
+    ),
+    (
+        &["run", "--workers", "1", "-"],
+        MANY,
+        Success,
+        "refused 22 TooManyWanted\nwanted 64\n",
+        "",
+    ),
+    (
+        &["run", "--workers", "1", "-"],
+        b"settle 1\ntake 1\n",
+        Failure,
+        "",
+        "script fault at line 2\n",
+    ),
+    (
+        &["run", "--workers", "1", "-"],
+        b"want 1 2 x\n",
+        Failure,
+        "",
+        "script fault at line 1\n",
+    ),
     (
         &["audit", "edited"],
         &A,
@@ -274,6 +310,43 @@ settle\n\
 show 2\n\
 delete 1\n\
 show 2\n";
+
+/// Two IDR pictures with one that refers to each, of which a part is wanted. Then a picture is dropped, and made again where it
+/// is wanted.
+const WANTED: &[u8] = b"rest off\n\
+insert first 000001 6742000ADA79 000001 68CE3880 000001 65888480\n\
+insert after 1 000001 419A23\n\
+insert after 2 000001 65888481\n\
+insert after 3 000001 419A23\n\
+want 4 9\n\
+settle\n\
+show 4\n\
+show 3\n\
+show 2\n\
+want\n\
+drop 4\n\
+drop 4\n\
+drop 9\n\
+clear\n\
+settle\n\
+show 4\n\
+settle 4\n\
+show 4\n\
+rest on\n\
+settle\n\
+show 2\n";
+
+const DECODED: &str =
+    "rest off\nedit 1 id 1\nedit 2 id 2\nedit 3 id 3\nedit 4 id 4\nwanted 2\nsettled\n\
+show 4 ready\nshow 3 ready\nshow 2 pending\nwanted 0\ndrop 4 dropped\ndrop 4 not held\ndrop 9 none\n\
+cleared\nsettled\nshow 4 pending\nsettled\nshow 4 ready\nrest on\nsettled\nshow 2 ready\n";
+
+/// 65 ids that are wanted, and 64.
+const MANY: &[u8] =
+    b"want 1 2 3 4 5 6 7 8 9 10 11 12 13 14 15 16 17 18 19 20 21 22 23 24 25 26 27 28 29 30 31 32 \
+33 34 35 36 37 38 39 40 41 42 43 44 45 46 47 48 49 50 51 52 53 54 55 56 57 58 59 60 61 62 63 64 65\n\
+want 1 1 1 1 1 1 1 1 1 1 1 1 1 1 1 1 1 1 1 1 1 1 1 1 1 1 1 1 1 1 1 1 \
+1 1 1 1 1 1 1 1 1 1 1 1 1 1 1 1 1 1 1 1 1 1 1 1 1 1 1 1 1 1 1 1\n";
 
 /// Three edits, and a group that deletes a unit and inserts it again.
 const GROUPED: &[u8] = b"insert first 000001 6742000ADA79 000001 68CE3880 000001 65888480\n\

@@ -94,7 +94,7 @@ fn last_has_form(alloc: Global, outcomes: &[Outcome], row: &Form) -> Result<bool
     }
 }
 
-/// What becomes of the units of a stream of these parts; all have one id, of which the form says nothing.
+/// The outcomes of the units of a stream of these parts; all have one id, of which the form says nothing.
 fn outcomes_of(
     rt: &(impl Abort + AllocGlobal + Threads + Sync),
     parts: &[&[u8]],

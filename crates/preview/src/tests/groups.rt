@@ -103,7 +103,7 @@ fn refuses_a_group_of_1_025_edits(rt: HostRuntime) -> Result<(), Fail> {
 }
 
 /// Scripts with a group that is none, and what is told.
-const WRONG: [(&[u8], &str); 9] = [
+const WRONG: [(&[u8], &str); 16] = [
     (b"group\nunit 1\nend\n", "script fault at line 2\n"),
     (b"group\ndelete 1\n", "script fault at line 1\n"),
     (b"unit 1\ngroup\n", "script fault at line 2\n"),
@@ -113,6 +113,13 @@ const WRONG: [(&[u8], &str); 9] = [
     (b"group 1\nend\n", "script fault at line 1\n"),
     (b"group\ndelete 1\nend 1\nend\n", "script fault at line 3\n"),
     (b"group\nend\nunit\ngroup\n", "script fault at line 3\n"),
+    (b"group\ntake 1\nend\n", "script fault at line 2\n"),
+    (b"group\nsettle 1\nend\n", "script fault at line 2\n"),
+    (b"group\ndrop 1\nend\n", "script fault at line 2\n"),
+    (b"group\nclear\nend\n", "script fault at line 2\n"),
+    (b"group\nwant 1\nend\n", "script fault at line 2\n"),
+    (b"group\nrest on\nend\n", "script fault at line 2\n"),
+    (b"want 1\ngroup\n", "script fault at line 1\n"),
 ];
 
 #[test]

@@ -12,7 +12,7 @@ use std::thread::Threads;
 use unit_json::Json;
 
 /// Lines that are no command.
-const WRONG: [&str; 52] = [
+const WRONG: [&str; 65] = [
     // No word, or one that is no command.
     " ",
     "   ",
@@ -51,8 +51,22 @@ const WRONG: [&str; 52] = [
     "replace x 00",
     "load",
     "load a b",
-    "take 1",
-    "settle 1",
+    "take 1 2",
+    "take x",
+    "settle 1 2",
+    "settle -1",
+    "drop",
+    "drop 1 2",
+    "drop x",
+    "clear 1",
+    // No worker is there to be told.
+    "want",
+    "want 1",
+    "want 1 2",
+    "want x",
+    "rest",
+    "rest on",
+    "rest off",
     "show",
     "show 1 2",
     "show x",

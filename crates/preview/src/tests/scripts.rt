@@ -391,7 +391,7 @@ fn ends_where_the_writer_fails(rt: HostRuntime) -> Result<(), Fail> {
     Ok(())
 }
 
-/// The library by itself: an edit, and then what becomes of the unit.
+/// The library by itself: an edit, and then the unit's outcome.
 #[test]
 fn edits_by_the_library(rt: HostRuntime) -> Result<(), Fail> {
     let mut session = Session::new(rt.alloc(), Config { cache: 64 })?;

@@ -1,6 +1,6 @@
 use Rattle.std.proofs.Common.{ap, option_map, sym, Some, None, ◌∙◌}
 use Rattle.clap.specs.Words.{found_of}
-use Rattle.command_line.specs.CommandLine.{wanted_of}
+use Rattle.command_line.specs.CommandLine.{Wanted, wanted_of}
 use Rattle.command_line.proofs.Matches.{draw-read, no-draw}
 use Rattle.command_line.proofs.parsing.read_draw.Goals as goal
 
@@ -9,5 +9,6 @@ returns-in_err-file c = ap (option_map wanted_of) c.from_residual.ensures ∙ no
 
 pub returns : goal.returns
 returns c =
-    draw-read (found_of c.args.draw.now) _ (Some c.in_ok-from.from) (Some c.in_ok-units.units) c.in_ok-file.ensures
-    (sym c.in_ok-from.ensures) (sym c.in_ok-units.ensures.number)
+    ap (λ (wanted : Wanted). Some wanted) c.drawing.ensures
+    ∙ draw-read (found_of c.args.draw.now) _ _ (Some c.in_ok-from.from) (Some c.in_ok-units.units) c.in_ok-file.ensures
+    c.get_str-2.ensures (sym c.in_ok-from.ensures) (sym c.in_ok-units.ensures.number)

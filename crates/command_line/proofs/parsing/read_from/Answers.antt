@@ -1,17 +1,11 @@
-use Rattle.std.proofs.Common.{arith, codes, ◌∙◌}
-use Rattle.std.specs.Str.Parse.{ParsesUnsigned, ExplainsUnsignedError, HasUnsignedDigitsIfOk}
+use Rattle.std.proofs.Common.{None, ◌∙◌}
 use Rattle.clap.specs.Words.{found_of}
-use Rattle.command_line.specs.Bounds.{most_id}
-use Rattle.command_line.proofs.Matches.{number-none, number-out, number-read}
+use Rattle.command_line.proofs.Matches.{from-none, from-some}
 use Rattle.command_line.proofs.parsing.read_from.Goals as goal
 
-pub returns-in_err-from : goal.returns-in_err-from
-returns-in_err-from c =
-    c.from_residual.ensures ∙ number-none 32 _ (λ bs r. ParsesUnsigned 32 10 bs r × ExplainsUnsignedError 10 bs r × HasUnsignedDigitsIfOk bs r) (λ u x g. g.0)
-    (codes "from") 0 most_id (omega (arith)) (omega (arith)) (found_of c.args.matches.now) c.in_err-from.ensures.value
+pub returns-in_err-read_id-in-Some : goal.returns-in_err-read_id-in-Some
+returns-in_err-read_id-in-Some c =
+    c.from_residual.ensures ∙ from-some (found_of c.args.matches.now) _ c.in-Some.ensures None c.in_err-read_id-in-Some.ensures
 
-pub returns : goal.returns
-returns c =
-    number-read 32 _ (λ bs r. ParsesUnsigned 32 10 bs r × ExplainsUnsignedError 10 bs r × HasUnsignedDigitsIfOk bs r) (λ u x g. g.0)
-    (codes "from") 0 most_id (omega (arith)) (omega (arith)) (found_of c.args.matches.now) c.in_ok-from.from
-    c.in_ok-from.ensures.none c.in_ok-from.ensures.value (omega arith) (omega arith)
+pub returns-in-None : goal.returns-in-None
+returns-in-None c = from-none (found_of c.args.matches.now) c.in-None.ensures

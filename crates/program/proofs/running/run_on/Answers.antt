@@ -10,7 +10,7 @@ returns-in-Err-clause-wrong g c usage =
 pub returns-in-Err-clause-right : goal.returns-in-Err-clause-right
 returns-in-Err-clause-right g c success =
     let done = c.answer.ensures.done success in
-    inr (request-among (faults_of (map g.T.AsStr.text c.args.words.now)) c.in-Err.error c.in-Err.ensures.faults done.0, done.2)
+    inr (request-among (faults_of (map g.T.AsStr.text c.args.words.now)) c.in-Err.error c.in-Err.ensures.faults done.0, done.2, done.1)
 
 pub returns-in-Err-clause-fails : goal.returns-in-Err-clause-fails
 returns-in-Err-clause-fails g c failure =

@@ -78,7 +78,7 @@ typedef struct cupdaisy_receipt {
     uint32_t id;     /* the unit that was inserted, deleted or replaced; ids are 1, 2, 3 and so on, and never given twice */
 } cupdaisy_receipt;
 
-/* What becomes of a unit. What isn't of its kind is 0. */
+/* A unit's outcome. What isn't of its kind is 0. */
 #define CUPDAISY_PLAN 0  /* it is valid */
 #define CUPDAISY_FAULT 1 /* it has a fault, so that it can't be decoded */
 #define CUPDAISY_EMPTY 2 /* it has no slice, so that it has no picture */
@@ -247,7 +247,7 @@ uint32_t cupdaisy_position(cupdaisy_session *session, uint32_t id, size_t *posit
 /* The id of the unit at a position in output order. NO_SUCH_PLACE where no unit has it. */
 uint32_t cupdaisy_unit_at(cupdaisy_session *session, size_t position, uint32_t *id);
 
-/* What becomes of the unit of the id. NO_SUCH_UNIT. */
+/* The outcome of the unit of the id. NO_SUCH_UNIT. */
 uint32_t cupdaisy_outcome_of(cupdaisy_session *session, uint32_t id, cupdaisy_outcome *outcome);
 
 /*

@@ -13,7 +13,7 @@ abbrev pub begins_empty : List ℕ → Bool
 begins_empty (zero ∷ zero ∷ suc zero ∷ bytes) = ends_unit bytes
 begins_empty bytes = false
 
--- no fault stands at the front of the bytes
+-- no fault stands at the start of the bytes
 pub record IsClear (bytes : List ℕ) : Type 0 where
   pub allowed : begins_forbidden_run bytes ≡ false
   pub filled : begins_empty bytes ≡ false

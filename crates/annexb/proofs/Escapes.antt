@@ -63,7 +63,7 @@ escape-payload_of unit h = escape-payload_of_tail unit (IsTail-from_unit unit h)
 pub payload_of-only : (unit payload : List ℕ) → escape payload ≡ unit → payload_of unit ≡ payload
 payload_of-only unit payload e = ap payload_of (sym e) ∙ payload_of-escape payload
 
--- 00 00 03 stands at the front of the bytes
+-- 00 00 03 stands at the start of the bytes
 abbrev pub BeginsEscaped : List ℕ → Type 0
 BeginsEscaped bytes = (rest : List ℕ) × (bytes ≡ 0 ∷ 0 ∷ 3 ∷ rest)
 

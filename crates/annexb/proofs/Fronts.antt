@@ -1,4 +1,4 @@
--- The front of a payload, by the front of its unit.
+-- The front of a payload, by the prefix of its unit.
 use Rattle.std.proofs.Common.{◌⊎◌, ⊎_elim, ◌≡◌, ℕ, zero, suc, ◌+◌, ◌-◌, ◌≤◌, min, List, [], ◌∷◌, ◌++◌, length, take, drop, arith, refl, ap, sym, ◌∙◌, length-append}
 use Rattle.std.proofs.lemmas.List.{append_assoc, take-append-drop, take_all, take_at, length-take-le, drop-drop, drop-take, drop-append-le}
 use Rattle.std.proofs.lemmas.Slice.{take-put_mid, drop-put_mid}
@@ -49,7 +49,7 @@ payload_of-append (zero ∷ suc n ∷ front) bytes =
 payload_of-append (suc n ∷ front) bytes =
     let rest = payload_of-append front bytes in (rest.0, ap (λ l. suc n ∷ l) rest.1)
 
--- what a search in a front of the bytes tells
+-- what a search in a prefix of the bytes tells
 module _ (bytes : List ℕ) (limit : ℕ) where
   abbrev size : ℕ
   size = min (length bytes) limit

@@ -63,7 +63,7 @@ pub(crate) fn unit_at(text: &[u8], at: usize) -> Result<Found<'_>, SplitFault>
     }
 }
 
-/// How far the unit at the front of the bytes reaches, or the place of a forbidden run.
+/// How far the unit at the start of the bytes reaches, or the place of a forbidden run.
 fn unit_extent(bytes: &[u8]) -> Result<Extent, usize>
     ensures ok { IfOk result (λ extent. IsScanned bytes.now extent.len
         × EndsUnit bytes.now extent.len extent.next) }

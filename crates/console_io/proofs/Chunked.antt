@@ -20,7 +20,7 @@ front-all a b bytes appends =
     let all = take_all (length bytes) bytes (omega arith) in
     (length bytes, omega arith, rw all appends)
 
--- a front of what is a front
+-- a prefix of what is a front
 pub front-wider : (a b : Option (List ℕ)) (bytes more : List ℕ) → AppendsFront a b bytes → AppendsFront a b (bytes ++ more)
 front-wider a b bytes more front =
     let same = take-append-le front.0 bytes more front.1 in
@@ -74,7 +74,7 @@ adds-after x y a b c bytes more adds front =
     ∙ (ap (λ l. l ++ more) adds.waits ∙ append_assoc (waiting_of x) bytes more) in
     rw (sym all) after
 
--- where a text isn't printed, the writer has got a front of it
+-- where a text isn't printed, the writer has got a prefix of it
 pub front-of_fault : {T : Type 0} (a b : Option (List ℕ)) (bytes : List ℕ) (fault : PrintFault)
     → (IsErrOf {T = T} (Err fault) Memory → Keeps a b) → (IsErrOf {T = T} (Err fault) Unwritten → AppendsFront a b bytes)
     → AppendsFront a b bytes
@@ -87,7 +87,7 @@ pub adds-all : (x y : Chunks) (a b c : Option (List ℕ)) (bytes : List ℕ) →
 adds-all x y a b c bytes none adds rest =
     rw (sym (adds.waits ∙ ap (λ l. l ++ bytes) none)) (Appends-trans a b c adds.passed (waiting_of y) adds.got rest)
 
--- what waits is passed on, or a front of it
+-- what waits is passed on, or a prefix of it
 pub adds-rest : (x y : Chunks) (a b c : Option (List ℕ)) (bytes : List ℕ) → Adds x a bytes y b
     → AppendsFront b c (waiting_of y) → AppendsFront a c (waiting_of x ++ bytes)
 adds-rest x y a b c bytes adds front = rw (sym adds.waits) (front-after a b c adds.passed (waiting_of y) adds.got front)

@@ -7,12 +7,12 @@ use Rattle.console_io.specs.declared.chunks.Chunks.{Chunks}
 abbrev pub waiting_of : Chunks → List ℕ
 waiting_of chunks = string_bytes chunks.waiting
 
--- the bytes are added to those that waited: a front of all went to the writer, and the rest waits
+-- the bytes are added to those that waited: a prefix of all went to the writer, and the rest waits
 pub record Adds (old : Chunks) (had : Option (List ℕ)) (bytes : List ℕ) (new : Chunks) (has : Option (List ℕ)) : Type 0 where
   pub passed : List ℕ
   pub got : Appends had has passed
   pub waits : passed ++ waiting_of new ≡ waiting_of old ++ bytes
 
--- what a writer has got grows by a front of the bytes
+-- what a writer has got grows by a prefix of the bytes
 abbrev pub AppendsFront : Option (List ℕ) → Option (List ℕ) → List ℕ → Type 0
 AppendsFront old new bytes = (count : ℕ) × (count ≤ length bytes) × Appends old new (take count bytes)

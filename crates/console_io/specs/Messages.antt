@@ -7,7 +7,7 @@ use Rattle.console_io.specs.declared.chunks.PrintFault.TheVariants as print
 use Rattle.console_io.specs.declared.input.InputFault.{InputFault}
 use Rattle.console_io.specs.declared.input.InputFault.TheVariants as input
 
--- what became of a message: all of it was written, or a front of it and then its writer refused
+-- what became of a message: all of it was written, or a prefix of it and then its writer refused
 abbrev pub Tells : {T : Type 0} → Result T PrintFault → Type 0 → Option (List ℕ) → Option (List ℕ) → List ℕ → Type 0
 Tells told refused old new message = MatchResult told (λ _. Appends old new message)
     (λ fault. (fault ≡ print.Unwritten) × refused × AppendsFront old new message)

@@ -46,7 +46,7 @@ impl Chunks {
         }
     }
 
-    /// Adds a text after those before it. Where it's the writer that fails, it has the front of all that waited.
+    /// Adds a text after those before it. Where it's the writer that fails, it has the prefix of all that waited.
     pub fn print<D: Display + Drop, W: Sink>(
         &mut self,
         text: D,
@@ -99,7 +99,7 @@ pub fn write_bytes<W: Sink>(writer: &mut W, bytes: &[u8]) -> Result<(), PrintFau
     Ok(())
 }
 
-/// Writes a front of the bytes, of which there are some, and says how long it is. An interrupted write is made again.
+/// Writes a prefix of the bytes, of which there are some, and says how long it is. An interrupted write is made again.
 fn write_front<W: Sink>(writer: &mut W, bytes: &[u8]) -> Result<usize, PrintFault>
     requires { 0 < length bytes.now }
     ensures some { IfOk result (λ count. (0 < count) × (count ≤ length bytes.now)) }

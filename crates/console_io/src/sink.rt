@@ -14,7 +14,7 @@ pub trait Sink: Write {
     // Its last write failed or took none of the bytes; by default nothing is known of that.
     ghost refuses: { Self → Type 0 } = { λ _. Unit {0} };
 
-    /// Writes a front of the bytes, as `write` does.
+    /// Writes a prefix of the bytes, as `write` does.
     fn write_some(&mut self, bytes: &[u8]) -> io::Result<usize>
         ensures bound { WritesAtMost result bytes.now }
         ensures bytes { WriteAppends (Self.contents self.old) (Self.contents self.new)

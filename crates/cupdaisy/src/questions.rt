@@ -104,7 +104,7 @@ pub extern "C" fn cupdaisy_unit_at(
     status
 }
 
-/// What becomes of the unit of the id.
+/// The outcome of the unit of the id.
 #[unsafe(no_mangle)]
 pub extern "C" fn cupdaisy_outcome_of(
     alloc: Global,

@@ -10,7 +10,7 @@ use Rattle.expgolomb.specs.Bits.{number, bits_of, byte_bits}
 use Rattle.expgolomb.specs.Window.{IsWindow}
 use Rattle.expgolomb.proofs.Numbers.{number-lt, number-append, number-zeros, length-bits_of, bits_of-append}
 
--- the front of a text of bits, and its end
+-- the prefix of a text of bits, and its end
 pub number-div : (xs ys : List Bool) → number (xs ++ ys) / 2 ^ length ys ≡ number xs
 number-div xs ys = rw (number-append xs ys) (div-mul-add (number xs) (2 ^ length ys) (number ys) (number-lt ys))
 
@@ -85,7 +85,7 @@ leading_full k a full h =
     let long = leading_length (suc k) a h in
     omega (arith, long.1, one_length a long.0 (suc k) long.2 (omega (arith, pow-suc 2 k)))
 
--- the zeros at the front of a text of bits
+-- the zeros at the start of a text of bits
 leading-number : (bits : List Bool) → count_leading_zeros (length bits) (number bits) ≡ prefix_len not bits
 leading-number [] = leading_of_zero 0
 leading-number (false ∷ bits) =
@@ -102,7 +102,7 @@ prefix_len-take (suc n) [] = omega arith
 prefix_len-take (suc n) (true ∷ bits) = omega arith
 prefix_len-take (suc n) (false ∷ bits) = omega (arith, prefix_len-take n bits)
 
--- The zeros at the front of a window are those of the bits after it, or the bits end before them.
+-- The zeros at the start of a window are those of the bits after it, or the bits end before them.
 pub zeros_of_window : (rest : List Bool) (word : ℕ) → IsWindow rest word → min 57 (count_leading_zeros 64 word) ≡ min 57 (prefix_len not (rest ++ replicate 64 false))
 zeros_of_window rest word w =
     let zeros : count_leading_zeros 64 word ≡ prefix_len not w.bits =

@@ -8,7 +8,7 @@ use outcomes::Outcome;
 use std::marker::Model;
 use std::ops::Deref;
 
-/// What becomes of a unit, with the digest of its slices' bytes. Clauses see the outcome.
+/// A unit's outcome, with the digest of its slices' bytes. Clauses see the outcome.
 #[derive(Debug)]
 pub struct HashedOutcome {
     outcome: Outcome,

@@ -1,4 +1,4 @@
-//! A stream under changes in output order: what becomes of each unit, and its place among the pictures that are shown.
+//! A stream under changes in output order: each unit's outcome, and its place among the pictures that are shown.
 //!
 //! `OrderedFold` joins a `Folded` of stream_fold with the `Periods` of period_counts that its outcomes make. A change is
 //! prepared, which may run out of memory and leaves all answers as they were, and then committed, which takes none. The positions

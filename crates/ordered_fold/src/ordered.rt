@@ -1,4 +1,4 @@
-//! A stream with what becomes of each unit, and where it is shown.
+//! A stream with each unit's outcome, and where it is shown.
 
 ghost use Rattle.std.specs.Prelude.{◌≡◌, ℕ, ◌+◌, ◌^◌, ◌<◌, ◌≤◌, [], length, slice_get, Some, IfOk, IfNone, IfSome};
 ghost use Rattle.request_core.specs.Fold.{outcomes_of};
@@ -22,7 +22,7 @@ use std::alloc::{AllocError, Global};
 use std::marker::Model;
 use stream_fold::{Change, Folded};
 
-/// A stream of access units under their ids, with what becomes of each and its position in output order.
+/// A stream of access units under their ids, with the outcome of each and its position in output order.
 #[derive(Debug)]
 pub struct OrderedFold {
     folded: Folded,
@@ -67,7 +67,7 @@ impl OrderedFold {
         self.folded.units()
     }
 
-    /// What becomes of each unit, in the same order.
+    /// Each unit's outcome, in the same order.
     pub fn outcomes(&self) -> &[Shared<HashedOutcome>]
         ensures { result.now ≡ outcomes_of self.now.folded.stream }
     {

@@ -1,4 +1,4 @@
-//! What becomes of a unit.
+//! A unit's outcome.
 
 ghost use Rattle.std.specs.Prelude.{◌≡◌, IfOk};
 

@@ -11,7 +11,7 @@ abbrev pub numbered_from : ℕ → List (List (List ℕ)) → List (ℕ × List 
 numbered_from id [] = []
 numbered_from id (unit ∷ units) = (id, unit) ∷ numbered_from (id + 1) units
 
--- the lines of units with ids from this one on, by what becomes of each and its position
+-- the lines of units with ids from this one on, by the outcome of each and its position
 abbrev pub json_lines : ℕ → List Outcome → List (Option ℕ) → List JsonLine
 json_lines id [] positions = []
 json_lines id (outcome ∷ outcomes) [] = []

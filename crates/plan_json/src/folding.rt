@@ -11,7 +11,7 @@ use pictures::AuId;
 use request_core::{State, Steps, step};
 use std::alloc::{AllocError, Global};
 
-/// What becomes of each unit of a stream, whose ids are 1, 2, 3 and so on.
+/// Each unit's outcome of a stream, whose ids are 1, 2, 3 and so on.
 pub(crate) fn fold(alloc: Global, units: &[Unit]) -> Result<Vec<Outcome>, AllocError>
     requires { length units.now ≤ most_units }
     ensures { IfOk result (λ outcomes. outcomes.items ≡ outcomes_of (numbered_from 1 units.now)) }

@@ -31,7 +31,7 @@ pub(crate) fn print_stream<J: Encoder, W: Sink>(
     print_units(alloc, encoder, &outcomes, &positions, writer)
 }
 
-/// Prints the line of each unit by what becomes of it, with ids from 1 on.
+/// Prints the line of each unit by its outcome, with ids from 1 on.
 fn print_units<J: Encoder, W: Sink>(
     alloc: Global,
     encoder: &J,

@@ -55,7 +55,7 @@ pub no_kept : (id : ℕ) (outcomes : List Outcome) (positions : List (Option ℕ
     → kept_text id (drop at outcomes) positions tails ≡ []
 no_kept id outcomes positions tails at past = rw (drop_all at outcomes past) refl
 
--- a front of all was added, and this is left
+-- a prefix of all was added, and this is left
 pub record IsPrinted (x y : Chunks) (a b : Option (List ℕ)) (all rest : List ℕ) : Type 0 where
   pub text : List ℕ
   pub adds : Adds x a text y b
@@ -70,7 +70,7 @@ printed-more x y z a b c all rest more later printed is adds = record {
   whole = append_assoc printed.text more later ∙ ap (λ l. printed.text ++ l) (sym is) ∙ printed.whole;
 }
 
--- where a text isn't added whole, a front of all was written
+-- where a text isn't added whole, a prefix of all was written
 pub printed-front : (x y : Chunks) (a b c : Option (List ℕ)) (all rest more later : List ℕ) → IsPrinted x y a b all rest
     → rest ≡ more ++ later → AppendsFront b c (waiting_of y ++ more) → AppendsFront a c (waiting_of x ++ all)
 printed-front x y a b c all rest more later printed is front =

@@ -23,14 +23,14 @@ planned text folded is = record { parts = is.parts; stream = is.stream; bounded 
 pub refused : (text : List ℕ) (refusal : Refusal) → IsStreamRefused text most_units refusal → IsRefused text (refusal_text refusal)
 refused text refusal is = record { refusal = refusal; refused = is; lines_are = refl }
 
--- a front of the lines of its units, where they aren't printed whole
+-- a prefix of the lines of its units, where they aren't printed whole
 pub ends-print : {T : Type 0} (text lines : List ℕ) (old new : Option (List ℕ)) (refuses : Type 0) (fault : PrintFault)
     → IsPlanned text lines → AppendsFront old new lines → (IsErrOf {T = T} (Err fault) print.Unwritten → refuses)
     → EndsBy text (fault_of_print fault) refuses old new
 ends-print text lines old new refuses print.Memory is front told = inr (lines, is, front)
 ends-print text lines old new refuses print.Unwritten is front told = (told refl, inr (lines, inl is, front))
 
--- nothing of the line of its refusal where memory runs out, or a front of it
+-- nothing of the line of its refusal where memory runs out, or a prefix of it
 pub ends-refusal : {T : Type 0} (text lines : List ℕ) (old new : Option (List ℕ)) (refuses : Type 0) (fault : PrintFault)
     → IsRefused text lines → AppendsFront old new lines → (IsErrOf {T = T} (Err fault) print.Unwritten → refuses)
     → (IsErrOf {T = T} (Err fault) print.Memory → Keeps old new) → EndsBy text (fault_of_print fault) refuses old new

@@ -27,13 +27,13 @@ pub record IsRefused (text : List ℕ) (lines : List ℕ) : Type 0 where
 abbrev pub WritesPlan : List ℕ → Option (List ℕ) → Option (List ℕ) → Type 0
 WritesPlan text old new = (lines : List ℕ) × IsPlanned text lines × Appends old new lines
 
--- nothing was written, or a front of the lines of the text's units, or of the line of its refusal
+-- nothing was written, or a prefix of the lines of the text's units, or of the line of its refusal
 abbrev pub WritesFront : List ℕ → Option (List ℕ) → Option (List ℕ) → Type 0
 WritesFront text old new =
     Keeps old new ⊎ ((lines : List ℕ) × (IsPlanned text lines ⊎ IsRefused text lines) × AppendsFront old new lines)
 
 -- what was written of a text whose plan ended by this fault: nothing where it wasn't read, the whole line of its
--- refusal, nothing or a front of its units' lines where memory runs out, or any front where the writer refused
+-- refusal, nothing or a prefix of its units' lines where memory runs out, or any prefix where the writer refused
 abbrev pub EndsBy : List ℕ → PlanFault → Type 0 → Option (List ℕ) → Option (List ℕ) → Type 0
 EndsBy text Unread refused old new = Keeps old new
 EndsBy text (Refused refusal) refused old new =

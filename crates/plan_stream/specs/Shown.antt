@@ -1,9 +1,9 @@
--- What is kept of what becomes of a unit.
+-- What is kept of a unit's outcome.
 use Rattle.std.specs.Prelude.{[]}
 use Rattle.outcomes.specs.declared.outcome.Outcome.{Outcome}
 use Rattle.outcomes.specs.declared.outcome.Outcome.TheVariants as outcomes
 
--- what becomes of a unit, without its requests
+-- a unit's outcome, without its requests
 abbrev pub shown_of : Outcome → Outcome
 shown_of (outcomes.Plan plan) = outcomes.Plan (record plan { requests = [] })
 shown_of (outcomes.Fault fault) = outcomes.Fault fault

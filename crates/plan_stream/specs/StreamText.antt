@@ -5,7 +5,7 @@ use Rattle.output_order.specs.OutputOrder.{positions_of}
 use Rattle.request_core.specs.Fold.{outcomes_of}
 use Rattle.unit_lines.specs.UnitLines.{outcome_lines}
 
--- the lines of units, by what becomes of each and its position
+-- the lines of units, by the outcome of each and its position
 abbrev pub units_text : List (ℕ × List (List ℕ)) → List Outcome → List (Option ℕ) → List ℕ
 units_text (unit ∷ units) (outcome ∷ outcomes) (position ∷ positions) =
     outcome_lines unit.0 position outcome ++ units_text units outcomes positions

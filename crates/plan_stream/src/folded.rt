@@ -16,7 +16,7 @@ use unit_lines::UnitTail;
 #[derive(Drop)]
 pub(crate) struct Folded {
     pub(crate) state: State,
-    /// What becomes of each unit, without its requests.
+    /// Each unit's outcome, without its requests.
     pub(crate) outcomes: Vec<Outcome>,
     /// The lines of each unit after its position.
     pub(crate) tails: Vec<String>,

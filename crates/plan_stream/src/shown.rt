@@ -1,4 +1,4 @@
-//! What is kept of what becomes of a unit.
+//! What is kept of a unit's outcome.
 
 ghost use Rattle.std.specs.Prelude.{◌≡◌};
 ghost use Rattle.plan_stream.specs.Shown.{shown_of};
@@ -6,7 +6,7 @@ ghost use Rattle.plan_stream.specs.Shown.{shown_of};
 use outcomes::{Outcome, Plan, Requests};
 use std::alloc::Global;
 
-/// What becomes of the unit, without its requests.
+/// The unit's outcome, without its requests.
 pub fn shown_of(alloc: Global, outcome: &Outcome) -> Outcome
     ensures { result ≡ shown_of outcome.now }
 {

@@ -4,7 +4,7 @@ use Rattle.ref_marking.specs.declared.fault.MarkFault.{MarkFault}
 use Rattle.pictures.specs.declared.frames.Frame.{Frame}
 use Rattle.pictures.specs.MarkedFrames.{Marked}
 
--- a relation between a set and what becomes of it
+-- a relation between a set before and after
 abbrev pub Step : Type 1
 Step = Marked → Result Marked MarkFault → Type 0
 

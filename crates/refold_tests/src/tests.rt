@@ -237,7 +237,7 @@ fn a_position_takes_few_comparisons(rt: HostRuntime) -> Result<(), Fail> {
     Ok(())
 }
 
-/// Whether a deletion that is refused for lack of memory leaves the stream and what becomes of its units as they were, and
+/// Whether a deletion that is refused for lack of memory leaves the stream and the outcomes of its units as they were, and
 /// one that isn't leaves the picture behind it without the one before.
 fn holds_where_refused(rt: &(impl Abort + AllocGlobal)) -> Result<bool, AllocError> {
     let mut folded = Folded::new(rt.alloc())?;

@@ -114,7 +114,7 @@ abbrev pub outcome_of : FoldState → Result (FoldState × Outcome) ValidityFaul
 outcome_of state (Ok planned) = planned
 outcome_of state (Err fault) = (state, outcomes.Fault fault)
 
--- one step: the state after a unit, and what becomes of the unit
+-- one step: the state after a unit, and the unit's outcome
 unfoldable pub fold_step : FoldState → ℕ → List (List ℕ) → FoldState × Outcome
 fold_step state id unit = outcome_of (with_sets state unit) (planned (with_sets state unit) id unit)
 

@@ -11,7 +11,7 @@ use outcomes::Outcome;
 use pictures::AuId;
 use std::alloc::{AllocError, Global};
 
-/// What becomes of each unit of a stream, in order: the plain fold that other ways are compared with.
+/// Each unit's outcome of a stream, in order: the plain fold that other ways are compared with.
 ///
 /// The units stand with their ids, which differ.
 pub fn scratch(alloc: Global, units: &[(AuId, Unit)]) -> Result<Vec<Outcome>, AllocError>

@@ -26,7 +26,7 @@ use set_types::Sps;
 use std::alloc::{AllocError, Global};
 use unit_slices::{Slice, Stop, read_slices, slice_fault, tables_with};
 
-/// One step of the fold: the state after the unit, and what becomes of the unit.
+/// One step of the fold: the state after the unit, and the unit's outcome.
 ///
 /// It counts one step where it answers. Where memory runs out nothing is changed, and nothing counted.
 pub fn step(
@@ -46,7 +46,7 @@ pub fn step(
     Ok(answer)
 }
 
-/// The state after the unit, and what becomes of the unit.
+/// The state after the unit, and the unit's outcome.
 #[tactic(auto, unfolding(crate::specs::Fold::fold_step))]
 fn answer_of(
     alloc: Global,
@@ -61,7 +61,7 @@ fn answer_of(
     answer(state, planned)
 }
 
-/// What becomes of the unit, by what the state leads to in which its sets are put.
+/// The unit's outcome, by what the state leads to in which its sets are put.
 fn answer(
     state: State,
     planned: Result<(State, Outcome), Stop>,

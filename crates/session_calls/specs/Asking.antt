@@ -40,7 +40,7 @@ without_plan kind fault = record {
   slices = 0;
 }
 
--- what becomes of a unit, as it is told: of a fault its number, of a plan its counts and how many slices there are
+-- a unit's outcome, as it is told: of a fault its number, of a plan its counts and how many slices there are
 abbrev pub told_outcome : Outcome → UnitOutcome
 told_outcome (outcomes.Plan plan) = record {
   kind = 0;
@@ -54,6 +54,6 @@ told_outcome (outcomes.Plan plan) = record {
 told_outcome (outcomes.Fault fault) = without_plan 1 (number_of fault)
 told_outcome outcomes.Empty = without_plan 2 0
 
--- what becomes of the unit of the id
+-- the outcome of the unit of the id
 abbrev pub outcome_told : Stream → ℕ → Result UnitOutcome ℕ
 outcome_told stream id = found_or no_such_unit (option_map told_outcome (outcome_in stream id))

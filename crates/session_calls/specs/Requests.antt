@@ -20,7 +20,7 @@ use Rattle.session_calls.specs.Filling.{Fills}
 use Rattle.session_calls.specs.Statuses.{no_such_job, no_such_slice, no_such_unit, no_weights, not_valid}
 use Rattle.session_calls.specs.Telling.{flag, found_or}
 
--- the request of a slice of what becomes of a unit
+-- the request of a slice of a unit's outcome
 abbrev pub request_in : Option Outcome → ℕ → Result Request ℕ
 request_in (Some (outcomes.Plan plan)) slice = found_or no_such_slice (slice_get plan.requests slice)
 request_in (Some (outcomes.Fault fault)) slice = Err not_valid

@@ -18,7 +18,7 @@ pub const KIND_FAULT: u32 = 1;
 /// The kind of a unit without a slice, which has no picture.
 pub const KIND_EMPTY: u32 = 2;
 
-/// What becomes of a unit: a plan, a fault, or that it has no picture. What isn't of its kind is 0.
+/// A unit's outcome: a plan, a fault, or that it has no picture. What isn't of its kind is 0.
 #[repr(C)]
 #[derive(Clone, Copy, Debug, PartialEq, Eq)]
 pub struct UnitOutcome {
@@ -76,7 +76,7 @@ pub fn position(session: &Session, id: u32, position: &mut usize) -> u32
     }
 }
 
-/// What becomes of the unit of the id.
+/// The outcome of the unit of the id.
 pub fn outcome(session: &Session, id: u32, outcome: &mut UnitOutcome) -> u32
     ensures { Tells (outcome_told session.now.register.stream id) result outcome.old outcome.new }
 {
@@ -86,7 +86,7 @@ pub fn outcome(session: &Session, id: u32, outcome: &mut UnitOutcome) -> u32
     }
 }
 
-/// What becomes of a unit, as it is told.
+/// A unit's outcome, as it is told.
 fn told_outcome(outcome: &Outcome) -> UnitOutcome
     ensures { result ≡ told_outcome outcome.now }
 {

@@ -202,7 +202,7 @@ fn told_at(index: usize) -> GroupTold
     }
 }
 
-/// Writes the ids at the front of those that are there.
+/// Writes the ids at the start of those that are there.
 fn fill_ids(from: &[AuId], ids: &mut [u32])
     requires { length from.now ≤ length ids.old }
     ensures { ids.new ≡ filled from.now ids.old }

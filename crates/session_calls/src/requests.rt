@@ -165,7 +165,7 @@ fn request_of_unit(session: &Session, id: u32, slice: usize) -> Result<&Request,
     }
 }
 
-/// The request of a slice of what becomes of a unit.
+/// The request of a slice of a unit's outcome.
 fn request_in(outcome: &Outcome, slice: usize) -> Result<&Request, u32>
     ensures { MatchResult result
         (λ request. request_in (Some outcome.now) slice ≡ Ok request.now)

@@ -74,7 +74,7 @@ fn is_answer(answer: Result<Receipt, EditRefused>, wanted: Answer) -> bool {
     }
 }
 
-/// What becomes of a unit, as a row has it.
+/// A unit's outcome, as a row has it.
 #[derive(Clone, Copy)]
 enum Shown {
     Gone,
@@ -95,7 +95,7 @@ fn shows(session: &Session, id: u32, shown: Shown) -> bool {
     }
 }
 
-/// An edit with what it is answered, or a unit with what becomes of it.
+/// An edit with what it is answered, or a unit with its outcome.
 #[derive(Clone, Copy)]
 enum Step {
     Edit(Told, Answer),

@@ -1,4 +1,4 @@
--- Headers: from a front of a unit they are those of the whole, and what is read is what the unit has.
+-- Headers: from a prefix of a unit they are those of the whole, and what is read is what the unit has.
 use Rattle.std.proofs.Common.{◌≡◌, ℕ, ◌+◌, ◌≤◌, Bool, true, false, List, [], length, take, drop, Result, Ok, Err, refl, sym, ◌∙◌, ap, subst, arith, inl, inr, ◌⊎◌, IfOk, IfErr}
 use Rattle.std.specs.List.{AllByRecursion}
 use Rattle.std.proofs.lemmas.Bool.{cases_lt}

@@ -1,7 +1,7 @@
 //! The work on a slice: its record is added to the digest of its frame.
 //!
 //! The front of a record is what the parameter sets decide. What a hasher holds goes on from all that was fed before, so
-//! only the front of a frame's first record is the front of a message: while the sets stay the same its hasher is copied.
+//! only the prefix of a frame's first record is the prefix of a message: while the sets stay the same its hasher is copied.
 //! For the other records its bytes are.
 
 ghost use Rattle.std.specs.Prelude.{◌≡◌, ◌++◌, ℕ, List, [], IfOk, OnOk};

@@ -2,7 +2,7 @@
 use Rattle.std.specs.Prelude.{◌≡◌, ℕ, ◌+◌, ◌-◌, ◌≤◌, length, take, drop}
 use Rattle.stream_edits.specs.Streams.{Stream}
 
--- so many units at the front of both are the same
+-- so many units at the start of both are the same
 pub record IsFront (old new : Stream) (count : ℕ) : Type 0 where
   pub in_old : count ≤ length old
   pub in_new : count ≤ length new

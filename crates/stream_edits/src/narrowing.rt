@@ -7,7 +7,7 @@ use base_types::Shared;
 use hashed_units::HashedUnit;
 use pictures::AuId;
 
-/// How many units at the front of both are the same, where so many are known to be.
+/// How many units at the start of both are the same, where so many are known to be.
 pub(crate) fn common_front(
     old: &[(AuId, Shared<HashedUnit>)],
     new: &[(AuId, Shared<HashedUnit>)],

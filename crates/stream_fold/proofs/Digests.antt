@@ -154,7 +154,7 @@ digest_of bytes (outcomes.Plan plan) digest has is = is ∙ ap slices_digest (sy
 digest_of bytes (outcomes.Fault fault) digest has is = tt
 digest_of bytes outcomes.Empty digest has is = tt
 
--- the digest of a unit's slices is that of what becomes of it
+-- the digest of a unit's slices is that of its outcome
 pub step_digest : (state : FoldState) (id : ℕ) (unit : List (List ℕ)) (digest : List ℕ) → digest ≡ unit_digest unit
     → IsDigestOf (fold_step state id unit).1 digest
 unfolding fold_step

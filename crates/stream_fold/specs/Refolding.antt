@@ -35,7 +35,7 @@ abbrev pub AreApart : ℕ → List ℕ → ℕ → Type 0
 AreApart from [] end = from ≤ end
 AreApart from (place ∷ places) end = (from + spacing ≤ place) × AreApart place places end
 
--- it has come past the front of a stream
+-- it has come past the prefix of a stream
 pub record IsRefolded (front : Stream) (fold : Refold) : Type 0 where
   pub place_is : fold.place ≡ length front
   pub state_is : fold.state ≡ state_from no_units front

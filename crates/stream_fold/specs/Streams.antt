@@ -1,4 +1,4 @@
--- The fold over a front of a stream.
+-- The fold over a prefix of a stream.
 use Rattle.std.specs.Prelude.{ℕ, take}
 use Rattle.request_core.specs.States.{FoldState, no_units}
 use Rattle.request_core.specs.Agreement.{Stream, state_from}

@@ -1,4 +1,4 @@
-//! A stream with what becomes of each unit.
+//! A stream with each unit's outcome.
 
 ghost use Rattle.std.specs.Prelude.{◌≡◌, ◌↔◌, ◌+◌, ◌-◌, ◌^◌, ◌<◌, ◌≤◌, [], ◌∷◌, take, drop, length, ℕ, IfOk, IsTrue, OnOk};
 ghost use Rattle.request_core.specs.Fold.{outcomes_of};
@@ -20,7 +20,7 @@ use std::marker::Model;
 use stream_edits::Change;
 use vec_ranges::replace_range;
 
-/// A stream of access units under their ids, with what becomes of each, and the states of the fold past some of its places.
+/// A stream of access units under their ids, with the outcome of each, and the states of the fold past some of its places.
 #[derive(Debug)]
 pub struct Folded {
     units: Vec<(AuId, Shared<HashedUnit>)>,
@@ -53,7 +53,7 @@ impl Model for Folded {
     ghost invariant = { λ f. IsFolded f.units.items f.outcomes.items f.stored.states f.end };
 }
 
-/// A change that is prepared: what becomes of the units of one stretch, made anew. That of all others stays.
+/// A change that is prepared: the outcomes of the units of one stretch, made anew. That of all others stays.
 #[derive(Debug, Drop)]
 pub struct Prepared {
     change: Change,
@@ -94,7 +94,7 @@ impl Prepared {
         self.met.unwrap_or(folded.units().len())
     }
 
-    /// What becomes of the units of the stretch after the change.
+    /// The outcomes of the units of the stretch after the change.
     pub fn outcomes(&self) -> &[Shared<HashedOutcome>]
         ensures { result.now ≡ outcomes_in self.now }
     {
@@ -125,7 +125,7 @@ impl Folded {
         self.units.as_slice()
     }
 
-    /// What becomes of each unit, in the same order.
+    /// Each unit's outcome, in the same order.
     pub fn outcomes(&self) -> &[Shared<HashedOutcome>]
         ensures { result.now ≡ outcomes_of self.now.stream }
     {

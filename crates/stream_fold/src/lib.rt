@@ -1,4 +1,4 @@
-//! A stream under changes, with what becomes of each unit, refolded from stored states.
+//! A stream under changes, with each unit's outcome, refolded from stored states.
 //!
 //! `Folded` keeps the units of a stream, what the fold over it makes of each, and the states past some of its places. A
 //! change of one stretch is prepared, which may run out of memory and leaves all answers as they were, and then committed, which

@@ -27,7 +27,7 @@ pub(crate) struct Refold {
     pub(crate) state: State,
     /// The states to be stored, with their places.
     pub(crate) states: Vec<(usize, State)>,
-    /// What becomes of the units from where it began.
+    /// The outcomes of the units from where it began.
     pub(crate) outcomes: Vec<Shared<HashedOutcome>>,
     pub(crate) steps: Steps,
     ghost near: { since ≤ 32 },

@@ -12,7 +12,7 @@ use Rattle.stream_laws.specs.Agreement.{becoming, marked_keys, marked_keys_of, A
 use Rattle.stream_laws.proofs.AlikeKeys.{AreAlike, alike_from_keys, keys_from_alike}
 use Rattle.stream_laws.proofs.AlikeSteps.{step_stays}
 
--- the ids of the units after a state, with what becomes of each
+-- the ids of the units after a state, with the outcome of each
 abbrev pub becoming_from : FoldState → Stream → List (ℕ × Outcome)
 becoming_from state units = zip (map (λ unit. unit.0) units) (outcomes_from state units)
 

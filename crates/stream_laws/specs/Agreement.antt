@@ -8,7 +8,7 @@ use Rattle.request_core.specs.Agreement.{Stream, state_from}
 use Rattle.picture_keys.specs.Keys.{Key}
 use Rattle.picture_keys.specs.Known.{Known, key_at, known_after, keys_of}
 
--- the ids of a stream's units, each with what becomes of the unit
+-- the ids of a stream's units, each with the unit's outcome
 abbrev pub becoming : Stream → List (ℕ × Outcome)
 becoming stream = zip (map (λ unit. unit.0) stream) (outcomes_of stream)
 

@@ -32,7 +32,7 @@ some_part part more units cut = first_filled (rw cut at (IsCut-cut_from units)).
     first_filled : AreAccessUnits (part ∷ cut_from [] more) → 0 < length part
     first_filled h = h.0
 
--- the front of units, with zeros before them
+-- the prefix of units, with zeros before them
 cut_off : (left front rest : List ℕ) (units : List (List ℕ)) → HasRest left units → IsFront left front rest → IsCutOff left front rest units
 cut_off left front rest units has is = of_units units has.rest_is
   where

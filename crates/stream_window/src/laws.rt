@@ -6,7 +6,7 @@ ghost use Rattle.access_unit.specs.Streams.{HasAccessUnits};
 ghost use Rattle.stream_window.specs.Fronts.{IsFront};
 ghost use Rattle.stream_window.specs.Readings.{IsReadTo};
 
-/// The access units of a text are the NAL units of its fronts, one after the other; where the front of what is left has
+/// The access units of a text are the NAL units of its fronts, one after the other; where the prefix of what is left has
 /// none, the text has none.
 pub fn fronts()
     ensures none { (text : List ℕ) → IsReadTo text [] text }

@@ -101,7 +101,7 @@ impl Window {
         self.fill(reader)
     }
 
-    /// Moves what is held to the front of the buffer, where nothing is shown.
+    /// Moves what is held to the start of the buffer, where nothing is shown.
     fn move_to_front(&mut self)
         requires { self.old.start ≡ self.old.cut }
         ensures none { self.new.start ≡ self.new.cut }

@@ -25,7 +25,7 @@ plan_json id position plan = record {
   requests = map request_json plan.requests;
 }
 
--- the line of what becomes of a unit
+-- the line of a unit's outcome
 abbrev pub unit_line : ℕ → Option ℕ → Outcome → JsonLine
 unit_line id position (outcomes.Plan plan) = Plan (plan_json id (unwrap_or position 0) plan)
 unit_line id position (outcomes.Fault fault) = Fault id fault

@@ -63,7 +63,7 @@ pub struct CountsJson {
 }
 
 impl JsonLine {
-    /// The line of a unit, by what becomes of it and its place in output order, which each plan has.
+    /// The line of a unit, by its outcome and its place in output order, which each plan has.
     pub fn of_unit(
         alloc: Global,
         id: AuId,

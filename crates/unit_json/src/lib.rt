@@ -1,4 +1,4 @@
-//! What becomes of a unit as a JSON object (docs/OUTPUT.md).
+//! A unit's outcome as a JSON object (docs/OUTPUT.md).
 //!
 //! A `JsonLine` is made of what the fold says of a unit, of a unit that isn't there, or of a stream's refusal, and has just the
 //! members that are printed; the six controls of a request are the kernel's structs of linux_layouts. `serde` and

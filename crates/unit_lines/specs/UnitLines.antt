@@ -28,7 +28,7 @@ empty_text id = codes "unit " ++ (decimal id ++ codes " no picture\n")
 abbrev pub empty_line : EmptyLine → List ℕ
 empty_line line = empty_text line.id
 
--- the lines of what becomes of a unit up to its position, which a plan has; nothing where it has none
+-- the lines of a unit's outcome up to its position, which a plan has; nothing where it has none
 abbrev pub outcome_head : ℕ → Option ℕ → Outcome → List ℕ
 outcome_head id position (Plan plan) = plan_head id (unwrap_or position 0)
 outcome_head id position (Fault fault) = []
@@ -40,7 +40,7 @@ outcome_tail id (Plan plan) = plan_tail id plan
 outcome_tail id (Fault fault) = fault_text id fault
 outcome_tail id Empty = empty_text id
 
--- the lines of what becomes of a unit
+-- the lines of a unit's outcome
 abbrev pub outcome_lines : ℕ → Option ℕ → Outcome → List ℕ
 outcome_lines id position outcome = outcome_head id position outcome ++ outcome_tail id outcome
 

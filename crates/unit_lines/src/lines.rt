@@ -11,7 +11,7 @@ use pictures::{AuId, Counts};
 use std::fmt;
 use std::fmt::{Display, Formatter, Write};
 
-/// The lines of a unit: what becomes of it.
+/// The lines of a unit: its outcome.
 #[derive(Drop)]
 pub struct UnitLines<'a> {
     pub id: AuId,

@@ -43,7 +43,7 @@ abbrev pub with_pps : ParameterSets → List ℕ → Option Pps → Result Slice
 with_pps tables nal None = Err faults.MissingPps
 with_pps tables nal (Some pps) = with_sps nal pps (sps_under tables pps.seq_parameter_set_id)
 
--- the slice by the front of its header
+-- the slice by the prefix of its header
 abbrev pub with_front : ParameterSets → List ℕ → Result HeaderFront HeaderFault → Result SliceRead ValidityFault
 with_front tables nal (Ok front) = with_pps tables nal (pps_under tables front.pic_parameter_set_id)
 with_front tables nal (Err fault) = Err (header_fault fault)

@@ -92,7 +92,7 @@ fn settles(alloc: Global, session: &mut Session) -> Result<bool, Fail> {
     Ok(false)
 }
 
-/// What becomes of a unit whose jobs are done is shown: its picture, its fault, or that it has none.
+/// A unit's outcome whose jobs are done is shown: its picture, its fault, or that it has none.
 fn is_shown(outcome: &Outcome, shown: Shown) -> bool {
     match (outcome, shown) {
         (Outcome::Plan(_), Shown::Ready(_)) => true,

@@ -57,7 +57,7 @@ fn stream(
     Ok(stream)
 }
 
-/// What becomes of the units of these texts.
+/// The outcomes of the units of these texts.
 fn outcomes_of(
     rt: &(impl Abort + AllocGlobal),
     texts: &[&[u8]],
@@ -201,7 +201,7 @@ const OTHER_SPS: &[u8] = &[0, 0, 1, 0x67, 0x42, 0x00, 0x0A, 0xDB, 0x79];
 /// Sets alone among pictures: P1 names the set that was sent last, and refers to A, whose set is the active one.
 const SETS_ALONE: [&[u8]; 5] = [&A, OTHER_SPS, &P1, SPS, &P1];
 
-/// What becomes of these units: the second and the fourth have no picture.
+/// The outcomes of these units: the second and the fourth have no picture.
 const AFTER_SETS: [Option<ValidityFault>; 5] = [
     None,
     None,

@@ -79,7 +79,7 @@ fn has_new_key(
     Ok(same == key && keys.len() == before.saturating_add(1))
 }
 
-/// What becomes of the unit is valid with a new key, or that it has no picture.
+/// The unit's outcome is valid with a new key, or that it has no picture.
 fn is_valid_or_empty(
     alloc: Global,
     keys: &mut Keys<Works, Sha256Fingerprint>,

@@ -1,4 +1,4 @@
-//! Streams, with what is read of them and what becomes of their units, as the standard has it and a hand worked it out.
+//! Streams, with what is read of them and the outcomes of their units, as the standard has it and a hand worked it out.
 //! The pictures are hashes that tools/model-script prints, which has nothing of the program.
 
 use edit_engine::Picture;

@@ -1,4 +1,4 @@
-//! Edits of a session, and what becomes of its units.
+//! Edits of a session, and the outcomes of its units.
 
 use super::{A, I, P1, P2, Shown, Step, empty_session, holds, row_holds};
 use Shown::{At, Empty, Fault, Gone};

@@ -19,7 +19,7 @@ enum Whose {
     Other,
 }
 
-/// What is brought under a number, and what becomes of it.
+/// What is brought under a number, and its outcome.
 #[derive(Clone, Copy)]
 enum Brought {
     /// A result that lands.

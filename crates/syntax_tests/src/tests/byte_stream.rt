@@ -136,7 +136,7 @@ const PAYLOADS: [(&[u8], &[u8]); 5] = [
     (&[0, 0, 1, 3], &[3]),
 ];
 
-/// The front of the payload, for a front of four bytes and of none.
+/// The front of the payload, for a prefix of four bytes and of none.
 fn has_front(nal: &Nal<'_>, payload: &[u8]) -> bool {
     let mut front = [7; 4];
     let count = payload_front(nal, &mut front);

@@ -19,7 +19,7 @@ use std::process::Abort;
 use std::test::Fail;
 use test_builders::{small_pps, small_sps};
 
-/// A text of one unit, the front of its header and its slice type.
+/// A text of one unit, the prefix of its header and its slice type.
 type Front = (
     &'static [u8],
     Result<(u32, SliceType, u8), HeaderFault>,

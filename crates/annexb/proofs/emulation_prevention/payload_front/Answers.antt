@@ -1,4 +1,4 @@
--- Piece by piece the front of the payload is written, and what stands after it stays.
+-- Piece by piece the prefix of the payload is written, and what stands after it stays.
 use Rattle.std.proofs.Common.{◌+◌, ◌-◌, ◌++◌, length, take, ⊎_elim, inl, inr, append_assoc, ap, sym, ◌∙◌, arith}
 use Rattle.annexb.specs.EmulationPrevention.{payload_of}
 use Rattle.annexb.proofs.Fronts.{front_more, front_whole, front_kept}

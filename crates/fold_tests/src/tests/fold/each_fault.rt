@@ -80,7 +80,7 @@ pub(super) fn written(rt: &(impl Abort + AllocGlobal), nals: &[Nal]) -> Result<U
     Ok(unit(rt, writer.text())?)
 }
 
-/// What becomes of the units under the ids 1, 2 and so on.
+/// The outcomes of the units under the ids 1, 2 and so on.
 pub(super) fn outcomes(
     rt: &(impl Abort + AllocGlobal),
     units: &[&[Nal]],

@@ -6,7 +6,7 @@ use Rattle.hashed_units.specs.Digests.{IsDigestOf}
 use Rattle.stream_fold.proofs.Digests.{step_digest}
 use Rattle.stream_fold.proofs.hashed_step.hashed_step.Goals as goal
 
--- the digest of the unit's slices is that of what becomes of it
+-- the digest of the unit's slices is that of its outcome
 pub new-requires : goal.new-requires
 new-requires c =
     let same : c.in_ok-state.outcome ≡ (fold_step c.args.state.now c.args.id c.args.unit.now).1 =

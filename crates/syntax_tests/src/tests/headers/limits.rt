@@ -1,4 +1,4 @@
-//! Headers about as long as the front of 64 bytes that is read first, and as many commands and operations as there can
+//! Headers about as long as the prefix of 64 bytes that is read first, and as many commands and operations as there can
 //! be (7.3.3.1, 7.3.3.3). None of them is answered by lack of memory.
 
 use super::{row_holds, summary_of};

@@ -67,12 +67,20 @@ class Document:
 
     def __init__(self, path, workers):
         self.path, self.server = path, Server(workers)
-        loaded = self.server.call("load", path=str(path))
+        try:
+            loaded = self.server.call("load", path=str(path))
+        except Refused:
+            self.close()
+            raise
         texts = access_units(pathlib.Path(path).read_bytes())
         if len(texts) != loaded["units"]:
             raise Refused(f"{path}: {loaded['units']} units were loaded, and {len(texts)} found")
         self.texts = dict(enumerate(texts, loaded["first"]))
         self.order, self.lines, self.undone_by, self.renamed = list(self.texts), [], [], {}
+
+    def close(self):
+        """Ends the server."""
+        self.server.process.stdin.close()
 
     def now(self, unit):
         """The id of a unit that may have been deleted and put back since."""

@@ -121,7 +121,7 @@ class Handler(http.server.BaseHTTPRequestHandler):
         opened = Document(path, self.workers)
         before, Handler.document = Handler.document, opened
         if before:
-            before.server.process.stdin.close()
+            before.close()
         return {"units": len(opened.order)}
 
 

@@ -10,10 +10,10 @@ use std::alloc::Global;
 /// A kind of commands: those of a script that is run in one way.
 pub(crate) trait Kind<'a>: Drop {
     ghost use Rattle.std.specs.Prelude.{◌≡◌, MatchOption};
-    ghost use Rattle.edit_script.specs.declared.commands.Command.{Command as Any};
+    ghost use Rattle.edit_script.specs.declared.commands.Command.{Command as AnyCommand};
 
     // The command that one of the kind is among all.
-    ghost as_command: { Self → Any };
+    ghost as_command: { Self → AnyCommand };
 
     /// The command as one of the kind, if it is.
     fn of_command(command: Command<'a>) -> Option<Self>

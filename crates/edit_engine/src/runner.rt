@@ -1,9 +1,10 @@
 //! Commands followed on a session.
 
-ghost use Rattle.std.specs.Prelude.{◌≡◌, ◌==◌, ◌≤◌, ◌↔◌, None, Some, IfOk, IfSome, IsErrOf, IsTrue, MatchOption, OnErr};
+ghost use Rattle.std.specs.Prelude.{◌≡◌, [], ◌==◌, ◌≤◌, ◌↔◌, None, Some, IfOk, IfSome, IsErrOf, IsTrue, MatchOption, OnErr};
 ghost use Rattle.picture_cache.specs.Bounded.{most_room};
 ghost use Rattle.edit_engine.specs.Grouping.{AnswersGroup};
 ghost use Rattle.edit_engine.specs.Machines.{AnswersEdit, empty};
+ghost use Rattle.edit_engine.specs.Needing.{AnswersDrop};
 ghost use Rattle.edit_engine.specs.Runs.{Answers, IsRun, Reports};
 ghost use Rattle.edit_engine.specs.Taken.{input_of};
 ghost use Rattle.stand_in_device.specs.Inputs.{is_whole};
@@ -15,6 +16,7 @@ use crate::jobs::{give_back, input_among, land, take, take_for};
 use crate::refusals::NoSuchUnit;
 use crate::replies::{Reply, UnitReport};
 use crate::session::Session;
+use crate::showing::Dropping;
 use pictures::AuId;
 use stand_in_device::{Device, Input};
 use std::alloc::{AllocError, Global};
@@ -119,6 +121,20 @@ impl Runner {
         ensures { AnswersGroup self.old group result self.new }
     {
         self.session.edit_group_read(group)
+    }
+
+    /// Drops the picture of the unit that has the id, as `step` does at `Command::Drop`. It takes no memory.
+    pub fn drop_picture(&mut self, id: AuId) -> Dropping
+        ensures { AnswersDrop self.old id result self.new }
+    {
+        self.session.drop_picture(id)
+    }
+
+    /// Drops the pictures that are cached, as `step` does at `Command::ClearCache`. It takes no memory.
+    pub fn clear_cache(&mut self)
+        ensures { self.new ≡ record self.old { cached = [] } }
+    {
+        self.session.clear_cache();
     }
 
     /// What the job of this number is made of, as it was when the job was taken, if it is out. It takes no memory.

@@ -1,31 +1,28 @@
 //! The session: a stream under edits, and the pictures of its units.
 
-ghost use Rattle.std.specs.Prelude.{◌≡◌, ◌<◌, ◌≤◌, ◌↔◌, ℕ, [], length, slice_get, Contains, Some, None, IsTrue, IfOk, IfSome, IsErrOf, MatchResult, OnErr};
+ghost use Rattle.std.specs.Prelude.{◌≡◌, ◌<◌, ◌≤◌, ◌↔◌, ℕ, [], length, None, Some, IfOk, IfSome, IsErrOf, OnErr};
 ghost use Rattle.request_core.specs.Fold.{outcomes_of};
 ghost use Rattle.picture_cache.specs.Bounded.{most_room};
-ghost use Rattle.picture_store.specs.Stores.{AreNumbered, AreOneToOne, IsNumberInUse};
+ghost use Rattle.picture_store.specs.Stores.{AreNumbered};
 ghost use Rattle.stream_edits.specs.Changes.{IsInside};
 ghost use Rattle.stream_edits.specs.Journals.{edits_of};
 ghost use Rattle.stream_edits.specs.Streams.{ids_of, last_of, place_of};
 ghost use Rattle.stream_edits.specs.Edits.{no_units, Replays};
-ghost use Rattle.edit_engine.specs.Streams.{outcome_in, position_in};
 ghost use Rattle.edit_engine.specs.Grouping.{AnswersGroup};
 ghost use Rattle.edit_engine.specs.Machines.{empty, AnswersEdit, store_of};
 ghost use Rattle.edit_engine.specs.Moves.{ComeTo, Moves};
 ghost use Rattle.edit_engine.specs.Jobs.{AnswersGiveBack, AnswersLand, AnswersTake, TellsTake};
 ghost use Rattle.edit_engine.specs.Needing.{AnswersDrop, AnswersTakeFor, IsAnyOutFor, IsPendingIn, TellsTakeFor};
-ghost use Rattle.edit_engine.specs.Showing.{HasNumber, Shows};
+
+mod asking;
 
 use crate::config::{Config, ConfigFault};
 use crate::preparing::prepare;
-use crate::refusals::NoSuchUnit;
-use crate::showing::{Dropping, Shown};
+use crate::showing::Dropping;
 use base_types::Shared;
 use dep_keys::KeyId;
 use hashed_units::HashedOutcome;
 use ordered_fold::OrderedFold;
-use outcomes::Outcome;
-use period_counts::Comparisons;
 use picture_store::{JobAt, Landing, MOST_ROOM, PictureStore, Returning, TakeRefused};
 use pictures::AuId;
 use stand_in_device::{Finished, Job};
@@ -281,94 +278,12 @@ impl Session {
         self.store.clear_cache();
     }
 
-    /// What is shown of the unit that has the id. It takes no memory.
-    pub fn show(&self, id: AuId) -> Shown
-        ensures { Shows self.now id result }
-    {
-        match self.find(id) {
-            Some(place) => self.show_at(place),
-            None => Shown::NoSuchUnit,
-        }
-    }
-
-    /// What is shown of the unit at a place of the stream. It takes no memory.
-    pub fn show_at(&self, at: usize) -> Shown
-        requires { at < length self.now.register.stream }
-        ensures { (id : ℕ) → slice_get (ids_of self.now.register.stream) at ≡ Some id
-            → Shows self.now id result }
-    {
-        let outcome: &Outcome = &self.store.outcomes()[at];
-        match outcome {
-            Outcome::Fault(fault) => Shown::Fault(*fault),
-            Outcome::Empty => Shown::Empty,
-            Outcome::Plan(_) => match self.store.picture(at) {
-                Some(picture) => Shown::Ready(picture),
-                None => Shown::Pending,
-            },
-        }
-    }
-
-    /// What becomes of the unit that has the id.
-    pub fn outcome(&self, id: AuId) -> Result<&Outcome, NoSuchUnit>
-        ensures { MatchResult result
-            (λ outcome. outcome_in self.now.register.stream id ≡ Some outcome.now)
-            (λ _. place_of self.now.register.stream id ≡ None) }
-    {
-        match self.find(id) {
-            Some(place) => {
-                let outcome: &Outcome = &self.store.outcomes()[place];
-                Ok(outcome)
-            }
-            None => Err(NoSuchUnit),
-        }
-    }
-
-    /// The position in output order of the unit that has the id: how many valid units are shown before it. `None`
-    /// where it isn't valid.
-    pub fn position(&self, id: AuId) -> Result<Option<usize>, NoSuchUnit>
-        ensures { MatchResult result
-            (λ position. position_in self.now.register.stream id ≡ Some position)
-            (λ _. place_of self.now.register.stream id ≡ None) }
-    {
-        match self.find(id) {
-            Some(place) => {
-                let mut comparisons = Comparisons::new();
-                Ok(self.ordered.position_in(place, &mut comparisons))
-            }
-            None => Err(NoSuchUnit),
-        }
-    }
-
-    /// The number of the key of the unit that has the id: of what its picture is made of. `None` where it isn't valid.
-    /// Units have equal numbers exactly where they have equal keys, and while a key stays in use, its number stays. It
-    /// takes no memory.
-    pub fn key(&self, id: AuId) -> Result<Option<KeyId>, NoSuchUnit>
-        ensures value { MatchResult result
-            (λ number. HasNumber self.now id number)
-            (λ _. place_of self.now.register.stream id ≡ None) }
-        ensures one { IfOk result (λ _. AreOneToOne (store_of self.now) (store_of self.now)) }
-    {
-        match self.find(id) {
-            Some(place) => Ok(self.store.key_at(place)),
-            None => Err(NoSuchUnit),
-        }
-    }
-
     /// The number of each unit's key, in decoding order; nothing for a unit that isn't valid.
     pub fn numbers(&self) -> &[Option<KeyId>]
         ensures value { result.now ≡ self.now.numbers }
         ensures numbered { AreNumbered (store_of self.now) }
     {
         self.store.numbers()
-    }
-
-    /// Whether a number is that of a key in use: of one that some unit of the stream has. It takes no memory.
-    pub fn in_use(&self, key: KeyId) -> bool
-        ensures value { IsTrue result ↔ IsNumberInUse (store_of self.now) key }
-        ensures listed { IsTrue result ↔ Contains self.now.numbers (Some key) }
-        ensures one { AreOneToOne (store_of self.now) (store_of self.now) }
-    {
-        self.store.in_use(key)
     }
 
     /// The place of the unit that has the id, in decoding order. The last one's is found at once.

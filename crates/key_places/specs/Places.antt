@@ -1,5 +1,5 @@
 -- Places for pictures by the numbers of keys, each with how many units use the key.
-use Rattle.std.specs.Prelude.{◌≡◌, ℕ, suc, ◌+◌, ◌<◌, ◌==◌, List, [], ◌∷◌, Option, None, Some, if◌then◌else◌, slice_index_or}
+use Rattle.std.specs.Prelude.{◌≡◌, ℕ, suc, Bool, true, false, ◌+◌, ◌<◌, ◌==◌, List, [], ◌∷◌, Option, None, Some, if◌then◌else◌, slice_index_or}
 use Rattle.std.specs.List.{cons_option}
 use Rattle.std.specs.Map.{lookup}
 use Rattle.key_places.specs.declared.places.Slot.{Slot}
@@ -24,6 +24,12 @@ module _ {P : Type 0} where
   -- the place of a key: nothing where the key isn't in use, and else its picture or nothing
   abbrev pub place_at : List (Slot P) → ℕ → Option (Option P)
   place_at places number = place_of (slot_at places number)
+
+  -- a picture is held at this place
+  abbrev pub is_held : Option (Option P) → Bool
+  is_held None = false
+  is_held (Some None) = false
+  is_held (Some (Some picture)) = true
 
   -- the number, where its picture is held
   abbrev pub number_held : ℕ → Option (Option P) → Option ℕ

@@ -2,7 +2,7 @@
 
 ghost use Rattle.std.specs.Prelude.{◌≡◌, ◌+◌, ◌^◌, ◌==◌, ◌<◌, ◌≤◌, ℕ, [], length, if◌then◌else◌, Some, None, OnOk};
 ghost use Rattle.std.specs.List.{slice_set};
-ghost use Rattle.key_places.specs.Places.{AreSame, place_at, place_of, slot_at, taken_up, uses_at};
+ghost use Rattle.key_places.specs.Places.{AreSame, is_held, numbers_held, place_at, place_of, slot_at, taken_up, uses_at};
 
 use dep_keys::KeyId;
 use std::alloc::{AllocError, Global};
@@ -13,6 +13,15 @@ use std::marker::Model;
 pub(crate) struct Slot<P> {
     uses: usize,
     picture: Option<P>,
+}
+
+impl<P> Slot<P> {
+    /// Whether units use the key, and its picture is held.
+    fn is_held(&self) -> bool
+        ensures { result ≡ is_held (place_of self.now) }
+    {
+        self.uses > 0 && self.picture.is_some()
+    }
 }
 
 /// The keys in use, each with the number of units that use it, and with its picture where that is held.
@@ -50,6 +59,13 @@ impl<P: Copy + Drop> Places<P> {
         } else {
             Some(slot.picture)
         }
+    }
+
+    /// How many keys there are whose pictures are held. Each slot is looked at once.
+    pub fn held(&self) -> usize
+        ensures { result ≡ length (numbers_held self.now) }
+    {
+        count_held(&self.slots)
     }
 
     /// Gives a key in use a picture.
@@ -153,6 +169,19 @@ impl<P: Copy + Drop> Places<P> {
             self.slots[at] = slot;
         }
     }
+}
+
+/// How many of these slots have a picture that is held.
+fn count_held<P>(slots: &[Slot<P>]) -> usize
+    ensures { result ≡ length (numbers_held slots.now) }
+{
+    let mut held = 0;
+    for slot in slots {
+        if slot.is_held() {
+            held += 1;
+        }
+    }
+    held
 }
 
 /// Makes slots up to that at a place.

@@ -16,6 +16,8 @@ ghost use Rattle.picture_store.specs.Pending.{IsAnyOutBy, IsDueAt, IsPending};
 ghost use Rattle.picture_store.specs.TakingFor.{AnswersDrop, TellsGiven, TellsTakeFor};
 ghost use Rattle.picture_store.specs.Stretches.{IsStretch, ids_with, outcomes_with};
 
+mod counts;
+
 use crate::answers::{JobAt, Landing, Returning};
 use crate::due::{earliest_due, first_due, first_to_do, is_awaited};
 use crate::inputs::input_of;

@@ -1,0 +1,28 @@
+//! How much a store has.
+
+ghost use Rattle.std.specs.Prelude.{◌≡◌, length};
+
+use super::PictureStore;
+
+impl PictureStore {
+    /// How many jobs are out.
+    pub fn jobs_out(&self) -> usize
+        ensures { result ≡ length self.now.out }
+    {
+        self.out.len()
+    }
+
+    /// How many keys there are whose pictures are held. The slot of each key is looked at.
+    pub fn held_keys(&self) -> usize
+        ensures { result ≡ length self.now.held }
+    {
+        self.places.held()
+    }
+
+    /// How many keys there are whose pictures are cached.
+    pub fn cached_keys(&self) -> usize
+        ensures { result ≡ length self.now.cached }
+    {
+        self.cache.len()
+    }
+}

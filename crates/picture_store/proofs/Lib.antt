@@ -23,5 +23,8 @@ pub mod Pended
 pub mod Emptied
 pub mod Earliest
 pub mod TakenFor
+pub mod Gathering
+pub mod PlaceHeaps
+pub mod Entering
 pub mod Settled
 pub mod Same

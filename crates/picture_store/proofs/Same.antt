@@ -4,6 +4,7 @@ use Rattle.outcomes.specs.declared.outcome.Outcome.{Outcome}
 use Rattle.dep_keys.specs.KeyMaps.{IsKeyMap}
 use Rattle.stand_in_device.specs.declared.picture.Picture.{Picture}
 use Rattle.key_places.specs.Places.{AreSame, place_of, place_at}
+use Rattle.picture_store.specs.declared.gathered.Gathered.{Gathered}
 use Rattle.picture_store.specs.declared.job_out.JobOut.{JobOut}
 use Rattle.picture_store.specs.Places.{PlacesValue}
 use Rattle.picture_store.specs.Kept.{Trees, IsKept, KeepsStored, keys_for}
@@ -45,20 +46,21 @@ module _ (places grown : PlacesValue) (same : AreSame places grown) where
       settled_stay places grown out out found count (λ number among needs. needs_same out number needs) are
 
 module _ (keys more : Trees) (ids : List ℕ) (outcomes : List Outcome) (found : List (Option ℕ)) (places grown : PlacesValue)
-    (cached : List (ℕ × Picture)) (out : List JobOut) (count : ℕ)
-    (stored : IsStored keys ids outcomes found places cached out count) (stay : KeepsStored found cached out keys more)
+    (cached : List (ℕ × Picture)) (out : List JobOut) (count : ℕ) (gathered : Option Gathered)
+    (stored : IsStored keys ids outcomes found places cached out count gathered) (stay : KeepsStored found cached out keys more)
     (one : IsKeyMap more) (same : AreSame places grown) where
   pub kept_still : IsKept more ids outcomes found grown cached out
   kept_still =
       kept_same places grown same more ids outcomes found cached out
       (kept_stays keys more ids outcomes found places cached out stored.kept stay one)
 
-  pub stored_still : IsStored more ids outcomes found grown cached out count
+  pub stored_still : IsStored more ids outcomes found grown cached out count None
   stored_still = record {
     kept = kept_still;
     counted = λ number. ap (λ slot. slot.uses) (same.slots number) ∙ stored.counted number;
     apart = λ number used. stored.apart number (subst (λ n. 0 < n) (ap (λ slot. slot.uses) (same.slots number)) used);
     settled = settled_same places grown same out found count stored.settled;
+    gathered = tt;
   }
 
   -- what contracts see stays

@@ -11,6 +11,7 @@
 
 mod answers;
 mod due;
+mod gathered;
 mod inputs;
 mod job_out;
 mod laws;

@@ -19,7 +19,8 @@ ghost use Rattle.picture_store.specs.Stretches.{IsStretch, ids_with, outcomes_wi
 mod counts;
 
 use crate::answers::{JobAt, Landing, Returning};
-use crate::due::{earliest_due, first_due, first_to_do, is_awaited};
+use crate::due::{first_due, first_to_do, is_awaited, is_ready};
+use crate::gathered::{Gathered, after_landing, earliest_due, gathered_for};
 use crate::inputs::input_of;
 use crate::job_out::{JobOut, place_of};
 use crate::naming::references_of;
@@ -32,7 +33,7 @@ use checkpoints::Checkpoints;
 use dep_keys::{KeyId, Keys, Sha256Fingerprint};
 use hashed_units::HashedOutcome;
 use key_places::Places;
-use needed_units::{Units, is_held, needed_places};
+use needed_units::{Units, is_held};
 use picture_cache::PictureCache;
 use picture_keys::Works;
 use pictures::AuId;
@@ -40,6 +41,7 @@ use request_core::State;
 use stand_in_device::{Finished, Input, Job, Picture};
 use std::alloc::{AllocError, Global};
 use std::marker::Model;
+use std::mem::replace;
 use vec_ranges::replace_range;
 
 /// The pictures of a stream's units. Clauses see the units, each with its id and what becomes of it; the keys whose
@@ -59,6 +61,8 @@ pub struct PictureStore {
     given: u64,
     // How many units, from the first on, are known to need no job.
     settled: usize,
+    // What was gathered by the last `take_for`, if only results have landed and jobs were given since.
+    gathered: Option<Gathered>,
 }
 
 // By hand, so that whoever drops one is proved over one call.
@@ -76,6 +80,7 @@ impl Drop for PictureStore {
             out: _,
             given: _,
             settled: _,
+            gathered: _,
         } = self;
     }
 }
@@ -107,7 +112,7 @@ impl Model for PictureStore {
     } };
 
     ghost invariant = { λ s. IsStored s.keys s.ids.items s.outcomes.items s.found.items s.places s.cache.pairs s.out.items
-        s.settled };
+        s.settled s.gathered };
 }
 
 impl PictureStore {
@@ -129,6 +134,7 @@ impl PictureStore {
             out: Vec::new(alloc),
             given: 0,
             settled: 0,
+            gathered: None,
         })
     }
 
@@ -171,6 +177,7 @@ impl PictureStore {
         ensures err { OnErr result (self.new ≡ self.old) }
     {
         self.sweep()?;
+        self.gathered = None;
         make_room(&mut self.ids, &mut self.outcomes, stretch.ids.len())?;
         let (past, later) = keys_from(
             self.alloc,
@@ -207,6 +214,7 @@ impl PictureStore {
     fn sweep(&mut self) -> Result<(), AllocError>
         ensures { self.new ≡ self.old }
     {
+        self.gathered = None;
         let enough = sweep_at(
             self.alloc,
             self.enough,
@@ -266,7 +274,8 @@ impl PictureStore {
     }
 
     /// Gives the earliest picture that is due of those that the picture of the unit at a place needs, under the next
-    /// number. Its unit needn't be the first of the stream that has its key.
+    /// number. Its unit needn't be the first of the stream that has its key. What the unit needs is gathered once for calls for
+    /// it that follow one another, with jobs that are given and results that land between them.
     pub fn take_for(&mut self, at: usize) -> Result<Option<JobAt>, TakeRefused>
         requires { at < length self.old.ids }
         ensures tells { TellsTakeFor self.old at result self.new }
@@ -281,8 +290,11 @@ impl PictureStore {
             outcomes: &self.outcomes,
             found: &self.found,
         };
-        let needed = needed_places(self.alloc, &units, at)?;
-        let due = earliest_due(&self.keys, &self.places, &self.out, &self.found, &needed);
+        let before = replace(&mut self.gathered, None);
+        let mut gathered = gathered_for(self.alloc, &units, &self.out, before, at)?;
+        let ready = &mut gathered.ready;
+        let due = earliest_due(&self.keys, &self.places, &self.out, &self.found, ready);
+        self.gathered = Some(gathered);
         let Some((place, key)) = due else {
             return Ok(None);
         };
@@ -321,7 +333,14 @@ impl PictureStore {
             return Landing::Foreign;
         };
         let job = self.out.remove(at);
-        fill(&mut self.places, job.key, picture)
+        let key = job.key;
+        let ready = is_ready(&self.keys, &self.places, key);
+        let landing = fill(&mut self.places, key, picture);
+        let before = replace(&mut self.gathered, None);
+        let landed = (key, ready, landing);
+        self.gathered =
+            after_landing(&self.keys, &self.places, &self.out, &self.found, before, landed);
+        landing
     }
 
     /// Takes a job back that wasn't decoded. It takes no memory.
@@ -333,6 +352,7 @@ impl PictureStore {
             Some(at) => {
                 drop(self.out.remove(at));
                 self.settled = 0;
+                self.gathered = None;
                 Returning::Returned
             }
             None => Returning::Foreign,
@@ -350,8 +370,9 @@ impl PictureStore {
         if !is_held(&self.places, key) {
             return false;
         }
-        self.places.empty(key);
         self.settled = 0;
+        self.gathered = None;
+        self.places.empty(key);
         true
     }
 

@@ -81,4 +81,5 @@ invariant_of-self c =
       counted = λ number. c.empty.ensures.uses number ∙ c.self.invariant.counted number;
       apart = λ number used. c.self.invariant.apart number (subst (λ n. 0 < n) (c.empty.ensures.uses number) used);
       settled = none_settled c.empty.new.self s.out.items s.found.items;
+      gathered = tt;
     }

@@ -88,6 +88,10 @@ invariant_of-self-2 c =
       settled =
           settled_more s.places s.out.items (record { number = c.in-Some.number; key = c.args.key; input = c.in_ok-input.input })
           c.push_reserved.new.self.items s.found.items s.settled more c.self.invariant.settled;
+      gathered =
+          gathered_given s.keys (zip s.ids.items s.outcomes.items) s.found.items s.places s.out.items
+          (record { number = c.in-Some.number; key = c.args.key; input = c.in_ok-input.input }) c.push_reserved.new.self.items more
+          s.gathered c.self.invariant.gathered;
     }
 
 pub returns : goal.returns

@@ -25,6 +25,11 @@ invariant_of-self c =
           settled_landed s.keys s.ids.items s.outcomes.items s.found.items s.places s.cache.pairs s.out.items
           c.self.invariant.kept c.in-Some.at c.remove-job.result c.remove-job.ensures.value _ c.fill.result c.fill.new.places
           c.remove-job.new.self.items s.settled c.remove-job.ensures.items filled c.self.invariant.settled;
+      gathered =
+          gathered_filled s.keys s.ids.items s.outcomes.items s.found.items s.places s.cache.pairs s.out.items
+          c.self.invariant.kept c.in-Some.at c.remove-job.result c.remove-job.ensures.value _ c.fill.result c.fill.new.places
+          c.remove-job.new.self.items c.remove-job.ensures.items filled s.gathered c.self.invariant.gathered c.is_ready.result
+          c.is_ready.ensures c.after_landing.result (rw (c.deref-2.ensures.value) at c.after_landing.ensures);
     }
 
 pub returns : goal.returns

@@ -91,7 +91,7 @@ byte chances = CHANCES;
 #endif
 #define DUE (pending & ~out & ~BLOCKED & ALL)
 
-/* wanted_units, taking.rt: what a worker may take, first what is due for a wanted picture; and when nobody needs more. */
+/* worker_jobs, taking.rt: what a worker may take, first what is due for a wanted picture; and when nobody needs more. */
 #ifdef WANTED
 #define WANTED_SET (listed | waited[0] | waited[1])
 #define WITH_BELOW(set) ((set) | ((set) >> 1 & pending))

@@ -9,12 +9,12 @@ use Rattle.picture_store.specs.declared.refusals.TakeRefused.{TakeRefused}
 use Rattle.picture_store.specs.declared.refusals.TakeRefused.TheVariants as refusals
 use Rattle.edit_engine.specs.Jobs.{AnswersTake}
 use Rattle.edit_engine.specs.Machines.{Machine}
-use Rattle.decode_pool.specs.declared.tally.Counts.{Counts}
-use Rattle.decode_pool.specs.declared.tally.Tally.{Tally}
+use Rattle.worker_jobs.specs.declared.tally.Counts.{Counts}
+use Rattle.worker_jobs.specs.declared.tally.Tally.{Tally}
 use Rattle.decode_pool.specs.declared.state.bringing.Next.{Next}
 use Rattle.decode_pool.specs.declared.state.bringing.Next.TheVariants as next
 use Rattle.decode_pool.specs.Batches.{GivesBackAll, LandsAll, TakesAll, TakesSome, TakesNone}
-use Rattle.decode_pool.specs.Counts.{GivesBackIn, HasMore, LandsIn, TakesIn}
+use Rattle.worker_jobs.specs.Counts.{GivesBackIn, HasMore, LandsIn, TakesIn}
 
 -- the results in hand land where the first does and then the others do
 pub land_first : (from : Machine) (old : Tally) (landing : Landing) (then : Machine) (new : Tally)

@@ -2,7 +2,6 @@ pub mod Lists
 pub mod Counting
 pub mod Agreed
 pub mod Outs
-pub mod Kept
 pub mod Gathered
 pub mod Ended
 pub mod Noted

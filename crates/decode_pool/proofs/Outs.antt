@@ -26,10 +26,10 @@ use Rattle.edit_engine.specs.Grouping.{AnswersGroup}
 use Rattle.edit_engine.specs.Machines.{Machine, AnswersEdit, empty, store_of}
 use Rattle.edit_engine.specs.Jobs.{AnswersTake, AnswersLand, AnswersGiveBack}
 use Rattle.edit_engine.specs.Needing.{AnswersTakeFor}
-use Rattle.wanted_units.specs.Taking.{AnswersTakeFirst}
+use Rattle.worker_jobs.specs.Taking.{AnswersTakeFirst}
 use Rattle.decode_pool.specs.Jobs.{JobsDiffer}
-use Rattle.decode_pool.specs.declared.tally.Tally.{Tally}
-use Rattle.decode_pool.specs.Counts.{TakesFirstIn, TakesIn}
+use Rattle.worker_jobs.specs.declared.tally.Tally.{Tally}
+use Rattle.worker_jobs.specs.Counts.{TakesFirstIn, TakesIn}
 use Rattle.decode_pool.specs.Seats.{AnswersDropIn, AnswersEditIn}
 use Rattle.decode_pool.proofs.Lists.{StoodAt, among, get_push, get_remove_above, get_remove_below}
 

@@ -6,12 +6,12 @@ use Rattle.picture_store.specs.declared.answers.Returning.{Returning}
 use Rattle.picture_store.specs.declared.refusals.TakeRefused.{TakeRefused}
 use Rattle.edit_engine.specs.Machines.{Machine}
 use Rattle.edit_engine.specs.Jobs.{AnswersGiveBack, AnswersLand, AnswersTake}
-use Rattle.wanted_units.specs.Taking.{AnswersTakeFirst, NoneDue}
-use Rattle.wanted_units.specs.Wanted.{Wants, urgent}
-use Rattle.decode_pool.specs.declared.tally.Counts.{Counts}
+use Rattle.worker_jobs.specs.Taking.{AnswersTakeFirst, NoneDue}
+use Rattle.worker_jobs.specs.Wanted.{Wants, urgent}
+use Rattle.worker_jobs.specs.declared.tally.Counts.{Counts}
 use Rattle.decode_pool.specs.declared.state.bringing.Next.{Next}
 use Rattle.decode_pool.specs.declared.state.bringing.Next.TheVariants as next
-use Rattle.decode_pool.specs.Counts.{with_landing, with_returning}
+use Rattle.worker_jobs.specs.Counts.{with_landing, with_returning}
 
 -- the jobs are taken one after the other
 abbrev pub TakesAll : Machine → List JobValue → Machine → Type 0

@@ -1,6 +1,5 @@
 pub mod Numbers
 pub mod Jobs
-pub mod Counts
 pub mod Batches
 pub mod Seats
 pub mod Finishing

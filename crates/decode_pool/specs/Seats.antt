@@ -22,8 +22,8 @@ use Rattle.seat_books.specs.declared.receipts.SeatReceipt.{SeatReceipt}
 use Rattle.seat_books.specs.declared.receipts.SeatReceipt.TheVariants as receipts
 use Rattle.decode_pool.specs.declared.seat.Seat.{Seat}
 use Rattle.decode_pool.specs.declared.status.Status.{Status}
-use Rattle.wanted_units.specs.Rests.{IsAtRest, IsSettled, MayNotRest}
-use Rattle.wanted_units.specs.Wanted.{Wants}
+use Rattle.worker_jobs.specs.Rests.{IsAtRest, IsSettled, MayNotRest}
+use Rattle.worker_jobs.specs.Wanted.{Wants}
 use Rattle.decode_pool.specs.declared.state.settling.Settled.{Settled}
 use Rattle.decode_pool.specs.declared.state.settling.Settled.TheVariants as settled
 

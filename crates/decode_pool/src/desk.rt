@@ -5,12 +5,11 @@ ghost use Rattle.decode_pool.specs.Seats.{AreNew, WaitsForOne, WaitsForUnit};
 
 use crate::seat::Seat;
 use crate::state::{Settled, State};
-use crate::tally::Tally;
 use edit_engine::Config;
 use pictures::AuId;
 use std::alloc::{AllocError, Global};
 use std::sync::{Condvar, Mutex, MutexGuard, Wait};
-use wanted_units::TooManyWanted;
+use worker_jobs::{Tally, TooManyWanted};
 
 /// A session that threads share: seats edit it and ask, workers decode. One lock is round all of it, which is held for a
 /// call of the session and no longer.

@@ -3,7 +3,7 @@
 //! A `Desk` has a session under a lock. Each `Seat` edits it and is shown its units, and keeps a book of that; each
 //! `worker` takes jobs, decodes them by its `Gate` while nobody has the lock, and brings what comes of them. At the end
 //! `finish` looks whether the books of all seats agree with the session's journal. What a seat says that it wants, workers
-//! decode first. Below are edit_engine, seat_books and wanted_units.
+//! decode first. Below are edit_engine, seat_books and worker_jobs.
 //!
 //! What a call does to a session that is lent is its contract (`Seat::edit_in`, `Seat::edit_group_in`, `Seat::show_in`). No
 //! clause names what lies under a lock, so of the calls that take it the clauses say what they answer and note: that
@@ -13,13 +13,11 @@
 mod desk;
 mod faults;
 mod finishing;
-mod gate;
 mod gathering;
 mod group_note;
 mod seat;
 mod state;
 mod status;
-mod tally;
 mod visiting;
 mod wanting;
 mod working;
@@ -27,9 +25,7 @@ mod working;
 pub use desk::Desk;
 pub use faults::{FinishFault, Unfinished};
 pub use finishing::finish;
-pub use gate::Gate;
 pub use seat::Seat;
 pub use state::Settled;
-pub use tally::Worked;
-pub use wanted_units::{MOST_WANTED, TooManyWanted};
+pub use worker_jobs::{Gate, MOST_WANTED, TooManyWanted, Worked};
 pub use working::worker;

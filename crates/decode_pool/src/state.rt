@@ -7,8 +7,8 @@ ghost use Rattle.edit_engine.specs.Grouping.{AnswersGroup};
 ghost use Rattle.edit_engine.specs.Machines.{empty};
 ghost use Rattle.edit_engine.specs.Showing.{Shows};
 ghost use Rattle.decode_pool.specs.Jobs.{JobsDiffer};
-ghost use Rattle.wanted_units.specs.Wanted.{urgent};
-ghost use Rattle.decode_pool.specs.Counts.{GivesBackIn, LandsIn, TakesFirstIn, TakesIn};
+ghost use Rattle.worker_jobs.specs.Wanted.{urgent};
+ghost use Rattle.worker_jobs.specs.Counts.{GivesBackIn, LandsIn, TakesFirstIn, TakesIn};
 ghost use Rattle.decode_pool.specs.Seats.{AnswersDropIn, AnswersEditIn, IsReached, NotesDrop, NotesEdit, NotesGroup, NotesShow};
 
 mod bringing;
@@ -18,7 +18,6 @@ mod visiting;
 use crate::group_note::GroupNote;
 use crate::seat::Seat;
 use crate::status::Status;
-use crate::tally::Tally;
 pub(crate) use bringing::Next;
 use edit_engine::{
     Config, Dropping, EditRefused, GroupReceipt, GroupRefused, Landing, Last, ReadEdit, ReadGroup,
@@ -27,6 +26,7 @@ use edit_engine::{
 use pictures::AuId;
 pub use settling::Settled;
 use std::alloc::{AllocError, Global};
+use worker_jobs::Tally;
 
 /// What lies under the lock of a desk: the session, and what its threads do. Jobs that are out have different numbers and
 /// keys. The session is this module's alone: what a thread does with it is one of the calls below, each of which is one of

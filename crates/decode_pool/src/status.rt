@@ -1,9 +1,9 @@
 //! What the threads of a desk do.
 
 ghost use Rattle.std.specs.Prelude.{◌≡◌, ◌+◌, ◌<◌, ◌≤◌, MatchBool, false, true};
-ghost use Rattle.wanted_units.specs.Wanted.{all_units};
+ghost use Rattle.worker_jobs.specs.Wanted.{all_units};
 
-use wanted_units::Wanted;
+use worker_jobs::Wanted;
 
 /// Threads that sleep, and how many of them were told to wake up and haven't yet. One that awakes without that counts as
 /// told, so that nobody who was told is counted when all are awake.

@@ -8,7 +8,7 @@ use crate::seat::Seat;
 use crate::state::Settled;
 use pictures::AuId;
 use std::sync::Wait;
-use wanted_units::TooManyWanted;
+use worker_jobs::TooManyWanted;
 
 impl Seat {
     /// Makes these the ids of the units whose pictures the desk's workers decode first, with what those need, in order of

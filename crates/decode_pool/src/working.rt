@@ -3,11 +3,10 @@
 ghost use Rattle.std.specs.Prelude.{◌≡◌, ◌≢◌, ◌<◌, ◌≤◌, MatchBool, []};
 
 use crate::desk::Desk;
-use crate::gate::Gate;
 use crate::state::Next;
-use crate::tally::{Tally, Worked};
 use std::alloc::Global;
 use std::sync::Wait;
+use worker_jobs::{Gate, Tally, Worked};
 
 /// How often a worker goes to the desk at most: each time it takes a job or more, and never more than 2^63 in all.
 const MOST_ROUNDS: u64 = 1 << 63;

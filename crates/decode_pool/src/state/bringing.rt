@@ -5,7 +5,7 @@ ghost use Rattle.decode_pool.specs.declared.state.bringing.Next.TheVariants.{Dec
 ghost use Rattle.decode_pool.specs.Batches.{GivesBackAll, LandsAll, TakesNext, TakesSome};
 
 use super::State;
-use crate::tally::Tally;
+use worker_jobs::Tally;
 
 /// How many jobs a worker takes at most before it ends.
 const MOST_JOBS: u64 = 1 << 63;

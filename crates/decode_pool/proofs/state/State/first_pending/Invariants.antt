@@ -1,7 +1,7 @@
 use Rattle.std.proofs.Common.{◌≡◌, ℕ, ◌<◌, ◌≤◌, Some}
 use Rattle.std.specs.Prelude.{slice_get}
 use Rattle.stream_edits.specs.Streams.{ids_of}
-use Rattle.wanted_units.specs.Rests.{IsSettled}
+use Rattle.worker_jobs.specs.Rests.{IsSettled}
 use Rattle.decode_pool.proofs.state.State.first_pending.Given as goal
 
 abbrev pub invariant-loop-at : goal.invariant-loop-at

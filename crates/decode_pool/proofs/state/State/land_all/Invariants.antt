@@ -1,6 +1,6 @@
 use Rattle.std.proofs.Common.{◌≡◌, ◌+◌, length}
 use Rattle.edit_engine.specs.Machines.{Machine}
-use Rattle.decode_pool.specs.declared.tally.Counts.{Counts}
+use Rattle.worker_jobs.specs.declared.tally.Counts.{Counts}
 use Rattle.decode_pool.specs.Batches.{LandsAll}
 use Rattle.decode_pool.proofs.state.State.land_all.Given as goal
 

@@ -1,4 +1,4 @@
-use Rattle.wanted_units.specs.Wanted.{urgent}
+use Rattle.worker_jobs.specs.Wanted.{urgent}
 use Rattle.decode_pool.proofs.Outs.{took_first_differ}
 use Rattle.decode_pool.proofs.state.State.take_first.Goals as goal
 

@@ -1,6 +1,0 @@
-use Rattle.std.proofs.Common.{◌≡◌}
-use Rattle.wanted_units.specs.Taking.{NoneDueBefore}
-use Rattle.wanted_units.proofs.taking.take_first_of.Given as goal
-
-abbrev pub invariant-loop-number : goal.invariant-loop-number
-invariant-loop-number l = NoneDueBefore l.initial.session l.numbers l.number-index × (l.session ≡ l.initial.session)

@@ -1,0 +1,3 @@
+pub mod Joined
+pub mod Firsts
+pub mod Kept

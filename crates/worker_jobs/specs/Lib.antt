@@ -1,0 +1,4 @@
+pub mod Wanted
+pub mod Taking
+pub mod Rests
+pub mod Counts

@@ -1,0 +1,30 @@
+-- When all that is wanted is done.
+use Rattle.std.specs.Prelude.{◌≡◌, ◌≢◌, ◌⊎◌, ℕ, true, false, List, [], Some, slice_get}
+use Rattle.edit_engine.specs.declared.showing.Shown.{Shown}
+use Rattle.edit_engine.specs.declared.showing.Shown.TheVariants as shown
+use Rattle.edit_engine.specs.Machines.{Machine}
+use Rattle.edit_engine.specs.Showing.{Shows}
+use Rattle.worker_jobs.specs.Wanted.{Wants, urgent}
+
+-- something else is shown of the unit that has the id than that it is pending
+abbrev pub IsSettled : Machine → ℕ → Type 0
+IsSettled machine id = (answer : Shown) × Shows machine id answer × (answer ≡ shown.Pending → ⊥)
+
+-- none of the units of the ids is pending
+abbrev pub AreSettled : Machine → List ℕ → Type 0
+AreSettled machine ids = (at id : ℕ) → slice_get ids at ≡ Some id → IsSettled machine id
+
+-- one of the units of the ids is pending
+abbrev pub IsAnyPending : Machine → List ℕ → Type 0
+IsAnyPending machine ids = (at id : ℕ) × (slice_get ids at ≡ Some id) × Shows machine id shown.Pending
+
+-- the rest isn't wanted, no wanted unit is pending, and no job is out
+pub record IsAtRest (machine : Machine) (wants : Wants) : Type 0 where
+  pub off : wants.rest ≡ false
+  pub settled : AreSettled machine (urgent wants)
+  pub none_out : machine.out ≡ []
+
+-- the rest is wanted, or a wanted unit is pending, or a job is out
+abbrev pub MayNotRest : Machine → Wants → Type 0
+MayNotRest machine wants =
+    (wants.rest ≡ true) ⊎ (IsAnyPending machine (urgent wants) ⊎ (machine.out ≢ []))

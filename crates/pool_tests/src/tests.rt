@@ -7,6 +7,7 @@ mod drops;
 mod ends;
 mod gates;
 mod groups;
+mod scripts;
 mod three_seats;
 mod two_workers;
 mod wanted;

@@ -5,13 +5,8 @@
 //! edits a stream in a session, and prints what each edit and each question is answered, in one thread (script_run) or beside
 //! workers that decode (pool_run); `preview audit SCRIPT` says whether the book of such a run agrees with its journal (pool_run).
 //! docs/OUTPUT.md has the lines and the statuses. What the words ask for is read by command_line and done by program; this crate
-//! hands them the process's own words, files and streams, and its tests go across all crates.
+//! hands them the process's own words, files and streams.
 #![tactic(auto)]
-
-#[cfg(test)]
-mod sample;
-#[cfg(test)]
-mod tests;
 
 use std::process::ExitCode;
 

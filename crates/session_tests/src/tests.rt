@@ -1,6 +1,7 @@
 ghost use Rattle.std.specs.Prelude.{◌≡◌};
 ghost use Rattle.edit_engine.specs.Machines.{empty};
 
+mod damage;
 mod edits;
 mod foreign;
 mod groups;

@@ -1,6 +1,6 @@
 //! Each beginning of a unit's text is read, and inserted into an empty stream.
 
-use super::{empty_session, row_holds};
+use crate::tests::{empty_session, row_holds};
 use access_unit::read_unit;
 use bytes::Bytes;
 use edit_engine::{Edit, Place, Session};

@@ -1,7 +1,7 @@
 //! One bit of three units' texts is another: each text is read or refused, and the session says of each unit that is
 //! there what the plain fold says, and has the picture of each valid one once its jobs are done.
 
-use super::{empty_session, row_holds};
+use crate::tests::{empty_session, row_holds};
 use access_unit::{Unit, read_unit};
 use bytes::Bytes;
 use edit_engine::{Edit, EditRefused, Job, Landing, Place, Session, Shown};

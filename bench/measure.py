@@ -2,7 +2,6 @@
 import concurrent.futures
 import functools
 import multiprocessing
-import os
 import pathlib
 import random
 import shutil
@@ -10,9 +9,14 @@ import subprocess
 import sys
 import time
 
-TOP = pathlib.Path(__file__).resolve().parent.parent
+sys.path.append(str(pathlib.Path(__file__).resolve().parent.parent / "tools"))
+
+from cupdaisy.processes import waited    # noqa: E402
+from cupdaisy.program import program    # noqa: E402, F401: the benchmarks take it from here
+from cupdaisy.streams import START    # noqa: E402
+from cupdaisy.workspace import SAMPLES, TOP    # noqa: E402, F401
+
 REPEATS = 3
-START = b"\0\0\1"
 # profile_idc 66, count type 2, one reference frame, one macroblock, frame_num of 4 bits
 SPS, PPS, IDR = (START + bytes.fromhex(unit) for unit in ("67 42 00 0A DA 79", "68 CE 38 80", "65 88 84 80"))
 
@@ -35,14 +39,6 @@ def chained(units, size):
     return SPS + PPS + IDR + b"".join(following(i % 16, data) for i in range(1, units))
 
 
-@functools.cache
-def program():
-    """The program that PREVIEW names; without it the one that bin/preview runs, without that script."""
-    if named := os.environ.get("PREVIEW"):
-        return named
-    return subprocess.run([TOP / "tools" / "program"], stdout=subprocess.PIPE, text=True, check=True).stdout.rstrip("\n")
-
-
 def compiled(name, library, folder):
     """The program bench/NAME.c, linked with the archive of the C interface."""
     flags = "-std=c99 -O2 -Wall -Wextra -Wpedantic -Wconversion -Werror -pthread".split()
@@ -59,11 +55,9 @@ def once(command, output, log):
     """
     with open(output, "wb") as out, open(log, "wb") as err:
         start = time.monotonic()
-        child = subprocess.Popen(command, stdin=subprocess.DEVNULL, stdout=out, stderr=err)
-        _, status, used = os.wait4(child.pid, 0)
+        status, used = waited(subprocess.Popen(command, stdin=subprocess.DEVNULL, stdout=out, stderr=err))
         seconds = time.monotonic() - start
-    child.returncode = os.waitstatus_to_exitcode(status)
-    return seconds, used.ru_maxrss * 1024, child.returncode
+    return seconds, used.ru_maxrss * 1024, status
 
 
 @functools.cache

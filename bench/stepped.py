@@ -5,6 +5,7 @@ import sys
 import time
 
 import measure
+from cupdaisy.processes import waited
 
 
 def opened(gate, child):
@@ -35,10 +36,9 @@ def ran(steps, folder):
         marks.append(used(child))
         os.close(pipe)
         gate.unlink()
-    _, status, usage = os.wait4(child.pid, 0)
-    child.returncode = os.waitstatus_to_exitcode(status)
-    if child.returncode != 0:
-        sys.exit(f"the run ended with status {child.returncode}")
+    status, usage = waited(child)
+    if status != 0:
+        sys.exit(f"the run ended with status {status}")
     return marks, usage.ru_maxrss * 1024
 
 
@@ -47,10 +47,8 @@ def used_by(command, folder):
     seconds = []
     for _ in range(measure.REPEATS):
         with open(folder / "beside", "wb") as output:
-            child = subprocess.Popen(command, stdin=subprocess.DEVNULL, stdout=output)
-            _, status, usage = os.wait4(child.pid, 0)
-            child.returncode = os.waitstatus_to_exitcode(status)
-        if child.returncode != 0:
-            sys.exit(f"{command[0]} ended with status {child.returncode}")
+            status, usage = waited(subprocess.Popen(command, stdin=subprocess.DEVNULL, stdout=output))
+        if status != 0:
+            sys.exit(f"{command[0]} ended with status {status}")
         seconds.append(usage.ru_utime + usage.ru_stime)
     return min(seconds)

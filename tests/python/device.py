@@ -12,22 +12,22 @@ PROGRAM is build/v4l2_request by default, PREVIEW bin/preview or what PREVIEW in
 
 Exit status: 0 if nothing differs, else 1; 77 if a compiler or the kernel's header isn't there.
 """
-import argparse
 import hashlib
 import json
 import os
 import pathlib
-import shutil
 import subprocess
 import sys
 import tempfile
 
-TOP = pathlib.Path(__file__).resolve().parent.parent.parent
-sys.path.insert(0, str(TOP / "tools"))
+sys.path.append(str(pathlib.Path(__file__).resolve().parent.parent.parent / "tools"))
 
-import kernel_structs    # noqa: E402
-import syntax    # noqa: E402
-from kernel_structs import Differs    # noqa: E402
+from cupdaisy import kernel_structs, processes    # noqa: E402
+from cupdaisy.command_line import NOT_INSTALLED, are_installed, parser_of    # noqa: E402
+from cupdaisy.kernel_structs import Differs    # noqa: E402
+from cupdaisy.program import PREVIEW    # noqa: E402
+from cupdaisy.streams import START, cut, slices_in, split    # noqa: E402
+from cupdaisy.workspace import TOP    # noqa: E402
 
 # The controls by their numbers in the class.
 NAMES = {2: "sps", 3: "pps", 4: "scaling_matrix", 5: "pred_weights", 6: "slice_params", 7: "decode_params"}
@@ -35,7 +35,6 @@ NO_SLICE = ["sps", "pps", "scaling_matrix", "decode_params"]
 PFRAME, BFRAME = 8, 16
 # By slice_type: P, B, I.
 FLAGS = (PFRAME, BFRAME, 0)
-START = b"\0\0\1"
 
 
 class Asked:
@@ -79,9 +78,9 @@ def asked(options, device, file, planes, *words):
     with tempfile.NamedTemporaryFile() as log:
         environment = dict(os.environ, LD_PRELOAD=str(device), FAKE_LOG=log.name, FAKE_PLANES=planes)
         command = [options.program, file, "--video", "fake-video", "--media", "fake-media", *words]
-        ran = subprocess.run(command, env=environment, capture_output=True, text=True, check=False)
-        if ran.returncode != 0 or ran.stdout:
-            raise Differs(f"v4l2_request ended with status {ran.returncode}: {ran.stderr.strip()[:200]}")
+        ran = processes.run(command, env=environment)
+        if ran.status != 0 or ran.output:
+            raise Differs(f"v4l2_request ended with status {ran.status}: {ran.errors.decode().strip()[:200]}")
         return [Asked(line) for line in pathlib.Path(log.name).read_text().splitlines()]
 
 
@@ -141,12 +140,12 @@ def compare_frames(options, memory, device, file, has_start_codes):
 
 
 def plans_of(options, file):
-    return [json.loads(line) for line in kernel_structs.printed(options.preview, "plan", "--json", file)]
+    return [json.loads(line) for line in processes.printed_anyway([options.preview, "plan", "--json", file]).splitlines()]
 
 
 def units_of(file):
     """The slices of each unit."""
-    return [[nal for nal in nals if nal[0] & 31 in (1, 5)] for nals in syntax.cut(syntax.split(pathlib.Path(file).read_bytes()))]
+    return [slices_in(nals) for nals in cut(split(pathlib.Path(file).read_bytes()))]
 
 
 def names_of(options, file):
@@ -170,14 +169,14 @@ def is_of(plan, value, surfaces, names):
 
 
 def main():
-    parser = argparse.ArgumentParser(description=__doc__, formatter_class=argparse.RawTextHelpFormatter)
+    parser = parser_of(__doc__)
     parser.add_argument("--program", default=str(TOP / "build" / "v4l2_request"))
-    parser.add_argument("--preview", default=kernel_structs.PREVIEW)
+    parser.add_argument("--preview", default=PREVIEW)
     parser.add_argument("files", nargs="+", metavar="FILE")
     options = parser.parse_args()
-    if not shutil.which("gcc") or not os.path.exists(kernel_structs.HEADER):
+    if not are_installed("gcc") or not os.path.exists(kernel_structs.HEADER):
         print("gcc or the kernel's header isn't there: nothing was compared")
-        return 77
+        return NOT_INSTALLED
     memory, failures = kernel_structs.Memory(pathlib.Path(kernel_structs.HEADER).read_text()), 0
     with tempfile.TemporaryDirectory() as folder:
         device = pathlib.Path(folder) / "fake_device.so"

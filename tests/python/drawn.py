@@ -10,25 +10,27 @@ of one unit and of one job with all their bytes. At the end the journal is that 
 
 Exit status: 0 if nothing differs, else 1.
 """
-import argparse
+import importlib.util
 import os
 import pathlib
 import random
 import sys
 import tempfile
 
-TOP = pathlib.Path(__file__).resolve().parent.parent.parent
-sys.path[:0] = [str(TOP / "tools"), str(TOP / "examples")]
+sys.path.append(str(pathlib.Path(__file__).resolve().parent.parent.parent / "tools"))
 
-import cupdaisy    # noqa: E402
-import fold    # noqa: E402
-import kernel_structs    # noqa: E402
-import session as model    # noqa: E402
-import syntax    # noqa: E402
+from cupdaisy import fold, kernel_structs, scripts, session as model    # noqa: E402
+from cupdaisy.command_line import NOT_INSTALLED, parser_of    # noqa: E402
+from cupdaisy.streams import START, Refused, texts_of    # noqa: E402
+from cupdaisy.workspace import TOP    # noqa: E402
 
+# examples/cupdaisy.py, which has the name of the tools' package.
+INTERFACE = importlib.util.spec_from_file_location("interface", TOP / "examples" / "cupdaisy.py")
+interface = importlib.util.module_from_spec(INTERFACE)
+INTERFACE.loader.exec_module(interface)
 # The model's names of edits, as kinds of the interface.
-KINDS = {"first": cupdaisy.INSERT_FIRST, "after": cupdaisy.INSERT_AFTER, "delete": cupdaisy.DELETE,
-         "replace": cupdaisy.REPLACE}
+KINDS = {"first": interface.INSERT_FIRST, "after": interface.INSERT_AFTER, "delete": interface.DELETE,
+         "replace": interface.REPLACE}
 CACHE, MOST_UNITS = 4096, 24
 STEPS = ("edit", "edit", "edit", "edit", "group", "load", "take", "take", "take_for", "take_for", "land", "give", "settle",
          "settle_for", "drop", "drop", "clear")
@@ -43,16 +45,11 @@ def same(what, found, wanted):
         raise Differs(f"{what}: {found!r}, and by the model {wanted!r}")
 
 
-def units_of(path):
-    """The texts of a stream's units."""
-    return [b"".join(syntax.START + nal for nal in nals) for nals in syntax.cut(syntax.split(path.read_bytes()))]
-
-
 def answered(call, *operands):
     """What a call answers, or the number and the index that it is refused with."""
     try:
         return call(*operands)
-    except cupdaisy.Refused as refused:
+    except interface.Refused as refused:
         return ("refused", refused.status, refused.index)
 
 
@@ -138,9 +135,9 @@ class Drawn:
         found = answered(self.session.insert_last, operands[1]) if is_last else answered(calls[name], *operands)
         try:
             unit = self.model.edit(edit)
-        except syntax.Refused as refused:
+        except Refused as refused:
             return same(f"{name} {operands[:-1]}", found, ("refused", refused.number, None))
-        if not isinstance(found, cupdaisy.Receipt) or found.steps < (name != "delete"):
+        if not isinstance(found, interface.Receipt) or found.steps < (name != "delete"):
             raise Differs(f"{name} is answered by {found}")
         same(f"receipt of {name}", (found.number, found.id), (self.model.edits, unit))
         self.accepted([edit], [unit])
@@ -172,17 +169,17 @@ class Drawn:
             file.write(text)
             file.flush()
             before = self.model.ids
-            words = model.loaded(self.model, file.name).split()
+            words = scripts.loaded(self.model, file.name).split()
         found = answered(self.session.load, text)
         if "refused" in words:
             index = int(words[1]) if words[0] == "unit" else 0
             return same("load", found, ("refused", int(words[words.index("refused") + 1]), index))
-        if not isinstance(found, cupdaisy.LoadReceipt):
+        if not isinstance(found, interface.LoadReceipt):
             raise Differs(f"a load is answered by {found}")
         count = int(words[1])
         same("load", (found.number, found.units, found.first, found.index), (self.model.edits, count, before + 1, 0))
         # The first unit of an empty stream is inserted first, each other one after the one before it.
-        texts = [b"".join(syntax.START + nal for nal in nals) for nals in syntax.cut(syntax.split(text))]
+        texts = texts_of(text)
         afters = [unit[0] for unit in self.model.stream][-count - 1:-1] if len(self.model.stream) > count else [None, *(
             unit[0] for unit in self.model.stream[:-1])]
         for after, each in zip(afters, texts):
@@ -200,7 +197,7 @@ class Drawn:
         self.taken(answered(self.session.take_for, unit), due, self.model.take(needed))
 
     def taken(self, found, due, taken):
-        same("take", (found.number, found.unit) if isinstance(found, cupdaisy.Job) else found, taken)
+        same("take", (found.number, found.unit) if isinstance(found, interface.Job) else found, taken)
         if taken is not None:
             rows = {unit[0]: row for unit, row in zip(self.model.stream, self.model.rows)}
             self.jobs[taken[0]] = taken[1], rows[taken[1]], {unit: row.key for unit, row in rows.items()}, due[1]
@@ -249,7 +246,7 @@ class Drawn:
     def request(self, what, found, weights, text, wanted, timestamp, is_last):
         """A request by the model's: what is told beside the controls, their digest form, and the references' timestamps."""
         same(f"{what}, timestamp, hold and unit's begin", (found.timestamp, found.hold, found.unit_begins),
-             (timestamp, int(not is_last), len(syntax.START)))
+             (timestamp, int(not is_last), len(START)))
         same(f"{what}, bytes", (found.bytes, text), (len(wanted.text), wanted.text))
         form, values = b"", {}
         for control in kernel_structs.CONTROLS:
@@ -306,7 +303,7 @@ class Drawn:
             if isinstance(outcome, fold.Plan):
                 self.plan(unit, row, found)
             else:
-                kind, number = (cupdaisy.FAULT, outcome.number) if isinstance(outcome, fold.Fault) else (cupdaisy.EMPTY, 0)
+                kind, number = (interface.FAULT, outcome.number) if isinstance(outcome, fold.Fault) else (interface.EMPTY, 0)
                 same(f"outcome of {unit}", (found.kind, found.fault, found.slices), (kind, number, 0))
                 same(f"show {unit}", self.session.show(unit), None)
                 same(f"key of {unit}", answered(self.session.key, unit), ("refused", 107, None))
@@ -322,7 +319,7 @@ class Drawn:
         outcome = row.outcome
         same(f"outcome of {unit}",
              (found.kind, found.fault, found.top, found.bottom, found.order, found.begins_period, found.slices),
-             (cupdaisy.PLAN, 0, *outcome.counts, outcome.order, int(outcome.begins_period), len(outcome.requests)))
+             (interface.PLAN, 0, *outcome.counts, outcome.order, int(outcome.begins_period), len(outcome.requests)))
         same(f"position of {unit}", self.session.position(unit), row.position)
         same(f"unit at {row.position}", self.session.unit_at(row.position), unit)
         same(f"show {unit}", self.session.show(unit), self.model.pictures[row.key] if row.key in self.model.held else None)
@@ -346,19 +343,19 @@ class Drawn:
 
 def run(seed, steps, files, memory):
     """Runs a session; where it differs, if it does."""
-    with cupdaisy.Session(CACHE) as session:
+    with interface.Session(CACHE) as session:
         drawn = Drawn(random.Random(seed), files, memory, session)
         for number in range(steps):
             try:
                 drawn.step() if number else drawn.begin()
-            except (Differs, cupdaisy.Refused, kernel_structs.Differs) as fault:
+            except (Differs, interface.Refused, kernel_structs.Differs) as fault:
                 return f"step {number}: {fault!r}"
         found = session.journal()
         return "" if found == drawn.journal else f"the journal has {found}, and not {drawn.journal}"
 
 
 def main():
-    parser = argparse.ArgumentParser(description=__doc__, formatter_class=argparse.RawTextHelpFormatter)
+    parser = parser_of(__doc__)
     parser.add_argument("--sessions", type=int, default=10)
     parser.add_argument("--steps", type=int, default=60)
     parser.add_argument("--seed", type=int, default=0)
@@ -366,9 +363,9 @@ def main():
     options = parser.parse_args()
     if not os.path.exists(kernel_structs.HEADER):
         print(f"{kernel_structs.HEADER} isn't there: nothing was compared")
-        return 77
+        return NOT_INSTALLED
     memory, failures = kernel_structs.Memory(pathlib.Path(kernel_structs.HEADER).read_text()), 0
-    files = [units_of(path) for path in options.files]
+    files = [texts_of(path.read_bytes()) for path in options.files]
     for seed in range(options.seed, options.seed + options.sessions):
         wrong = run(seed, options.steps, files, memory)
         failures += bool(wrong)

@@ -1,18 +1,17 @@
 """The program bench/decode_stream: a stream planned, and decoded by the stand-in device.
 
 It is no crate of the workspace, so that the gate doesn't prove it; its code is called main.rt.txt, since the gate wants
-each .rt file in a crate. It is built in a temporary workspace, beside copies
-of the crates that it stands on with what was proved of them, so these are best proved before (`rt all check`).
+each .rt file in a crate. It is built in a temporary workspace, beside copies of the crates that it stands on with what was
+proved of them, so these are best proved before (`rt all check`).
 """
 import functools
 import pathlib
-import re
 import shutil
 import subprocess
 import sys
 import tempfile
 
-from workspace import TOP, below_all
+from cupdaisy.workspace import TOP, below_all, lines_of
 
 NAME = "decode_stream"
 LIBRARIES = ["access_unit", "request_core", "outcomes", "h264_controls", "stand_in_device", "pictures"]
@@ -27,12 +26,6 @@ def sources():
     yield from (SOURCE / "src").iterdir()
     for crate in below_all(LIBRARIES):
         yield from (TOP / "crates" / crate / "src").rglob("*.rt")
-
-
-def lines_of(crates):
-    """Their lines of crates.txt."""
-    lines = (TOP / "crates.txt").read_text().splitlines(keepends=True)
-    return "".join(line for line in lines if re.match(r"\w*", line)[0] in crates)
 
 
 def build():

@@ -1,9 +1,12 @@
-"""The repository's top, the crates of crates.txt, and copies of them."""
+"""The repository's top, the crates of crates.txt with their sources, copies of them, and the toolchain's folder."""
 import pathlib
 import re
 import shutil
 
-TOP = pathlib.Path(__file__).resolve().parent.parent
+from cupdaisy import processes
+
+TOP = pathlib.Path(__file__).resolve().parent.parent.parent
+SAMPLES = TOP / "samples"
 LINE = re.compile(r"(\w+)[^:]*:(.*)")
 
 
@@ -29,15 +32,34 @@ def below_all(names):
     return [crate for crate in listed if crate in found]
 
 
+def lines_of(names):
+    """The lines of crates.txt of these crates."""
+    lines = (TOP / "crates.txt").read_text().splitlines(keepends=True)
+    return "".join(line for line in lines if re.match(r"\w*", line)[0] in names)
+
+
 def copy_of(name, folder, is_built=True):
     """Copies a crate and those below it, with what was built of these where `is_built`, into a folder; the crate's there."""
     low = below(name)
-    lines = (TOP / "crates.txt").read_text().splitlines()
-    wanted = [line for line in lines if (re.match(r"\w+", line) or [""])[0] in (*low, name)]
-    (folder / "crates.txt").write_text("\n".join(wanted) + "\n")
+    (folder / "crates.txt").write_text(lines_of((*low, name)))
     shutil.copy(TOP / "HANDLES", folder)
     for crate in (*low, name):
         made = "incremental" if is_built else "out"
         left_out = shutil.ignore_patterns(*(["out"] if crate == name else [made, "must-fail", "more-edits"]))
         shutil.copytree(TOP / "crates" / crate, folder / "crates" / crate, ignore=left_out)
     return folder / "crates" / name
+
+
+def sources_of(*names):
+    """The paths from the top of the files that these crates are built from."""
+    return processes.printed([TOP / "tools/sources", "--files", *names], cwd=TOP).splitlines()
+
+
+def checksum_of(*names):
+    """The checksum of these files."""
+    return processes.printed([TOP / "tools/sources", *names], cwd=TOP).rstrip("\n")
+
+
+def kit():
+    """The toolchain's folder."""
+    return pathlib.Path(processes.printed(["rt", "doc"], cwd=TOP).rstrip("\n")).parent

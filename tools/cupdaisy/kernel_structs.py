@@ -1,12 +1,10 @@
 """The structs of <linux/v4l2-controls.h> for H.264, as the header has them, and the record of a request made of them."""
-import os
 import pathlib
 import re
 import struct
-import subprocess
 import tempfile
 
-from workspace import TOP
+from cupdaisy import processes
 
 HEADER = "/usr/include/linux/v4l2-controls.h"
 CONTROLS = ("sps", "pps", "scaling_matrix", "pred_weights", "slice_params", "decode_params")
@@ -17,8 +15,6 @@ NUMBER = re.compile(r"^#define (V4L2_H264_\w+)[ \t]+(0x[0-9a-fA-F]+|\d+|\(.*\))$
 # What has no part in the digest form.
 UNDIGESTED = ("reserved", "reference_ts")
 P, B = 0, 1
-# The program that PREVIEW names; without it bin/preview.
-PREVIEW = os.environ.get("PREVIEW") or str(TOP / "bin" / "preview")
 
 
 class Differs(Exception):
@@ -101,14 +97,10 @@ def record(form, params, dpb, text, pictures):
     return form
 
 
-def printed(*words):
-    return subprocess.run(words, stdout=subprocess.PIPE, text=True, check=False).stdout.splitlines()
-
-
 def shown_by_run(program, file, units):
     """What `run --hex` shows of each unit of a file, once all is settled."""
     with tempfile.NamedTemporaryFile("w", suffix=".script") as script:
         shows = "".join(f"show {number}\n" for number in range(1, units + 1))
         script.write(f"load {pathlib.Path(file).resolve()}\nsettle\n{shows}")
         script.flush()
-        return printed(program, "run", "--hex", script.name)[2:]
+        return processes.printed_anyway([program, "run", "--hex", script.name]).splitlines()[2:]

@@ -1,14 +1,13 @@
 """The plain fold over access units by ITU-T H.264, as docs/OUTPUT.md has its lines and faults: each unit's outcome from
-the state that those before it leave. Of stand_in.py it takes the forms of controls, counts and lists.
+the state that those before it leave. Of stand_in.py it takes counts and lists, of forms.py the forms of controls.
 """
 import hashlib
 import struct
 from typing import NamedTuple, Optional
 
-import stand_in
-import syntax
-from stand_in import B, IDR, P, Frame, pic_num
-from syntax import Cut, Value
+from cupdaisy import forms, stand_in, streams, syntax
+from cupdaisy.headers import B, IDR, P, Frame, marking, pic_num
+from cupdaisy.syntax import Cut, Value
 
 FAULTS = dict(enumerate((
     "MissingPps MissingSps HeaderCut HeaderValue Redundant SliceOrder SliceMismatch NoIdr SpsChange IdrFrameNum "
@@ -56,7 +55,7 @@ class Fold(stand_in.Decoder):
     def step(self, unit_id, unit):
         """What becomes of a unit: its Plan, its Fault, or that it is Empty."""
         for kind, read in unit.sets:
-            if kind == syntax.SPS:
+            if kind == streams.SPS:
                 self.sps[read["seq_parameter_set_id"]] = read
             else:
                 self.pps[read["pic_parameter_set_id"]] = read
@@ -72,7 +71,7 @@ class Fold(stand_in.Decoder):
         header, sps = slices[0][0], slices[0][1]
         self.test_slices(slices)
         self.test_frame(header, sps)
-        operations = stand_in.marking(header)[0]
+        operations = marking(header)[0]
         resets = any(number == 5 for number, _ in operations)
         counts = self.counts(sps, slices[0][2], header)
         low = min(counts[:2]) if resets else 0
@@ -127,7 +126,7 @@ class Fold(stand_in.Decoder):
         def shared(header, sps):
             flags = [header[name] for name in ("no_output_of_prior_pics_flag", "long_term_reference_flag",
                                                "adaptive_ref_pic_marking_mode_flag")]
-            return [sps["seq_parameter_set_id"], *(header[name] for name in SAME), flags, stand_in.marking(header)[0]]
+            return [sps["seq_parameter_set_id"], *(header[name] for name in SAME), flags, marking(header)[0]]
         if any(shared(header, sps) != shared(*slices[0][:2]) for header, sps, _ in slices):
             raise Fault(7)
 
@@ -201,17 +200,15 @@ class Fold(stand_in.Decoder):
     def request(self, unit_id, place, count, slice_read, counts, dpb, lists, nal):
         """The request of a slice."""
         header, sps, pps = slice_read
-        form = (stand_in.sps_form(sps) + stand_in.pps_form(sps, pps) + stand_in.matrix_form(sps, pps)
-                + stand_in.weights_form(sps, pps, header) + stand_in.slice_form(pps, header, lists)
-                + stand_in.decode_form(sps, header, counts, dpb))
+        form = forms.of_request(sps, pps, header, counts, dpb, lists)
         named = ",".join(f"{1000 * frame.unit}:{pic_num(sps, header, frame)}:{3 if frame.long_term is None else 7}"
                          for frame in dpb) or "-"
         texts = [",".join("x" if entry is None else str(entry) for entry in entries) or "-" for entries in lists]
-        line = (f"request {unit_id}.{place} ts {1000 * unit_id} bits {header.fields[-1][3]} "
+        line = (f"request {unit_id}.{place} ts {1000 * unit_id} bits {header.end()} "
                 f"type {header['slice_type'] % 5} frame {header['frame_num']} dpb {named} l0 {texts[0]} l1 {texts[1]} "
                 f"hold {int(place + 1 < count)}")
         entries = [None if entry is None else dpb[entry].unit for entries in lists for entry in entries]
-        return Request(line, form, syntax.START + nal, entries)
+        return Request(line, form, streams.START + nal, entries)
 
     def go_on(self, header, sps, counts, resets, frames, greatest):
         """The state after a valid picture."""

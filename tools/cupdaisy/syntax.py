@@ -1,32 +1,16 @@
-"""Texts of access units read by ITU-T H.264 as README.md limits it: the byte stream (Annex B), parameter sets and slice
-headers (7.3), and what is refused of a text. Plain and slow: a bit at a time, each field by its name.
+"""Texts of access units read by ITU-T H.264 as README.md limits it: parameter sets and slice headers (7.3), and what is
+refused of a unit. Plain and slow: a bit at a time, each field by its name.
 
-What is read is a stand_in.Traced, with the names of ffmpeg's trace_headers, so that stand_in.py's forms are made of it.
+What is read is a traces.Traced, with the names of ffmpeg's trace_headers, so that the forms of forms.py are made of it.
 """
 import re
 
-import stand_in
-from stand_in import B, I, IDR, P
+from cupdaisy.headers import B, I, IDR, P, active_counts
+from cupdaisy.streams import BEFORE_SLICES, PPS, REFUSED_TYPES, SLICES, SPS, Refused, begins_picture, split, text_of, type_of
+from cupdaisy.traces import Traced
 
-START = b"\0\0\1"
-SLICE, SPS, PPS = 1, 7, 8
-SLICES = (SLICE, IDR)
-REFUSED_TYPES = (2, 3, 4, 13, 14, 15, 19, 20, 21)
-BEFORE_SLICES = (*range(6, 10), *range(14, 19))
 PROFILES, HIGH_PROFILES = (66, 77, 100, 110, 122), (100, 110, 122)
 MOST_BYTES, MOST_SLICES, MOST_OPERATIONS = 4194304, 256, 64
-# No refusal has the number 12.
-REFUSALS = dict(enumerate((
-    "Split UnitType ForbiddenBit Sps Pps Switching MixedIdr IdrNotIntra IdrNotReference MixedReference UnitOrder "
-    "- TwoPictures TooLarge Memory NoSuchUnit StreamFull IdsSpent").split(), 1))
-
-
-class Refused(Exception):
-    """A text is no access unit, by the number of docs/OUTPUT.md."""
-
-    def __init__(self, number):
-        super().__init__(REFUSALS[number])
-        self.number = number
 
 
 class Cut(Exception):
@@ -37,47 +21,13 @@ class Value(Exception):
     """A field is out of its range, or its code has more than 31 zeros."""
 
 
-def split(text):
-    """The NAL units of a byte stream."""
-    front, *parts = text.split(START)
-    units = [part.rstrip(b"\0") for part in parts]
-    if front.strip(b"\0") or not units or not all(units):
-        raise Refused(1)
-    if any(re.search(rb"\x00\x00[\x00-\x02]|\x00\x00\x03[^\x00-\x03]", unit, re.DOTALL) for unit in units):
-        raise Refused(1)
-    return units
-
-
-def type_of(nal):
-    return nal[0] & 31
-
-
-def begins_picture(nal):
-    """Whether a slice begins at macroblock 0, by its first code."""
-    return len(nal) > 1 and nal[1] >= 128
-
-
-def cut(nals):
-    """The access units of a stream."""
-    units, sliced = [], False
-    for nal in nals:
-        kind = type_of(nal)
-        begins = kind in BEFORE_SLICES or kind in SLICES and begins_picture(nal)
-        if not units or sliced and begins:
-            units.append([])
-            sliced = False
-        units[-1].append(nal)
-        sliced = sliced or kind in SLICES
-    return units
-
-
 class Reader:
     """The fields of a NAL unit, read from its payload one after the other."""
 
     def __init__(self, nal):
         payload = re.sub(rb"\x00\x00\x03", b"\0\0", nal)
         self.bits, self.place = "".join(f"{byte:08b}" for byte in payload), 0
-        self.unit = stand_in.Traced(None)
+        self.unit = Traced(None)
         if not payload:
             raise Cut
         self.fixed("forbidden_zero_bit", 1)
@@ -227,7 +177,7 @@ def read_slice(nal, sps, pps):
     if slice_type in (P, B) and reader.flag("num_ref_idx_active_override_flag"):
         for x in range(1 + (slice_type == B)):
             reader.ue(f"num_ref_idx_l{x}_active_minus1", 31)
-    active = stand_in.active_counts(pps, header)
+    active = active_counts(pps, header)
     for x in range({P: 1, B: 2}.get(slice_type, 0)):
         if reader.flag(f"ref_pic_list_modification_flag_l{x}"):
             read_commands(reader, active[x], 1 << sps["log2_max_frame_num_minus4"] + 4)
@@ -310,7 +260,7 @@ class Unit:
 
     def __init__(self, nals):
         self.slices, self.sets = [], []
-        if sum(len(START + nal) for nal in nals) > MOST_BYTES:
+        if len(text_of(nals)) > MOST_BYTES:
             raise Refused(14)
         for nal in nals:
             shown = list(self.refusals(nal))

@@ -10,9 +10,8 @@ import re
 from typing import NamedTuple
 from unittest.mock import ANY
 
-import session
-import syntax
-from fold import Empty, Plan
+from cupdaisy import session, streams, syntax
+from cupdaisy.fold import Empty, Plan
 
 MOST_LINE, MOST_TOLD, MOST_WANTED, MOST_NUMBER, MOST_DEPTH = 64 << 20, 1000, 64, 1 << 64, 127
 MESSAGES = {-32700: "Parse error", -32600: "Invalid Request", -32601: "Method not found", -32602: "Invalid params"}
@@ -183,7 +182,7 @@ class Server:
     def edit(self, edit):
         try:
             number = self.session.edit(edit)
-        except syntax.Refused as refusal:
+        except streams.Refused as refusal:
             raise refused(refusal) from None
         self.bytes += size_of(edit)
         return {"edit": self.session.edits, "id": number, "steps": ANY}
@@ -218,19 +217,19 @@ class Server:
 
     def load_text(self, text):
         try:
-            units = syntax.cut(syntax.split(text))
-        except syntax.Refused as refusal:
+            units = streams.cut(streams.split(text))
+        except streams.Refused as refusal:
             raise refused(refusal) from None
         for index, nals in enumerate(units):
             try:
                 syntax.Unit(nals)
-            except syntax.Refused as refusal:
+            except streams.Refused as refusal:
                 raise refused(refusal, {"index": index}) from None
         if len(self.session.stream) + len(units) > session.MOST_UNITS:
             raise Failed(17, "StreamFull")
         first = self.session.ids + 1
         for nals in units:
-            text, stream = b"".join(syntax.START + nal for nal in nals), self.session.stream
+            text, stream = streams.text_of(nals), self.session.stream
             self.edit(("after", stream[-1][0], text) if stream else ("first", text))
         return {"units": len(units), "first": first, "last": self.session.ids}
 

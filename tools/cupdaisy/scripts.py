@@ -1,22 +1,15 @@
-"""A session over a stream under edits, and scripts that run on one (docs/OUTPUT.md), as plain lists."""
+"""Scripts that run on a session (docs/OUTPUT.md): their commands, and the lines that answer them."""
 import os
 import re
 from typing import NamedTuple
 
-import fold
-import syntax
-from fold import Empty, Plan
-
-MOST_UNITS, MOST_IDS, MOST_EDITS = 65536, 4294967295, 1024
-
+from cupdaisy import streams, syntax
+from cupdaisy.fold import Empty, Plan
+from cupdaisy.session import MOST_UNITS, GroupRefused, Session
 
 EDITS = "first", "after", "replace", "delete"
 # The commands that are none without workers, and those that are none beside them.
 OF_WORKERS, OF_JOBS = ("want", "rest"), ("unit", "json", "take", "land", "give")
-
-
-class Open(Exception):
-    """The answer isn't decided by docs/OUTPUT.md."""
 
 
 class Wrong(Exception):
@@ -29,155 +22,6 @@ class WrongLine(Exception):
 
 class Cannot(Exception):
     """A file can't be read."""
-
-
-class GroupRefused(Exception):
-    """A group is refused, as its line says."""
-
-
-class Job(NamedTuple):
-    number: int
-    key: bytes
-
-
-def place_in(stream, unit_id):
-    return next((at for at, unit in enumerate(stream) if unit[0] == unit_id), None)
-
-
-def edited(stream, ids, edit):
-    """The stream after an edit, how many ids are given then, and the id that it is about."""
-    name, *operands = edit
-    if name in ("first", "after"):
-        unit = syntax.read_unit(operands[-1])
-        after = 0 if name == "first" else place_in(stream, operands[0])
-        at = after if name == "first" or after is None else after + 1
-        for number, is_so in ((16, at is None), (17, len(stream) >= MOST_UNITS), (18, ids >= MOST_IDS)):
-            if is_so:
-                raise syntax.Refused(number)
-        return stream[:at] + [(ids + 1, unit)] + stream[at:], ids + 1, ids + 1
-    unit_id = operands[0]
-    put = [(unit_id, syntax.read_unit(operands[1]))] if name == "replace" else []
-    at = place_in(stream, unit_id)
-    if at is None:
-        raise syntax.Refused(16)
-    return stream[:at] + put + stream[at + 1:], ids, unit_id
-
-
-class Session:
-    """The stream with a row for each unit, the pictures held and cached by their keys, and the jobs that are out."""
-
-    def __init__(self, room):
-        self.room, self.stream, self.rows, self.edits, self.ids, self.jobs = room, [], [], 0, 0, 0
-        # The cache's keys lie in groups of those that went out of use at once, the last group first.
-        self.pictures, self.held, self.cached, self.out = {}, set(), [], []
-
-    def place(self, unit_id):
-        return place_in(self.stream, unit_id)
-
-    def edit(self, edit):
-        """Makes an edit; the id that it is about."""
-        stream, ids, unit_id = edited(self.stream, self.ids, edit)
-        self.change(stream, ids)
-        return unit_id
-
-    def group(self, edits):
-        """Makes edits as one step; their ids."""
-        if not edits:
-            raise GroupRefused("20 EmptyGroup")
-        if len(edits) > MOST_EDITS:
-            raise GroupRefused("21 GroupTooLarge")
-        stream, ids, about = self.stream, self.ids, []
-        for index, edit in enumerate(edits):
-            try:
-                stream, ids, unit_id = edited(stream, ids, edit)
-            except syntax.Refused as refused:
-                raise GroupRefused(f"at {index} {refused.number} {refused}") from None
-            about.append(unit_id)
-        self.change(stream, ids)
-        return about
-
-    def change(self, stream, ids):
-        """The stream becomes this one, with so many ids given, in one step."""
-        self.stream, self.ids = stream, ids
-        self.rows, self.edits = fold.rows(stream, self.pictures), self.edits + 1
-        in_use = {row.key for row in self.rows} - {None}
-        cached = {key for group in self.cached for key in group}
-        gone = self.held - in_use
-        self.held = in_use & (self.held | cached)
-        self.cached = [group - in_use for group in self.cached]
-        self.cached = [group for group in [gone] + self.cached if group]
-        self.shorten()
-
-    def shorten(self):
-        """Drops what the cache has no room for."""
-        while (over := sum(map(len, self.cached)) - self.room) > 0:
-            if len(self.cached[-1]) > over:
-                raise Open("which of several pictures the full cache drops")
-            self.cached.pop()
-
-    def named(self, row):
-        """The ids of the units that a valid unit's lists name."""
-        return {named for request in row.outcome.requests for named in request.entries if named is not None}
-
-    def needed(self, unit_id):
-        """The ids of the units that the picture of one needs: pending ones that it names, and those that these name."""
-        rows, found, left = {unit[0]: row for unit, row in zip(self.stream, self.rows)}, set(), [unit_id]
-        while left:
-            each = left.pop()
-            row = rows.get(each)
-            if row is not None and row.key is not None and row.key not in self.held and each not in found:
-                found.add(each)
-                left += self.named(row)
-        return found
-
-    def due(self, among=None):
-        """The earliest unit whose picture is due, among those of some ids if any are given, and its key."""
-        out = {job.key for job in self.out}
-        keys = {unit[0]: row.key for unit, row in zip(self.stream, self.rows)}
-        for (unit_id, _), row in zip(self.stream, self.rows):
-            if row.key is None or row.key in self.held or row.key in out or among is not None and unit_id not in among:
-                continue
-            if {keys[named] for named in self.named(row)} <= self.held:
-                return unit_id, row.key
-        return None
-
-    def take(self, among=None):
-        """The number and the unit of a job that goes out, of a needed one of some ids if any are given."""
-        found = self.due(among)
-        if found is None:
-            return None
-        self.jobs += 1
-        self.out.append(Job(self.jobs, found[1]))
-        return self.jobs, found[0]
-
-    def drop(self, unit_id):
-        """The picture of a unit is gone: dropped, not held, or none."""
-        at = self.place(unit_id)
-        if at is None:
-            return "none"
-        if self.rows[at].key not in self.held:
-            return "not held"
-        self.held.remove(self.rows[at].key)
-        return "dropped"
-
-    def clear(self):
-        """No picture is cached any more."""
-        self.cached = []
-
-    def leave(self, number):
-        """The job of this number, which is out no more, or None."""
-        job = next((job for job in self.out if job.number == number), None)
-        self.out = [other for other in self.out if other is not job]
-        return job
-
-    def land(self, number):
-        job = self.leave(number)
-        if job is None:
-            return "none"
-        if job.key in self.held or job.key not in {row.key for row in self.rows}:
-            return "stale"
-        self.held.add(job.key)
-        return "taken"
 
 
 class Ran(NamedTuple):
@@ -315,7 +159,7 @@ def among_of(session, operands):
 def edit_line(session, edit):
     try:
         unit_id = session.edit(edit)
-    except syntax.Refused as refused:
+    except streams.Refused as refused:
         return f"refused {refused.number} {refused}\n"
     return f"edit {session.edits} id {unit_id}\n"
 
@@ -336,18 +180,18 @@ def loaded(session, path):
     except OSError:
         raise Cannot(path) from None
     try:
-        units = syntax.cut(syntax.split(text))
-    except syntax.Refused as refused:
+        units = streams.cut(streams.split(text))
+    except streams.Refused as refused:
         return f"refused {refused.number} {refused}\n"
     for index, nals in enumerate(units):
         try:
             syntax.Unit(nals)
-        except syntax.Refused as refused:
+        except streams.Refused as refused:
             return f"unit {index} refused {refused.number} {refused}\n"
     if len(session.stream) + len(units) > MOST_UNITS:
         return "refused 17 StreamFull\n"
     for nals in units:
-        text = b"".join(syntax.START + nal for nal in nals)
+        text = streams.text_of(nals)
         session.edit(("after", session.stream[-1][0], text) if session.stream else ("first", text))
     return f"loaded {len(units)}\n"
 

@@ -1,0 +1,291 @@
+"""Drives the server by drawn messages, and holds its answers against a plain model."""
+import base64
+import json
+import pathlib
+import queue
+import random
+import subprocess
+import threading
+
+from cupdaisy import processes, serve_model
+from cupdaisy.command_line import add_numbers, parser_of
+from cupdaisy.program import program
+from cupdaisy.session import Open
+from cupdaisy.streams import texts_of
+from cupdaisy.workspace import SAMPLES
+
+SECONDS, UNITS, DEEP = 60, 12, 10_000
+FILES = sorted(SAMPLES.glob("*.264"))
+
+
+class Wrong(Exception):
+    """The server answers otherwise."""
+
+
+class Client:
+    """A server in a process of its own, and the lines that it writes."""
+
+    def __init__(self, program, workers):
+        self.process = subprocess.Popen([program, "serve", "--workers", str(workers), "--cache", "4096"],
+                                        stdin=subprocess.PIPE, stdout=subprocess.PIPE)
+        self.lines = queue.Queue()
+        threading.Thread(target=self.read, daemon=True).start()
+
+    def read(self):
+        for line in self.process.stdout:
+            self.lines.put(line)
+        self.lines.put(b"")
+
+    def send(self, line):
+        self.process.stdin.write(line)
+        self.process.stdin.flush()
+
+    def receive(self):
+        try:
+            line = self.lines.get(timeout=SECONDS)
+        except queue.Empty:
+            raise Wrong(f"nothing within {SECONDS} s") from None
+        if not line.endswith(b"\n"):
+            raise Wrong(f"a line isn't whole: {line[:200]!r}")
+        return json.loads(line)
+
+    def end(self):
+        """Closes the input: the status, once all that was written is read."""
+        self.process.stdin.close()
+        left = list(iter(lambda: self.lines.get(timeout=SECONDS), b""))
+        return self.process.wait(SECONDS), left
+
+
+def text_of(data):
+    return base64.b64encode(data).decode()
+
+
+class Drawn:
+    """Messages drawn over the units of a stream."""
+
+    def __init__(self, seed, workers, texts, damage):
+        self.rng, self.texts, self.damage = random.Random(seed), texts, damage
+        self.model, self.number = serve_model.Server(workers), 0
+        self.kinds = {"insert": 6, "delete": 3, "replace": 4, "group": 3, "units": 2, "find": 2, "show": 4, "want": 2, "drop": 2,
+                      "stats": 1, "load": 1, "wrong": 2} | ({} if workers else {"take": 10, "land": 8, "give_back": 2})
+
+    def line(self):
+        """The next message, damaged now and then."""
+        kind = self.rng.choices(list(self.kinds), list(self.kinds.values()))[0]
+        self.number += 1
+        message = {"jsonrpc": "2.0"} | ({"id": self.number} if self.rng.random() < 0.9 else {})
+        message |= {"method": kind, "params": getattr(self, kind)()} if kind != "wrong" else self.wrong()
+        line = json.dumps(message).encode()
+        return self.damaged(line) if self.rng.random() * 100 < self.damage else line
+
+    def damaged(self, line):
+        line = bytearray(line)
+        for _ in range(self.rng.randint(1, 3)):
+            at = self.rng.randrange(len(line) + 1)
+            part = self.rng.choice((b"", b"", b"0", b"9", b'"', b",", b"null", b"[", b"}", b"\\", b"-", b".5", b"=", b"\xff"))
+            line[at:at + self.rng.choice((0, 1, 1, 5, 40))] = part
+        return bytes(line)
+
+    def id(self):
+        """The id of a unit, mostly of one that is there."""
+        stream = self.model.session.stream
+        if not stream or self.rng.random() < 0.1:
+            return self.rng.choice((0, self.model.session.ids, self.model.session.ids + 1, 1 << 32, (1 << 64) - 1))
+        return self.rng.choice(stream)[0]
+
+    def text(self):
+        text = self.rng.choice(self.texts)
+        return text_of(text if self.rng.random() < 0.9 else text[:self.rng.randrange(len(text))])
+
+    def insert(self):
+        return {"after": None if self.rng.random() < 0.2 else self.id(), "bytes": self.text()}
+
+    def delete(self):
+        return {"id": self.id()}
+
+    def replace(self):
+        return {"id": self.id(), "bytes": self.text()}
+
+    def group(self):
+        names = self.rng.choices(("insert", "delete", "replace"), k=self.rng.choice((0, 1, 2, 2, 3)))
+        return {"edits": [{name: getattr(self, name)()} for name in names]}
+
+    def units(self):
+        return {"from": self.rng.randrange(20), "count": self.rng.choice((0, 1, 5, 1000, 1001)),
+                "controls": self.rng.random() < 0.2}
+
+    def find(self):
+        return {"position": self.rng.randrange(20)}
+
+    show = delete
+
+    def want(self):
+        ids = [self.id() for _ in range(self.rng.choice((0, 1, 3, 5, 65)))]
+        return {"ids": ids} | ({"rest": self.rng.random() < 0.5} if self.rng.random() < 0.5 else {})
+
+    def drop(self):
+        return {} if self.rng.random() < 0.3 else self.delete()
+
+    take = drop
+
+    def land(self):
+        return {"job": self.rng.choice([job.number for job in self.model.session.out] or [1])}
+
+    give_back = land
+
+    def stats(self):
+        return {}
+
+    def load(self):
+        units = self.texts[:self.rng.randint(1, 4)] if len(self.model.session.stream) < 40 else []
+        return {"bytes": text_of(b"".join(units))} if self.rng.random() < 0.7 else {"path": "missing"}
+
+    def wrong(self):
+        return self.rng.choice(({"method": "sow"}, {"method": 1}, {"method": "show", "params": [1]},
+                                {"method": "stats", "params": [1]}, {"method": "land", "params": {"job": "1"}}, {}))
+
+
+class Run:
+    """A drawn run beside a server, and what was told of each wanted unit since the last `want`."""
+
+    def __init__(self, client, drawn):
+        self.client, self.drawn, self.model, self.told = client, drawn, drawn.model, {}
+        # The pictures that wanted units may have, after each message since the last one that was answered.
+        self.may_be = [{}]
+
+    def message(self, line):
+        """Sends a line, and holds what comes of it against the model."""
+        wanted, news = self.model.line(line)
+        self.client.send(line + b"\n")
+        if self.model.workers and wanted is not None:
+            self.tell_until_answer(line, wanted)
+        elif not self.model.workers:
+            for each in ([] if wanted is None else [wanted]) + news:
+                self.compare(line, each, self.client.receive())
+        pictures = {number: self.model.picture(number) for number in self.model.wanted}
+        self.may_be = [pictures] if wanted is not None else self.may_be + [pictures]
+
+    def compare(self, line, wanted, found):
+        if isinstance(wanted.get("id"), serve_model.Float):
+            wanted = wanted | {"id": serve_model.ANY}
+        if wanted != found:
+            raise Wrong(f"{line[:300]!r}: {found}, not {wanted}")
+
+    def tell_until_answer(self, line, wanted):
+        """Reads notifications, which are of the stream before a message, and its answer."""
+        while "method" in (found := self.client.receive()):
+            self.tell(found)
+        self.compare(line, wanted, found)
+        if isinstance(found.get("result"), dict) and "ready" in found["result"]:
+            self.told = {told["id"]: told["picture"] for told in found["result"]["ready"]}
+
+    def tell(self, found):
+        """Holds a notification against the pictures that its unit may have and the one that was told last."""
+        number, picture = found["params"]["id"], found["params"]["picture"]
+        is_right = found == {"jsonrpc": "2.0", "method": "ready", "params": {"id": number, "picture": picture}}
+        if not is_right or all(pictures.get(number) != picture for pictures in self.may_be):
+            raise Wrong(f"{found} of {self.may_be}")
+        if len(self.may_be) == 1 and self.told.get(number) == picture:
+            raise Wrong(f"{found} is told again")
+        self.told[number] = picture
+
+    def finish(self):
+        """Wants units of the stream, of which each valid one has to be told, and ends the server."""
+        ids = [number for number, _ in self.model.session.stream][:serve_model.MOST_WANTED]
+        line = json.dumps({"jsonrpc": "2.0", "id": 0, "method": "want", "params": {"ids": ids}}).encode()
+        self.message(line)
+        left = {number for number in ids if self.model.picture(number)} - set(self.told)
+        while self.model.workers and left:
+            self.tell(self.client.receive())
+            left -= set(self.told)
+        if (ended := self.client.end()) != (0, []):
+            raise Wrong(f"it ends with {ended}")
+
+
+def run(program, workers, seed, texts, options):
+    """What is wrong with a drawn run, if anything."""
+    client = Client(program, workers)
+    try:
+        drawn = Drawn(seed, workers, texts, options.damage)
+        running = Run(client, drawn)
+        for _ in range(options.messages):
+            running.message(drawn.line())
+        running.finish()
+    except Wrong as wrong:
+        return str(wrong)
+    except Open:
+        return None
+    finally:
+        client.process.kill()
+        client.process.wait()
+    return None
+
+
+def replies(program, workers, text):
+    """What a server writes for an input, and its status."""
+    ran = processes.run([program, "serve", "--workers", str(workers)], text, SECONDS)
+    return [json.loads(line) for line in ran.output.splitlines()], ran.status
+
+
+def edges(program, workers):
+    """What is wrong at the edges, if anything."""
+    call, nothing = b'{"jsonrpc":"2.0","id":1,"method":"drop"}', {"jsonrpc": "2.0", "id": 1, "result": "cleared"}
+    over = {"jsonrpc": "2.0", "id": None, "error": {"code": -32600, "message": "Invalid Request"}}
+    unread = {"jsonrpc": "2.0", "id": None, "error": {"code": -32700, "message": "Parse error"}}
+    shutdown = b'{"jsonrpc":"2.0","id":1,"method":"shutdown"}\n'
+    rows = [(call, [nothing]), (call + b"\r\n", [nothing]), (b"", []),
+            (call.ljust(serve_model.MOST_LINE) + b"\n" + call, [nothing, nothing]),
+            (call.ljust(serve_model.MOST_LINE + 1) + b"\n" + call, [over, nothing]),
+            (shutdown + call, [nothing | {"result": None}]),
+            (b"[" * DEEP + b"]" * DEEP + b"\n" + call, [unread, nothing]), (b"\xff\n\n" + call, [unread, unread, nothing])]
+    for text, wanted in rows:
+        if (found := replies(program, workers, text)) != (wanted, 0):
+            return f"{text[:60]!r}: {found}"
+    with open("/dev/full", "wb") as full:
+        ran = processes.run([program, "serve", "--workers", str(workers)], call, SECONDS, stdout=full)
+    if ran.status != 1:
+        return f"a full disk: status {ran.status}"
+    return closed_output(program, workers, call + b"\n", json.dumps(nothing, separators=(",", ":")).encode() + b"\n")
+
+
+def closed_output(program, workers, call, line):
+    """What is wrong where nobody reads the output any more after so many bytes, if anything."""
+    for count in (0, 1, len(line), len(line) + 7):
+        command = [program, "serve", "--workers", str(workers)]
+        process = subprocess.Popen(command, stdin=subprocess.PIPE, stdout=subprocess.PIPE, bufsize=0)
+        process.stdin.write(call * 4)
+        found = b""
+        while len(found) < count:
+            found += process.stdout.read(count - len(found))
+        process.stdout.close()
+        try:
+            for _ in range(1000):
+                process.stdin.write(call)
+            process.stdin.close()
+        except BrokenPipeError:
+            pass
+        status = process.wait(SECONDS)
+        if status != 1 or found != (line * 4)[:count]:
+            return f"an output that is closed after {count} bytes: {found!r}, status {status}"
+    return None
+
+
+def main(doc):
+    parser = parser_of(doc)
+    add_numbers(parser, runs=8, messages=300, seed=0, damage=20)
+    parser.add_argument("--workers", default="0,1,4", metavar="N,N..")
+    parser.add_argument("--streams", type=pathlib.Path, default=FILES, metavar="FILE", nargs="+")
+    parser.add_argument("program", metavar="PROGRAM", nargs="?")
+    options = parser.parse_args()
+    chosen = options.program or program()
+    parts = [texts_of(file.read_bytes())[:UNITS] for file in options.streams]
+    failures, seeds = 0, range(options.seed, options.seed + options.runs)
+    for workers in map(int, options.workers.split(",")):
+        found = {f"seed {seed}": run(chosen, workers, seed, parts[seed % len(parts)], options) for seed in seeds}
+        for name, wrong in (found | {"edges": edges(chosen, workers)}).items():
+            if wrong:
+                failures += 1
+                print(f"{workers} workers, {name}: {wrong}", flush=True)
+        print(f"{workers} workers: {len(seeds)} runs of {options.messages} messages", flush=True)
+    print(f"{failures} failures")
+    return 1 if failures else 0

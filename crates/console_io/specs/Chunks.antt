@@ -1,11 +1,11 @@
--- Text on its way to a writer.
-use Rattle.std.specs.Prelude.{◌≡◌, ℕ, ◌≤◌, ◌++◌, List, Option, length, take, string_bytes}
+-- Bytes on their way to a writer.
+use Rattle.std.specs.Prelude.{◌≡◌, ℕ, ◌≤◌, ◌++◌, List, Option, length, take}
 use Rattle.std.specs.Io.KnownBytes.{Appends}
 use Rattle.console_io.specs.declared.chunks.Chunks.{Chunks}
 
 -- what waits for the writer
 abbrev pub waiting_of : Chunks → List ℕ
-waiting_of chunks = string_bytes chunks.waiting
+waiting_of chunks = chunks.waiting.items
 
 -- the bytes are added to those that waited: a prefix of all went to the writer, and the rest waits
 pub record Adds (old : Chunks) (had : Option (List ℕ)) (bytes : List ℕ) (new : Chunks) (has : Option (List ℕ)) : Type 0 where

@@ -1,4 +1,4 @@
-//! Text on its way to a writer, in pieces of some 64 KB.
+//! Bytes on their way to a writer, in pieces of some 64 KB.
 
 ghost use Rattle.std.specs.Prelude.{◌≡◌, ◌<◌, ◌≤◌, ◌++◌, [], length, take, OnOk, OnErr, IfOk, IfSome, IsErrOf, IsOkUnless};
 ghost use Rattle.std.specs.Io.KnownBytes.{Appends, Keeps};
@@ -7,10 +7,9 @@ ghost use Rattle.console_io.specs.Chunks.{Adds, AppendsFront, waiting_of};
 
 use crate::sink::Sink;
 use std::alloc::{AllocError, Global};
-use std::fmt::Display;
 use std::io::ErrorKind;
 
-/// From how many bytes on the text that waits is written.
+/// From how many bytes on what waits is written.
 const CHUNK: usize = 64 * 1024;
 
 /// Why a text wasn't written.
@@ -30,37 +29,39 @@ impl From<AllocError> for PrintFault {
     }
 }
 
-/// The text that waits for a writer, which is called once for some 64 KB.
+/// The bytes that wait for a writer, which is called once for some 64 KB.
 #[derive(Drop)]
 pub struct Chunks {
-    waiting: String,
+    waiting: Vec<u8>,
 }
 
 impl Chunks {
-    /// No text waits.
+    /// No bytes wait.
     pub fn new(alloc: Global) -> Chunks
         ensures { waiting_of result ≡ [] }
     {
         Chunks {
-            waiting: String::new(alloc),
+            waiting: Vec::new(alloc),
         }
     }
 
-    /// Adds a text after those before it. Where it's the writer that fails, it has the prefix of all that waited.
-    pub fn print<D: Display + Drop, W: Sink>(
-        &mut self,
-        text: D,
-        writer: &mut W,
-    ) -> Result<(), PrintFault>
-        ensures ok { OnOk result (IfSome (D.output text) (λ bytes.
-            Adds self.old (W.contents writer.old) bytes self.new (W.contents writer.new))) }
-        ensures memory { IsErrOf result PrintFault.Memory
-            → Keeps (W.contents writer.old) (W.contents writer.new) }
-        ensures unwritten { IsErrOf result PrintFault.Unwritten → IfSome (D.output text) (λ bytes.
-            AppendsFront (W.contents writer.old) (W.contents writer.new) (waiting_of self.old ++ bytes)) }
-        ensures refused { IsErrOf result PrintFault.Unwritten → W.refuses writer.new }
+    /// Adds bytes after those before them.
+    pub fn add(&mut self, bytes: &[u8]) -> Result<(), AllocError>
+        ensures ok { OnOk result (waiting_of self.new ≡ waiting_of self.old ++ bytes.now) }
+        ensures err { OnErr result (waiting_of self.new ≡ waiting_of self.old) }
     {
-        self.waiting.write(text)?;
+        self.waiting.extend_from_slice(bytes)
+    }
+
+    /// Writes what waits, if it is long enough for a call of the writer.
+    pub fn pass_full<W: Sink>(&mut self, writer: &mut W) -> Result<(), PrintFault>
+        ensures ok { OnOk result
+            (Adds self.old (W.contents writer.old) [] self.new (W.contents writer.new)) }
+        ensures unwritten { OnErr result
+            (AppendsFront (W.contents writer.old) (W.contents writer.new) (waiting_of self.old)) }
+        ensures refused { OnErr result (W.refuses writer.new) }
+        ensures fault { IsOkUnless result PrintFault.Unwritten }
+    {
         if self.waiting.len() < CHUNK {
             return Ok(());
         }
@@ -77,7 +78,7 @@ impl Chunks {
         ensures refused { OnErr result (W.refuses writer.new) }
         ensures fault { IsOkUnless result PrintFault.Unwritten }
     {
-        write_bytes(writer, self.waiting.as_bytes())?;
+        write_bytes(writer, self.waiting.as_slice())?;
         self.waiting.clear();
         Ok(())
     }

@@ -1,6 +1,6 @@
 -- The fold over the units of a stream, unit after unit.
-use Rattle.std.proofs.Common.{◌≡◌, ◌∙◌, ℕ, ◌+◌, List, [], ◌∷◌, ◌++◌, length, map, refl, ap, sym, arith, string_bytes, suc}
-use Rattle.std.proofs.lemmas.List.{map-append, length-map}
+use Rattle.std.proofs.Common.{◌≡◌, ◌∙◌, ℕ, ◌+◌, List, [], ◌∷◌, ◌++◌, length, map, refl, ap, sym, arith, suc}
+use Rattle.std.proofs.lemmas.List.{map-append}
 use Rattle.outcomes.specs.declared.outcome.Outcome.{Outcome}
 use Rattle.request_core.specs.States.{FoldState, no_units}
 use Rattle.request_core.specs.Fold.{fold_step, outcomes_of}
@@ -32,9 +32,9 @@ module _ (done : List (List (List ℕ))) (folded : Folded) (is : IsFoldOf done f
   stream = numbered_from 1 done
 
   -- a unit is kept for each
-  pub count_is : length folded.tails.items ≡ length done
+  pub count_is : length folded.tails ≡ length done
   count_is =
-      sym (length-map folded.tails.items string_bytes) ∙ ap length is.tails_are ∙ length-tails_from 1 (outcomes_of stream)
+      ap length is.tails_are ∙ length-tails_from 1 (outcomes_of stream)
       ∙ length-outcomes_of stream ∙ length-numbered_from 1 done
 
   module _ (unit : List (List ℕ)) (id : ℕ) (id_is : id ≡ 1 + length done) where
@@ -61,7 +61,7 @@ module _ (done : List (List (List ℕ))) (folded : Folded) (is : IsFoldOf done f
         ap (λ l. l ++ shown_of after.1 ∷ []) is.outcomes_are ∙ sym (map-append shown_of (outcomes_of stream) (after.1 ∷ []))
         ∙ ap (map shown_of) (sym outcomes_next)
 
-    pub tails_more : map string_bytes folded.tails.items ++ outcome_tail id (fold_step folded.state id unit).1 ∷ []
+    pub tails_more : folded.tails ++ outcome_tail id (fold_step folded.state id unit).1 ∷ []
         ≡ tails_from 1 (outcomes_of (numbered_from 1 (done ++ unit ∷ [])))
     tails_more =
         let place : 1 + length (outcomes_of stream) ≡ id = omega (arith, length-outcomes_of stream, length-numbered_from 1 done, id_is) in

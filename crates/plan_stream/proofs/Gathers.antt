@@ -54,7 +54,7 @@ module _ (text left front rest : List ℕ) (is : IsFront left front rest) where
     }
 
     -- it's folded
-    pub comes-folded : (count : ℕ) (old new : Folded) → length old.tails.items < most_units
+    pub comes-folded : (count : ℕ) (old new : Folded) → length old.tails < most_units
         → ((done : Parts) → IsFoldOf done old → IsFoldOf (done ++ unit ∷ []) new)
         → ComesTo text left None count old → ComesTo text rest None (count + 1) new
     comes-folded count old new room goes (done, are, few, folded) = (
@@ -65,7 +65,7 @@ module _ (text left front rest : List ℕ) (is : IsFront left front rest) where
     )
 
     -- there is no room for it
-    pub comes-full : (count : ℕ) (folded : Folded) → most_units ≤ length folded.tails.items
+    pub comes-full : (count : ℕ) (folded : Folded) → most_units ≤ length folded.tails
         → ComesTo text left None count folded → ComesTo text rest (Some StreamFull) (count + 1) folded
     comes-full count folded full (done, are, few, fold) = (
       done ++ unit ∷ [],
@@ -88,14 +88,14 @@ module _ (text left front rest : List ℕ) (is : IsFront left front rest) where
     comes-some (Some refusal) count folded e comes = comes-more refusal count folded comes
 
     pub comes-taken : {E : Type 0} (before : Option Refusal) (count : ℕ) (old new : Folded) (result : Result ⊤ E) → before ≡ None
-        → length old.tails.items < most_units
+        → length old.tails < most_units
         → ((done : Parts) → IsFoldOf done old → OnOk result (IsFoldOf (done ++ unit ∷ []) new))
         → ComesTo text left before count old → OnOk result (ComesTo text rest before (count + 1) new)
     comes-taken None count old new (Ok x) e room goes comes = comes-folded count old new room goes comes
     comes-taken None count old new (Err error) e room goes comes = tt
     comes-taken (Some refusal) count old new result e room goes comes = absurd (cc)
 
-    pub comes-past : (before : Option Refusal) (count : ℕ) (folded : Folded) → before ≡ None → most_units ≤ length folded.tails.items
+    pub comes-past : (before : Option Refusal) (count : ℕ) (folded : Folded) → before ≡ None → most_units ≤ length folded.tails
         → ComesTo text left before count folded → ComesTo text rest (Some StreamFull) (count + 1) folded
     comes-past None count folded e full comes = comes-full count folded full comes
     comes-past (Some refusal) count folded e full comes = absurd (cc)

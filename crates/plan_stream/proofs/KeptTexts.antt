@@ -1,5 +1,5 @@
 -- The lines of units, of which those after the positions are kept.
-use Rattle.std.proofs.Common.{◌≡◌, ◌∙◌, ◌<◌, ◌≤◌, ℕ, ◌+◌, List, [], ◌∷◌, ◌++◌, length, map, drop, get_or, Option, None, string_bytes, refl, ap, sym, arith, append_assoc, append-nil}
+use Rattle.std.proofs.Common.{◌≡◌, ◌∙◌, ◌<◌, ◌≤◌, ℕ, ◌+◌, List, [], ◌∷◌, ◌++◌, length, map, drop, get_or, Option, None, refl, ap, sym, arith, append_assoc, append-nil}
 use Rattle.std.proofs.lemmas.List.{drop_all, drop_more}
 use Rattle.outcomes.specs.declared.outcome.Outcome.{Outcome}
 use Rattle.outcomes.specs.declared.outcome.Outcome.TheVariants as outcomes
@@ -35,7 +35,7 @@ kept_is id (unit ∷ done) (outcome ∷ stream) (position ∷ positions) same =
 
 pub kept_all : (done : List (List (List ℕ))) (folded : Folded) (positions : List (Option ℕ)) → IsFoldOf done folded
     → positions ≡ positions_of folded.outcomes.items
-    → kept_text 1 folded.outcomes.items positions (map string_bytes folded.tails.items) ≡ stream_text (numbered_from 1 done)
+    → kept_text 1 folded.outcomes.items positions folded.tails ≡ stream_text (numbered_from 1 done)
 kept_all done folded positions is placed =
     let stream = outcomes_of (numbered_from 1 done) in
     let there : positions ≡ positions_of stream = placed ∙ ap positions_of is.outcomes_are ∙ same_positions stream in

@@ -6,3 +6,4 @@ pub mod KeptTexts
 pub mod Gathers
 pub mod Windows
 pub mod PlanEnds
+pub mod Pieces

@@ -1,5 +1,5 @@
 -- The fold over a stream's units, and what is kept of each for its lines.
-use Rattle.std.specs.Prelude.{◌≡◌, ℕ, ◌+◌, ◌≤◌, ◌++◌, List, [], ◌∷◌, Option, length, map, string_bytes}
+use Rattle.std.specs.Prelude.{◌≡◌, ℕ, ◌+◌, ◌≤◌, ◌++◌, List, [], ◌∷◌, Option, length, map}
 use Rattle.outcomes.specs.declared.outcome.Outcome.{Outcome}
 use Rattle.access_unit.specs.Rooms.{IsStream, most_units}
 use Rattle.request_core.specs.States.{no_units}
@@ -25,7 +25,7 @@ kept_text id outcomes positions tails = []
 pub record IsFoldOf (done : List (List (List ℕ))) (folded : Folded) : Type 0 where
   pub state_is : folded.state ≡ state_from no_units (numbered_from 1 done)
   pub outcomes_are : folded.outcomes.items ≡ map shown_of (outcomes_of (numbered_from 1 done))
-  pub tails_are : map string_bytes folded.tails.items ≡ tails_from 1 (outcomes_of (numbered_from 1 done))
+  pub tails_are : folded.tails ≡ tails_from 1 (outcomes_of (numbered_from 1 done))
 
 -- the text is a stream, of which all access units were folded
 pub record IsFoldOfStream (text : List ℕ) (folded : Folded) : Type 0 where

@@ -5,5 +5,5 @@ pub mod Streams
 pub mod Shown
 pub mod Folds
 pub mod Gathering
-pub mod KeptLines
+pub mod Pieces
 pub mod RefusalWith

@@ -1,10 +1,10 @@
 //! The fold over the units of a stream, with what is kept of each.
 
-ghost use Rattle.std.specs.Prelude.{◌≡◌, ◌+◌, ◌<◌, ◌≤◌, ◌++◌, [], ◌∷◌, List, ℕ, IfOk, OnOk, string_bytes, vec_len};
+ghost use Rattle.std.specs.Prelude.{◌+◌, ◌<◌, ◌≤◌, ◌++◌, [], ◌∷◌, List, ℕ, IfOk, OnOk, length, vec_len};
 ghost use Rattle.access_unit.specs.Rooms.{most_units};
-ghost use Rattle.unit_lines.specs.UnitLines.{outcome_tail};
 
 use crate::shown::shown_of;
+use crate::tails::Tails;
 use access_unit::Unit;
 use outcomes::Outcome;
 use pictures::AuId;
@@ -18,12 +18,11 @@ pub(crate) struct Folded {
     pub(crate) state: State,
     /// Each unit's outcome, without its requests.
     pub(crate) outcomes: Vec<Outcome>,
-    /// The lines of each unit after its position.
-    pub(crate) tails: Vec<String>,
+    pub(crate) tails: Tails,
     /// Where the lines of a unit are written before they are kept.
     text: String,
-    ghost kept: { vec_len outcomes ≤ vec_len tails },
-    ghost few: { vec_len tails ≤ most_units },
+    ghost kept: { vec_len outcomes ≤ length tails },
+    ghost few: { length tails ≤ most_units },
 }
 
 impl Folded {
@@ -36,38 +35,28 @@ impl Folded {
         Ok(Folded {
             state: State::new(alloc)?,
             outcomes: Vec::new(alloc),
-            tails: Vec::new(alloc),
+            tails: Tails::new(alloc),
             text: String::new(alloc),
         })
     }
 
     /// Takes one unit more.
     pub(crate) fn add(&mut self, alloc: Global, unit: &Unit) -> Result<(), AllocError>
-        requires { vec_len self.old.tails < most_units }
+        requires { length self.old.tails < most_units }
         ensures { (done : List (List (List ℕ))) → IsFoldOf done self.old
             → OnOk result (IsFoldOf (done ++ unit.now ∷ []) self.new) }
     {
         let id = AuId::new(self.tails.len() as u32 + 1);
         let mut steps = Steps::new();
         let (state, outcome) = step(alloc, &self.state, id, unit, &mut steps)?;
-        let tail = kept_tail(alloc, &mut self.text, id, &outcome)?;
-        self.tails.push(tail)?;
+        UnitTail {
+            id,
+            outcome: &outcome,
+        }
+        .write_to(&mut self.text)?;
+        self.tails.push(self.text.as_bytes())?;
         self.outcomes.push(shown_of(alloc, &outcome))?;
         self.state = state;
         Ok(())
     }
-}
-
-/// The lines of a unit after its position, in just the bytes that they take. They are written into the text first.
-fn kept_tail(
-    alloc: Global,
-    text: &mut String,
-    id: AuId,
-    outcome: &Outcome,
-) -> Result<String, AllocError>
-    ensures { IfOk result (λ tail. string_bytes tail ≡ outcome_tail id outcome.now) }
-{
-    text.clear();
-    text.write(UnitTail { id, outcome })?;
-    String::from_str(alloc, text.as_str())
 }

@@ -11,6 +11,7 @@ mod gathered;
 mod plan;
 mod printing;
 mod shown;
+mod tails;
 
 pub use fault::{PlanFault, say_plan_fault};
 pub use plan::{plan_on, print_refusal};

@@ -1,21 +1,20 @@
 //! The lines of a stream, of which what doesn't depend on positions is kept.
 
-ghost use Rattle.std.specs.Prelude.{◌≡◌, ◌≤◌, ◌++◌, List, ℕ, Some, length, map, string_bytes, IsErrOf, OnOk, vec_len};
-ghost use Rattle.std.specs.Io.KnownBytes.{Appends, Keeps};
+ghost use Rattle.std.specs.Prelude.{◌≡◌, ◌≤◌, ◌++◌, List, ℕ, length, IsErrOf, OnErr, OnOk};
+ghost use Rattle.std.specs.Io.KnownBytes.{Appends};
 ghost use Rattle.access_unit.specs.Rooms.{most_units};
 ghost use Rattle.console_io.specs.Chunks.{Adds, AppendsFront, waiting_of};
 ghost use Rattle.plan_stream.specs.Folds.{IsFoldOf, kept_text};
 ghost use Rattle.plan_stream.specs.Streams.{numbered_from};
 ghost use Rattle.plan_stream.specs.StreamText.{stream_text};
-ghost use Rattle.plan_stream.specs.KeptLines.{kept_lines};
+ghost use Rattle.unit_lines.specs.UnitLines.{unit_head};
 
 use crate::folded::Folded;
+use crate::tails::Tails;
 use console_io::{Chunks, PrintFault, Sink};
 use outcomes::Outcome;
 use pictures::AuId;
 use std::alloc::Global;
-use std::fmt;
-use std::fmt::{Display, Formatter, Write};
 use unit_lines::UnitHead;
 
 /// Prints the lines of all units that were folded.
@@ -32,11 +31,13 @@ pub(crate) fn print_all<W: Sink>(
     ensures refused { IsErrOf result PrintFault.Unwritten → W.refuses writer.new }
 {
     let positions = output_order::positions(alloc, &folded.outcomes)?;
+    let mut line = String::new(alloc);
     let mut chunks = Chunks::new(alloc);
     print_lines(
         &folded.outcomes,
         &positions,
         &folded.tails,
+        &mut line,
         &mut chunks,
         writer,
     )?;
@@ -47,7 +48,8 @@ pub(crate) fn print_all<W: Sink>(
 fn print_lines<W: Sink>(
     outcomes: &[Outcome],
     positions: &[Option<usize>],
-    tails: &[String],
+    tails: &Tails,
+    line: &mut String,
     chunks: &mut Chunks,
     writer: &mut W,
 ) -> Result<(), PrintFault>
@@ -55,43 +57,38 @@ fn print_lines<W: Sink>(
     requires tails { length outcomes.now ≤ length tails.now }
     requires few { length tails.now ≤ most_units }
     ensures ok { OnOk result (Adds chunks.old (W.contents writer.old)
-        (kept_text 1 outcomes.now positions.now (map string_bytes tails.now))
-        chunks.new (W.contents writer.new)) }
+        (kept_text 1 outcomes.now positions.now tails.now) chunks.new (W.contents writer.new)) }
     ensures written { AppendsFront (W.contents writer.old) (W.contents writer.new)
-        (waiting_of chunks.old
-        ++ kept_text 1 outcomes.now positions.now (map string_bytes tails.now)) }
+        (waiting_of chunks.old ++ kept_text 1 outcomes.now positions.now tails.now) }
     ensures refused { IsErrOf result PrintFault.Unwritten → W.refuses writer.new }
 {
     for (place, outcome) in outcomes.iter().enumerate() {
-        let lines = KeptLines {
+        let head = UnitHead {
             id: AuId::new(place as u32 + 1),
             outcome,
             position: positions[place],
-            tail: tails[place].as_str(),
         };
-        chunks.print(lines, writer)?;
+        print_unit(&head, tails.at(place), line, chunks, writer)?;
     }
     Ok(())
 }
 
-/// The lines of a unit, of which those after its position are kept.
-#[derive(Drop)]
-struct KeptLines<'a> {
-    id: AuId,
-    outcome: &'a Outcome,
-    position: Option<usize>,
-    tail: &'a str,
-}
-
-impl<'a> Display for KeptLines<'a> {
-    ghost output = { λ lines. Some (kept_lines lines) };
-
-    fn fmt<W: Write>(&self, f: &mut Formatter<W>) -> fmt::Result {
-        let head = UnitHead {
-            id: self.id,
-            outcome: self.outcome,
-            position: self.position,
-        };
-        write!(f, "{head}{}", self.tail)
-    }
+/// Prints the lines of a unit, of which those after its position are kept. The others are written into the line first.
+fn print_unit<W: Sink>(
+    head: &UnitHead<'_>,
+    tail: &[u8],
+    line: &mut String,
+    chunks: &mut Chunks,
+    writer: &mut W,
+) -> Result<(), PrintFault>
+    ensures ok { OnOk result (Adds chunks.old (W.contents writer.old) (unit_head head.now ++ tail.now)
+        chunks.new (W.contents writer.new)) }
+    ensures written { OnErr result (AppendsFront (W.contents writer.old) (W.contents writer.new)
+        (waiting_of chunks.old ++ (unit_head head.now ++ tail.now))) }
+    ensures refused { IsErrOf result PrintFault.Unwritten → W.refuses writer.new }
+{
+    head.write_to(line)?;
+    chunks.add(line.as_bytes())?;
+    chunks.add(tail)?;
+    chunks.pass_full(writer)
 }

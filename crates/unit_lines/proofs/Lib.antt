@@ -1,2 +1,3 @@
 pub mod RequestLines
 pub mod DpbTexts
+pub mod Appending

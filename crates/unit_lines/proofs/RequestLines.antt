@@ -1,8 +1,8 @@
 -- The lines of requests, one after the other.
-use Rattle.std.proofs.Common.{◌≡◌, ◌∙◌, ◌<◌, ℕ, ◌+◌, List, [], ◌∷◌, ◌++◌, length, take, get_or, ap, sym, arith, append_assoc, append-nil}
+use Rattle.std.proofs.Common.{◌≡◌, ◌∙◌, ◌<◌, ℕ, ◌+◌, List, [], ◌∷◌, ◌++◌, codes, decimal, if◌then◌else◌, length, take, get_or, ap, sym, arith, append_assoc, append-nil}
 use Rattle.std.proofs.lemmas.List.{length-take-le, take_more}
 use Rattle.h264_controls.specs.declared.request.Request.{Request}
-use Rattle.unit_lines.specs.Lines.{request_text, request_lines}
+use Rattle.unit_lines.specs.Lines.{references_text, request_lines, request_text, slice_text}
 
 -- one request more
 pub request_lines-push : (id slice : ℕ) (requests : List Request) (request : Request)
@@ -25,3 +25,11 @@ request_lines-more id i requests request below is =
     let push = request_lines-push id 0 (take i requests) request in
     let place : 0 + length (take i requests) ≡ i = omega (arith, front) in
     ap (request_lines id 0) (take_more requests i request below ∙ ap (λ one. take i requests ++ one ∷ []) (sym is)) ∙ rw place at push
+
+-- the parts of a line
+pub request_parts : (id slice : ℕ) (request : Request)
+    → (codes "request " ++ decimal id) ++ (slice_text slice request.timestamp request.work.controls.slice_params request.work.controls.decode_params.frame_num
+    ++ (references_text request.references request.work.controls.decode_params.dpb request.work.controls.slice_params
+    ++ ((codes " hold " ++ decimal (if request.hold then 1 else 0)) ++ codes "\n")))
+    ≡ request_text id slice request
+request_parts id slice request = simp append_assoc

@@ -4,13 +4,13 @@ use Rattle.std.specs.Fmt.{signed_decimal}
 use Rattle.std.specs.List.{join_by, zip}
 use Rattle.std.specs.Int.{w32, cast_signed}
 use Rattle.h264_controls.specs.declared.request.Request.{Request}
+use Rattle.h264_controls.specs.declared.v4l2_ctrl_h264_slice_params.V4l2CtrlH264SliceParams.{V4l2CtrlH264SliceParams}
 use Rattle.h264_controls.specs.declared.v4l2_ctrl_h264_decode_params.V4l2H264DpbEntry.{V4l2H264DpbEntry}
 use Rattle.h264_controls.specs.References.{timestamp}
 use Rattle.h264_controls.specs.DecodeParamsForm.{dpb_entry_flags}
 use Rattle.h264_controls.specs.SliceParamsForm.{slice_type_number}
 use Rattle.pictures.specs.declared.counts.Counts.{Counts}
 use Rattle.outcomes.specs.declared.outcome.Plan.{Plan}
-use Rattle.unit_lines.specs.declared.lines.RequestLine.{RequestLine}
 
 -- the line of the unit itself, up to its position
 abbrev pub plan_head : ℕ → ℕ → List ℕ
@@ -40,6 +40,18 @@ abbrev pub list_text : {A : Type 0} → (A → List ℕ) → List A → List ℕ
 list_text text [] = codes "-"
 list_text text (x ∷ xs) = join_by text (codes ",") (x ∷ xs)
 
+-- of a request's line, the place of the slice, its timestamp, and what its header says
+abbrev pub slice_text : ℕ → ℕ → V4l2CtrlH264SliceParams → ℕ → List ℕ
+slice_text slice timestamp params frame_num =
+    codes "." ++ (decimal slice ++ (codes " ts " ++ (decimal timestamp ++ (codes " bits " ++ (decimal params.header_bit_size
+    ++ (codes " type " ++ (decimal (slice_type_number params.slice_type) ++ (codes " frame " ++ decimal frame_num))))))))
+
+-- and the decoded picture buffer with the lists
+abbrev pub references_text : List ℕ → List V4l2H264DpbEntry → V4l2CtrlH264SliceParams → List ℕ
+references_text units entries params =
+    codes " dpb " ++ (list_text entry_text (zip units entries)
+    ++ (codes " l0 " ++ (list_text place_text params.ref_pic_list0 ++ (codes " l1 " ++ list_text place_text params.ref_pic_list1))))
+
 -- the line of a request, by the unit's id and the place of the slice
 abbrev pub request_text : ℕ → ℕ → Request → List ℕ
 request_text id slice request =
@@ -51,10 +63,6 @@ request_text id slice request =
     ++ (codes " l0 " ++ (list_text place_text request.work.controls.slice_params.ref_pic_list0
     ++ (codes " l1 " ++ (list_text place_text request.work.controls.slice_params.ref_pic_list1
     ++ (codes " hold " ++ (decimal (if request.hold then 1 else 0) ++ codes "\n")))))))))))))))))))
-
--- the line of a request
-abbrev pub request_line : RequestLine → List ℕ
-request_line line = request_text line.id line.slice line.request.now
 
 -- the lines of the requests of a unit's slices, from this place on
 abbrev pub request_lines : ℕ → ℕ → List Request → List ℕ

@@ -6,8 +6,6 @@ use Rattle.outcomes.specs.declared.outcome.Outcome.{Outcome}
 use Rattle.outcomes.specs.declared.outcome.Outcome.TheVariants.{Plan, Fault, Empty}
 use Rattle.validity_faults.specs.Names.{name_of}
 use Rattle.validity_faults.specs.Numbers.{number_of}
-use Rattle.unit_lines.specs.declared.lines.EmptyLine.{EmptyLine}
-use Rattle.unit_lines.specs.declared.lines.FaultLine.{FaultLine}
 use Rattle.unit_lines.specs.declared.lines.UnitHead.{UnitHead}
 use Rattle.unit_lines.specs.declared.lines.UnitLines.{UnitLines}
 use Rattle.unit_lines.specs.declared.lines.UnitTail.{UnitTail}
@@ -18,15 +16,9 @@ abbrev pub fault_text : ℕ → ValidityFault → List ℕ
 fault_text id fault = codes "unit " ++ (decimal id ++ (codes " fault " ++ (decimal (number_of fault)
     ++ (codes " " ++ (name_of fault ++ codes "\n")))))
 
-abbrev pub fault_line : FaultLine → List ℕ
-fault_line line = fault_text line.id line.fault
-
 -- the line of a unit without a slice
 abbrev pub empty_text : ℕ → List ℕ
 empty_text id = codes "unit " ++ (decimal id ++ codes " no picture\n")
-
-abbrev pub empty_line : EmptyLine → List ℕ
-empty_line line = empty_text line.id
 
 -- the lines of a unit's outcome up to its position, which a plan has; nothing where it has none
 abbrev pub outcome_head : ℕ → Option ℕ → Outcome → List ℕ

@@ -6,7 +6,10 @@
 #![tactic(auto)]
 
 mod lines;
+mod numbers;
+mod references;
 mod refusals;
+mod requests;
 
 pub use lines::{UnitHead, UnitLines, UnitTail};
 pub use refusals::RefusalLine;

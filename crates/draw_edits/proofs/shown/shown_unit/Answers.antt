@@ -18,7 +18,7 @@ returns c = λ stream is both.
         c.in-Ok-Ok.position,
         rw c.in-Ok-Ok.is-0 at c.outcome.ensures,
         rw c.in-Ok-Ok.is-1 at c.position.ensures,
-        c.in_ok-to_string.ensures.ok,
+        c.in_ok-to_string.ensures,
       ),
       ap (λ (m : Option EditMark). opening_of m lines) c.in_ok-unit.ensures,
     )

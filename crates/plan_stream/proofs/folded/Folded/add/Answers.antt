@@ -1,5 +1,4 @@
-use Rattle.std.proofs.Common.{◌≡◌, ◌+◌, ◌∙◌, ◌++◌, ◌∷◌, [], ℕ, List, length, map, ap, string_bytes, arith}
-use Rattle.std.proofs.lemmas.List.{map-append}
+use Rattle.std.proofs.Common.{◌≡◌, ◌+◌, ◌∙◌, ◌++◌, ◌∷◌, [], ℕ, List, length, ap, arith}
 use Rattle.outcomes.specs.declared.outcome.Outcome.{Outcome}
 use Rattle.request_core.specs.States.{FoldState}
 use Rattle.unit_lines.specs.UnitLines.{outcome_tail}
@@ -12,9 +11,9 @@ returns c = λ done is.
     let old = c.args.self.now in
     let unit = c.args.unit.now in
     let id = c.new-id.result in
-    let id_is : id ≡ 1 + length done = omega (arith, c.new-id.ensures, c.len.ensures, old.tails.ok.0, count_is done old is) in
+    let id_is : id ≡ 1 + length done = omega (arith, c.new-id.ensures, c.len.ensures, count_is done old is) in
     let pair = c.in_ok-state.ensures.value in
-    let tail = c.in_ok-tail.ensures ∙ ap (λ (p : FoldState × Outcome). outcome_tail id p.1) pair in
+    let tail = c.as_bytes.ensures.value ∙ c.in_ok-write_to.ensures ∙ ap (λ (p : FoldState × Outcome). outcome_tail id p.1) pair in
     record {
       state_is = ap (λ (p : FoldState × Outcome). p.0) pair ∙ state_more done old is unit id id_is;
       outcomes_are =
@@ -22,6 +21,5 @@ returns c = λ done is.
           ∙ ap (λ (o : Outcome). old.outcomes.items ++ o ∷ []) (c.shown_of.ensures ∙ ap (λ (p : FoldState × Outcome). shown_of p.1) pair)
           ∙ outcomes_more done old is unit id id_is;
       tails_are =
-          ap (map string_bytes) c.in_ok-push.ensures.items ∙ map-append string_bytes old.tails.items (c.in_ok-tail.tail ∷ [])
-          ∙ ap (λ (t : List ℕ). map string_bytes old.tails.items ++ t ∷ []) tail ∙ tails_more done old is unit id id_is;
+          c.in_ok-push.ensures.ok ∙ ap (λ (t : List ℕ). old.tails ++ t ∷ []) tail ∙ tails_more done old is unit id id_is;
     }

@@ -21,7 +21,10 @@ pub mod Taken
 pub mod Waiting
 pub mod Pended
 pub mod Emptied
-pub mod Earliest
-pub mod TakenFor
 pub mod Settled
+pub mod Entering
+pub mod Between
+pub mod Queues
+pub mod Scheduling
+pub mod TakenFor
 pub mod Same

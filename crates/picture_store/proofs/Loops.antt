@@ -24,6 +24,15 @@ module _ {X : Type 0} where
   in_more xs i d x within there =
       Contains-push_cases (take i xs) (get_or xs i d) x (subst (λ ys. Contains ys x) (take_more xs i d within) there)
 
+  -- what was among the elements is among one more, and so is that one
+  pub more_in : (xs : List X) (i : ℕ) (d x : X) → i < length xs
+      → (Contains (take i xs) x → Contains (take (i + 1) xs) x) × Contains (take (i + 1) xs) (get_or xs i d)
+  more_in xs i d x within = (
+    λ there. subst (λ ys. Contains ys x) (sym (take_more xs i d within))
+        (Contains-append_left (take i xs) (get_or xs i d ∷ []) x there),
+    subst (λ ys. Contains ys (get_or xs i d)) (sym (take_more xs i d within)) (Contains-push (take i xs) (get_or xs i d)),
+  )
+
 -- the keys of units, where the next one is added
 pub added_more : (old new : List ℕ) (found : List (Option ℕ)) (i key : ℕ) (item : Option ℕ) → i < length found
     → item ≡ get_or found i item → item ≡ Some key → new ≡ old ++ key ∷ []

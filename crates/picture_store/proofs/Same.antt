@@ -1,10 +1,11 @@
--- What is stored stays where more keys have numbers and more of these have slots.
+-- What is stored stays but for a schedule where more keys have numbers and more of these have slots.
 use Rattle.std.proofs.Common.{◌≡◌, sym, ap, subst, ◌∙◌, ℕ, ◌<◌, List, Option, None, Some, IsSome, inl, inr, rules}
 use Rattle.outcomes.specs.declared.outcome.Outcome.{Outcome}
 use Rattle.dep_keys.specs.KeyMaps.{IsKeyMap}
 use Rattle.stand_in_device.specs.declared.picture.Picture.{Picture}
 use Rattle.key_places.specs.Places.{AreSame, place_of, place_at}
 use Rattle.picture_store.specs.declared.job_out.JobOut.{JobOut}
+use Rattle.picture_store.specs.declared.schedule.Schedule.{Schedule}
 use Rattle.picture_store.specs.Places.{PlacesValue}
 use Rattle.picture_store.specs.Kept.{Trees, IsKept, KeepsStored, keys_for}
 use Rattle.picture_store.specs.Settled.{NeedsNone, AreSettled, IsStored}
@@ -45,20 +46,21 @@ module _ (places grown : PlacesValue) (same : AreSame places grown) where
       settled_stay places grown out out found count (λ number among needs. needs_same out number needs) are
 
 module _ (keys more : Trees) (ids : List ℕ) (outcomes : List Outcome) (found : List (Option ℕ)) (places grown : PlacesValue)
-    (cached : List (ℕ × Picture)) (out : List JobOut) (count : ℕ)
-    (stored : IsStored keys ids outcomes found places cached out count) (stay : KeepsStored found cached out keys more)
+    (cached : List (ℕ × Picture)) (out : List JobOut) (count : ℕ) (schedule : Option Schedule)
+    (stored : IsStored keys ids outcomes found places cached out count schedule) (stay : KeepsStored found cached out keys more)
     (one : IsKeyMap more) (same : AreSame places grown) where
   pub kept_still : IsKept more ids outcomes found grown cached out
   kept_still =
       kept_same places grown same more ids outcomes found cached out
       (kept_stays keys more ids outcomes found places cached out stored.kept stay one)
 
-  pub stored_still : IsStored more ids outcomes found grown cached out count
+  pub stored_still : IsStored more ids outcomes found grown cached out count None
   stored_still = record {
     kept = kept_still;
     counted = λ number. ap (λ slot. slot.uses) (same.slots number) ∙ stored.counted number;
     apart = λ number used. stored.apart number (subst (λ n. 0 < n) (ap (λ slot. slot.uses) (same.slots number)) used);
     settled = settled_same places grown same out found count stored.settled;
+    scheduled = tt;
   }
 
   -- what contracts see stays

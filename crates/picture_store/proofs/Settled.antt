@@ -65,7 +65,7 @@ held_place (Some None) some not = absurd (not refl)
 held_place (Some (Some picture)) some not = (picture, refl)
 
 -- a job of another key is out still
-out_still : (out : List JobOut) (at number : ℕ) (other : JobOut) → other ≡ slice_index_or out at other
+pub out_still : (out : List JobOut) (at number : ℕ) (other : JobOut) → other ≡ slice_index_or out at other
     → (other.key ≡ number → ⊥) → Contains (numbers_out out) number → Contains (numbers_out (remove out at)) number
 out_still [] at number other stands not is = absurd (nowhere number is)
 out_still (first ∷ out) zero number other stands not is =

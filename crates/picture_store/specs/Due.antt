@@ -1,5 +1,5 @@
 -- When the key of a number is due.
-use Rattle.std.specs.Prelude.{◌≡◌, ℕ, suc, List, [], ◌∷◌, Contains, Option, None, Some, IfSome, drop, slice_get}
+use Rattle.std.specs.Prelude.{◌≡◌, ℕ, List, [], ◌∷◌, Contains, Option, None, Some, IfSome, slice_get}
 use Rattle.dep_keys.specs.KeyMaps.{tree_at}
 pub use Rattle.needed_units.specs.Held.{IsHeld}
 use Rattle.picture_keys.specs.Keys.{Key}
@@ -33,11 +33,7 @@ abbrev pub IsDueThere : Trees → PlacesValue → List JobOut → List (Option �
 IsDueThere keys places out found at =
     (number : ℕ) × (slice_get found at ≡ Some (Some number)) × IsDueNumber keys places out number
 
--- of these places, the last one first, this is the earliest whose unit's key is due, and that is the number of its key
-pub record IsEarliestDue (keys : Trees) (places : PlacesValue) (out : List JobOut) (found : List (Option ℕ)) (needed : List ℕ)
-    (at number : ℕ) : Type 0 where
-  pub index : ℕ
-  pub stands : slice_get needed index ≡ Some at
-  pub number_is : slice_get found at ≡ Some (Some number)
-  pub due : IsDueNumber keys places out number
-  pub earliest : (place : ℕ) → Contains (drop (suc index) needed) place → IsDueThere keys places out found place → ⊥
+-- the pictures at the own entries of the key of a number are held
+abbrev pub IsReadyNumber : Trees → PlacesValue → ℕ → Type 0
+IsReadyNumber keys places number =
+    (key : Key) × (tree_at keys number ≡ Some key) × IsReady (keys_for keys (numbers_held places)) key

@@ -8,6 +8,7 @@ pub mod Numbers
 pub mod Naming
 pub mod Filling
 pub mod Due
+pub mod Schedules
 pub mod Settled
 pub mod Stretches
 pub mod Needs

@@ -1,14 +1,17 @@
 -- How many units, from the first on, need no job.
 use Rattle.std.specs.Prelude.{◌≡◌, ℕ, ◌<◌, ◌≤◌, List, ◌⊎◌, length, take, All, Contains, Option, IfSome}
+use Rattle.std.specs.List.{zip}
 use Rattle.std.specs.Map.{keys_of as numbers_of}
 use Rattle.outcomes.specs.declared.outcome.Outcome.{Outcome}
 use Rattle.stand_in_device.specs.declared.picture.Picture.{Picture}
 use Rattle.key_places.specs.Counting.{times}
 use Rattle.key_places.specs.Places.{uses_at}
 use Rattle.picture_store.specs.declared.job_out.JobOut.{JobOut}
+use Rattle.picture_store.specs.declared.schedule.Schedule.{Schedule}
 use Rattle.picture_store.specs.Places.{PlacesValue}
 use Rattle.picture_store.specs.Kept.{Trees, numbers_out, IsKept}
 use Rattle.picture_store.specs.Due.{IsHeld}
+use Rattle.picture_store.specs.Schedules.{IsScheduled}
 
 -- the unit of this number needs no job: it has no key, or the picture of its key is held or that of a job that is out
 abbrev pub NeedsNone : PlacesValue → List JobOut → Option ℕ → Type 0
@@ -19,10 +22,11 @@ abbrev pub AreSettled : PlacesValue → List JobOut → List (Option ℕ) → �
 AreSettled places out found count = (count ≤ length found) × All (NeedsNone places out) (take count found)
 
 -- what is stored: what is kept of the stream, where each place counts the units that use its key and no key in use is cached;
--- and how many units are known to need no job
+-- how many units are known to need no job; and the schedule of the units that one needs
 pub record IsStored (keys : Trees) (ids : List ℕ) (outcomes : List Outcome) (found : List (Option ℕ))
-    (places : PlacesValue) (cached : List (ℕ × Picture)) (out : List JobOut) (count : ℕ) : Type 0 where
+    (places : PlacesValue) (cached : List (ℕ × Picture)) (out : List JobOut) (count : ℕ) (schedule : Option Schedule) : Type 0 where
   pub kept : IsKept keys ids outcomes found places cached out
   pub counted : (number : ℕ) → uses_at places number ≡ times number found
   pub apart : (number : ℕ) → 0 < uses_at places number → Contains (numbers_of cached) number → ⊥
   pub settled : AreSettled places out found count
+  pub scheduled : IsScheduled keys (zip ids outcomes) found places out schedule

@@ -3,7 +3,7 @@
 ghost use Rattle.std.specs.Prelude.{◌≡◌, ◌<◌, ◌↔◌, ℕ, Option, Some, None, length, take, All, Contains, IfSome, IsSome, IsTrue, MatchOption, slice_get, slice_index_or};
 ghost use Rattle.picture_store.specs.Kept.{AreRight};
 ghost use Rattle.key_places.specs.Places.{place_at};
-ghost use Rattle.picture_store.specs.Due.{AreHeld, IsDueNumber, IsDueThere, IsEarliestDue, IsNotDue};
+ghost use Rattle.picture_store.specs.Due.{AreHeld, IsDueNumber, IsNotDue, IsReadyNumber};
 ghost use Rattle.picture_store.specs.Settled.{AreSettled, NeedsNone};
 
 use crate::job_out::{JobOut, is_out};
@@ -66,33 +66,8 @@ pub(crate) fn first_due<F: Fingerprint<Works>>(
     None
 }
 
-/// The earliest of these places, the last one first, whose unit's key is due, and that key.
-pub(crate) fn earliest_due<F: Fingerprint<Works>>(
-    keys: &Keys<Works, F>,
-    places: &Places<Picture>,
-    out: &[JobOut],
-    found: &[Option<KeyId>],
-    needed: &[usize],
-) -> Option<(usize, KeyId)>
-    requires { AreRight keys.now places.now }
-    ensures { MatchOption result
-        ((at : ℕ) → Contains needed.now at
-        → IsDueThere keys.now places.now out.now found.now at → ⊥)
-        (λ due. IsEarliestDue keys.now places.now out.now found.now needed.now due.0 due.1) }
-{
-    let mut left = needed.len();
-    while left > 0 {
-        left -= 1;
-        let at = needed[left];
-        if let Some(key) = due_key(keys, places, out, key_at(found, at)) {
-            return Some((at, key));
-        }
-    }
-    None
-}
-
 /// The key of the unit at a place.
-fn key_at(found: &[Option<KeyId>], at: usize) -> Option<KeyId>
+pub(crate) fn key_at(found: &[Option<KeyId>], at: usize) -> Option<KeyId>
     ensures { (number : ℕ) → result ≡ Some number
         ↔ (slice_get found.now at ≡ Some (Some number)) }
 {
@@ -103,7 +78,7 @@ fn key_at(found: &[Option<KeyId>], at: usize) -> Option<KeyId>
 }
 
 /// The key of a unit, where it has one that is due.
-fn due_key<F: Fingerprint<Works>>(
+pub(crate) fn due_key<F: Fingerprint<Works>>(
     keys: &Keys<Works, F>,
     places: &Places<Picture>,
     out: &[JobOut],
@@ -151,6 +126,21 @@ fn is_due<F: Fingerprint<Works>>(
         return false;
     };
     is_awaited(places, key) && !is_out(out, key) && are_held(places, node.entries())
+}
+
+/// Whether the pictures to which a key refers are held.
+pub(crate) fn is_ready<F: Fingerprint<Works>>(
+    keys: &Keys<Works, F>,
+    places: &Places<Picture>,
+    key: KeyId,
+) -> bool
+    requires { AreRight keys.now places.now }
+    ensures { IsTrue result → IsReadyNumber keys.now places.now key }
+{
+    match keys.node(key) {
+        Some(node) => are_held(places, node.entries()),
+        None => false,
+    }
 }
 
 /// Whether the key has a place without a picture.

@@ -18,6 +18,8 @@ mod naming;
 mod recounting;
 mod refitting;
 mod refusals;
+mod rescheduling;
+mod schedule;
 mod store;
 mod stretch;
 

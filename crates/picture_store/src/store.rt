@@ -1,8 +1,7 @@
 //! The store: pictures that are held or cached, and jobs that are out.
 
-ghost use Rattle.std.specs.Prelude.{◌≡◌, ℕ, ◌≤◌, ◌<◌, ◌↔◌, length, Contains, None, Some, IsTrue, IfOk, OnOk, OnErr, slice_get};
+ghost use Rattle.std.specs.Prelude.{◌≡◌, ℕ, ◌≤◌, ◌<◌, ◌↔◌, [], length, Contains, None, Some, IsTrue, IfOk, OnOk, OnErr, slice_get};
 ghost use Rattle.std.specs.List.{zip};
-ghost use Rattle.std.specs.Prelude.{[]};
 ghost use Rattle.picture_cache.specs.Bounded.{most_room};
 ghost use Rattle.picture_keys.specs.Decodable.{AllCanDecode};
 ghost use Rattle.picture_store.specs.Stores.{empty, AreNumbered, AreOneToOne, IsNumberInUse};
@@ -19,25 +18,26 @@ ghost use Rattle.picture_store.specs.Stretches.{IsStretch, ids_with, outcomes_wi
 mod counts;
 
 use crate::answers::{JobAt, Landing, Returning};
-use crate::due::{earliest_due, first_due, first_to_do, is_awaited};
+use crate::due::{first_due, first_to_do, is_awaited};
 use crate::inputs::input_of;
 use crate::job_out::{JobOut, place_of};
-use crate::naming::references_of;
 use crate::recounting::{make_ready, recount};
 use crate::refitting::{keys_from, make_room, sweep_at};
 use crate::refusals::TakeRefused;
+use crate::rescheduling::{after_landing, if_ready};
+use crate::schedule::{Schedule, earliest_due, schedule_for};
 use crate::stretch::Stretch;
 use base_types::Shared;
 use checkpoints::Checkpoints;
 use dep_keys::{KeyId, Keys, Sha256Fingerprint};
 use hashed_units::HashedOutcome;
 use key_places::Places;
-use needed_units::{Units, is_held, needed_places};
+use needed_units::{Units, is_held};
 use picture_cache::PictureCache;
 use picture_keys::Works;
 use pictures::AuId;
 use request_core::State;
-use stand_in_device::{Finished, Input, Job, Picture};
+use stand_in_device::{Finished, Job, Picture};
 use std::alloc::{AllocError, Global};
 use std::marker::Model;
 use vec_ranges::replace_range;
@@ -59,6 +59,8 @@ pub struct PictureStore {
     given: u64,
     // How many units, from the first on, are known to need no job.
     settled: usize,
+    // That of the last `take_for`, where only jobs were given and results landed since.
+    schedule: Option<Schedule>,
 }
 
 // By hand, so that whoever drops one is proved over one call.
@@ -76,6 +78,7 @@ impl Drop for PictureStore {
             out: _,
             given: _,
             settled: _,
+            schedule: _,
         } = self;
     }
 }
@@ -107,7 +110,7 @@ impl Model for PictureStore {
     } };
 
     ghost invariant = { λ s. IsStored s.keys s.ids.items s.outcomes.items s.found.items s.places s.cache.pairs s.out.items
-        s.settled };
+        s.settled s.schedule };
 }
 
 impl PictureStore {
@@ -129,6 +132,7 @@ impl PictureStore {
             out: Vec::new(alloc),
             given: 0,
             settled: 0,
+            schedule: None,
         })
     }
 
@@ -171,6 +175,7 @@ impl PictureStore {
         ensures err { OnErr result (self.new ≡ self.old) }
     {
         self.sweep()?;
+        self.schedule = None;
         make_room(&mut self.ids, &mut self.outcomes, stretch.ids.len())?;
         let (past, later) = keys_from(
             self.alloc,
@@ -207,6 +212,7 @@ impl PictureStore {
     fn sweep(&mut self) -> Result<(), AllocError>
         ensures { self.new ≡ self.old }
     {
+        self.schedule = None;
         let enough = sweep_at(
             self.alloc,
             self.enough,
@@ -266,7 +272,8 @@ impl PictureStore {
     }
 
     /// Gives the earliest picture that is due of those that the picture of the unit at a place needs, under the next
-    /// number. Its unit needn't be the first of the stream that has its key.
+    /// number. Its unit needn't be the first of the stream that has its key. What is needed is found once for calls for one
+    /// place that follow one another, where only jobs are given and results land between them.
     pub fn take_for(&mut self, at: usize) -> Result<Option<JobAt>, TakeRefused>
         requires { at < length self.old.ids }
         ensures tells { TellsTakeFor self.old at result self.new }
@@ -281,8 +288,11 @@ impl PictureStore {
             outcomes: &self.outcomes,
             found: &self.found,
         };
-        let needed = needed_places(self.alloc, &units, at)?;
-        let due = earliest_due(&self.keys, &self.places, &self.out, &self.found, &needed);
+        let kept = self.schedule.take();
+        let mut schedule = schedule_for(self.alloc, &units, &self.out, kept, at)?;
+        let queue = &mut schedule.queue;
+        let due = earliest_due(&self.keys, &self.places, &self.out, &self.found, queue);
+        self.schedule = Some(schedule);
         let Some((place, key)) = due else {
             return Ok(None);
         };
@@ -321,7 +331,18 @@ impl PictureStore {
             return Landing::Foreign;
         };
         let job = self.out.remove(at);
-        fill(&mut self.places, job.key, picture)
+        let schedule = if_ready(&self.keys, &self.places, job.key, self.schedule.take());
+        let landing = fill(&mut self.places, job.key, picture);
+        self.schedule = after_landing(
+            &self.keys,
+            &self.places,
+            &self.out,
+            &self.found,
+            schedule,
+            job.key,
+            landing,
+        );
+        landing
     }
 
     /// Takes a job back that wasn't decoded. It takes no memory.
@@ -333,6 +354,7 @@ impl PictureStore {
             Some(at) => {
                 drop(self.out.remove(at));
                 self.settled = 0;
+                self.schedule = None;
                 Returning::Returned
             }
             None => Returning::Foreign,
@@ -352,6 +374,7 @@ impl PictureStore {
         }
         self.places.empty(key);
         self.settled = 0;
+        self.schedule = None;
         true
     }
 

@@ -1,4 +1,4 @@
-use Rattle.std.proofs.Common.{◌≡◌, refl, sym, ap, ◌∙◌, subst, ◌<◌, length, Some, None, slice_get, arith}
+use Rattle.std.proofs.Common.{◌≡◌, refl, ap, ◌∙◌, subst, ◌<◌, length, Some, slice_get, arith}
 use Rattle.std.specs.Option.{is_some}
 use Rattle.std.proofs.lemmas.Option.{slice_get_read}
 use Rattle.key_places.proofs.Slots.{used_some}
@@ -81,4 +81,5 @@ invariant_of-self c =
       counted = λ number. c.empty.ensures.uses number ∙ c.self.invariant.counted number;
       apart = λ number used. c.self.invariant.apart number (subst (λ n. 0 < n) (c.empty.ensures.uses number) used);
       settled = none_settled c.empty.new.self s.out.items s.found.items;
+      scheduled = tt;
     }

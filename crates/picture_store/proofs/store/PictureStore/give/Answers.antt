@@ -1,7 +1,9 @@
-use Rattle.std.proofs.Common.{◌≡◌, refl, sym, ap, ◌∙◌, subst, ◌<◌, length, Some, ◌∷◌, ◌++◌, [], arith}
+use Rattle.std.proofs.Common.{◌≡◌, refl, sym, ◌∙◌, Some, ◌∷◌, ◌++◌, [], arith}
+use Rattle.std.specs.List.{zip}
 use Rattle.std.proofs.lemmas.Option.{get_or_from_slice_get, slice_get_within}
 use Rattle.picture_store.proofs.Landed.{found_length}
 use Rattle.picture_store.proofs.Pended.{due_number}
+use Rattle.picture_store.proofs.Scheduling.{scheduled_given}
 use Rattle.picture_store.proofs.Settled.{settled_more}
 use Rattle.picture_store.proofs.Taken.{known, has_known, outcome_same, whole_of, given_job, kept_taken}
 use Rattle.picture_store.proofs.store.PictureStore.give.Goals as goal
@@ -88,6 +90,10 @@ invariant_of-self-2 c =
       settled =
           settled_more s.places s.out.items (record { number = c.in-Some.number; key = c.args.key; input = c.in_ok-input.input })
           c.push_reserved.new.self.items s.found.items s.settled more c.self.invariant.settled;
+      scheduled =
+          scheduled_given s.keys (zip s.ids.items s.outcomes.items) s.found.items s.places s.out.items
+          (record { number = c.in-Some.number; key = c.args.key; input = c.in_ok-input.input }) c.push_reserved.new.self.items more
+          s.schedule c.self.invariant.scheduled;
     }
 
 pub returns : goal.returns

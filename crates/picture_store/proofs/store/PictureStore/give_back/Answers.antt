@@ -14,6 +14,7 @@ invariant_of-self c =
       counted = c.self.invariant.counted;
       apart = c.self.invariant.apart;
       settled = none_settled c.self.inside.places _ c.self.inside.found.items;
+      scheduled = tt;
     })
 
 pub returns-in-Some : goal.returns-in-Some

@@ -1,6 +1,8 @@
-use Rattle.std.proofs.Common.{refl, subst, ◌∙◌, ◌<◌}
+use Rattle.std.proofs.Common.{◌≡◌, refl, sym, subst, ◌∙◌, ◌<◌, Option, Some}
+use Rattle.std.specs.Prelude.{IfSome}
 use Rattle.picture_store.proofs.Landed.{foreign_for}
 use Rattle.picture_store.proofs.Filled.{landed, kept_filled}
+use Rattle.picture_store.proofs.Scheduling.{scheduled_landed}
 use Rattle.picture_store.proofs.Settled.{settled_landed}
 use Rattle.picture_store.proofs.store.PictureStore.land.Goals as goal
 
@@ -9,30 +11,53 @@ returns-in_default c =
     let none = rw (c.deref.ensures.value, c.into_parts-number.ensures) at c.in_default.ensures in
     rw (← c.self.view_is) (foreign_for c.self.inside.keys c.self.inside.out.items c.args.finished none, refl)
 
+-- a schedule that stays was kept
+if_ready_at : {S : Type 0} {P : Type 0} (kept old result : Option S) → kept ≡ old → IfSome result (λ s. (kept ≡ Some s) × P)
+    → (s : S) → result ≡ Some s → (old ≡ Some s) × P
+if_ready_at {S} {P} kept old result same if_ready s is =
+    let both : (kept ≡ Some s) × P = subst (λ (o : Option S). IfSome o (λ s. (kept ≡ Some s) × P)) is if_ready in
+    (sym same ∙ both.0, both.1)
+
+pub after_landing-requires-clause-right : goal.after_landing-requires-clause-right
+after_landing-requires-clause-right c =
+    let s = c.self.inside in
+    let found = rw (c.deref.ensures.value, c.into_parts-number.ensures) at c.in-Some.ensures in
+    let filled = rw (c.into_parts-number.ensures) at c.fill-landing.ensures.filled in
+    (kept_filled s.keys s.ids.items s.outcomes.items s.found.items s.places s.cache.pairs s.cache.capacity s.out.items s.given
+    c.self.invariant.kept c.args.finished c.in-Some.at found.0 c.remove-job.result c.remove-job.ensures.value found.1 found.2
+    c.fill-landing.result c.fill-landing.new.places c.remove-job.new.self.items c.remove-job.ensures.items filled).right
+
 pub invariant_of-self : goal.invariant_of-self
 invariant_of-self c =
     let s = c.self.inside in
     let found = rw (c.deref.ensures.value, c.into_parts-number.ensures) at c.in-Some.ensures in
-    let filled = rw (c.into_parts-number.ensures) at c.fill.ensures.filled in
+    let filled = rw (c.into_parts-number.ensures) at c.fill-landing.ensures.filled in
     record {
       kept =
           kept_filled s.keys s.ids.items s.outcomes.items s.found.items s.places s.cache.pairs s.cache.capacity s.out.items s.given
           c.self.invariant.kept c.args.finished c.in-Some.at found.0 c.remove-job.result c.remove-job.ensures.value found.1 found.2
-          c.fill.result c.fill.new.places c.remove-job.new.self.items c.remove-job.ensures.items filled;
-      counted = λ number. c.fill.ensures.uses number ∙ c.self.invariant.counted number;
-      apart = λ number used. c.self.invariant.apart number (subst (λ n. 0 < n) (c.fill.ensures.uses number) used);
+          c.fill-landing.result c.fill-landing.new.places c.remove-job.new.self.items c.remove-job.ensures.items filled;
+      counted = λ number. c.fill-landing.ensures.uses number ∙ c.self.invariant.counted number;
+      apart = λ number used. c.self.invariant.apart number (subst (λ n. 0 < n) (c.fill-landing.ensures.uses number) used);
       settled =
           settled_landed s.keys s.ids.items s.outcomes.items s.found.items s.places s.cache.pairs s.out.items
-          c.self.invariant.kept c.in-Some.at c.remove-job.result c.remove-job.ensures.value _ c.fill.result c.fill.new.places
+          c.self.invariant.kept c.in-Some.at c.remove-job.result c.remove-job.ensures.value _ c.fill-landing.result c.fill-landing.new.places
           c.remove-job.new.self.items s.settled c.remove-job.ensures.items filled c.self.invariant.settled;
+      scheduled =
+          scheduled_landed s.keys s.ids.items s.outcomes.items s.found.items s.places s.cache.pairs s.out.items
+          c.self.invariant.kept c.in-Some.at c.remove-job.result c.remove-job.ensures.value _ c.fill-landing.result
+          c.fill-landing.new.places c.remove-job.new.self.items c.remove-job.ensures.items filled s.schedule
+          c.if_ready-schedule.result c.after_landing.result c.self.invariant.scheduled
+          (if_ready_at c.take.result s.schedule c.if_ready-schedule.result c.take.ensures.value c.if_ready-schedule.ensures)
+          (rw (c.deref-2.ensures.value, c.deref-3.ensures.value) at c.after_landing.ensures);
     }
 
 pub returns : goal.returns
 returns c =
     let s = c.self.inside in
     let found = rw (c.deref.ensures.value, c.into_parts-number.ensures) at c.in-Some.ensures in
-    let filled = rw (c.into_parts-number.ensures) at c.fill.ensures.filled in
+    let filled = rw (c.into_parts-number.ensures) at c.fill-landing.ensures.filled in
     rw (← c.self.view_is)
     (landed s.keys s.ids.items s.outcomes.items s.found.items s.places s.cache.pairs s.cache.capacity s.out.items s.given
     c.self.invariant.kept c.args.finished c.in-Some.at found.0 c.remove-job.result c.remove-job.ensures.value found.1 found.2
-    c.fill.result c.fill.new.places c.remove-job.new.self.items c.remove-job.ensures.items filled)
+    c.fill-landing.result c.fill-landing.new.places c.remove-job.new.self.items c.remove-job.ensures.items filled)

@@ -45,7 +45,7 @@ invariant_of-self-in_err-past c =
     let s = c.self.inside in
     rw (c.make_room.ensures.ids, c.make_room.ensures.outcomes)
     (stored_still s.keys c.keys_from.new.keys s.ids.items s.outcomes.items s.found.items s.places s.places s.cache.pairs s.out.items
-    s.settled c.self.invariant (λ n k stored is. c.keys_from.ensures.stay n k is)
+    s.settled s.schedule c.self.invariant (λ n k stored is. c.keys_from.ensures.stay n k is)
     (c.keys_from.ensures.one c.self.invariant.kept.right.one) (same_self s.places))
 
 pub returns-in_err-past-clause-err : goal.returns-in_err-past-clause-err
@@ -77,7 +77,7 @@ invariant_of-self-in_err-leaving c =
     let s = c.self.inside in
     rw (c.make_room.ensures.ids, c.make_room.ensures.outcomes, c.make_ready.ensures.found)
     (stored_still s.keys c.keys_from.new.keys s.ids.items s.outcomes.items s.found.items s.places c.make_ready.new.places
-    s.cache.pairs s.out.items s.settled c.self.invariant (λ n k stored is. c.keys_from.ensures.stay n k is)
+    s.cache.pairs s.out.items s.settled s.schedule c.self.invariant (λ n k stored is. c.keys_from.ensures.stay n k is)
     (c.keys_from.ensures.one c.self.invariant.kept.right.one) c.make_ready.ensures.same)
 
 pub returns-in_err-leaving-clause-err : goal.returns-in_err-leaving-clause-err
@@ -86,7 +86,7 @@ returns-in_err-leaving-clause-err c =
     on_any_err c.from_residual-in_err-leaving.result
     (rw (← c.sweep.ensures, ← c.self.view_is, c.make_room.ensures.ids, c.make_room.ensures.outcomes, c.make_ready.ensures.found)
     (viewed_still s.keys c.keys_from.new.keys s.ids.items s.outcomes.items s.found.items s.places c.make_ready.new.places
-    s.cache.pairs s.out.items s.settled c.self.invariant (λ n k stored is. c.keys_from.ensures.stay n k is)
+    s.cache.pairs s.out.items s.settled s.schedule c.self.invariant (λ n k stored is. c.keys_from.ensures.stay n k is)
     (c.keys_from.ensures.one c.self.invariant.kept.right.one) c.make_ready.ensures.same s.cache.capacity s.given))
 
 pub recount-requires-clause-room : goal.recount-requires-clause-room
@@ -214,6 +214,7 @@ invariant_of-self-2 c =
           (omega (arith, c.min-self-inside.ensures)) in_front c.self.invariant.settled
           (subst (λ all. ArePlaced all s.places s.cache.pairs c.recount.new.places)
           (append_assoc (take c.args.stretch.from s.found.items) later.items (drop past s.found.items)) recounted.placed)));
+      scheduled = tt;
     }
 
 pub returns-clause-ok : goal.returns-clause-ok

@@ -12,6 +12,7 @@ invariant_of-self c =
       counted = c.self.invariant.counted;
       apart = c.self.invariant.apart;
       settled = c.self.invariant.settled;
+      scheduled = tt;
     }
 
 pub returns-in_err-enough : goal.returns-in_err-enough
@@ -33,6 +34,7 @@ invariant_of-self-2 c =
       counted = c.self.invariant.counted;
       apart = c.self.invariant.apart;
       settled = c.self.invariant.settled;
+      scheduled = tt;
     }
 
 pub returns : goal.returns

@@ -1,0 +1,330 @@
+-- The schedule of a target stays right where jobs are given and where results land.
+use Rattle.std.proofs.Common.{◌≡◌, refl, sym, ap, subst, ◌∙◌, ℕ, List, [], ◌∷◌, ◌++◌, map, Bool, true, false, ◌==◌, if◌then◌else◌, Option, None, Some, Contains, ◌⊎◌, inl, inr, slice_get, slice_index_or}
+use Rattle.std.specs.Prelude.{remove, option_and_then}
+use Rattle.std.specs.List.{zip}
+use Rattle.std.proofs.lemmas.Bool.{eqb-true, eq-eqb}
+use Rattle.std.proofs.lemmas.List.{map-append}
+use Rattle.std.proofs.lemmas.List.Elements.{Contains-append_left}
+use Rattle.std.proofs.lemmas.Option.{same_Some}
+use Rattle.std.specs.declared.cmp.Reverse.{Reverse}
+use Rattle.h264_controls.specs.declared.work.Work.{Work}
+use Rattle.outcomes.specs.declared.outcome.Outcome.{Outcome}
+use Rattle.dep_keys.specs.KeyMaps.{tree_at}
+use Rattle.dep_keys.specs.Trees.Tree.{Bare, Gap, With}
+use Rattle.stand_in_device.specs.declared.picture.Picture.{Picture}
+use Rattle.picture_keys.specs.Keys.{Key, named_by_all, tree_with, works_of}
+use Rattle.picture_keys.specs.Known.{key_at}
+use Rattle.key_places.specs.Places.{place_at, numbers_held}
+use Rattle.key_places.proofs.Held.{held_found, found_held}
+use Rattle.key_places.proofs.Members.{nowhere, first_or_among, among_map}
+use Rattle.needed_units.specs.Held.{IsHeld, IsWaiting}
+use Rattle.needed_units.specs.Needed.{Names}
+use Rattle.needed_units.specs.Needed.IsNeeded.{itself, named}
+use Rattle.needed_units.proofs.Closing.{needed_more, needed_waits}
+use Rattle.needed_units.proofs.Standing.{known_there, named_key, own_key}
+use Rattle.picture_store.specs.declared.answers.Landing.{Landing}
+use Rattle.picture_store.specs.declared.answers.Landing.TheVariants.{Taken, Stale, Foreign}
+use Rattle.picture_store.specs.declared.job_out.JobOut.{JobOut}
+use Rattle.picture_store.specs.declared.schedule.Dependent.{Dependent}
+use Rattle.picture_store.specs.declared.schedule.Schedule.{Schedule}
+use Rattle.picture_store.specs.Due.{IsDueNumber, IsDueThere, IsReadyNumber}
+use Rattle.picture_store.specs.Filling.{IsFilled}
+use Rattle.picture_store.specs.Kept.{Trees, key_for, keys_for, numbers_out, IsKept}
+use Rattle.picture_store.specs.Places.{PlacesValue}
+use Rattle.picture_store.specs.Schedules.{AreScheduled, FollowsLanding, GoesOn, IsEntryOf, IsNeededHere, IsQueue, IsQueued, IsScheduled, RefersTo}
+use Rattle.picture_store.specs.Stores.{IsReady}
+use Rattle.picture_store.proofs.Ready.{key_held}
+use Rattle.picture_store.proofs.Lifting.{for_contains, contains_for}
+use Rattle.picture_store.proofs.Settled.{out_still}
+use Rattle.picture_store.proofs.Stays.{key_is}
+
+-- where no more keys are due than were, a schedule stays right
+pub scheduled_fewer : (keys : Trees) (units : List (ℕ × Outcome)) (found : List (Option ℕ)) (places : PlacesValue)
+    (out more : List JobOut) (schedule : Option Schedule)
+    → ((number : ℕ) → IsDueNumber keys places more number → IsDueNumber keys places out number)
+    → IsScheduled keys units found places out schedule → IsScheduled keys units found places more schedule
+scheduled_fewer keys units found places out more None fewer are = tt
+scheduled_fewer keys units found places out more (Some s) fewer are = record {
+  by_entry = are.by_entry;
+  ordered = are.ordered;
+  due = λ at needed due. are.due at needed (due.0, due.1, fewer due.0 due.2);
+  queued = are.queued;
+  listed = are.listed;
+  those = are.those;
+}
+
+-- so it does where places leave the queue whose units aren't due
+pub scheduled_left : (keys : Trees) (units : List (ℕ × Outcome)) (found : List (Option ℕ)) (places : PlacesValue)
+    (out : List JobOut) (target : ℕ) (dependents : List Dependent) (queue after : List (Reverse ℕ)) → IsQueue after
+    → ((at : ℕ) → IsQueued queue at → IsDueThere keys places out found at → IsQueued after at)
+    → ((at : ℕ) → IsQueued after at → IsQueued queue at)
+    → AreScheduled keys units found places out target dependents queue
+    → AreScheduled keys units found places out target dependents after
+scheduled_left keys units found places out target dependents queue after ordered stay only are = record {
+  by_entry = are.by_entry;
+  ordered = ordered;
+  due = λ at needed due. stay at (are.due at needed due) due;
+  queued = λ at is waits. are.queued at (only at is) waits;
+  listed = are.listed;
+  those = are.those;
+}
+
+-- a key that is due though a job more is out was due
+due_given : (keys : Trees) (places : PlacesValue) (out more : List JobOut)
+    → ((number : ℕ) → Contains (numbers_out out) number → Contains (numbers_out more) number)
+    → (number : ℕ) → IsDueNumber keys places more number → IsDueNumber keys places out number
+due_given keys places out more stay number due = record {
+  awaited = due.awaited;
+  free = λ is. due.free (stay number is);
+  key = due.key;
+  tree = due.tree;
+  ready = due.ready;
+}
+
+-- so it stays right where a job is given
+pub scheduled_given : (keys : Trees) (units : List (ℕ × Outcome)) (found : List (Option ℕ)) (places : PlacesValue)
+    (out : List JobOut) (job : JobOut) (more : List JobOut) → more ≡ out ++ job ∷ [] → (schedule : Option Schedule)
+    → IsScheduled keys units found places out schedule → IsScheduled keys units found places more schedule
+scheduled_given keys units found places out job more is schedule are =
+    scheduled_fewer keys units found places out more schedule
+    (due_given keys places out more (λ number among. subst (λ jobs. Contains (numbers_out jobs) number) (sym is)
+    (subst (λ numbers. Contains numbers number) (sym (map-append (λ (j : JobOut). j.key) out (job ∷ [])))
+    (Contains-append_left (numbers_out out) (numbers_out (job ∷ [])) number among)))) are
+
+-- nor does one become due where a job of a key goes that doesn't wait for its picture
+due_stale : (keys : Trees) (places : PlacesValue) (out : List JobOut) (at : ℕ) (other : JobOut)
+    → other ≡ slice_index_or out at other → (place_at places other.key ≡ Some None → ⊥) → (number : ℕ)
+    → IsDueNumber keys places (remove out at) number → IsDueNumber keys places out number
+due_stale keys places out at other stands not number due = record {
+  awaited = due.awaited;
+  free = λ is.
+      due.free (out_still out at number other stands
+      (λ same. not (subst (λ n. place_at places n ≡ Some None) (sym same) due.awaited)) is);
+  key = due.key;
+  tree = due.tree;
+  ready = due.ready;
+}
+
+-- where the pictures of a key's entries are held, those that stand there are
+ready_entries : (held : List Key) (works : List Work) (entries : List (Option Key)) → IsReady held (tree_with works entries)
+    → (key : Key) → Contains entries (Some key) → Contains held key
+ready_entries held works [] ready key is = absurd (nowhere (Some key) is)
+ready_entries held works (None ∷ entries) ready key is =
+    elim (first_or_among None (Some key) entries is) [
+      | inl same ↦ absurd cc
+      | inr later ↦ ready_entries held works entries ready key later
+    ]
+ready_entries held works (Some first ∷ entries) ready key is =
+    elim (first_or_among (Some first) (Some key) entries is) [
+      | inl same ↦ subst (Contains held) (same_Some first key same) ready.0
+      | inr later ↦ ready_entries held works entries ready.1 key later
+    ]
+
+-- where a key is ready and wasn't, one of its entries is the key that was held since
+ready_split : (held more : List Key) (key : Key) → ((other : Key) → Contains more other → Contains held other ⊎ (other ≡ key))
+    → (tree : Key) → IsReady more tree → IsReady held tree ⊎ IsEntryOf key tree
+ready_split held more key only (Bare works) ready = inl tt
+ready_split held more key only (Gap rest) ready = ready_split held more key only rest ready
+ready_split held more key only (With first rest) ready =
+    elim (only first ready.0) [
+      | inl was ↦ elim (ready_split held more key only rest ready.1) [
+        | inl before ↦ inl (was, before)
+        | inr among ↦ inr (inr among)
+      ]
+      | inr new ↦ inr (inl new)
+    ]
+
+module _ (keys : Trees) (ids : List ℕ) (outcomes : List Outcome) (found : List (Option ℕ)) (places : PlacesValue)
+    (cached : List (ℕ × Picture)) (out : List JobOut) (kept : IsKept keys ids outcomes found places cached out) where
+  abbrev units : List (ℕ × Outcome)
+  units = zip ids outcomes
+
+  -- a unit whose references' pictures are held names none that waits
+  ready_names : (at number : ℕ) (key : Key) → slice_get found at ≡ Some (Some number) → tree_at keys number ≡ Some key
+      → IsReady (keys_for keys (numbers_held places)) key → (other : ℕ) → Names units at other
+      → IsWaiting found places other → ⊥
+  ready_names at number key is tree ready other names waits =
+      let one = kept.right.one in
+      let name = named_key keys ids outcomes found kept.stand one places at number is other names waits in
+      let known = known_there keys ids outcomes found kept.stand one places at number is other names waits in
+      let own = own_key keys ids outcomes found kept.stand one places at number is other names waits
+      names.listed.0 names.listed.1 names.listed.2 in
+      let plan = names.listed.1 in
+      let same = same_Some key _ (sym tree ∙ own) in
+      let entry : Contains (map (λ unit. option_and_then (key_at known) unit) (named_by_all plan.requests)) (Some name.0) =
+      subst (Contains (map (λ unit. option_and_then (key_at known) unit) (named_by_all plan.requests))) name.1
+      (among_map (λ unit. option_and_then (key_at known) unit) (named_by_all plan.requests) (Some names.id) names.listed.3) in
+      let held = ready_entries (keys_for keys (numbers_held places)) (works_of plan.requests)
+      (map (λ unit. option_and_then (key_at known) unit) (named_by_all plan.requests))
+      (subst (IsReady (keys_for keys (numbers_held places))) same ready) name.0 entry in
+      waits.2 (key_held keys places kept.right waits.0 name.0 name.2 held)
+
+  -- the picture of a key lands, whose references' pictures are held
+  module _ (at : ℕ) (other : JobOut) (stands : other ≡ slice_index_or out at other) (picture : Picture) (more : PlacesValue)
+      (awaited : place_at places other.key ≡ Some None)
+      (put : (number : ℕ) → place_at more number
+      ≡ (if other.key == number then Some (Some picture) else place_at places number))
+      (key : Key) (tree : tree_at keys other.key ≡ Some key) (ready : IsReady (keys_for keys (numbers_held places)) key) where
+    put_cases : (b : Bool) (number : ℕ) (shown : Option Picture) → b ≡ (other.key == number)
+        → (if b then Some (Some picture) else place_at places number) ≡ Some shown
+        → ((other.key ≡ number) × (shown ≡ Some picture)) ⊎ (place_at places number ≡ Some shown)
+    put_cases true number shown is place = inl (eqb-true other.key number (sym is), sym (same_Some (Some picture) shown place))
+    put_cases false number shown is place = inr place
+
+    -- what a place has afterwards is the picture, or it had it before
+    place_then : (number : ℕ) (shown : Option Picture) → place_at more number ≡ Some shown
+        → ((other.key ≡ number) × (shown ≡ Some picture)) ⊎ (place_at places number ≡ Some shown)
+    place_then number shown is = put_cases (other.key == number) number shown refl (sym (put number) ∙ is)
+
+    still_held : (b : Bool) (number : ℕ) → IsHeld places number
+        → (shown : Picture) × ((if b then Some (Some picture) else place_at places number) ≡ Some (Some shown))
+    still_held true number held = (picture, refl)
+    still_held false number held = held
+
+    held_still : (number : ℕ) → IsHeld places number → IsHeld more number
+    held_still number held =
+        let still = still_held (other.key == number) number held in
+        (still.0, put number ∙ still.1)
+
+    held_before : (number : ℕ) → IsHeld more number → (other.key ≡ number) ⊎ IsHeld places number
+    held_before number held = elim (place_then number (Some held.0) held.1) [
+      | inl new ↦ inl new.0
+      | inr was ↦ inr (held.0, was)
+    ]
+
+    waits_before : (place : ℕ) → IsWaiting found more place → IsWaiting found places place
+    waits_before place waits = (waits.0, waits.1, λ held. waits.2 (held_still waits.0 held))
+
+    needed_before : (target place : ℕ) → IsNeededHere units found more target place → IsNeededHere units found places target place
+    needed_before target place needed =
+        needed_more units (IsWaiting found more) (IsWaiting found places) target waits_before place needed
+
+    -- a needed unit that names one that waits still waits itself
+    names_waits : (place next : ℕ) → IsWaiting found places place → Names units place next → IsWaiting found places next
+        → IsWaiting found more place
+    names_waits place next waits names next_waits = (
+      waits.0,
+      waits.1,
+      λ held. elim (held_before waits.0 held) [
+        | inl same ↦
+            ready_names place waits.0 key waits.1 (subst (λ n. tree_at keys n ≡ Some key) same tree) ready next names next_waits
+        | inr was ↦ waits.2 was
+      ],
+    )
+
+    -- what was needed and waits still is needed still
+    needed_stays : (target place : ℕ) → IsNeededHere units found places target place → IsWaiting found more place
+        → IsNeededHere units found more target place
+    needed_stays target place (itself waits) now = itself now
+    needed_stays target place (named above below needed names waits) now =
+        named above below
+        (needed_stays target above needed
+        (names_waits above below (needed_waits units (IsWaiting found places) target above needed) names waits)) names now
+
+    awaited_before : (number : ℕ) → place_at more number ≡ Some None → place_at places number ≡ Some None
+    awaited_before number is = elim (place_then number None is) [
+      | inl new ↦ absurd (let wrong = new.1 in cc)
+      | inr was ↦ was
+    ]
+
+    not_landed : (number : ℕ) → place_at more number ≡ Some None → other.key ≡ number → ⊥
+    not_landed number is same =
+        let there : place_at more number ≡ Some (Some picture) =
+        put number
+        ∙ ap (λ b. if b then Some (Some picture) else place_at places number) (eq-eqb other.key number same) in
+        let both : ◌≡◌ {A = Option (Option Picture)} (Some None) (Some (Some picture)) = sym is ∙ there in
+        cc
+
+    -- a key that is held then was held, or is that of the job
+    held_then : (o : Key) → Contains (keys_for keys (numbers_held more)) o
+        → Contains (keys_for keys (numbers_held places)) o ⊎ (o ≡ key)
+    held_then o is_now =
+        let source : (n : ℕ) × Contains (numbers_held more) n × (key_for keys n ≡ o) =
+        for_contains keys (numbers_held more) o is_now in
+        let held : (shown : Picture) × (place_at more source.0 ≡ Some (Some shown)) = held_found more source.0 source.1 in
+        elim (place_then source.0 (Some held.0) held.1) [
+          | inl new ↦ inr ((sym source.2 ∙ ap (key_for keys) (sym new.0)) ∙ key_is keys other.key key tree)
+          | inr was ↦ inl (subst (Contains (keys_for keys (numbers_held places))) source.2
+              (contains_for keys (numbers_held places) source.0 (found_held places source.0 held.0 was)))
+        ]
+
+    -- a unit that is due then was due, or refers to the key
+    due_or : (place : ℕ) → IsDueThere keys more (remove out at) found place
+        → IsDueThere keys places out found place ⊎ RefersTo keys found place other.key
+    due_or place (number, is, due) =
+        elim (ready_split (keys_for keys (numbers_held places)) (keys_for keys (numbers_held more)) key held_then due.key due.ready) [
+          | inl was ↦ inl (
+            number,
+            is,
+            record {
+              awaited = awaited_before number due.awaited;
+              free = λ among. due.free (out_still out at number other stands (not_landed number due.awaited) among);
+              key = due.key;
+              tree = due.tree;
+              ready = was;
+            },
+          )
+          | inr among ↦ inr (record {
+            number = number;
+            stands = is;
+            tree = due.key;
+            tree_is = due.tree;
+            first = key;
+            first_is = tree;
+            among = among;
+          })
+        ]
+
+    -- so a schedule goes on with the units that become due, or nothing is left of it
+    scheduled_on : (old new : Option Schedule) → IsScheduled keys units found places out old
+        → GoesOn keys more (remove out at) found other.key old new → IsScheduled keys units found more (remove out at) new
+    scheduled_on old None are goes = tt
+    scheduled_on None (Some new) are goes = absurd goes
+    scheduled_on (Some old) (Some new) are goes = rw (goes.0, goes.1) (record {
+      by_entry = are.by_entry;
+      ordered = goes.2.ordered are.ordered;
+      due = λ place needed due. elim (due_or place due) [
+        | inl was ↦ goes.2.stay place (are.due place (needed_before old.target place needed) was)
+        | inr refers ↦
+            goes.2.all place (are.listed place other.key (needed_before old.target place needed) refers
+            (λ held. let both = sym held.1 ∙ awaited in cc)) due
+      ];
+      queued = λ place is waits. needed_stays old.target place (elim (goes.2.only place is) [
+        | inl was ↦ are.queued place was (waits_before place waits)
+        | inr new ↦ are.those place other.key new (waits_before place waits)
+      ]) waits;
+      listed = λ place entry needed refers not.
+          are.listed place entry (needed_before old.target place needed) refers (λ held. not (held_still entry held));
+      those = λ place entry is waits. needed_stays old.target place (are.those place entry is (waits_before place waits)) waits;
+    })
+
+  -- what is left of a schedule where the references' pictures aren't held
+  scheduled_if : (kept_one : Option Schedule) (old : Option Schedule) (number : ℕ) → IsScheduled keys units found places out old
+      → ((s : Schedule) → kept_one ≡ Some s → (old ≡ Some s) × IsReadyNumber keys places number)
+      → IsScheduled keys units found places out kept_one
+  scheduled_if None old number are if_ready = tt
+  scheduled_if (Some s) old number are if_ready =
+      subst (IsScheduled keys units found places out) (if_ready s refl).0 are
+
+  -- a result lands
+  pub scheduled_landed : (at : ℕ) (other : JobOut) → other ≡ slice_index_or out at other → (picture : Picture) (landing : Landing)
+      (more : PlacesValue) (left : List JobOut) → left ≡ remove out at → IsFilled places other.key picture landing more
+      → (old kept_one new : Option Schedule) → IsScheduled keys units found places out old
+      → ((s : Schedule) → kept_one ≡ Some s → (old ≡ Some s) × IsReadyNumber keys places other.key)
+      → FollowsLanding keys more left found other.key landing kept_one new
+      → IsScheduled keys units found more left new
+  scheduled_landed at other stands picture Foreign more left gone filled old kept_one new are if_ready follows = absurd filled
+  scheduled_landed at other stands picture Stale more left gone filled old kept_one new are if_ready follows =
+      subst (λ p. IsScheduled keys units found p left new) (sym filled.1)
+      (subst (IsScheduled keys units found places left) (sym follows)
+      (subst (λ jobs. IsScheduled keys units found places jobs kept_one) (sym gone)
+      (scheduled_fewer keys units found places out (remove out at) kept_one
+      (due_stale keys places out at other stands filled.0) (scheduled_if kept_one old other.key are if_ready))))
+  scheduled_landed at other stands picture Taken more left gone filled old None None are if_ready follows = tt
+  scheduled_landed at other stands picture Taken more left gone filled old None (Some new) are if_ready follows = absurd follows
+  scheduled_landed at other stands picture Taken more left gone filled old (Some s) new are if_ready follows =
+      let its = if_ready s refl in
+      subst (λ jobs. IsScheduled keys units found more jobs new) (sym gone)
+      (scheduled_on at other stands picture more filled.0 filled.1 its.1.0 its.1.1 its.1.2 (Some s) new
+      (subst (IsScheduled keys units found places out) its.0 are)
+      (subst (λ jobs. GoesOn keys more jobs found other.key (Some s) new) gone follows))

@@ -1,5 +1,5 @@
 -- The stretch of units that a change gives other outcomes, by what is shown of them.
-use Rattle.std.proofs.Common.{◌≡◌, ℕ, ◌+◌, ◌^◌, ◌<◌, ◌≤◌, ◌++◌, Option, List, [], ◌∷◌, length, map, take, drop, refl, ap, sym, ◌∙◌, arith}
+use Rattle.std.proofs.Common.{◌≡◌, ℕ, ◌+◌, ◌^◌, ◌<◌, ◌≤◌, ◌++◌, Option, List, length, map, take, drop, ap, sym, ◌∙◌, arith}
 use Rattle.std.proofs.lemmas.List.{length-map, map-append, take-map, drop-map}
 use Rattle.request_core.specs.States.{no_units}
 use Rattle.request_core.specs.Fold.{outcomes_of}
@@ -12,7 +12,7 @@ use Rattle.stream_fold.proofs.Changed.{length_after, place_is}
 use Rattle.stream_fold.proofs.Folds.{length-outcomes_from}
 use Rattle.period_counts.specs.declared.shown.Shown.{Shown}
 use Rattle.period_counts.specs.Shown.{shown_of}
-use Rattle.period_counts.specs.Periods.{units_of, spliced}
+use Rattle.period_counts.specs.Periods.{PeriodValue, units_of, spliced}
 use Rattle.period_counts.specs.Kept.{Change, IsSplice, changed}
 use Rattle.ordered_fold.specs.Kept.{AreOrdered}
 
@@ -29,7 +29,7 @@ pub longer : (change : changes.Change) (stream : Stream) → IsInside change str
 longer change stream inside =
     omega (arith, length_after change stream inside, place_is change (length stream) inside.within, inside.ordered, inside.within)
 
-module _ (stream : Stream) (periods : List (List (Option Shown))) (are : AreOrdered stream periods) where
+module _ (stream : Stream) (periods : List PeriodValue) (are : AreOrdered stream periods) where
   pub length-units : length (units_of periods) ≡ length stream
   length-units = ap length (sym are) ∙ length-shown stream
 

@@ -1,11 +1,10 @@
 -- What is kept of a stream in output order.
-use Rattle.std.specs.Prelude.{◌≡◌, Option, List, map}
+use Rattle.std.specs.Prelude.{◌≡◌, List, map}
 use Rattle.request_core.specs.Fold.{outcomes_of}
 use Rattle.request_core.specs.Agreement.{Stream}
 use Rattle.stream_fold.specs.Kept.{FoldedValue}
-use Rattle.period_counts.specs.declared.shown.Shown.{Shown}
 use Rattle.period_counts.specs.Shown.{shown_of}
-use Rattle.period_counts.specs.Periods.{units_of}
+use Rattle.period_counts.specs.Periods.{PeriodValue, units_of}
 use Rattle.period_counts.specs.Kept.{Kept}
 
 -- the folded stream, and the periods of its units
@@ -14,5 +13,5 @@ pub record OrderedValue : Type 0 where
   pub order : Kept
 
 -- the periods are those of the stream's outcomes
-abbrev pub AreOrdered : Stream → List (List (Option Shown)) → Type 0
+abbrev pub AreOrdered : Stream → List PeriodValue → Type 0
 AreOrdered stream periods = map shown_of (outcomes_of stream) ≡ units_of periods

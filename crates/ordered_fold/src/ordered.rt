@@ -106,7 +106,7 @@ impl OrderedFold {
         prepared.refolded.end(&self.folded)
     }
 
-    /// Prepares a change: folds anew what it changes, makes the periods anew that this touches, and makes room. All answers
+    /// Prepares a change: folds anew what it changes, prepares what this changes in the periods, and makes room. All answers
     /// stay as they were.
     pub fn prepare(&mut self, alloc: Global, change: Change) -> Result<PreparedChange, AllocError>
         requires inside { IsInside change self.old.folded.stream }

@@ -5,7 +5,7 @@ ghost use Rattle.std.specs.Prelude.{◌≡◌};
 use period_counts::Splice;
 use stream_fold::Prepared;
 
-/// A change that is prepared, with the periods that it makes anew.
+/// A change that is prepared, with what it changes in the periods.
 #[derive(Debug, Drop)]
 pub struct PreparedChange {
     pub(crate) refolded: Prepared,

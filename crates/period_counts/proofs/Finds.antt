@@ -10,14 +10,14 @@ use Rattle.period_counts.specs.declared.shown.Shown.{Shown}
 use Rattle.period_counts.specs.declared.counting.Count.{Count}
 use Rattle.period_counts.specs.Shown.{shown_of}
 use Rattle.period_counts.specs.OrderKeys.{is_first, order_keys}
-use Rattle.period_counts.specs.Periods.{units_of, valid_in, IsPeriod, IsBegun, ArePeriods}
+use Rattle.period_counts.specs.Periods.{PeriodValue, units_of, valid_in, IsPeriod, IsBegun, ArePeriods}
 use Rattle.period_counts.specs.Kept.{count_at, AreCounted}
 use Rattle.period_counts.specs.Bounds.{period_size}
 use Rattle.period_counts.specs.Places.{IsFound}
 use Rattle.period_counts.proofs.Starts.{units_parts, units_more, count_more}
 use Rattle.period_counts.proofs.Positions.{position_is, size_is}
 
-module _ (periods : List (List (Option Shown))) (counts : List Count) (counted : AreCounted periods (length periods) counts)
+module _ (periods : List PeriodValue) (counts : List Count) (counted : AreCounted periods (length periods) counts)
     (place found : ℕ) (within : place < length (units_of periods)) (bound : found ≤ length counts)
     (before : AllWithin (λ count. count.start < place + 1) counts 0 found) (after : AllWithin (λ count. place + 1 ≤ count.start) counts found (length counts)) where
   none : Count
@@ -44,25 +44,30 @@ module _ (periods : List (List (Option Shown))) (counts : List Count) (counted :
         inside = inside;
         from = omega (arith, before at none (omega arith) (omega arith), start_is at inside);
         below = λ d.
-            let more : (count_at periods (at + 1)).start ≡ (count_at periods at).start + length (get_or periods at d) = ap (λ count. count.start) (count_more periods at d inside) in
+            let more : (count_at periods (at + 1)).start ≡ (count_at periods at).start + length (get_or periods at d).units = ap (λ count. count.start) (count_more periods at d inside) in
             ⊎_elim
             (λ next. omega (arith, more, after (at + 1) none (omega arith) (omega (arith, counted.as_many)), start_is (at + 1) next))
             (λ last. let all : length (units_of (take (at + 1) periods)) ≡ length (units_of periods) = ap (λ front. length (units_of front)) (take_all (at + 1) periods last) in omega (arith, more, all))
             (cases_lt (at + 1) (length periods));
       }
 
-pub IsBegun-units : (periods : List (List (Option Shown))) → All IsPeriod periods → All IsBegun periods → IsBegun (units_of periods)
-IsBegun-units [] each begins = tt
-IsBegun-units ([] ∷ periods) each begins = absurd (All-head IsPeriod [] periods each)
-IsBegun-units ((first ∷ rest) ∷ periods) each begins = All-head IsBegun (first ∷ rest) periods begins
+-- a period that begins goes on beginning with units behind it
+IsBegun-more : (units rest : List (Option Shown)) → IsPeriod units → IsBegun units → IsBegun (units ++ rest)
+IsBegun-more [] rest is begins = absurd is
+IsBegun-more (first ∷ units) rest is begins = begins
 
-module _ (periods : List (List (Option Shown))) (are : ArePeriods periods) (outcomes : List Outcome) (is : map shown_of outcomes ≡ units_of periods)
-    (place at : ℕ) (found : IsFound periods place at) (d : List (Option Shown)) where
+pub IsBegun-units : (periods : List PeriodValue) → All (λ period. IsPeriod period.units) periods → All (λ period. IsBegun period.units) periods → IsBegun (units_of periods)
+IsBegun-units [] each begins = tt
+IsBegun-units (period ∷ periods) each begins = IsBegun-more period.units (units_of periods)
+    (All-head (λ one. IsPeriod one.units) period periods each) (All-head (λ one. IsBegun one.units) period periods begins)
+
+module _ (periods : List PeriodValue) (are : ArePeriods periods) (outcomes : List Outcome) (is : map shown_of outcomes ≡ units_of periods)
+    (place at : ℕ) (found : IsFound periods place at) (d : PeriodValue) where
   abbrev front : List (Option Shown)
   front = units_of (take at periods)
 
   abbrev mid : List (Option Shown)
-  mid = get_or periods at d
+  mid = (get_or periods at d).units
 
   abbrev back : List (Option Shown)
   back = units_of (drop (at + 1) periods)
@@ -82,7 +87,7 @@ module _ (periods : List (List (Option Shown))) (are : ArePeriods periods) (outc
   begins_back : IsBegun back
   begins_back =
       let same : drop at (drop 1 periods) ≡ drop (at + 1) periods = drop-drop at 1 periods ∙ ap (λ n. drop n periods) (let sum : 1 + at ≡ at + 1 = omega arith in sum) in
-      IsBegun-units (drop (at + 1) periods) (All-drop IsPeriod (at + 1) periods are.each) (rw same at (All-drop IsBegun at (drop 1 periods) are.later))
+      IsBegun-units (drop (at + 1) periods) (All-drop (λ period. IsPeriod period.units) (at + 1) periods are.each) (rw same at (All-drop (λ period. IsBegun period.units) at (drop 1 periods) are.later))
 
   offset_within : place - length front < length mid
   offset_within = omega (arith, found.below d, found.from)

@@ -7,7 +7,7 @@ use Rattle.std.proofs.lemmas.List.Sorted.{ranks_by, sorted_far}
 use Rattle.std.proofs.lemmas.List.Sums.{sum_by-take-drop}
 use Rattle.std.specs.Cmp.{IsTotalOrder, IsStrictWeakOrder}
 use Rattle.std.specs.List.{AllWithin, count_by}
-use Rattle.std.specs.List.Sorted.{IsSortedBy}
+use Rattle.std.specs.List.Sorted.{IsSortedBy, IsPartitionedBy}
 use Rattle.std.specs.Ordering.{nat_cmp, int_cmp, ordering_then}
 use Rattle.period_counts.specs.declared.order_key.OrderKey.{OrderKey}
 use Rattle.period_counts.specs.OrderKeys.{is_first}
@@ -23,7 +23,7 @@ pub record IsNarrowed (sorted : List OrderKey) (key : OrderKey) (low high : ℕ)
 key_total : IsTotalOrder (λ (one : OrderKey) (other : OrderKey). ordering_then (int_cmp one.order other.order) (nat_cmp one.offset other.offset))
 key_total = then_total (on_total (λ key. key.order) int_cmp_total) (on_total (λ key. key.offset) nat_cmp_total)
 
-weak : IsStrictWeakOrder is_first
+pub weak : IsStrictWeakOrder is_first
 weak = ranks_by key_total (λ one. one)
 
 module _ (sorted : List OrderKey) (ascending : IsSortedBy is_first sorted) (key : OrderKey) where
@@ -35,6 +35,10 @@ module _ (sorted : List OrderKey) (ascending : IsSortedBy is_first sorted) (key 
 
   fails : (k middle : ℕ) (d : OrderKey) → middle ≤ k → k < length sorted → is_first (get_or sorted middle d) key ≡ false → is_first (get_or sorted k d) key ≡ false
   fails k middle d from within last = weak.chain (get_or sorted k d) (get_or sorted middle d) key (sorted_far is_first weak sorted ascending middle k d from within) last
+
+  -- the keys that are shown before this one stand before the others
+  pub parted : IsPartitionedBy (λ other. is_first other key) sorted
+  parted i j d upto within first = passes i j d upto within first
 
   module _ (low high middle : ℕ) (narrowed : IsNarrowed sorted key low high) (from : low ≤ middle) (below : middle < high) where
     pub narrowed_up : ((d : OrderKey) → is_first (get_or sorted middle d) key ≡ true) → IsNarrowed sorted key (middle + 1) high

@@ -1,7 +1,10 @@
+pub mod ChangedInside
 pub mod Counts
 pub mod Cuts
 pub mod Finds
 pub mod Halves
+pub mod Insertion
+pub mod KeptKeys
 pub mod OrderedKeys
 pub mod Logarithms
 pub mod Positions

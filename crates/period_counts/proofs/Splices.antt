@@ -1,5 +1,5 @@
 -- The periods that a change of a stretch of units touches, and those after it.
-use Rattle.std.proofs.Common.{◌≡◌, ℕ, suc, zero, ◌+◌, ◌-◌, ◌<◌, ◌≤◌, ◌^◌, min, max, ⊎_elim, Option, option_map, unwrap_or, List, [], ◌∷◌, ◌++◌, length, take, drop, get_or, slice_get, All, refl, sym, ap, ◌∙◌, arith}
+use Rattle.std.proofs.Common.{◌≡◌, ℕ, suc, zero, ◌+◌, ◌-◌, ◌<◌, ◌≤◌, ◌^◌, min, max, ⊎_elim, Option, None, option_map, unwrap_or, List, [], ◌∷◌, ◌++◌, length, take, drop, get_or, slice_get, All, refl, sym, ap, ◌∙◌, arith}
 use Rattle.std.proofs.lemmas.Bool.{cases_lt}
 use Rattle.std.proofs.lemmas.List.{append_assoc, take_all, take-append-drop, take-take, drop-take, drop-drop, drop_at, length-append, length-drop, length-take-le, take-append-le, drop-append-le}
 use Rattle.std.proofs.lemmas.List.Elements.{All-nil, All-cons, All-head, All-append, All-take, All-drop}
@@ -7,14 +7,14 @@ use Rattle.std.proofs.lemmas.Option.{slice_get-get_or, slice_get_past}
 use Rattle.std.specs.List.{AllWithin, slice_range}
 use Rattle.period_counts.specs.declared.shown.Shown.{Shown}
 use Rattle.period_counts.specs.declared.counting.Count.{Count}
-use Rattle.period_counts.specs.Periods.{units_of, IsPeriod, IsBegun, ArePeriods, spliced}
+use Rattle.period_counts.specs.Periods.{PeriodValue, units_of, IsPeriod, IsBegun, ArePeriods, spliced}
 use Rattle.period_counts.specs.Kept.{AreCounted, Change, changed, IsSplice}
 use Rattle.period_counts.specs.Places.{IsTouched}
 use Rattle.period_counts.proofs.Starts.{units_of-append, units_parts}
 use Rattle.period_counts.proofs.Finds.{IsBegun-units}
 use Rattle.period_counts.proofs.Positions.{take_past}
 
-module _ (periods : List (List (Option Shown))) (counts : List Count) (counted : AreCounted periods (length periods) counts)
+module _ (periods : List PeriodValue) (counts : List Count) (counted : AreCounted periods (length periods) counts)
     (low high started ended : ℕ) (ordered : low ≤ high) (within : high ≤ length (units_of periods))
     (started_bound : started ≤ length counts) (started_before : AllWithin (λ count. count.start < low) counts 0 started)
     (ended_before : AllWithin (λ count. count.start < high) counts 0 ended) (ended_after : AllWithin (λ count. high ≤ count.start) counts ended (length counts)) where
@@ -97,39 +97,43 @@ module _ (periods : List (List (Option Shown))) (counts : List Count) (counted :
       }
 
 -- with periods in the place of others, each begins but the first
-module _ (periods new : List (List (Option Shown))) (past : ℕ) (are : ArePeriods periods) (new_are : ArePeriods new) (some : 0 < length periods → 0 < past) where
-  rest_begun : All IsBegun (drop past periods)
+module _ (periods new : List PeriodValue) (past : ℕ) (are : ArePeriods periods) (new_are : ArePeriods new) (some : 0 < length periods → 0 < past) where
+  rest_begun : All (λ period. IsBegun period.units) (drop past periods)
   rest_begun = ⊎_elim
       (λ there.
       let last : 1 + (past - 1) ≡ past = omega (arith, some there) in
       let same : drop (past - 1) (drop 1 periods) ≡ drop past periods = drop-drop (past - 1) 1 periods ∙ ap (λ n. drop n periods) last in
-      rw same at (All-drop IsBegun (past - 1) (drop 1 periods) are.later))
+      rw same at (All-drop (λ period. IsBegun period.units) (past - 1) (drop 1 periods) are.later))
       (λ empty. λ k d below. absurd (omega (arith, length-drop past periods)))
       (cases_lt 0 (length periods))
 
-new_first : (new rest : List (List (Option Shown))) → ArePeriods new → All IsBegun rest → All IsBegun (drop 1 (new ++ rest))
-new_first [] rest are begun = All-drop IsBegun 1 rest begun
-new_first (one ∷ new) rest are begun = All-append IsBegun new rest are.later begun
+new_first : (new rest : List PeriodValue) → ArePeriods new → All (λ period. IsBegun period.units) rest → All (λ period. IsBegun period.units) (drop 1 (new ++ rest))
+new_first [] rest are begun = All-drop (λ period. IsBegun period.units) 1 rest begun
+new_first (one ∷ new) rest are begun = All-append (λ period. IsBegun period.units) new rest are.later begun
 
-later_first : (periods new rest : List (List (Option Shown))) (first : ℕ) → ArePeriods periods → ArePeriods new → All IsBegun rest
-    → (0 < first → 0 < length periods) → (0 < first → All IsBegun new) → All IsBegun (drop 1 (take first periods ++ new ++ rest))
+later_first : (periods new rest : List PeriodValue) (first : ℕ) → ArePeriods periods → ArePeriods new → All (λ period. IsBegun period.units) rest
+    → (0 < first → 0 < length periods) → (0 < first → All (λ period. IsBegun period.units) new) → All (λ period. IsBegun period.units) (drop 1 (take first periods ++ new ++ rest))
 later_first periods new rest zero are new_are begun there new_begun = new_first new rest new_are begun
 later_first [] new rest (suc first) are new_are begun there new_begun = absurd (let no : 0 < 0 = there (omega arith) in omega arith)
 later_first (one ∷ periods) new rest (suc first) are new_are begun there new_begun =
-    All-append IsBegun (take first periods ++ new) rest
-    (All-append IsBegun (take first periods) new (All-take IsBegun first periods are.later) (new_begun (omega arith))) begun
+    All-append (λ period. IsBegun period.units) (take first periods ++ new) rest
+    (All-append (λ period. IsBegun period.units) (take first periods) new (All-take (λ period. IsBegun period.units) first periods are.later) (new_begun (omega arith))) begun
 
-all_begun : (new : List (List (Option Shown))) → ArePeriods new → IsBegun (units_of new) → All IsBegun new
-all_begun [] are begun = All-nil IsBegun
-all_begun ([] ∷ new) are begun = absurd (All-head IsPeriod [] new are.each)
-all_begun ((one ∷ rest) ∷ new) are begun = All-cons IsBegun (one ∷ rest) new begun are.later
+begun_alone : (units rest : List (Option Shown)) → IsPeriod units → IsBegun (units ++ rest) → IsBegun units
+begun_alone [] rest is begun = absurd is
+begun_alone (one ∷ units) rest is begun = begun
+
+all_begun : (new : List PeriodValue) → ArePeriods new → IsBegun (units_of new) → All (λ period. IsBegun period.units) new
+all_begun [] are begun = All-nil (λ period. IsBegun period.units)
+all_begun (one ∷ new) are begun = All-cons (λ period. IsBegun period.units) one new
+    (begun_alone one.units (units_of new) (All-head (λ period. IsPeriod period.units) one new are.each) begun) are.later
 
 front_begun : (units rest : List (Option Shown)) (count : ℕ) → 0 < count → 0 < length units → IsBegun units → IsBegun (take count units ++ rest)
 front_begun units rest zero some there begun = absurd (omega arith)
 front_begun [] rest (suc count) some there begun = absurd (omega arith)
 front_begun (one ∷ units) rest (suc count) some there begun = begun
 
-module _ (periods : List (List (Option Shown))) (are : ArePeriods periods) (low high first past start : ℕ) (ordered : low ≤ high)
+module _ (periods : List PeriodValue) (are : ArePeriods periods) (low high first past start : ℕ) (ordered : low ≤ high)
     (touched : IsTouched periods low high (record { first = first; past = past; start = start })) where
   abbrev before : List (Option Shown)
   before = units_of (take first periods)
@@ -156,22 +160,23 @@ module _ (periods : List (List (Option Shown))) (are : ArePeriods periods) (low 
   pub high_within : high - start ≤ length mid
   high_within = omega (arith, touched.upto, ap length front_parts, length-append before mid, touched.start_is)
 
-  module _ (between : List (Option Shown)) (new : List (List (Option Shown))) (new_are : ArePeriods new) (new_units : units_of new ≡ spliced (low - start) (high - start) between mid) where
-    new_begun : 0 < first → All IsBegun new
+  module _ (between : List (Option Shown)) (new : List PeriodValue) (new_are : ArePeriods new) (new_units : units_of new ≡ spliced (low - start) (high - start) between mid) where
+    new_begun : 0 < first → All (λ period. IsBegun period.units) new
     new_begun some =
         let one = touched.inner some in
         let there : 0 < length mid = omega (arith, high_within) in
         let last : 1 + (first - 1) ≡ first = omega arith in
         let same : drop (first - 1) (drop 1 periods) ≡ drop first periods = drop-drop (first - 1) 1 periods ∙ ap (λ n. drop n periods) last in
-        let mid_begun : All IsBegun (slice_range periods first past) = All-take IsBegun (past - first) (drop first periods) (rw same at (All-drop IsBegun (first - 1) (drop 1 periods) are.later)) in
-        let mid_each : All IsPeriod (slice_range periods first past) = All-take IsPeriod (past - first) (drop first periods) (All-drop IsPeriod first periods are.each) in
+        let mid_begun : All (λ period. IsBegun period.units) (slice_range periods first past) = All-take (λ period. IsBegun period.units) (past - first) (drop first periods) (rw same at (All-drop (λ period. IsBegun period.units) (first - 1) (drop 1 periods) are.later)) in
+        let mid_each : All (λ period. IsPeriod period.units) (slice_range periods first past) = All-take (λ period. IsPeriod period.units) (past - first) (drop first periods) (All-drop (λ period. IsPeriod period.units) first periods are.each) in
         let begun = front_begun mid (between ++ drop (high - start) mid) (low - start) (omega arith) there (IsBegun-units (slice_range periods first past) mid_each mid_begun) in
         all_begun new new_are (rw (new_units, append_assoc (take (low - start) mid) between (drop (high - start) mid)) begun)
 
     pub periods_after : ArePeriods (take first periods ++ new ++ drop past periods)
     periods_after = record {
-      each = All-append IsPeriod (take first periods ++ new) (drop past periods)
-          (All-append IsPeriod (take first periods) new (All-take IsPeriod first periods are.each) new_are.each) (All-drop IsPeriod past periods are.each);
+      each = All-append (λ period. IsPeriod period.units) (take first periods ++ new) (drop past periods)
+          (All-append (λ period. IsPeriod period.units) (take first periods) new (All-take (λ period. IsPeriod period.units) first periods are.each) new_are.each)
+          (All-drop (λ period. IsPeriod period.units) past periods are.each);
       later = later_first periods new (drop past periods) first are new_are (rest_begun periods new past are new_are touched.some)
           (λ some. omega (arith, touched.ordered, touched.within)) new_begun;
     }
@@ -194,7 +199,7 @@ module _ (periods : List (List (Option Shown))) (are : ArePeriods periods) (low 
         left ∙ same ∙ sym right
 
     abbrev change : Change
-    change = record { first = first; past = past; periods = new }
+    change = record { inside = None; first = first; past = past; periods = new }
 
     -- the change can be made, and does what is asked
     pub splice_is : length (spliced low high between (units_of periods)) < 2 ^ 64 → IsSplice change periods low high between
@@ -202,6 +207,7 @@ module _ (periods : List (List (Option Shown))) (are : ArePeriods periods) (low 
         let long : length (units_of (changed change periods)) ≡ length (spliced low high between (units_of periods)) = ap length units_after in
         record {
           can = record {
+            inside = tt;
             ordered = touched.ordered;
             within = touched.within;
             cut = periods_after;

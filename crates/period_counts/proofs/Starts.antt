@@ -1,22 +1,21 @@
 -- What stands before each period, period by period.
-use Rattle.std.proofs.Common.{◌≡◌, ℕ, ◌+◌, ◌-◌, ◌<◌, ◌≤◌, ⊎_elim, cond, Option, is_some, List, [], ◌∷◌, ◌++◌, length, take, drop, get_or, refl, sym, ap, ◌∙◌, arith}
+use Rattle.std.proofs.Common.{◌≡◌, ℕ, ◌+◌, ◌-◌, ◌<◌, ◌≤◌, ⊎_elim, cond, is_some, List, [], ◌∷◌, ◌++◌, length, take, drop, get_or, refl, sym, ap, ◌∙◌, arith}
 use Rattle.std.proofs.lemmas.Bool.{cases_lt}
 use Rattle.std.proofs.lemmas.List.{append-nil, take_more, take-append-drop, length-append, length_push, get_or_append_left, get_or_push, take-take}
 use Rattle.std.proofs.lemmas.List.Concat.{flat_map-append}
 use Rattle.std.proofs.lemmas.List.Sums.{sum_by-append, count_by-le-length}
 use Rattle.std.specs.List.Sorted.{IsNonDecreasingBy}
-use Rattle.period_counts.specs.declared.shown.Shown.{Shown}
 use Rattle.period_counts.specs.declared.counting.Count.{Count}
-use Rattle.period_counts.specs.Periods.{units_of, valid_in}
+use Rattle.period_counts.specs.Periods.{PeriodValue, units_of, valid_in}
 use Rattle.period_counts.specs.Kept.{count_at, AreCounted}
 
-pub units_of-append : (periods more : List (List (Option Shown))) → units_of (periods ++ more) ≡ units_of periods ++ units_of more
-units_of-append periods more = flat_map-append (λ period. period) periods more
+pub units_of-append : (periods more : List PeriodValue) → units_of (periods ++ more) ≡ units_of periods ++ units_of more
+units_of-append periods more = flat_map-append (λ period. period.units) periods more
 
-module _ (periods : List (List (Option Shown))) where
-  pub units_more : (at : ℕ) (d : List (Option Shown)) → at < length periods → units_of (take (at + 1) periods) ≡ units_of (take at periods) ++ get_or periods at d
+module _ (periods : List PeriodValue) where
+  pub units_more : (at : ℕ) (d : PeriodValue) → at < length periods → units_of (take (at + 1) periods) ≡ units_of (take at periods) ++ (get_or periods at d).units
   units_more at d here = ap units_of (take_more periods at d here) ∙ units_of-append (take at periods) (get_or periods at d ∷ [])
-      ∙ ap (λ rest. units_of (take at periods) ++ rest) (append-nil (get_or periods at d))
+      ∙ ap (λ rest. units_of (take at periods) ++ rest) (append-nil (get_or periods at d).units)
 
   pub units_parts : (at : ℕ) → units_of periods ≡ units_of (take at periods) ++ units_of (drop at periods)
   units_parts at = ap units_of (sym (take-append-drop at periods)) ∙ units_of-append (take at periods) (drop at periods)
@@ -26,25 +25,34 @@ module _ (periods : List (List (Option Shown))) where
       let all : length (units_of periods) ≡ length (units_of (take at periods) ++ units_of (drop at periods)) = ap length (units_parts at) in
       omega (arith, all, length-append (units_of (take at periods)) (units_of (drop at periods)))
 
+  -- the units before a period are among those before a later one
+  pub units_before : (one other : ℕ) → one ≤ other → length (units_of (take one periods)) ≤ length (units_of (take other periods))
+  units_before one other upto =
+      let parts : take other periods ≡ take one periods ++ drop one (take other periods) =
+      sym (take-append-drop one (take other periods)) ∙ ap (λ front. front ++ drop one (take other periods)) (take-take one other periods upto) in
+      let all : length (units_of (take other periods)) ≡ length (units_of (take one periods) ++ units_of (drop one (take other periods))) =
+      ap (λ front. length (units_of front)) parts ∙ ap length (units_of-append (take one periods) (drop one (take other periods))) in
+      omega (arith, all, length-append (units_of (take one periods)) (units_of (drop one (take other periods))))
+
   -- a period more
-  pub count_more : (at : ℕ) (d : List (Option Shown)) → at < length periods
-      → count_at periods (at + 1) ≡ record { start = (count_at periods at).start + length (get_or periods at d); earlier = (count_at periods at).earlier + valid_in (get_or periods at d) }
+  pub count_more : (at : ℕ) (d : PeriodValue) → at < length periods
+      → count_at periods (at + 1) ≡ record { start = (count_at periods at).start + length (get_or periods at d).units; earlier = (count_at periods at).earlier + valid_in (get_or periods at d).units }
   count_more at d here =
       let before = units_of (take at periods) in
       let more = units_more at d here in
-      let start : length (units_of (take (at + 1) periods)) ≡ length before + length (get_or periods at d) = ap length more ∙ length-append before (get_or periods at d) in
-      let earlier : valid_in (units_of (take (at + 1) periods)) ≡ valid_in before + valid_in (get_or periods at d) =
-      ap valid_in more ∙ sum_by-append (λ unit. cond (is_some unit) 1 0) before (get_or periods at d) in
+      let start : length (units_of (take (at + 1) periods)) ≡ length before + length (get_or periods at d).units = ap length more ∙ length-append before (get_or periods at d).units in
+      let earlier : valid_in (units_of (take (at + 1) periods)) ≡ valid_in before + valid_in (get_or periods at d).units =
+      ap valid_in more ∙ sum_by-append (λ unit. cond (is_some unit) 1 0) before (get_or periods at d).units in
       rw (start, earlier) refl
 
   module _ (at : ℕ) (counts : List Count) (counted : AreCounted periods at counts) where
     -- the count of the next period, by that of the last one
-    pub next_is : (d : Count) (e : List (Option Shown)) → 0 < at → at < length periods
-        → count_at periods at ≡ record { start = (get_or counts (at - 1) d).start + length (get_or periods (at - 1) e); earlier = (get_or counts (at - 1) d).earlier + valid_in (get_or periods (at - 1) e) }
+    pub next_is : (d : Count) (e : PeriodValue) → 0 < at → at < length periods
+        → count_at periods at ≡ record { start = (get_or counts (at - 1) d).start + length (get_or periods (at - 1) e).units; earlier = (get_or counts (at - 1) d).earlier + valid_in (get_or periods (at - 1) e).units }
     next_is d e some here =
         let last : at - 1 + 1 ≡ at = omega arith in
         ap (count_at periods) (sym last) ∙ count_more (at - 1) e (omega arith)
-        ∙ ap (λ count. let next : Count = record { start = count.start + length (get_or periods (at - 1) e); earlier = count.earlier + valid_in (get_or periods (at - 1) e) } in next) (sym (counted.each (at - 1) d (omega arith)))
+        ∙ ap (λ count. let next : Count = record { start = count.start + length (get_or periods (at - 1) e).units; earlier = count.earlier + valid_in (get_or periods (at - 1) e).units } in next) (sym (counted.each (at - 1) d (omega arith)))
 
     pub AreCounted-push : (count : Count) → count ≡ count_at periods at → AreCounted periods (at + 1) (counts ++ count ∷ [])
     AreCounted-push count is = record {
@@ -62,7 +70,7 @@ module _ (periods : List (List (Option Shown))) where
   earlier_fits at = omega (arith, units_upto at, count_by-le-length is_some (units_of (take at periods)))
 
 -- starts don't fall
-pub starts_rise : (periods : List (List (Option Shown))) (counts : List Count) → AreCounted periods (length periods) counts → IsNonDecreasingBy (λ count. count.start) counts
+pub starts_rise : (periods : List PeriodValue) (counts : List Count) → AreCounted periods (length periods) counts → IsNonDecreasingBy (λ count. count.start) counts
 starts_rise periods counts counted i j d upto within =
     let j_within : j < length periods = omega (arith, counted.as_many) in
     let inner : length (units_of (take i (take j periods))) ≡ length (units_of (take i periods)) = ap (λ front. length (units_of front)) (take-take i j periods upto) in
@@ -72,8 +80,8 @@ starts_rise periods counts counted i j d upto within =
     omega (arith, inner, least, one, other)
 
 -- the units before a period and its own are no more than all
-pub period_fits : (periods : List (List (Option Shown))) (at : ℕ) (d : List (Option Shown)) → at < length periods
-    → length (units_of (take at periods)) + length (get_or periods at d) ≤ length (units_of periods)
+pub period_fits : (periods : List PeriodValue) (at : ℕ) (d : PeriodValue) → at < length periods
+    → length (units_of (take at periods)) + length (get_or periods at d).units ≤ length (units_of periods)
 period_fits periods at d here =
-    let more : length (units_of (take (at + 1) periods)) ≡ length (units_of (take at periods) ++ get_or periods at d) = ap length (units_more periods at d here) in
-    omega (arith, more, length-append (units_of (take at periods)) (get_or periods at d), units_upto periods (at + 1))
+    let more : length (units_of (take (at + 1) periods)) ≡ length (units_of (take at periods) ++ (get_or periods at d).units) = ap length (units_more periods at d here) in
+    omega (arith, more, length-append (units_of (take at periods)) (get_or periods at d).units, units_upto periods (at + 1))

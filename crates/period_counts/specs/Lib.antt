@@ -1,6 +1,7 @@
 pub mod Shown
 pub mod OrderKeys
 pub mod Periods
+pub mod InPlace
 pub mod Kept
 pub mod Bounds
 pub mod Places

@@ -4,9 +4,14 @@ use Rattle.std.specs.List.{flat_map}
 use Rattle.period_counts.specs.declared.shown.Shown.{Shown}
 use Rattle.period_counts.specs.Shown.{begins_period}
 
+-- what is kept of a period: its units, and for how many more there is room
+pub record PeriodValue : Type 0 where
+  pub units : List (Option Shown)
+  pub room : ℕ
+
 -- the units of the periods, one period after the other
-abbrev pub units_of : List (List (Option Shown)) → List (Option Shown)
-units_of periods = flat_map (λ period. period) periods
+abbrev pub units_of : List PeriodValue → List (Option Shown)
+units_of periods = flat_map (λ period. period.units) periods
 
 -- how many units are valid
 abbrev pub valid_in : List (Option Shown) → ℕ
@@ -23,9 +28,9 @@ IsBegun [] = Unit {0}
 IsBegun (first ∷ rest) = begins_period first ≡ true
 
 -- the periods of a stream
-pub record ArePeriods (periods : List (List (Option Shown))) : Type 0 where
-  pub each : All IsPeriod periods
-  pub later : All IsBegun (drop 1 periods)
+pub record ArePeriods (periods : List PeriodValue) : Type 0 where
+  pub each : All (λ period. IsPeriod period.units) periods
+  pub later : All (λ period. IsBegun period.units) (drop 1 periods)
 
 -- units with those between two places replaced
 abbrev pub spliced : ℕ → ℕ → List (Option Shown) → List (Option Shown) → List (Option Shown)

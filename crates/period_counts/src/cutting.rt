@@ -1,6 +1,6 @@
 //! Units cut into periods.
 
-ghost use Rattle.std.specs.Prelude.{◌≡◌, ◌&&◌, nat_lt, IfOk};
+ghost use Rattle.std.specs.Prelude.{◌≡◌, ◌+◌, ◌/◌, ◌&&◌, nat_lt, IfOk};
 ghost use Rattle.period_counts.specs.Shown.{begins_period};
 ghost use Rattle.period_counts.specs.Periods.{ArePeriods, units_of};
 
@@ -15,7 +15,14 @@ fn is_cut(start: usize, at: usize, unit: Option<Shown>) -> bool
     start < at && unit.is_some_and(|shown| shown.begins_period)
 }
 
-/// The periods of these units: one begins with the first, and with each unit that begins one.
+/// For how many more units the last of the periods made has room: half as many as it has, and some.
+fn room_behind(units: usize) -> usize
+    ensures { result ≡ units / 2 + 8 }
+{
+    units / 2 + 8
+}
+
+/// The periods of these units: one begins with the first, and with each unit that begins one. The last has room for more.
 pub(crate) fn periods_of(alloc: Global, units: &[Option<Shown>]) -> Result<Vec<Period>, AllocError>
     ensures periods { IfOk result (λ periods. ArePeriods periods.items) }
     ensures units { IfOk result (λ periods. units_of periods.items ≡ units.now) }
@@ -26,11 +33,12 @@ pub(crate) fn periods_of(alloc: Global, units: &[Option<Shown>]) -> Result<Vec<P
         if !is_cut(start, at, *unit) {
             continue;
         }
-        periods.push(Period::new(alloc, &units[start..at])?)?;
+        periods.push(Period::new(alloc, &units[start..at], 0)?)?;
         start = at;
     }
     if start < units.len() {
-        periods.push(Period::new(alloc, &units[start..])?)?;
+        let last = &units[start..];
+        periods.push(Period::new(alloc, last, room_behind(last.len()))?)?;
     }
     Ok(periods)
 }

@@ -1,6 +1,7 @@
 //! The keys by which the units of a period are shown.
 
-ghost use Rattle.std.specs.Prelude.{◌≡◌, IfOk};
+ghost use Rattle.std.specs.Prelude.{◌≡◌, ◌≤◌, length, IfOk};
+ghost use Rattle.std.specs.Vec.{vec_capacity};
 ghost use Rattle.period_counts.specs.OrderKeys.{order_keys};
 
 use crate::shown::Shown;
@@ -15,14 +16,16 @@ pub(crate) struct OrderKey {
     pub(crate) offset: usize,
 }
 
-/// The keys of the valid units of a period, in decoding order.
+/// The keys of the valid units of a period, in decoding order, with room for so many keys in all.
 pub(crate) fn order_keys(
     alloc: Global,
     units: &[Option<Shown>],
+    room: usize,
 ) -> Result<Vec<OrderKey>, AllocError>
-    ensures { IfOk result (λ keys. keys.items ≡ order_keys units.now) }
+    ensures keys { IfOk result (λ keys. keys.items ≡ order_keys units.now) }
+    ensures room { IfOk result (λ keys. room ≤ vec_capacity keys) }
 {
-    let mut keys = Vec::new(alloc);
+    let mut keys = Vec::with_capacity(alloc, room)?;
     for (offset, unit) in units.iter().enumerate() {
         let Some(shown) = unit else {
             continue;

@@ -1,30 +1,36 @@
 //! The periods of a stream under changes.
 
-ghost use Rattle.std.specs.Prelude.{◌≡◌, ◌+◌, ◌-◌, ◌<◌, ◌≤◌, ◌^◌, List, [], length, map, max, IfOk, IfNone, IfSome, OnOk, OnErr, IsOk};
+ghost use Rattle.std.specs.Prelude.{◌≡◌, ℕ, ◌+◌, ◌-◌, ◌<◌, ◌≤◌, ◌^◌, ◌↔◌, ◌++◌, List, [], length, map, max, take, drop, vec_len, IsTrue, IfOk, IfNone, IfSome, OnOk, OnErr, IsOk};
+ghost use Rattle.std.specs.Vec.{vec_capacity};
 ghost use Rattle.outcomes.specs.declared.outcome.Outcome.{Outcome};
 ghost use Rattle.output_order.specs.OutputOrder.{position_at};
 ghost use Rattle.period_counts.specs.Shown.{shown_of};
-ghost use Rattle.period_counts.specs.Periods.{units_of, spliced};
-ghost use Rattle.period_counts.specs.Kept.{changed, IsChange, IsSplice};
+ghost use Rattle.period_counts.specs.Periods.{units_of, spliced, ArePeriods};
+ghost use Rattle.period_counts.specs.Kept.{changed, last_changed, FitsLast, IsChange, IsSplice};
 ghost use Rattle.period_counts.specs.Bounds.{IsSearched, period_size};
-ghost use Rattle.period_counts.specs.Places.{IsFound, IsTouched};
+ghost use Rattle.period_counts.specs.Places.{IsFound, IsTouched, IsInside, IsTouchedInside, change_inside};
 
 use crate::comparisons::Comparisons;
 use crate::counting::{Count, count_on, start_of, started_before};
 use crate::cutting::periods_of;
+use crate::inside::Inside;
 use crate::order_key::OrderKey;
 use crate::period::Period;
 use crate::replacing::replace;
 use crate::shown::Shown;
 use crate::splice::Splice;
-use crate::touching::{Touched, units_after};
+use crate::touching::{Touched, none_begins, units_after};
 use std::alloc::{AllocError, Global};
 use std::marker::Model;
 
+/// The most units that are put inside a period one by one: the keys behind each of them move.
+const MOST_INSIDE: usize = 32;
+
 /// A stream's units by periods, with what decides about their positions.
 ///
-/// A look-up takes time that grows with the logarithms of the number of periods and of the size of one. A change makes
-/// the periods that it touches anew and counts those after them.
+/// A look-up takes time that grows with the logarithms of the number of periods and of the size of one. A change of a few
+/// units inside one period searches for their places in it and moves the keys behind them. Any other change makes the
+/// periods that it touches anew. Those after them are counted again.
 #[derive(Debug)]
 pub struct Periods {
     periods: Vec<Period>,
@@ -107,7 +113,7 @@ impl Periods {
     }
 
     /// Prepares that these units take the place of those between two places. All that the change takes but room is made
-    /// here.
+    /// here. No period is made anew for a few units inside one period that has room for them.
     pub fn prepare_splice(
         &self,
         alloc: Global,
@@ -118,21 +124,17 @@ impl Periods {
         requires ordered { low ≤ high }
         requires within { high ≤ length (units_of self.now.periods) }
         requires fits { length (spliced low high units.now (units_of self.now.periods)) < 2 ^ 64 }
-        ensures { IfOk result (λ splice. IsSplice splice self.now.periods low high units.now) }
+        ensures splice { IfOk result
+            (λ splice. IsSplice splice self.now.periods low high units.now) }
+        ensures inside { (at : ℕ) → IsInside self.now.periods at low high units.now
+            → IfOk result (λ splice. splice.periods ≡ []) }
     {
-        let Touched { first, past, start } = self.touched(low, high);
-        let after = units_after(
-            alloc,
-            &self.periods[first..past],
-            low - start,
-            high - start,
-            units,
-        )?;
-        Ok(Splice {
-            first,
-            past,
-            periods: periods_of(alloc, &after)?,
-        })
+        let touched = self.touched(low, high);
+        if self.is_inside(touched, low, high, units) {
+            splice_inside(alloc, touched, low, high, units)
+        } else {
+            self.splice_anew(alloc, touched, low, high, units)
+        }
     }
 
     /// Makes room for this many more periods.
@@ -159,13 +161,9 @@ impl Periods {
           room = self.old.room - length splice.periods;
         } }
     {
-        let Splice {
-            first,
-            past,
-            periods,
-        } = splice;
-        let count = periods.len();
-        replace(&mut self.periods, first, past, periods);
+        let first = splice.first;
+        let count = splice.len();
+        put(&mut self.periods, splice);
         self.counts.truncate(first);
         count_on(&self.periods, &mut self.counts);
         self.room -= count;
@@ -204,7 +202,8 @@ impl Periods {
     fn touched(&self, low: usize, high: usize) -> Touched
         requires ordered { low ≤ high }
         requires within { high ≤ length (units_of self.now.periods) }
-        ensures { IsTouched self.now.periods low high result }
+        ensures touched { IsTouched self.now.periods low high result }
+        ensures periods { ArePeriods self.now.periods }
     {
         let first = started_before(&self.counts, low).saturating_sub(1);
         let past = started_before(&self.counts, high)
@@ -215,5 +214,108 @@ impl Periods {
             past,
             start: start_of(&self.counts, first),
         }
+    }
+    /// Whether these units can take the place of others inside the one period that is touched: it keeps its first unit, none
+    /// of them begins a period, they are few, and it has room.
+    fn is_inside(&self, touched: Touched, low: usize, high: usize, units: &[Option<Shown>]) -> bool
+        requires ordered { low ≤ high }
+        requires touched { IsTouched self.now.periods low high touched }
+        ensures { IsTrue result ↔ IsTouchedInside self.now.periods touched low high units.now }
+    {
+        touched.past - touched.first == 1
+            && touched.start < low
+            && units.len() <= MOST_INSIDE
+            && units.len().saturating_sub(high - low) <= self.periods[touched.first].room()
+            && none_begins(units)
+    }
+
+    /// The periods that are touched, made anew with these units between two places.
+    fn splice_anew(
+        &self,
+        alloc: Global,
+        touched: Touched,
+        low: usize,
+        high: usize,
+        units: &[Option<Shown>],
+    ) -> Result<Splice, AllocError>
+        requires ordered { low ≤ high }
+        requires touched { IsTouched self.now.periods low high touched }
+        requires fits { length (spliced low high units.now (units_of self.now.periods)) < 2 ^ 64 }
+        ensures { IfOk result (λ splice. IsSplice splice self.now.periods low high units.now) }
+    {
+        let Touched { first, past, start } = touched;
+        let after = units_after(
+            alloc,
+            &self.periods[first..past],
+            low - start,
+            high - start,
+            units,
+        )?;
+        Ok(Splice {
+            inside: None,
+            first,
+            past,
+            periods: periods_of(alloc, &after)?,
+        })
+    }
+}
+
+/// These units between two places of the one period that is touched.
+fn splice_inside(
+    alloc: Global,
+    touched: Touched,
+    low: usize,
+    high: usize,
+    units: &[Option<Shown>],
+) -> Result<Splice, AllocError>
+    requires from { touched.start ≤ low }
+    requires ordered { low ≤ high }
+    requires inside { touched.past ≡ touched.first + 1 }
+    ensures { IfOk result (λ splice. splice ≡ change_inside touched low high units.now) }
+{
+    let Touched {
+        first: _,
+        past,
+        start,
+    } = touched;
+    Ok(Splice {
+        inside: Some(Inside {
+            low: low - start,
+            high: high - start,
+            units: Vec::from_slice(alloc, units)?,
+        }),
+        first: past,
+        past,
+        periods: Vec::new(alloc),
+    })
+}
+
+/// Makes a change of periods, for which there is room.
+fn put(periods: &mut Vec<Period>, splice: Splice)
+    requires can { IsChange splice periods.old.items }
+    requires room { vec_len periods.old + length splice.periods ≤ vec_capacity periods.old }
+    ensures items { periods.new.items ≡ changed splice periods.old.items }
+    ensures capacity { vec_capacity periods.old ≤ vec_capacity periods.new }
+{
+    let Splice {
+        inside,
+        first,
+        past,
+        periods: new,
+    } = splice;
+    change_last(periods, first, inside);
+    replace(periods, first, past, new);
+}
+
+/// Makes a change, if there is one, inside the last of the first periods.
+fn change_last(periods: &mut Vec<Period>, count: usize, inside: Option<Inside>)
+    requires within { count ≤ vec_len periods.old }
+    requires fits { FitsLast inside (take count periods.old.items) }
+    ensures items { periods.new.items
+        ≡ last_changed inside (take count periods.old.items) ++ drop count periods.old.items }
+    ensures capacity { vec_capacity periods.new ≡ vec_capacity periods.old }
+{
+    if let Some(inside) = inside {
+        periods[count - 1].change(inside);
     }
 }

@@ -2,12 +2,15 @@
 
 ghost use Rattle.std.specs.Prelude.{◌≡◌, length};
 
+use crate::inside::Inside;
 use crate::period::Period;
 use std::marker::Model;
 
-/// Periods that are to take the place of others, made where memory could still be refused.
+/// Periods that are to take the place of others, and units that are to stand inside the one before those. They were made
+/// where memory could still be refused.
 #[derive(Debug, Drop)]
 pub struct Splice {
+    pub(crate) inside: Option<Inside>,
     pub(crate) first: usize,
     pub(crate) past: usize,
     pub(crate) periods: Vec<Period>,
@@ -18,7 +21,12 @@ impl Model for Splice {
 
     ghost Value = { Change };
 
-    ghost view = { λ splice. record { first = splice.first; past = splice.past; periods = splice.periods.items } };
+    ghost view = { λ splice. record {
+      inside = splice.inside;
+      first = splice.first;
+      past = splice.past;
+      periods = splice.periods.items;
+    } };
 }
 
 impl Splice {

@@ -1,7 +1,8 @@
 //! The units of the periods that a change touches.
 
-ghost use Rattle.std.specs.Prelude.{◌≡◌, ◌≤◌, length, IfOk};
+ghost use Rattle.std.specs.Prelude.{◌≡◌, ◌≤◌, ◌↔◌, IsTrue, false, All, length, IfOk};
 ghost use Rattle.period_counts.specs.Periods.{units_of, spliced};
+ghost use Rattle.period_counts.specs.Shown.{begins_period};
 
 use crate::period::Period;
 use crate::shown::Shown;
@@ -47,4 +48,13 @@ pub(crate) fn units_after(
     units.extend_from_slice(between)?;
     units.extend_from_slice(&touched[high..])?;
     Ok(units)
+}
+
+/// Whether none of the units begins a period.
+pub(crate) fn none_begins(units: &[Option<Shown>]) -> bool
+    ensures { IsTrue result ↔ All (λ unit. begins_period unit ≡ false) units.now }
+{
+    units
+        .iter()
+        .all(|unit| !unit.is_some_and(|shown| shown.begins_period))
 }

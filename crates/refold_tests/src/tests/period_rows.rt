@@ -17,7 +17,7 @@ type Valid = Option<(i32, bool)>;
 type Row = (usize, usize, &'static [Valid], &'static [Option<usize>]);
 
 /// One stream, from row to row.
-const ROWS: [Row; 8] = [
+const ROWS: [Row; 12] = [
     // I P I P.
     (
         0,
@@ -74,6 +74,24 @@ const ROWS: [Row; 8] = [
     ),
     // No unit is left.
     (0, 6, &[], &[]),
+    // I P, with room behind.
+    (
+        0,
+        0,
+        &[Some((0, true)), Some((8, false))],
+        &[Some(0), Some(1)],
+    ),
+    // A B picture behind the others of its period is shown between them.
+    (2, 2, &[Some((4, false))], &[Some(0), Some(2), Some(1)]),
+    // Two more on either side of it.
+    (
+        3,
+        3,
+        &[Some((2, false)), Some((6, false))],
+        &[Some(0), Some(4), Some(2), Some(1), Some(3)],
+    ),
+    // A faulted unit in the place of the first two of them: the last has a smaller offset.
+    (2, 4, &[None], &[Some(0), Some(2), None, Some(1)]),
 ];
 
 /// What is shown of a unit.

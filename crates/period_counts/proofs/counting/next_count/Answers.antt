@@ -12,7 +12,7 @@ overflow_add-result c =
     let none : Count = record { start = 0; earlier = 0 } in
     let e = c.index-periods-at.result in
     let next = ap (λ count. count.start) (next_is periods at counts c.requires.counted none e (omega arith) c.requires.within) in
-    let long : length c.units.result.now ≡ length (get_or periods (at - 1) e) = ap length (c.units.ensures ∙ c.index-periods-at.is) in
+    let long : length c.units.result.now ≡ length (get_or periods (at - 1) e).units = ap length (c.units.ensures ∙ ap (λ one. one.units) c.index-periods-at.is) in
     omega (arith, next, long, start_fits periods at, c.requires.fits)
 
 pub overflow_add-result-2 : goal.overflow_add-result-2
@@ -23,5 +23,5 @@ overflow_add-result-2 c =
     let none : Count = record { start = 0; earlier = 0 } in
     let e = c.index-periods-at.result in
     let next = ap (λ count. count.earlier) (next_is periods at counts c.requires.counted none e (omega arith) c.requires.within) in
-    let valid : c.valid.result ≡ valid_in (get_or periods (at - 1) e) = c.valid.ensures ∙ ap valid_in c.index-periods-at.is in
+    let valid : c.valid.result ≡ valid_in (get_or periods (at - 1) e).units = c.valid.ensures ∙ ap (λ one. valid_in one.units) c.index-periods-at.is in
     omega (arith, next, valid, earlier_fits periods at, c.requires.fits)

@@ -12,7 +12,7 @@ loop-at-preserved c =
     let units = c.args.units.now in
     let both = and_parts _ _ (sym c.if-not-is_cut.ensures) in
     rw (c.in_ok-push.ensures.items, c.in_ok-new.ensures) (IsCutUpTo-period units loop.start loop.at loop.periods.items loop.invariant
-    (ltb-true _ _ both.0) (omega arith) (λ d. ap begins_period (get_or_default units loop.at d _ c.loop-at-test.true) ∙ both.1))
+    (ltb-true _ _ both.0) (omega arith) (λ d. ap begins_period (get_or_default units loop.at d _ c.loop-at-test.true) ∙ both.1) 0)
 
 pub returns-clause-periods : goal.returns-clause-periods
 returns-clause-periods c =
@@ -21,7 +21,7 @@ returns-clause-periods c =
     let end : length units ≡ loop.at = omega arith in
     elim c.if-start-units.branch [
       | then-start-units+in_ok-new-2+in_ok-push-2 w ↦ rw (w.periods-is, w.in_ok-push-2.ensures.items, w.in_ok-new-2.ensures)
-          (periods_last units loop.start loop.at loop.periods.items loop.invariant end w.if-start-units.true)
+          (periods_last units loop.start loop.at loop.periods.items loop.invariant end _ w.if-start-units.true)
       | else-start-units w ↦ rw w.periods-is loop.invariant.periods_are
     ]
 
@@ -32,6 +32,6 @@ returns-clause-units c =
     let end : length units ≡ loop.at = omega arith in
     elim c.if-start-units.branch [
       | then-start-units+in_ok-new-2+in_ok-push-2 w ↦ rw (w.periods-is, w.in_ok-push-2.ensures.items, w.in_ok-new-2.ensures)
-          (units_last units loop.start loop.at loop.periods.items loop.invariant end w.if-start-units.true)
+          (units_last units loop.start loop.at loop.periods.items loop.invariant end _ w.if-start-units.true)
       | else-start-units w ↦ rw w.periods-is (units_all units loop.start loop.at loop.periods.items loop.invariant end w.if-start-units.false)
     ]

@@ -1,4 +1,4 @@
-use Rattle.std.proofs.Common.{◌≡◌, map, sym, ap, ◌∙◌, arith}
+use Rattle.std.proofs.Common.{map, ap, ◌∙◌, arith}
 use Rattle.request_core.specs.Agreement.{Stream}
 use Rattle.period_counts.specs.Shown.{shown_of}
 use Rattle.stream_fold.specs.Prepared.{end_in}
@@ -30,7 +30,7 @@ returns-clause-ready c =
     let inside = rw kept at c.in_ok-refolded.ensures.ready.inside in
     rw c.in_ok-reserve.ensures.ok (record {
       refolded = c.in_ok-refolded.ensures.ready;
-      can = c.in_ok-splice.ensures.can;
+      can = c.in_ok-splice.ensures.splice.can;
       room = omega (arith, c.len.ensures);
       does =
           rw kept
@@ -38,5 +38,8 @@ returns-clause-ready c =
           c.in_ok-refolded.ensures.anew inside c.begin.result c.end-end.result c.deref.result.now c.begin.ensures
           (c.end-end.ensures ∙ ap (λ (stream : Stream). end_in c.in_ok-refolded.refolded stream) kept)
           (c.deref.ensures.value ∙ c.in_ok-shown.ensures ∙ ap (map shown_of) c.outcomes.ensures)
-          c.in_ok-splice.splice c.in_ok-splice.ensures);
+          c.in_ok-splice.splice c.in_ok-splice.ensures.splice);
     })
+
+pub returns-clause-few : goal.returns-clause-few
+returns-clause-few c = rw (← c.self.view_is) c.in_ok-refolded.ensures.few

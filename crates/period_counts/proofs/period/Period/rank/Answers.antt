@@ -8,27 +8,27 @@ use Rattle.period_counts.proofs.period.Period.rank.Goals as goal
 pub rank-requires-clause-room : goal.rank-requires-clause-room
 rank-requires-clause-room c =
     let period = c.self.inside in
-    let long : length c.deref.result.now ≡ valid_in c.args.self.now = ap length c.deref.ensures.value
-    ∙ length_permutation _ _ c.self.invariant.permutation ∙ length-order_keys 0 period.units.items ∙ ap valid_in c.self.view_is in
+    let long : length c.deref.result.now ≡ valid_in c.args.self.now.units = ap length c.deref.ensures.value
+    ∙ length_permutation _ _ c.self.invariant.order.permutation ∙ length-order_keys 0 period.units.items ∙ ap (λ one. valid_in one.units) c.self.view_is in
     omega (arith, long, c.requires)
 
 pub returns-clause-rank : goal.returns-clause-rank
 returns-clause-rank c =
     let period = c.self.inside in
     c.rank.ensures.rank ∙ ap (λ keys. count_by (λ other. is_first other c.args.key) keys) c.deref.ensures.value
-    ∙ sum_by-IsPermutation (λ other. cond (is_first other c.args.key) 1 0) _ _ c.self.invariant.permutation
-    ∙ ap (λ units. count_by (λ other. is_first other c.args.key) (order_keys units)) c.self.view_is
+    ∙ sum_by-IsPermutation (λ other. cond (is_first other c.args.key) 1 0) _ _ c.self.invariant.order.permutation
+    ∙ ap (λ one. count_by (λ other. is_first other c.args.key) (order_keys one.units)) c.self.view_is
 
 pub returns-clause-few : goal.returns-clause-few
 returns-clause-few c =
     let period = c.self.inside in
-    let long : length c.deref.result.now ≡ valid_in c.args.self.now = ap length c.deref.ensures.value
-    ∙ length_permutation _ _ c.self.invariant.permutation ∙ length-order_keys 0 period.units.items ∙ ap valid_in c.self.view_is in
+    let long : length c.deref.result.now ≡ valid_in c.args.self.now.units = ap length c.deref.ensures.value
+    ∙ length_permutation _ _ c.self.invariant.order.permutation ∙ length-order_keys 0 period.units.items ∙ ap (λ one. valid_in one.units) c.self.view_is in
     omega (arith, long, c.rank.ensures.few)
 
 pub returns-clause-searched : goal.returns-clause-searched
 returns-clause-searched c =
     let period = c.self.inside in
-    let long : length c.deref.result.now ≡ valid_in c.args.self.now = ap length c.deref.ensures.value
-    ∙ length_permutation _ _ c.self.invariant.permutation ∙ length-order_keys 0 period.units.items ∙ ap valid_in c.self.view_is in
+    let long : length c.deref.result.now ≡ valid_in c.args.self.now.units = ap length c.deref.ensures.value
+    ∙ length_permutation _ _ c.self.invariant.order.permutation ∙ length-order_keys 0 period.units.items ∙ ap (λ one. valid_in one.units) c.self.view_is in
     rw long at c.rank.ensures.searched

@@ -7,4 +7,4 @@ use Rattle.period_counts.proofs.period.Period.valid.Goals as goal
 pub returns : goal.returns
 returns c =
     let period = c.self.inside in
-    c.len.ensures ∙ period.sorted.ok.0 ∙ length_permutation _ _ c.self.invariant.permutation ∙ length-order_keys 0 period.units.items ∙ ap valid_in c.self.view_is
+    c.len.ensures ∙ period.sorted.ok.0 ∙ length_permutation _ _ c.self.invariant.order.permutation ∙ length-order_keys 0 period.units.items ∙ ap (λ one. valid_in one.units) c.self.view_is

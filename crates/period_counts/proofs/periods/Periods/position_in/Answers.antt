@@ -34,9 +34,9 @@ returns-in_default-clause-position c =
     let found = rw (← c.self.view_is) at c.period_at-at.ensures in
     let d = c.index-period.result.now in
     let count : c.index-count.result.now ≡ count_at periods at = c.index-count.ensures ∙ c.self.invariant.counted.each at c.index-count.result.now found.inside in
-    let read : get_or (get_or periods at d) (place - length (units_of (take at periods))) None ≡ None =
-    ap (λ period. get_or period (place - length (units_of (take at periods))) None) (sym c.index-period.ensures)
-    ∙ ap (λ one. get_or d (place - one.start) None) (sym count) ∙ sym c.shown.ensures ∙ c.in_default.is in
+    let read : get_or (get_or periods at d).units (place - length (units_of (take at periods))) None ≡ None =
+    ap (λ period. get_or period.units (place - length (units_of (take at periods))) None) (sym c.index-period.ensures)
+    ∙ ap (λ one. get_or d.units (place - one.start) None) (sym count) ∙ sym c.shown.ensures ∙ c.in_default.is in
     sym (position_found periods c.self.invariant.periods_are outcomes (is ∙ ap (λ kept. units_of kept.periods) (sym c.self.view_is)) place at found d None read)
 
 pub rank-requires : goal.rank-requires
@@ -45,8 +45,8 @@ rank-requires c =
     let found = rw (← c.self.view_is) at c.period_at-at.ensures in
     let d = c.index-period.result.now in
     let room = rw (← c.self.view_is) at c.requires.room in
-    let long : length d ≡ length (get_or periods c.period_at-at.result d) = ap length c.index-period.ensures in
-    omega (arith, period_fits periods c.period_at-at.result d found.inside, count_by-le-length is_some d, long, room)
+    let long : length d.units ≡ length (get_or periods c.period_at-at.result d).units = ap (λ one. length one.units) c.index-period.ensures in
+    omega (arith, period_fits periods c.period_at-at.result d found.inside, count_by-le-length is_some d.units, long, room)
 
 pub overflow_add-result : goal.overflow_add-result
 overflow_add-result c =
@@ -56,9 +56,9 @@ overflow_add-result c =
     let d = c.index-period.result.now in
     let count : c.index-count.result.now.earlier ≡ valid_in (units_of (take at periods)) =
     ap (λ one. one.earlier) (c.index-count.ensures ∙ c.self.invariant.counted.each at c.index-count.result.now found.inside) in
-    let long : length d ≡ length (get_or periods at d) = ap length c.index-period.ensures in
-    let rank : c.rank.result ≤ length (order_keys d) = rw c.rank.ensures.rank (count_by-le-length _ _) in
-    omega (arith, count, long, rank, c.self.invariant.fits, period_fits periods at d found.inside, count_by-le-length is_some d, count_by-le-length is_some (units_of (take at periods)), length-order_keys 0 d)
+    let long : length d.units ≡ length (get_or periods at d).units = ap (λ one. length one.units) c.index-period.ensures in
+    let rank : c.rank.result ≤ length (order_keys d.units) = rw c.rank.ensures.rank (count_by-le-length _ _) in
+    omega (arith, count, long, rank, c.self.invariant.fits, period_fits periods at d found.inside, count_by-le-length is_some d.units, count_by-le-length is_some (units_of (take at periods)), length-order_keys 0 d.units)
 
 pub returns-clause-few : goal.returns-clause-few
 returns-clause-few c =
@@ -68,7 +68,7 @@ returns-clause-few c =
     let found = rw (← c.self.view_is) at c.period_at-at.ensures in
     let d = c.index-period.result.now in
     let size = size_found periods c.self.invariant.periods_are outcomes (is ∙ ap (λ kept. units_of kept.periods) (sym c.self.view_is)) c.args.place at found d in
-    let same : valid_in d ≡ valid_in (get_or periods at d) = ap valid_in c.index-period.ensures in
+    let same : valid_in d.units ≡ valid_in (get_or periods at d).units = ap (λ one. valid_in one.units) c.index-period.ensures in
     omega (arith, size, same, c.rank.ensures.few)
 
 pub returns-clause-position : goal.returns-clause-position
@@ -85,13 +85,13 @@ returns-clause-position c =
     let same = to_z-of_z w32 shown.order fits in
     let key : ℕ → OrderKey = λ offset. record { order = shown.order; offset = offset } in
     let count : c.index-count.result.now ≡ count_at periods at = c.index-count.ensures ∙ c.self.invariant.counted.each at c.index-count.result.now found.inside in
-    let read : get_or (get_or periods at d) (place - length front) None ≡ Some shown =
-    ap (λ period. get_or period (place - length front) None) (sym c.index-period.ensures)
-    ∙ ap (λ one. get_or d (place - one.start) None) (sym count) ∙ sym c.shown.ensures ∙ c.in-Some.is in
-    let rank : c.rank.result ≡ count_by (λ other. is_first other (key (place - c.index-count.result.now.start))) (order_keys d) = rw same at c.rank.ensures.rank in
+    let read : get_or (get_or periods at d).units (place - length front) None ≡ Some shown =
+    ap (λ period. get_or period.units (place - length front) None) (sym c.index-period.ensures)
+    ∙ ap (λ one. get_or d.units (place - one.start) None) (sym count) ∙ sym c.shown.ensures ∙ c.in-Some.is in
+    let rank : c.rank.result ≡ count_by (λ other. is_first other (key (place - c.index-count.result.now.start))) (order_keys d.units) = rw same at c.rank.ensures.rank in
     ap (λ n. Some (c.index-count.result.now.earlier + n)) rank
-    ∙ ap (λ one. Some (one.earlier + count_by (λ other. is_first other (key (place - one.start))) (order_keys d))) count
-    ∙ ap (λ period. Some (valid_in front + count_by (λ other. is_first other (key (place - length front))) (order_keys period))) c.index-period.ensures
+    ∙ ap (λ one. Some (one.earlier + count_by (λ other. is_first other (key (place - one.start))) (order_keys d.units))) count
+    ∙ ap (λ period. Some (valid_in front + count_by (λ other. is_first other (key (place - length front))) (order_keys period.units))) c.index-period.ensures
     ∙ sym (position_found periods c.self.invariant.periods_are outcomes (is ∙ ap (λ kept. units_of kept.periods) (sym c.self.view_is)) place at found d (Some shown) read)
 
 pub returns-clause-searched : goal.returns-clause-searched
@@ -102,5 +102,5 @@ returns-clause-searched c =
     let found = rw (← c.self.view_is) at c.period_at-at.ensures in
     let d = c.index-period.result.now in
     let size = size_found periods c.self.invariant.periods_are outcomes (is ∙ ap (λ kept. units_of kept.periods) (sym c.self.view_is)) c.args.place at found d in
-    let same : valid_in d ≡ period_size outcomes c.args.place = ap valid_in c.index-period.ensures ∙ size in
+    let same : valid_in d.units ≡ period_size outcomes c.args.place = ap (λ one. valid_in one.units) c.index-period.ensures ∙ size in
     rw same at c.rank.ensures.searched

@@ -1,24 +1,33 @@
-use Rattle.std.proofs.Common.{◌≡◌, ◌-◌, ◌∙◌, ap}
-use Rattle.std.specs.List.{slice_range}
-use Rattle.period_counts.specs.Periods.{units_of, spliced}
-use Rattle.period_counts.proofs.Splices.{high_within, splice_is}
+use Rattle.std.proofs.Common.{◌≡◌, [], sym, ap, ◌∙◌, subst}
+use Rattle.std.proofs.lemmas.Bool.{true≢false}
+use Rattle.std.proofs.lemmas.Result.{IfOk-weaker}
+use Rattle.period_counts.specs.Kept.{Change, IsSplice}
+use Rattle.period_counts.specs.Places.{change_inside}
+use Rattle.period_counts.proofs.ChangedInside.{inside_is, touched_inside}
 use Rattle.period_counts.proofs.periods.Periods.prepare_splice.Goals as goal
 
-pub units_after-requires-clause-within : goal.units_after-requires-clause-within
-units_after-requires-clause-within c =
-    let touched = rw (← c.self.view_is) at c.touched-first.ensures in
-    let place = c.touched-first.result in
-    rw c.deref.ensures.value (high_within c.self.inside.periods.items c.self.invariant.periods_are c.args.low c.args.high place.first place.past place.start c.requires.ordered touched)
+pub returns-then-is_inside-clause-splice : goal.returns-then-is_inside-clause-splice
+returns-then-is_inside-clause-splice c =
+    let touched = c.touched-touched in
+    let periods = c.args.self.now.periods in
+    let low = c.args.low in
+    let high = c.args.high in
+    let units = c.args.units.now in
+    let inside = c.is_inside.ensures.0 c.if-is_inside.true in
+    let is : IsSplice (change_inside touched.result low high units) periods low high units =
+    inside_is periods touched.ensures.periods touched.result low high units c.requires.ordered touched.ensures.touched inside (record { units = []; room = 0 }) c.requires.fits in
+    IfOk-weaker c.splice_inside.result (λ (splice : Change). splice ≡ change_inside touched.result low high units) (λ splice. IsSplice splice periods low high units)
+    (λ splice same. subst (λ (one : Change). IsSplice one periods low high units) (sym same) is) c.splice_inside.ensures
 
-pub returns : goal.returns
-returns c =
-    let periods = c.self.inside.periods.items in
-    let touched = rw (← c.self.view_is) at c.touched-first.ensures in
-    let fits = rw (← c.self.view_is) at c.requires.fits in
-    let place = c.touched-first.result in
-    let new = c.in_ok-periods_of.field-0.items in
-    let units : units_of new ≡ spliced (c.args.low - place.start) (c.args.high - place.start) c.args.units.now (units_of (slice_range periods place.first place.past)) =
-    c.in_ok-periods_of.ensures.units ∙ c.deref-2.ensures.value ∙ c.in_ok-after.ensures
-    ∙ ap (λ all. spliced (c.args.low - place.start) (c.args.high - place.start) c.args.units.now (units_of (slice_range all place.first place.past))) c.deref.ensures.value in
-    rw (← c.self.view_is) (splice_is periods c.self.invariant.periods_are c.args.low c.args.high place.first place.past place.start c.requires.ordered touched
-    c.args.units.now new c.in_ok-periods_of.ensures.periods units fits)
+pub returns-then-is_inside-clause-inside : goal.returns-then-is_inside-clause-inside
+returns-then-is_inside-clause-inside c =
+    λ at inside.
+    IfOk-weaker c.splice_inside.result (λ (splice : Change). splice ≡ change_inside c.touched-touched.result c.args.low c.args.high c.args.units.now) (λ (splice : Change). splice.periods ≡ [])
+    (λ splice same. ap (λ (one : Change). one.periods) same) c.splice_inside.ensures
+
+pub returns-else-is_inside-clause-inside : goal.returns-else-is_inside-clause-inside
+returns-else-is_inside-clause-inside c =
+    λ at inside.
+    let touched = c.touched-touched in
+    let one = touched_inside c.args.self.now.periods touched.result at c.args.low c.args.high c.args.units.now c.requires.ordered touched.ensures.touched inside in
+    absurd (true≢false (sym (c.is_inside.ensures.1 one) ∙ c.if-is_inside.false))

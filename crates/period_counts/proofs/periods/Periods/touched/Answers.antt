@@ -9,8 +9,8 @@ started_before-requires c = rw c.deref.ensures.value (starts_rise c.self.inside.
 pub started_before-requires-2 : goal.started_before-requires-2
 started_before-requires-2 c = rw c.deref-2.ensures.value (starts_rise c.self.inside.periods.items c.self.inside.counts.items c.self.invariant.counted)
 
-pub returns : goal.returns
-returns c =
+pub returns-clause-touched : goal.returns-clause-touched
+returns-clause-touched c =
     let inside = c.self.inside in
     let counts = inside.counts.items in
     let within = rw (← c.self.view_is) at c.requires.within in

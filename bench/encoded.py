@@ -1,8 +1,10 @@
 """Streams of real sizes, by x264: drawn pictures with noise, an IDR picture every 250."""
 import pathlib
 import shutil
-import subprocess
 import sys
+
+import measure    # noqa: F401: it makes the tools' package known
+from cupdaisy.processes import piped
 
 PERIOD = 250
 # By its name: the size of its pictures, how many, the noise in them, and settings of x264.
@@ -28,11 +30,9 @@ def encoded(name, folder):
     source = f"ffmpeg -v error -f lavfi -i {drawn} -frames:v {units} -pix_fmt yuv420p -f rawvideo -".split()
     coder = (f"x264 --quiet --demuxer raw --input-res {size} --fps 25 --preset veryfast --keyint {PERIOD}"
              f" --min-keyint {PERIOD} --no-scenecut --threads 1 {settings} -o {file}.part -").split()
-    video = subprocess.Popen(source, stdout=subprocess.PIPE)
-    ran = subprocess.run(coder, stdin=video.stdout, capture_output=True, text=True)
-    video.stdout.close()
-    if video.wait() != 0 or ran.returncode != 0:
-        sys.exit(f"{name}: x264 can't: {ran.stderr.strip()[-200:]}")
+    is_done, errors = piped(source, coder)
+    if not is_done:
+        sys.exit(f"{name}: x264 can't: {errors.strip()[-200:]}")
     pathlib.Path(f"{file}.part").rename(file)
     return file
 

@@ -9,6 +9,7 @@ import tempfile
 import time
 from typing import NamedTuple
 
+from cupdaisy import processes
 from cupdaisy.command_line import parser_of
 from cupdaisy.workspace import TOP
 
@@ -66,9 +67,9 @@ class Checker:
         elif user:
             how |= {"user": user, "group": user, "extra_groups": []}
         begin = time.monotonic()
-        ran = subprocess.run(line, input=text or b"", capture_output=True, **how)
+        ran = processes.run(line, text or b"", **how)
         seconds = time.monotonic() - begin
-        return Ran(ran.returncode, ran.stdout.decode(), ran.stderr.decode(), seconds)
+        return Ran(ran.status, ran.output.decode(), ran.errors.decode(), seconds)
 
     def expect(self, what, holds, ran):
         """Counts a run, and prints it where it isn't as expected."""
@@ -188,7 +189,7 @@ def check_make(it, built):
     """`tools/dist --make` makes of dist's program what is there, and nothing of one that isn't built of what git knows."""
     def expect(what, holds, words):
         ran = it.run("--make", command="tools/dist", path=os.environ["PATH"])
-        same = not subprocess.run(["git", "status", "--porcelain", "dist"], cwd=it.clone, stdout=subprocess.PIPE).stdout
+        same = not processes.printed(["git", "status", "--porcelain", "dist"], cwd=it.clone)
         it.expect(what, same and (ran.status == 0) == holds and words in ran.output, ran)
 
     expect("dist made anew", True, f"wrote {PROGRAM}")

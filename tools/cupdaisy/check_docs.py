@@ -5,6 +5,8 @@ import signal
 import subprocess
 from typing import NamedTuple
 
+from cupdaisy import processes
+from cupdaisy.program import PREVIEW
 from cupdaisy.workspace import TOP
 
 SECONDS, LATE = 60, -1
@@ -87,10 +89,9 @@ def differences_of_exchanges(text):
             continue
         requests = [line[3:] for line in block.text.splitlines() if line.startswith("-> ")]
         wanted = [line[3:] for line in block.text.splitlines() if line.startswith("<- ")]
-        program = os.environ.get("PREVIEW", "bin/preview")
-        ran = subprocess.run([program, "serve", "--workers", "0"], cwd=TOP, input="".join(f"{line}\n" for line in requests),
-                             stdout=subprocess.PIPE, text=True, timeout=SECONDS)
-        found = ran.stdout.splitlines()
+        text = "".join(f"{line}\n" for line in requests)
+        ran = processes.run([PREVIEW, "serve", "--workers", "0"], text.encode(), SECONDS, cwd=TOP)
+        found = ran.output.decode().splitlines()
         fits = [re.fullmatch(re.escape(line).replace(r"\.\.", ".*"), other) for line, other in zip(wanted, found)]
         if len(wanted) != len(found) or not all(fits):
             yield block.line, "shows an exchange in which the server answers otherwise"

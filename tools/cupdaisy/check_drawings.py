@@ -4,7 +4,6 @@ import itertools
 import pathlib
 import random
 import re
-import subprocess
 import tempfile
 import xml.etree.ElementTree as tree
 
@@ -280,12 +279,12 @@ def images_wrong(program, write):
     """Which of docs/images isn't what `draw` writes."""
     failures = []
     for name, words in IMAGES.items():
-        ran = subprocess.run([program, "draw", *words], cwd=TOP, capture_output=True)
+        document = processes.run([program, "draw", *words], cwd=TOP).output
         file = TOP / "docs" / "images" / name
         if write:
             file.parent.mkdir(exist_ok=True)
-            file.write_bytes(ran.stdout)
-        elif not file.exists() or file.read_bytes() != ran.stdout:
+            file.write_bytes(document)
+        elif not file.exists() or file.read_bytes() != document:
             failures.append(f"docs/images/{name} isn't what draw writes")
     return failures
 
@@ -294,13 +293,12 @@ def render(program, name, words, folder):
     """Has Chromium render a drawing."""
     folder.mkdir(parents=True, exist_ok=True)
     document = folder / f"{name}.svg"
-    document.write_bytes(subprocess.run([program, "draw", *words], cwd=TOP, capture_output=True).stdout)
+    document.write_bytes(processes.run([program, "draw", *words], cwd=TOP).output)
     height = re.search(rb'height="(\d+)"', document.read_bytes())
     size = f"--window-size=1280,{int(height[1]) if height else 100}"
     for kind, scheme in (("light", []), ("dark", ["--blink-settings=preferredColorScheme=0"])):
-        subprocess.run(["chromium", "--headless", "--no-sandbox", "--disable-gpu", "--hide-scrollbars", size, *scheme,
-                        f"--screenshot={folder / f'{name}-{kind}.png'}", document.resolve().as_uri()],
-                       capture_output=True, timeout=120)
+        processes.run(["chromium", "--headless", "--no-sandbox", "--disable-gpu", "--hide-scrollbars", size, *scheme,
+                       f"--screenshot={folder / f'{name}-{kind}.png'}", document.resolve().as_uri()], seconds=120)
 
 
 def main(doc):

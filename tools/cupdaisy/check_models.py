@@ -6,6 +6,7 @@ import sys
 import tempfile
 
 from cupdaisy.command_line import NOT_INSTALLED, are_installed
+from cupdaisy.processes import printed_with_errors
 from cupdaisy.workspace import TOP
 
 MODEL = TOP / "tools" / "models" / "desk.pml"
@@ -55,9 +56,8 @@ def explored(told, is_claim, folder):
     subprocess.run(["gcc", "-w", "-O2", "-DNOREDUCE", f"-DMEMLIM={MEGABYTES}", *kind, "-o", "pan", "pan.c"],
                    cwd=folder, check=True)
     before = resource.getrusage(resource.RUSAGE_CHILDREN).ru_utime
-    ran = subprocess.run(["./pan", f"-w{HASHED}", f"-m{DEPTH}", *(["-a", "-f"] if is_claim else [])],
-                         cwd=folder, stdout=subprocess.PIPE, stderr=subprocess.STDOUT, text=True)
-    return ran.stdout, resource.getrusage(resource.RUSAGE_CHILDREN).ru_utime - before
+    _, told = printed_with_errors(["./pan", f"-w{HASHED}", f"-m{DEPTH}", *(["-a", "-f"] if is_claim else [])], cwd=folder)
+    return told, resource.getrusage(resource.RUSAGE_CHILDREN).ru_utime - before
 
 
 def found_in(report):

@@ -1,10 +1,9 @@
 """Encodes small streams of each profile."""
 import pathlib
-import shutil
-import subprocess
 import sys
 
 from cupdaisy.command_line import NOT_INSTALLED, are_installed
+from cupdaisy.processes import piped, run
 
 PICTURES, SIZE = 120, "64x64"
 # settings of x264 by the stream's name; the depth and the layout of samples stand first
@@ -48,21 +47,18 @@ def encode(file, depth, layout, settings):
     """Encodes one stream with x264; whether it worked."""
     command = (f"x264 --quiet --demuxer raw --input-res {SIZE} --fps 25 --input-csp {layout} --input-depth {depth}"
                f" --output-csp {layout} --output-depth {depth} --preset fast {settings} -o {file} -").split()
-    video = subprocess.Popen(pictures(PIXELS[depth, layout]), stdout=subprocess.PIPE)
-    ran = subprocess.run(command, stdin=video.stdout, stdout=subprocess.DEVNULL, stderr=subprocess.PIPE, text=True)
-    video.stdout.close()
-    if video.wait() != 0 or ran.returncode != 0:
-        print(f"{file.name}: x264 can't: {ran.stderr.strip()[-200:]}")
+    is_done, errors = piped(pictures(PIXELS[depth, layout]), command)
+    if not is_done:
+        print(f"{file.name}: x264 can't: {errors.strip()[-200:]}")
         file.unlink(missing_ok=True)
-        return False
-    return True
+    return is_done
 
 
 def encode_open(file, settings):
     """Encodes one stream with OpenH264, where it can be."""
     command = (f"gst-launch-1.0 -q videotestsrc num-buffers={PICTURES} pattern=smpte ! video/x-raw,width=64,height=64"
                f" ! openh264enc {settings} ! video/x-h264,stream-format=byte-stream ! filesink location={file}").split()
-    if not shutil.which(command[0]) or subprocess.run(command, capture_output=True).returncode != 0:
+    if not are_installed(command[0]) or run(command).status != 0:
         print(f"{file.name}: OpenH264 can't")
         file.unlink(missing_ok=True)
 

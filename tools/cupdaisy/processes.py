@@ -41,6 +41,14 @@ def printed_with_errors(command, **how):
     return ran.returncode, ran.stdout
 
 
+def piped(source, command):
+    """Runs a command on what another prints: whether both end with status 0, and what the command says on standard error."""
+    before = subprocess.Popen(source, stdout=subprocess.PIPE)
+    ran = run(command, stdin=before.stdout, stdout=subprocess.DEVNULL)
+    before.stdout.close()
+    return before.wait() == 0 and ran.status == 0, ran.errors.decode(errors="replace")
+
+
 def waited(child):
     """Waits for a child: its status, and what it used of the machine."""
     _, status, usage = os.wait4(child.pid, 0)

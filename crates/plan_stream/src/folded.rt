@@ -3,14 +3,14 @@
 ghost use Rattle.std.specs.Prelude.{◌+◌, ◌<◌, ◌≤◌, ◌++◌, [], ◌∷◌, List, ℕ, IfOk, OnOk, length, vec_len};
 ghost use Rattle.access_unit.specs.Rooms.{most_units};
 
-use crate::shown::shown_of;
+use crate::shown::shown_in;
 use crate::tails::Tails;
 use access_unit::Unit;
 use outcomes::Outcome;
 use pictures::AuId;
-use request_core::{State, Steps, step};
+use request_core::{State, UnitRead};
 use std::alloc::{AllocError, Global};
-use unit_lines::UnitTail;
+use unit_lines::write_tail;
 
 /// The fold over the units so far, with what their lines need.
 #[derive(Drop)]
@@ -47,15 +47,11 @@ impl Folded {
             → OnOk result (IsFoldOf (done ++ unit.now ∷ []) self.new) }
     {
         let id = AuId::new(self.tails.len() as u32 + 1);
-        let mut steps = Steps::new();
-        let (state, outcome) = step(alloc, &self.state, id, unit, &mut steps)?;
-        UnitTail {
-            id,
-            outcome: &outcome,
-        }
-        .write_to(&mut self.text)?;
+        let read = UnitRead::of(alloc, &self.state, unit)?;
+        let (state, finding) = read.step(alloc, id)?;
+        write_tail(&mut self.text, id, &finding)?;
         self.tails.push(self.text.as_bytes())?;
-        self.outcomes.push(shown_of(alloc, &outcome))?;
+        self.outcomes.push(shown_in(alloc, &finding))?;
         self.state = state;
         Ok(())
     }

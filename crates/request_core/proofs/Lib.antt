@@ -1,3 +1,4 @@
-mod Requested
+pub mod Requested
 mod Pictures
+mod Readings
 pub mod Agreement

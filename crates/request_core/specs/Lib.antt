@@ -2,4 +2,7 @@ pub mod States
 pub mod Faults
 pub mod Requests
 pub mod Fold
+pub mod Pictures
+pub mod Findings
+pub mod Readings
 pub mod Agreement

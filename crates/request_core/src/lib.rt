@@ -1,19 +1,25 @@
 //! The fold over a stream: from the units before a unit to the requests of its slices, or to its fault; a unit without
 //! slices has neither.
 //!
-//! `step` is one step of it, `scratch` all of it. Below are the crates that read headers, count, mark and list; above,
-//! those that keep a stream under edits.
+//! `step` is one step of it, `scratch` all of it. `UnitRead::step` is a step that makes no requests: it answers a picture,
+//! of which `step` makes them. Below are the crates that read headers, count, mark and list; above, those that keep a
+//! stream under edits.
 #![tactic(auto)]
 
 mod checks;
 pub mod laws;
+mod picture;
 mod planning;
+mod reading;
+mod requesting;
 mod scratching;
 mod state;
 mod stepping;
 mod steps;
 
 pub use outcomes::{Outcome, Plan, Requests, ValidityFault};
+pub use picture::{Finding, Listed, Picture};
+pub use reading::UnitRead;
 pub use scratching::scratch;
 pub use state::State;
 pub use stepping::step;

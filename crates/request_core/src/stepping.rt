@@ -1,30 +1,31 @@
 //! One step of the fold over a stream.
 
-ghost use Rattle.std.specs.Prelude.{◌≡◌, ◌<◌, ◌∷◌, ◌++◌, ◌+◌, ◌^◌, List, Result, Ok, Some, None, IsTrue, IfOk, OnOk, OnErr, if◌then◌else◌};
-ghost use Rattle.validity_faults.specs.declared.validity_fault.ValidityFault.{ValidityFault};
-ghost use Rattle.outcomes.specs.declared.outcome.Outcome.{Outcome as Becomes};
-ghost use Rattle.request_core.specs.States.{FoldState};
+ghost use Rattle.std.specs.Prelude.{◌≡◌, ◌<◌, ◌∷◌, ◌++◌, ◌+◌, ◌^◌, Ok, Some, IsTrue, IfOk, OnOk, OnErr, if◌then◌else◌};
 ghost use Rattle.order_count.specs.Counting.{counts_of};
 ghost use Rattle.header_types.specs.Pictures.{is_idr};
 ghost use Rattle.pictures.specs.PicOrderCnt.{are_in_range};
 ghost use Rattle.pictures.specs.Resetting.{counts_after_reset};
 ghost use Rattle.unit_slices.specs.Faults.{first_shown};
 ghost use Rattle.request_core.specs.Faults.{picture_rows};
-ghost use Rattle.request_core.specs.Fold.{passes, picture_after, picture_of, planned, with_sets, outcome_of, fold_step, state_after, plan_of, next_ref_frame_num};
+ghost use Rattle.request_core.specs.Findings.{step_in};
+ghost use Rattle.request_core.specs.Fold.{passes, picture_after, picture_of, fold_step, state_after, plan_of, next_ref_frame_num};
+ghost use Rattle.request_core.specs.Pictures.{plan_in};
 ghost use Rattle.unit_slices.specs.Answers.{AnswersAs};
 
 use crate::checks::picture_fault;
-use crate::planning::{Listed, count_picture, list_picture, mark_picture, requests_of};
+use crate::picture::{Finding, Listed, Picture};
+use crate::planning::{count_picture, list_picture, mark_picture};
+use crate::reading::UnitRead;
 use crate::state::State;
 use crate::steps::Steps;
 use access_unit::Unit;
 use base_types::Shared;
 use order_count::anchor_after;
-use outcomes::{Outcome, Plan, ValidityFault};
+use outcomes::{Outcome, ValidityFault};
 use pictures::{AuId, Counts, Marks, after_reset, resets};
 use set_types::Sps;
 use std::alloc::{AllocError, Global};
-use unit_slices::{Slice, Stop, read_slices, slice_fault, tables_with};
+use unit_slices::{Slice, Stop, slice_fault};
 
 /// One step of the fold: the state after the unit, and the unit's outcome.
 ///
@@ -41,121 +42,69 @@ pub fn step(
     ensures counted { OnOk result (steps.new ≡ steps.old + 1) }
     ensures kept { OnErr result (steps.new ≡ steps.old) }
 {
-    let answer = answer_of(alloc, state, id, unit)?;
+    let read = UnitRead::of(alloc, state, unit)?;
+    let (after, finding) = read.step(alloc, id)?;
+    let outcome = finding.outcome(alloc)?;
     steps.raise();
-    Ok(answer)
-}
-
-/// The state after the unit, and the unit's outcome.
-#[tactic(auto, unfolding(crate::specs::Fold::fold_step))]
-fn answer_of(
-    alloc: Global,
-    state: &State,
-    id: AuId,
-    unit: &Unit,
-) -> Result<(State, Outcome), AllocError>
-    ensures { IfOk result (λ answer. answer ≡ fold_step state.now id unit.now) }
-{
-    let state = with_sets(alloc, state, unit)?;
-    let planned = plan(alloc, &state, id, unit);
-    answer(state, planned)
-}
-
-/// The unit's outcome, by what the state leads to in which its sets are put.
-fn answer(
-    state: State,
-    planned: Result<(State, Outcome), Stop>,
-) -> Result<(State, Outcome), AllocError>
-    ensures { (says : Result (FoldState × Becomes) ValidityFault)
-        → AnswersAs (λ planned. planned) planned says
-        → IfOk result (λ answer. answer ≡ outcome_of state says) }
-{
-    match planned {
-        Ok(planned) => Ok(planned),
-        Err(Stop::Fault(fault)) => Ok((state, Outcome::Fault(fault))),
-        Err(Stop::Memory) => Err(AllocError),
-    }
-}
-
-/// The state in which the unit's parameter sets are put.
-fn with_sets(alloc: Global, state: &State, unit: &Unit) -> Result<State, AllocError>
-    ensures { IfOk result (λ after. after ≡ with_sets state.now unit.now) }
-{
-    Ok(State {
-        tables: tables_with(alloc, &state.tables, unit.sets())?,
-        active: state.active()?,
-        anchor: state.anchor,
-        prev_ref_frame_num: state.prev_ref_frame_num,
-        marks: state.marks.copy(),
-    })
-}
-
-/// What the unit leads to in a state in which its sets are put.
-fn plan(alloc: Global, state: &State, id: AuId, unit: &Unit) -> Result<(State, Outcome), Stop>
-    ensures { AnswersAs (λ planned. planned) result (planned state.now id unit.now) }
-{
-    let slices = read_slices(alloc, &state.tables, unit.slices())?;
-    plan_picture(alloc, state, id, slices.as_slice())
+    Ok((after, outcome))
 }
 
 /// What the slices of a unit lead to; without any there is no picture.
-fn plan_picture(
+pub(crate) fn plan_picture<'a>(
     alloc: Global,
-    state: &State,
+    state: &'a State,
     id: AuId,
-    slices: &[Slice],
-) -> Result<(State, Outcome), Stop>
-    ensures { AnswersAs (λ planned. planned) result (picture_of state.now id slices.now) }
+    slices: &'a [Slice],
+) -> Result<(State, Finding<'a>), Stop>
+    ensures { AnswersAs step_in result (picture_of state.now id slices.now) }
 {
     match slices {
         [first, others @ ..] => {
             pass(slice_fault(first, others))?;
             plan_first(alloc, state, id, first, slices)
         }
-        [] => Ok((state.copy()?, Outcome::Empty)),
+        [] => Ok((state.copy()?, Finding::Empty)),
     }
 }
 
 /// What the slices of a picture lead to, whose first slice is this one, where they agree.
-fn plan_first(
+fn plan_first<'a>(
     alloc: Global,
-    state: &State,
+    state: &'a State,
     id: AuId,
     first: &Slice,
-    slices: &[Slice],
-) -> Result<(State, Outcome), Stop>
-    ensures { AnswersAs (λ planned. planned) result
-        (picture_after state.now id first.now slices.now) }
+    slices: &'a [Slice],
+) -> Result<(State, Finding<'a>), Stop>
+    ensures { AnswersAs step_in result (picture_after state.now id first.now slices.now) }
 {
     follow(state, first)?;
     let counts = count_picture(state, first)?;
     let listed = list_picture(alloc, state, counts, slices)?;
     let marks = mark_picture(state, id, first, counts)?;
-    let plan = make_plan(alloc, state, id, first, counts, listed.as_slice())?;
-    Ok((
-        state_after(state, first, counts, marks)?,
-        Outcome::Plan(plan),
-    ))
+    let after = state_after(state, first, counts, marks)?;
+    let picture = make_picture(state, id, first, counts, listed);
+    Ok((after, Finding::Picture(picture)))
 }
 
-/// The plan of a picture.
-fn make_plan(
-    alloc: Global,
-    state: &State,
+/// The picture, of which requests can be made.
+fn make_picture<'a>(
+    state: &'a State,
     id: AuId,
     first: &Slice,
     counts: Counts,
-    slices: &[Listed<'_>],
-) -> Result<Plan, AllocError>
+    slices: Vec<Listed<'a>>,
+) -> Picture<'a>
     requires { IsTrue (are_in_range (counts_after_reset first.now.header counts)) }
-    ensures { IfOk result (λ plan. plan ≡ plan_of state.now id first.now counts slices.now) }
+    ensures { plan_in result ≡ plan_of state.now id first.now counts slices.entry.items }
 {
-    Ok(Plan {
-        requests: requests_of(alloc, &state.marks, counts, id, slices)?,
+    Picture {
+        id,
+        marks: &state.marks,
         counts,
         order: after_reset(first.header(), counts).pic_order_cnt(),
         begins_period: first.header().is_idr() || resets(first.header()),
-    })
+        slices,
+    }
 }
 
 /// Ends the planning at the first fault that the picture shows after those before it.
@@ -167,7 +116,7 @@ fn follow(state: &State, first: &Slice) -> Result<(), Stop>
 }
 
 /// Ends the planning at a fault.
-fn pass(fault: Option<ValidityFault>) -> Result<(), Stop>
+pub(crate) fn pass(fault: Option<ValidityFault>) -> Result<(), Stop>
     ensures { AnswersAs (λ passed. record {}) result (passes fault) }
 {
     match fault {

@@ -1,3 +1,5 @@
 pub mod RequestLines
 pub mod DpbTexts
 pub mod Appending
+pub mod FrameTexts
+pub mod PictureLines

@@ -1,8 +1,9 @@
 -- The lines of requests, one after the other.
-use Rattle.std.proofs.Common.{◌≡◌, ◌∙◌, ◌<◌, ℕ, ◌+◌, List, [], ◌∷◌, ◌++◌, codes, decimal, if◌then◌else◌, length, take, get_or, ap, sym, arith, append_assoc, append-nil}
+use Rattle.std.proofs.Common.{◌≡◌, ◌∙◌, ◌<◌, ℕ, ◌+◌, List, [], ◌∷◌, ◌++◌, codes, decimal, length, take, get_or, ap, sym, arith, append_assoc, append-nil}
+use Rattle.std.specs.List.{zip}
 use Rattle.std.proofs.lemmas.List.{length-take-le, take_more}
 use Rattle.h264_controls.specs.declared.request.Request.{Request}
-use Rattle.unit_lines.specs.Lines.{references_text, request_lines, request_text, slice_text}
+use Rattle.unit_lines.specs.Lines.{entry_text, hold_text, list_text, lists_text, request_lines, request_text, slice_text}
 
 -- one request more
 pub request_lines-push : (id slice : ℕ) (requests : List Request) (request : Request)
@@ -28,8 +29,9 @@ request_lines-more id i requests request below is =
 
 -- the parts of a line
 pub request_parts : (id slice : ℕ) (request : Request)
-    → (codes "request " ++ decimal id) ++ (slice_text slice request.timestamp request.work.controls.slice_params request.work.controls.decode_params.frame_num
-    ++ (references_text request.references request.work.controls.decode_params.dpb request.work.controls.slice_params
-    ++ ((codes " hold " ++ decimal (if request.hold then 1 else 0)) ++ codes "\n")))
+    → (codes "request " ++ decimal id) ++ (slice_text slice request.timestamp request.work.controls.slice_params.header_bit_size
+    request.work.controls.slice_params.slice_type request.work.controls.decode_params.frame_num
+    ++ (codes " dpb " ++ (list_text entry_text (zip request.references request.work.controls.decode_params.dpb)
+    ++ (lists_text request.work.controls.slice_params.ref_pic_list0 request.work.controls.slice_params.ref_pic_list1 ++ hold_text request.hold))))
     ≡ request_text id slice request
 request_parts id slice request = simp append_assoc

@@ -1,10 +1,11 @@
 -- The lines of a valid unit (docs/OUTPUT.md).
-use Rattle.std.specs.Prelude.{ℕ, ◌+◌, ◌++◌, length, List, [], ◌∷◌, Option, Some, None, codes, decimal, if◌then◌else◌}
+use Rattle.std.specs.Prelude.{ℕ, ◌+◌, ◌++◌, Bool, length, List, [], ◌∷◌, Option, Some, None, codes, decimal, if◌then◌else◌}
 use Rattle.std.specs.Fmt.{signed_decimal}
 use Rattle.std.specs.List.{join_by, zip}
 use Rattle.std.specs.Int.{w32, cast_signed}
 use Rattle.h264_controls.specs.declared.request.Request.{Request}
-use Rattle.h264_controls.specs.declared.v4l2_ctrl_h264_slice_params.V4l2CtrlH264SliceParams.{V4l2CtrlH264SliceParams}
+use Rattle.header_types.specs.declared.slice_types.SliceType.{SliceType}
+use Rattle.h264_controls.specs.declared.v4l2_ctrl_h264_decode_params.DpbEntryFlags.{DpbEntryFlags}
 use Rattle.h264_controls.specs.declared.v4l2_ctrl_h264_decode_params.V4l2H264DpbEntry.{V4l2H264DpbEntry}
 use Rattle.h264_controls.specs.References.{timestamp}
 use Rattle.h264_controls.specs.DecodeParamsForm.{dpb_entry_flags}
@@ -21,10 +22,14 @@ abbrev pub counts_text : Counts → ℕ → List ℕ
 counts_text counts requests = codes " counts " ++ (signed_decimal counts.top ++ (codes " " ++ (signed_decimal counts.bottom
     ++ (codes " requests " ++ (decimal requests ++ codes "\n")))))
 
--- an entry, with the unit of its frame: timestamp, number and flags
+-- the numbers of an entry, with the unit of its frame: timestamp, number and flags
+abbrev pub numbers_text : ℕ → ℕ → DpbEntryFlags → List ℕ
+numbers_text unit pic_num flags = decimal (timestamp unit) ++ (codes ":" ++ (signed_decimal (cast_signed w32 pic_num)
+    ++ (codes ":" ++ decimal (dpb_entry_flags flags))))
+
+-- an entry, with the unit of its frame
 abbrev pub entry_text : ℕ × V4l2H264DpbEntry → List ℕ
-entry_text (unit, entry) = decimal (timestamp unit) ++ (codes ":" ++ (signed_decimal (cast_signed w32 entry.pic_num)
-    ++ (codes ":" ++ decimal (dpb_entry_flags entry.flags))))
+entry_text (unit, entry) = numbers_text unit entry.pic_num entry.flags
 
 -- an entry after another
 abbrev pub next_text : ℕ × V4l2H264DpbEntry → List ℕ
@@ -41,16 +46,18 @@ list_text text [] = codes "-"
 list_text text (x ∷ xs) = join_by text (codes ",") (x ∷ xs)
 
 -- of a request's line, the place of the slice, its timestamp, and what its header says
-abbrev pub slice_text : ℕ → ℕ → V4l2CtrlH264SliceParams → ℕ → List ℕ
-slice_text slice timestamp params frame_num =
-    codes "." ++ (decimal slice ++ (codes " ts " ++ (decimal timestamp ++ (codes " bits " ++ (decimal params.header_bit_size
-    ++ (codes " type " ++ (decimal (slice_type_number params.slice_type) ++ (codes " frame " ++ decimal frame_num))))))))
+abbrev pub slice_text : ℕ → ℕ → ℕ → SliceType → ℕ → List ℕ
+slice_text slice timestamp bits slice_type frame_num =
+    codes "." ++ (decimal slice ++ (codes " ts " ++ (decimal timestamp ++ (codes " bits " ++ (decimal bits
+    ++ (codes " type " ++ (decimal (slice_type_number slice_type) ++ (codes " frame " ++ decimal frame_num))))))))
 
--- and the decoded picture buffer with the lists
-abbrev pub references_text : List ℕ → List V4l2H264DpbEntry → V4l2CtrlH264SliceParams → List ℕ
-references_text units entries params =
-    codes " dpb " ++ (list_text entry_text (zip units entries)
-    ++ (codes " l0 " ++ (list_text place_text params.ref_pic_list0 ++ (codes " l1 " ++ list_text place_text params.ref_pic_list1))))
+-- its lists
+abbrev pub lists_text : List (Option ℕ) → List (Option ℕ) → List ℕ
+lists_text list_0 list_1 = codes " l0 " ++ (list_text place_text list_0 ++ (codes " l1 " ++ list_text place_text list_1))
+
+-- and whether more slices follow
+abbrev pub hold_text : Bool → List ℕ
+hold_text hold = (codes " hold " ++ decimal (if hold then 1 else 0)) ++ codes "\n"
 
 -- the line of a request, by the unit's id and the place of the slice
 abbrev pub request_text : ℕ → ℕ → Request → List ℕ

@@ -8,7 +8,6 @@ use Rattle.validity_faults.specs.Names.{name_of}
 use Rattle.validity_faults.specs.Numbers.{number_of}
 use Rattle.unit_lines.specs.declared.lines.UnitHead.{UnitHead}
 use Rattle.unit_lines.specs.declared.lines.UnitLines.{UnitLines}
-use Rattle.unit_lines.specs.declared.lines.UnitTail.{UnitTail}
 use Rattle.unit_lines.specs.Lines.{plan_head, plan_tail}
 
 -- the line of a unit with a fault
@@ -40,9 +39,6 @@ outcome_lines id position outcome = outcome_head id position outcome ++ outcome_
 abbrev pub unit_lines : UnitLines → List ℕ
 unit_lines lines = outcome_lines lines.id lines.position lines.outcome.now
 
--- in two parts
+-- up to the position
 abbrev pub unit_head : UnitHead → List ℕ
 unit_head head = outcome_head head.id head.position head.outcome.now
-
-abbrev pub unit_tail : UnitTail → List ℕ
-unit_tail tail = outcome_tail tail.id tail.outcome.now

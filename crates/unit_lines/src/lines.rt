@@ -2,7 +2,7 @@
 
 ghost use Rattle.std.specs.Prelude.{◌≡◌, ◌++◌, string_bytes, IfOk, OnOk};
 ghost use Rattle.unit_lines.specs.Lines.{counts_text, plan_head, plan_tail};
-ghost use Rattle.unit_lines.specs.UnitLines.{empty_text, fault_text, outcome_head, outcome_tail, unit_head, unit_lines, unit_tail};
+ghost use Rattle.unit_lines.specs.UnitLines.{empty_text, fault_text, outcome_head, outcome_tail, unit_head, unit_lines};
 ghost use Rattle.unit_lines.specs.Growing.{Grows};
 
 use crate::numbers::{put_field, put_signed, put_text};
@@ -47,23 +47,6 @@ impl<'a> UnitHead<'a> {
     {
         text.clear();
         put_head(text, self.id, self.outcome, self.position)
-    }
-}
-
-/// The lines of a unit after its place in output order, which don't depend on it; all of them where it has none.
-#[derive(Drop)]
-pub struct UnitTail<'a> {
-    pub id: AuId,
-    pub outcome: &'a Outcome,
-}
-
-impl<'a> UnitTail<'a> {
-    /// Writes these lines over the text, which is of no use where memory runs out.
-    pub fn write_to(&self, text: &mut String) -> Result<(), AllocError>
-        ensures { OnOk result (string_bytes text.new ≡ unit_tail self.now) }
-    {
-        text.clear();
-        put_tail(text, self.id, self.outcome)
     }
 }
 
@@ -118,7 +101,11 @@ fn put_plan(text: &mut String, id: AuId, plan: &Plan) -> Result<(), AllocError>
 }
 
 /// Adds the line of a valid unit itself, after its position.
-fn put_counts(text: &mut String, counts: Counts, requests: usize) -> Result<(), AllocError>
+pub(crate) fn put_counts(
+    text: &mut String,
+    counts: Counts,
+    requests: usize,
+) -> Result<(), AllocError>
     ensures { OnOk result (Grows (string_bytes text.old) (string_bytes text.new)
         (counts_text counts requests)) }
 {
@@ -132,7 +119,7 @@ fn put_counts(text: &mut String, counts: Counts, requests: usize) -> Result<(), 
 }
 
 /// Adds the line of a unit with a fault.
-fn put_fault(text: &mut String, id: AuId, fault: ValidityFault) -> Result<(), AllocError>
+pub(crate) fn put_fault(text: &mut String, id: AuId, fault: ValidityFault) -> Result<(), AllocError>
     ensures { OnOk result (Grows (string_bytes text.old) (string_bytes text.new)
         (fault_text id fault)) }
 {
@@ -145,7 +132,7 @@ fn put_fault(text: &mut String, id: AuId, fault: ValidityFault) -> Result<(), Al
 }
 
 /// Adds the line of a unit without a picture.
-fn put_empty(text: &mut String, id: AuId) -> Result<(), AllocError>
+pub(crate) fn put_empty(text: &mut String, id: AuId) -> Result<(), AllocError>
     ensures { OnOk result (Grows (string_bytes text.old) (string_bytes text.new)
         (empty_text id)) }
 {

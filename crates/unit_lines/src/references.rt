@@ -2,11 +2,11 @@
 
 ghost use Rattle.std.specs.Prelude.{◌≡◌, ◌++◌, List, ℕ, string_bytes, OnOk};
 ghost use Rattle.std.specs.List.{flat_map, zip};
-ghost use Rattle.unit_lines.specs.Lines.{entry_text, list_text, next_text, place_text};
+ghost use Rattle.unit_lines.specs.Lines.{entry_text, list_text, next_text, numbers_text, place_text};
 ghost use Rattle.unit_lines.specs.Growing.{Grows};
 
 use crate::numbers::{put_number, put_signed, put_text};
-use h264_controls::V4l2H264DpbEntry;
+use h264_controls::{DpbEntryFlags, V4l2H264DpbEntry};
 use pictures::AuId;
 use std::alloc::AllocError;
 
@@ -25,7 +25,7 @@ pub(crate) fn put_dpb(
     let Some((entry, entries)) = entries.split_first() else {
         return put_text(text, "-");
     };
-    put_entry(text, *unit, *entry)?;
+    put_entry(text, *unit, entry.pic_num, entry.flags)?;
     put_more_entries(text, units, entries)
 }
 
@@ -40,21 +40,26 @@ fn put_more_entries(
 {
     for (unit, entry) in units.iter().zip(entries) {
         put_text(text, ",")?;
-        put_entry(text, *unit, *entry)?;
+        put_entry(text, *unit, entry.pic_num, entry.flags)?;
     }
     Ok(())
 }
 
-/// Adds an entry of a decoded picture buffer, with the unit of its frame.
-fn put_entry(text: &mut String, unit: AuId, entry: V4l2H264DpbEntry) -> Result<(), AllocError>
+/// Adds the numbers of an entry of a decoded picture buffer, with the unit of its frame.
+pub(crate) fn put_entry(
+    text: &mut String,
+    unit: AuId,
+    pic_num: u32,
+    flags: DpbEntryFlags,
+) -> Result<(), AllocError>
     ensures { OnOk result (Grows (string_bytes text.old) (string_bytes text.new)
-        (entry_text (unit, entry))) }
+        (numbers_text unit pic_num flags)) }
 {
     put_number(text, unit.timestamp())?;
     put_text(text, ":")?;
-    put_signed(text, entry.pic_num.cast_signed())?;
+    put_signed(text, pic_num.cast_signed())?;
     put_text(text, ":")?;
-    put_number(text, u64::from(entry.flags.number()))
+    put_number(text, u64::from(flags.number()))
 }
 
 /// Adds the entries of a reference picture list.

@@ -1,4 +1,3 @@
-use Rattle.std.proofs.Common.{Ok, ap, sym, ◌∙◌}
 use Rattle.std.proofs.lemmas.Result.{err_from_is_err_and}
 use Rattle.request_core.proofs.Pictures.{picture-is, ends-followed, ends-counted, ends-listed, ends-marked}
 use Rattle.request_core.proofs.stepping.plan_first.Goals as goal
@@ -25,5 +24,5 @@ returns-in_err-marks c =
 
 pub returns : goal.returns
 returns c =
-    rw (c.in_ok-state_after.ensures, c.in_ok-plan.ensures) (picture-is c.args.state.now c.args.id c.args.first.now c.args.slices.now c.in_ok-counts.counts c.as_slice.result.now c.in_ok-marks.marks
-    c.in_ok-follow.ensures c.in_ok-counts.ensures.value (c.in_ok-listed.ensures ∙ ap Ok (sym c.as_slice.ensures.value)) c.in_ok-marks.ensures)
+    rw (c.in_ok-after.ensures, c.make_picture-picture.ensures) (picture-is c.args.state.now c.args.id c.args.first.now c.args.slices.now c.in_ok-counts.counts c.in_ok-listed.listed.items c.in_ok-marks.marks
+    c.in_ok-follow.ensures c.in_ok-counts.ensures.value c.in_ok-listed.ensures c.in_ok-marks.ensures)

@@ -12,13 +12,13 @@ returns c = λ done is.
     let unit = c.args.unit.now in
     let id = c.new-id.result in
     let id_is : id ≡ 1 + length done = omega (arith, c.new-id.ensures, c.len.ensures, count_is done old is) in
-    let pair = c.in_ok-state.ensures.value in
-    let tail = c.as_bytes.ensures.value ∙ c.in_ok-write_to.ensures ∙ ap (λ (p : FoldState × Outcome). outcome_tail id p.1) pair in
+    let pair = c.in_ok-state.ensures old.state unit c.in_ok-read.ensures in
+    let tail = c.as_bytes.ensures.value ∙ c.in_ok-write_tail.ensures ∙ ap (λ (p : FoldState × Outcome). outcome_tail id p.1) pair in
     record {
       state_is = ap (λ (p : FoldState × Outcome). p.0) pair ∙ state_more done old is unit id id_is;
       outcomes_are =
           c.in_ok-push-2.ensures.items
-          ∙ ap (λ (o : Outcome). old.outcomes.items ++ o ∷ []) (c.shown_of.ensures ∙ ap (λ (p : FoldState × Outcome). shown_of p.1) pair)
+          ∙ ap (λ (o : Outcome). old.outcomes.items ++ o ∷ []) (c.shown_in.ensures ∙ ap (λ (p : FoldState × Outcome). shown_of p.1) pair)
           ∙ outcomes_more done old is unit id id_is;
       tails_are =
           c.in_ok-push.ensures.ok ∙ ap (λ (t : List ℕ). old.tails ++ t ∷ []) tail ∙ tails_more done old is unit id id_is;

@@ -2,7 +2,7 @@ use Rattle.std.proofs.Common.{◌+◌, ◌∷◌, ◌++◌, [], length, take, na
 use Rattle.std.proofs.lemmas.List.{get_or_read, take_all}
 use Rattle.request_core.specs.Requests.{request_of, requests_of}
 use Rattle.request_core.proofs.Requested.{requests-more, length-requests}
-use Rattle.request_core.proofs.planning.requests_of.Goals as goal
+use Rattle.request_core.proofs.requesting.requests_of.Goals as goal
 
 pub loop-listed-preserved : goal.loop-listed-preserved
 loop-listed-preserved c =

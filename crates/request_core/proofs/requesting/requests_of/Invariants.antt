@@ -1,7 +1,7 @@
 use Rattle.std.proofs.Common.{◌≡◌, take}
 use Rattle.std.specs.Prelude.{vec_len}
 use Rattle.request_core.specs.Requests.{requests_of}
-use Rattle.request_core.proofs.planning.requests_of.Given as goal
+use Rattle.request_core.proofs.requesting.requests_of.Given as goal
 
 abbrev pub invariant-loop-listed : goal.invariant-loop-listed
 invariant-loop-listed l =

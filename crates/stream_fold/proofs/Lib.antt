@@ -7,4 +7,5 @@ mod Anew
 mod Thinned
 mod Committed
 mod Stretch
+mod InFront
 mod Digests

@@ -202,6 +202,7 @@ impl Folded {
         let mut fold = self.start(alloc, at)?;
         let from = fold.from;
         fold.go_over(alloc, &self.units[from..at])?;
+        fold.share(alloc, &self.outcomes[from..at])?;
         fold.go_over(alloc, change.units())?;
         let met = self.catch_up(alloc, change.rest_from(), &mut fold)?;
         Ok((fold, met))

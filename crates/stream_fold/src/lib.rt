@@ -9,7 +9,9 @@ mod changes;
 mod folded;
 mod hashed_step;
 mod refold;
+mod shares;
 mod storing;
 
 pub use folded::{Folded, Prepared};
+pub use shares::shares_of;
 pub use stream_edits::Change;

@@ -4,6 +4,7 @@ ghost use Rattle.std.specs.Prelude.{◌≡◌, ◌+◌, ◌-◌, ◌^◌, ◌<�
 ghost use Rattle.request_core.specs.Agreement.{Stream};
 
 use crate::hashed_step::hashed_step;
+use crate::shares::shares_of;
 use base_types::Shared;
 use hashed_units::{HashedOutcome, HashedUnit};
 use pictures::AuId;
@@ -87,6 +88,19 @@ impl Refold {
     {
         self.store()?;
         self.make_step(alloc, id, unit)
+    }
+
+    /// Shares these outcomes, in place of its own, which are the same.
+    pub(crate) fn share(
+        &mut self,
+        alloc: Global,
+        outcomes: &[Shared<HashedOutcome>],
+    ) -> Result<(), AllocError>
+        requires { outcomes.now ≡ self.old.outcomes.items }
+        ensures { OnOk result (GoesOn self.old [] self.new) }
+    {
+        self.outcomes = shares_of(alloc, outcomes)?;
+        Ok(())
     }
 
     /// Sets the state aside to be stored, where it is time to.

@@ -1,18 +1,12 @@
-use Rattle.std.proofs.Common.{◌≡◌, ◌∙◌, ap}
-use Rattle.stream_fold.specs.Prepared.{change_in, begin_in, end_in}
-use Rattle.edit_engine.proofs.Stretched.{is_stretch_of, ends_behind}
+use Rattle.std.proofs.Common.{◌∙◌, ◌-◌, refl}
+use Rattle.stream_fold.specs.Prepared.{change_in, begin_in, end_in, outcomes_in}
+use Rattle.stream_edits.specs.Changes.{at_of}
+use Rattle.edit_engine.proofs.Stretched.{is_stretch_of, ends_behind, outcomes_later, take_rest}
 use Rattle.edit_engine.proofs.stretches.stretch_of.Goals as goal
-
-pub ids_anew-requires-clause-before : goal.ids_anew-requires-clause-before
-ids_anew-requires-clause-before c =
-    rw (c.begin-from.ensures, c.change.ensures, c.refolded-refolded.ensures) c.requires.ready.refolded.made.before
-
-pub ids_anew-requires-clause-ordered : goal.ids_anew-requires-clause-ordered
-ids_anew-requires-clause-ordered c = rw (c.change.ensures, c.refolded-refolded.ensures) c.requires.ready.refolded.inside.ordered
 
 pub ids_anew-requires-clause-behind : goal.ids_anew-requires-clause-behind
 ids_anew-requires-clause-behind c =
-    rw (c.end_of-to.ensures, c.change.ensures, c.refolded-refolded.ensures)
+    rw (c.end_of-to.ensures, c.change-change.ensures, c.refolded-refolded.ensures)
     (ends_behind (change_in c.args.prepared.now.refolded) c.args.ordered.now.folded.stream
     c.requires.ready.refolded.inside c.args.prepared.now.refolded.met _ c.requires.ready.refolded.made.met_at)
 
@@ -23,19 +17,21 @@ pub returns : goal.returns
 returns c =
     let refolded = c.args.prepared.now.refolded in
     let stream = c.args.ordered.now.folded.stream in
-    let ids = rw (c.begin-from.ensures, c.end_of-to.ensures, c.change.ensures, c.refolded-refolded.ensures, c.units.ensures) at c.in_ok-ids_anew.ensures in
-    let outcomes = rw (c.outcomes.ensures, c.refolded-refolded.ensures) at c.in_ok-shares_of.ensures in
-    rw (c.begin-from.ensures, c.end_of-to.ensures, c.refolded-refolded.ensures)
-    (is_stretch_of (change_in refolded) stream c.requires.ready.refolded.inside
+    let change = change_in refolded in
+    let inside = c.requires.ready.refolded.inside in
+    let before = c.requires.ready.refolded.made.before in
+    let behind = ends_behind change stream inside refolded.met _ c.requires.ready.refolded.made.met_at in
+    let ids = rw (c.end_of-to.ensures, c.change-change.ensures, c.refolded-refolded.ensures, c.units.ensures) at c.in_ok-ids_anew.ensures in
+    let outcomes = rw (c.at-from.ensures, c.begin.ensures, c.change-change.ensures, c.outcomes.ensures, c.refolded-refolded.ensures) at c.in_ok-shares_of.ensures in
+    rw (c.at-from.ensures, c.end_of-to.ensures, c.change-change.ensures, c.refolded-refolded.ensures)
+    (is_stretch_of change stream inside
     (record {
-      from = begin_in refolded;
+      from = at_of change;
       to = end_in refolded stream;
       ids = c.in_ok-ids_anew.field-0;
       outcomes = c.in_ok-shares_of.field-0;
     })
-    c.requires.ready.refolded.made.before
-    (ends_behind (change_in refolded) stream c.requires.ready.refolded.inside refolded.met _ c.requires.ready.refolded.made.met_at)
-    c.requires.anew.within
-    ids
-    (rw outcomes c.requires.anew.outcomes_are)
-    c.requires.anew.ordered)
+    refl behind c.requires.anew.within ids
+    (rw (outcomes ∙ take_rest (at_of change - begin_in refolded) (outcomes_in refolded))
+    (outcomes_later change stream inside (begin_in refolded) (end_in refolded stream) (outcomes_in refolded) before behind
+    c.requires.anew.within c.requires.anew.outcomes_are)))

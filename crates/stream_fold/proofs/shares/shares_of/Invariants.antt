@@ -1,5 +1,5 @@
 use Rattle.std.proofs.Common.{◌≡◌, take}
-use Rattle.edit_engine.proofs.stretches.shares_of.Given as goal
+use Rattle.stream_fold.proofs.shares.shares_of.Given as goal
 
 -- the outcomes so far
 abbrev pub invariant-loop-outcome : goal.invariant-loop-outcome

@@ -3,6 +3,8 @@ use Rattle.std.specs.Prelude.{ℕ, List, Result, Ok, Err}
 use Rattle.hex.specs.Hex.{encode_lower}
 use Rattle.validity_faults.specs.Numbers.{number_of}
 use Rattle.edit_engine.specs.declared.refusals.NotOut.{NotOut}
+use Rattle.edit_engine.specs.declared.showing.Dropping.{Dropping}
+use Rattle.edit_engine.specs.declared.showing.Dropping.TheVariants as dropping
 use Rattle.edit_engine.specs.declared.showing.Shown.{Shown}
 use Rattle.edit_engine.specs.declared.showing.Shown.TheVariants as shown
 use Rattle.picture_store.specs.declared.answers.Landing.{Landing}
@@ -38,6 +40,12 @@ show_answer shown.Pending = Ok (Shows appearance.Pending)
 show_answer (shown.Fault fault) = Ok (Shows (appearance.Fault (number_of fault) fault))
 show_answer shown.Empty = Ok (Shows appearance.Empty)
 show_answer shown.NoSuchUnit = Err (Refused refusal.NoSuchUnit)
+
+-- the result of a picture that was to be dropped
+abbrev pub drop_answer : Dropping → Result Answer Failure
+drop_answer dropping.Dropped = Ok (Word word.Dropped)
+drop_answer dropping.NotHeld = Ok (Word word.NotHeld)
+drop_answer dropping.NoSuchUnit = Err (Refused refusal.NoSuchUnit)
 
 -- the result of a job that landed
 abbrev pub land_answer : Result Landing NotOut → Answer

@@ -1,12 +1,12 @@
 //! What a session answers, as results.
 
 ghost use Rattle.std.specs.Prelude.{◌≡◌, IfOk};
-ghost use Rattle.serve_answers.specs.Replies.{edit_answer, give_back_answer, group_answer, land_answer, show_answer};
+ghost use Rattle.serve_answers.specs.Replies.{drop_answer, edit_answer, give_back_answer, group_answer, land_answer, show_answer};
 
 use crate::answer::{Answer, Appearance};
 use crate::words::{Digits, Word};
 use edit_engine::{
-    EditRefused, GroupReceipt, GroupRefused, Landing, NotOut, Receipt, Returning, Shown,
+    Dropping, EditRefused, GroupReceipt, GroupRefused, Landing, NotOut, Receipt, Returning, Shown,
 };
 use serve_messages::{Failure, Listed, Refusal};
 use std::alloc::{AllocError, Global};
@@ -64,6 +64,17 @@ pub fn of_show(alloc: Global, shown: Shown) -> Result<Result<Answer, Failure>, A
         Shown::NoSuchUnit => return Ok(Err(Failure::Refused(Refusal::NoSuchUnit))),
     };
     Ok(Ok(Answer::Shown(appearance)))
+}
+
+/// The result of a picture that was to be dropped.
+pub fn of_drop(answer: Dropping) -> Result<Answer, Failure>
+    ensures { result ≡ drop_answer answer }
+{
+    match answer {
+        Dropping::Dropped => Ok(Answer::Word(Word::Dropped)),
+        Dropping::NotHeld => Ok(Answer::Word(Word::NotHeld)),
+        Dropping::NoSuchUnit => Err(Failure::Refused(Refusal::NoSuchUnit)),
+    }
 }
 
 /// The result of a job that landed.

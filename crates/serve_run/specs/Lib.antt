@@ -1,3 +1,2 @@
 pub mod Ends
-pub mod Answering
-pub mod WantedUnits
+pub mod Serving

@@ -1,8 +1,7 @@
 //! A desk beside whose workers a server answers, and the writer that it shares with the thread that tells of pictures.
 
-ghost use Rattle.std.specs.Prelude.{◌≤◌, length};
+ghost use Rattle.std.specs.Prelude.{◌≤◌, false, length};
 
-use crate::backend::{Asked, Backend};
 use crate::pen::Pen;
 use decode_pool::{Desk, Seat, TooManyWanted};
 use edit_engine::{
@@ -11,7 +10,8 @@ use edit_engine::{
 };
 use pictures::AuId;
 use serve_answers::Answer;
-use serve_messages::{Failure, Refusal};
+use serve_calls::{Asked, Backend};
+use serve_messages::Failure;
 use std::alloc::{AllocError, Global};
 use std::io::Write;
 use std::sync::{Mutex, Wait};
@@ -58,12 +58,18 @@ pub(crate) struct AtDesk<'a, R: Wait> {
 }
 
 impl<'a, R: Wait> Asked for AtDesk<'a, R> {
+    // It lies under the desk's lock, so that no clause knows which one it is.
+    ghost is_session = { λ _ _. Unit {0} };
+
     fn look<T, F: FnOnce(&Session) -> T>(&self, ask: F) -> T {
         self.desk.look(self.rt, ask)
     }
 }
 
 impl<'a, R: Wait> Backend for AtDesk<'a, R> {
+    // The workers have the jobs.
+    ghost lends_jobs = { λ _. false };
+
     fn edit(&mut self, read: ReadEdit) -> Result<Receipt, EditRefused> {
         self.desk.edit_read(self.rt, read)
     }
@@ -80,17 +86,13 @@ impl<'a, R: Wait> Backend for AtDesk<'a, R> {
         self.desk.clear_cache(self.rt);
     }
 
-    fn want(&mut self, ids: &[AuId], rest: bool) -> Result<(), Failure> {
+    fn want(&mut self, ids: &[AuId], rest: bool) {
         match self.seat.want(self.rt, self.desk, ids) {
-            Ok(()) => {
-                self.seat.rest(self.rt, self.desk, rest);
-                Ok(())
-            }
-            Err(TooManyWanted) => Err(Failure::Refused(Refusal::TooManyWanted)),
+            Ok(()) => self.seat.rest(self.rt, self.desk, rest),
+            Err(TooManyWanted) => unreachable!(),
         }
     }
 
-    // The workers have the jobs.
     fn has_jobs(&self) -> bool {
         false
     }

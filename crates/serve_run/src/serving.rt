@@ -1,15 +1,21 @@
 //! Messages served one after the other.
 
-use crate::alone::Alone;
-use crate::backend::Backend;
-use crate::calls::OUT_OF_MEMORY;
+ghost use Rattle.std.specs.Prelude.{◌≡◌, ◌⊎◌, List, false};
+ghost use Rattle.serde_json.specs.Errors.{IsMemory};
+ghost use Rattle.serve_calls.specs.declared.requests.Served.{Served};
+ghost use Rattle.serve_calls.specs.declared.wanted_units.WantedUnit.{WantedUnit};
+ghost use Rattle.serve_calls.specs.Failing.{out_of_memory};
+ghost use Rattle.serve_calls.specs.Requests.{IsServedIf, parts_if};
+ghost use Rattle.serve_run.specs.Ends.{end_of};
+ghost use Rattle.serve_run.specs.Serving.{GoesOn, GoesOnAfter};
+
 use crate::end::ServeEnd;
 use crate::lines::{Line, Lines, MOST_BYTES};
 use crate::pen::{Fault, Pen};
-use crate::server::Server;
 use console_io::Source;
 use serde_json::{Category, Error, Value};
-use serve_messages::{Call, Failure, Message, Request};
+use serve_calls::{Alone, Backend, OUT_OF_MEMORY, Served, Server};
+use serve_messages::{Failure, Message};
 use std::alloc::Global;
 use std::io::{ErrorKind, Read, Write};
 use std::thread::Threads;
@@ -61,8 +67,8 @@ pub(crate) fn serve_line<R: Threads + Sync, B: Backend, S: Source, W: Write>(
 ) -> Result<(), ServeEnd> {
     match line {
         Line::Text(text) => serve_text(rt, server, pen, text.as_slice()),
-        Line::TooLong => Ok(pen.answer(None, &Err(Failure::NotRequest))?),
-        Line::Memory => Ok(pen.answer(None, &Err(OUT_OF_MEMORY))?),
+        Line::TooLong => refuse(pen, Failure::NotRequest),
+        Line::Memory => refuse(pen, OUT_OF_MEMORY),
         Line::End => Err(ServeEnd::Done),
     }
 }
@@ -73,49 +79,86 @@ fn serve_text<R: Threads + Sync, B: Backend, S: Source, W: Write>(
     server: &mut Server<B, S>,
     pen: &mut Pen<W>,
     text: &[u8],
-) -> Result<(), ServeEnd> {
-    let value = match Value::from_slice(server.alloc, text) {
-        Ok(value) => value,
-        Err(error) => return Ok(pen.answer(None, &Err(why_no_value(&error)))?),
-    };
-    match Message::of(&value) {
-        Message::Request(request) => serve_request(rt, server, pen, request),
-        Message::Other { id } => Ok(pen.answer(id, &Err(Failure::NotRequest))?),
+) -> Result<(), ServeEnd>
+    ensures { GoesOnAfter B.is_session B.lends_jobs S.file server.old pen.old.wanted.items text.now
+        result server.new }
+{
+    match Value::from_slice(server.alloc, text) {
+        Ok(value) => {
+            let message = Message::of(&value);
+            let end = serve_message(rt, server, pen, &message);
+            let_go(message);
+            end
+        }
+        Err(error) => refuse(pen, why_no_value(&error)),
     }
 }
 
-/// Why a text is no value.
-fn why_no_value(error: &Error) -> Failure {
-    match error.classify() {
-        Category::Memory => OUT_OF_MEMORY,
-        _ => Failure::NotJson,
-    }
-}
-
-/// Does what a request asks for and answers it, if it has an id; or how the server ends.
-fn serve_request<R: Threads + Sync, B: Backend, S: Source, W: Write>(
+/// Serves a message; or how the server ends.
+fn serve_message<R: Threads + Sync, B: Backend, S: Source, W: Write>(
     rt: &R,
     server: &mut Server<B, S>,
     pen: &mut Pen<W>,
-    request: Request<'_>,
-) -> Result<(), ServeEnd> {
-    let call = request.call(server.alloc, server.backend.has_jobs());
-    let is_last = matches!(&call, Ok(Call::Shutdown));
-    let answer = match call {
-        Ok(call) => server.call(rt, pen, call, request.id.is_some()),
-        Err(failure) => Err(failure),
-    };
-    if request.id.is_some() {
-        pen.answer(request.id, &answer)?;
-    }
-    if is_last {
+    message: &Message<'_>,
+) -> Result<(), ServeEnd>
+    ensures { (served : Served) × (wants : List WantedUnit)
+        × IsServedIf B.is_session B.lends_jobs S.file server.old pen.old.wanted.items
+        (parts_if message.now) served server.new wants
+        × GoesOn served.is_last result }
+{
+    let served = server.serve(rt, &mut pen.wanted, message);
+    answer_message(pen, message, &served)?;
+    if served.is_last {
         return Err(ServeEnd::Done);
     }
     pen.tell(&server.backend)?;
     Ok(())
 }
 
+/// Lets a message go that was served.
+fn let_go(message: Message<'_>) {
+    match message {
+        Message::Request(_) | Message::Other { id: _ } => {}
+    }
+}
+
+/// Answers what is no request; or how the server ends.
+fn refuse<W: Write>(pen: &mut Pen<W>, failure: Failure) -> Result<(), ServeEnd>
+    ensures { GoesOn false result }
+{
+    pen.answer(None, &Err(failure))?;
+    Ok(())
+}
+
+/// Answers a message, unless it is a request without an id.
+fn answer_message<W: Write>(
+    pen: &mut Pen<W>,
+    message: &Message<'_>,
+    served: &Served,
+) -> Result<(), Fault> {
+    match message {
+        Message::Request(request) => match request.id {
+            Some(id) => pen.answer(Some(id), &served.answer),
+            None => Ok(()),
+        },
+        Message::Other { id } => pen.answer(*id, &served.answer),
+    }
+}
+
+/// Why a text is no value.
+fn why_no_value(error: &Error) -> Failure
+    ensures { (IsMemory error.now × (result ≡ out_of_memory))
+        ⊎ ((¬ IsMemory error.now) × (result ≡ Failure.NotJson)) }
+{
+    match error.classify() {
+        Category::Memory => OUT_OF_MEMORY,
+        _ => Failure::NotJson,
+    }
+}
+
 impl From<Fault> for ServeEnd {
+    ghost from_gives = { λ fault end. end ≡ end_of fault };
+
     fn from(fault: Fault) -> ServeEnd {
         match fault {
             Fault::Unwritten => ServeEnd::Unwritten,

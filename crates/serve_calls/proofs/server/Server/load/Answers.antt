@@ -1,0 +1,11 @@
+use Rattle.std.proofs.Common.{inl, refl}
+use Rattle.serve_calls.proofs.server.Server.load.Goals as goal
+
+pub returns-in-Ok : goal.returns-in-Ok
+returns-in-Ok g c = inl (
+  c.in-Ok.text,
+  record c.args.self.now { source = c.text_of.new.source },
+  c.in-Ok.ensures.ok,
+  (refl, refl, c.in-Ok.ensures.kept),
+  c.load_text.ensures,
+)

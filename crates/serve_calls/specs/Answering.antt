@@ -1,0 +1,81 @@
+-- What a session is asked, and the results.
+use Rattle.std.specs.Prelude.{◌≡◌, ℕ, ◌<◌, ◌≤◌, Bool, List, length, take, drop, slice_get, filter_map, option_and_then, option_map, Option, Some, None, Result, Ok}
+use Rattle.stream_edits.specs.Streams.{Stream, ids_of}
+use Rattle.edit_script.specs.Words.{id_of}
+use Rattle.edit_engine.specs.declared.showing.Shown.{Shown}
+use Rattle.edit_engine.specs.Machines.{Machine}
+use Rattle.edit_engine.specs.Showing.{Shows}
+use Rattle.edit_engine.specs.Streams.{outcome_in, position_in}
+use Rattle.serve_messages.specs.declared.failure.Failure.{Failure}
+use Rattle.serve_answers.specs.declared.answer.Answer.{Answer}
+use Rattle.serve_answers.specs.declared.answer.Answer.TheVariants as answer
+use Rattle.serve_answers.specs.declared.answer.Found.{Found}
+use Rattle.serve_answers.specs.declared.answer.Stats.{Stats}
+use Rattle.serve_answers.specs.declared.unit_answers.UnitAnswer.{UnitAnswer}
+use Rattle.serve_answers.specs.Replies.{show_answer}
+use Rattle.serve_answers.specs.UnitAnswers.{unit_answer}
+use Rattle.serve_calls.specs.declared.sums.Sums.{Sums}
+use Rattle.serve_calls.specs.Failing.{IsUnlessMemory}
+use Rattle.serve_calls.specs.Sessions.{Asks}
+
+-- the outcome of the unit of the id as a result, with its controls or without, if there is such a unit
+abbrev pub unit_in : Stream → Bool → ℕ → Option UnitAnswer
+unit_in stream controls id =
+    option_and_then (λ outcome. option_map (λ position. unit_answer id position outcome controls) (position_in stream id))
+    (outcome_in stream id)
+
+-- the outcomes of so many units from a place on
+abbrev pub units_in : Stream → ℕ → ℕ → Bool → List UnitAnswer
+units_in stream from count controls = filter_map (unit_in stream controls) (take count (drop from (ids_of stream)))
+
+-- the unit of the id has the position
+abbrev pub HasPosition : Stream → ℕ → ℕ → Type 0
+HasPosition stream position id = position_in stream id ≡ Some (Some position)
+
+-- no unit from a place on up to another has the position
+abbrev pub IsNoneAmong : Stream → ℕ → ℕ → ℕ → Type 0
+IsNoneAmong stream position from to =
+    (at id : ℕ) → from ≤ at → at < to → slice_get (ids_of stream) at ≡ Some id → HasPosition stream position id → ⊥
+
+-- this unit stands at its place and has the position
+abbrev pub IsAt : Stream → ℕ → Found → Type 0
+IsAt stream position found =
+    (slice_get (ids_of stream) found.place ≡ Some found.id) × HasPosition stream position found.id
+
+-- the unit that has the position, or that none has it
+abbrev pub IsFound : Stream → ℕ → Option Found → Type 0
+IsFound stream position (Some found) = IsAt stream position found
+IsFound stream position None = IsNoneAmong stream position 0 (length stream)
+
+-- how much there is of what the session keeps, and what edits added up to
+abbrev pub stats_of : Machine → Sums → Stats
+stats_of machine sums = record {
+  units = length machine.register.stream;
+  edits = length machine.journal;
+  held = length machine.held;
+  cached = length machine.cached;
+  jobs_out = length machine.out;
+  steps = sums.steps;
+  bytes = sums.bytes;
+}
+
+-- the result of a question for so many units from a place on
+abbrev pub TellsUnits : (Machine → Type 0) → ℕ → ℕ → Bool → Result Answer Failure → Type 0
+TellsUnits is_session from count controls result =
+    Asks is_session (λ machine. IsUnlessMemory (Ok (answer.Units (units_in machine.register.stream from count controls))) result)
+
+-- the result of a question for the unit at a position
+abbrev pub TellsFound : (Machine → Type 0) → ℕ → Result Answer Failure → Type 0
+TellsFound is_session position result =
+    (found : Option Found) × Asks is_session (λ machine. IsFound machine.register.stream position found)
+    × (result ≡ Ok (answer.Found found))
+
+-- the result of a question for what is shown of the unit of a number
+abbrev pub TellsShown : (Machine → Type 0) → ℕ → Result Answer Failure → Type 0
+TellsShown is_session number result =
+    (shown : Shown) × Asks is_session (λ machine. Shows machine (id_of number) shown)
+    × IsUnlessMemory (show_answer shown) result
+
+-- the result of a question for how much there is
+abbrev pub TellsStats : (Machine → Type 0) → Sums → Result Answer Failure → Type 0
+TellsStats is_session sums result = Asks is_session (λ machine. result ≡ Ok (answer.Stats (stats_of machine sums)))

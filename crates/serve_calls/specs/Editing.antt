@@ -1,0 +1,73 @@
+-- Edits, groups and drops by a server, and their results.
+use Rattle.std.specs.Prelude.{◌≡◌, ◌⊎◌, ℕ, List, Option, None, Some, Result, Ok, Err}
+use Rattle.stream_edits.specs.declared.edits.Edit.{Edit}
+use Rattle.stream_edits.specs.declared.group_refused.GroupRefused.{GroupRefused}
+use Rattle.stream_edits.specs.declared.receipts.GroupReceipt.{GroupReceipt}
+use Rattle.stream_edits.specs.declared.receipts.Receipt.{Receipt}
+use Rattle.stream_edits.specs.declared.refusals.EditRefused.{EditRefused}
+use Rattle.stream_edits.specs.Edits.{Register}
+use Rattle.stream_edits.specs.GroupRefusals.{IsGroupRefused}
+use Rattle.stream_edits.specs.Refusals.{IsRefused}
+use Rattle.edit_script.specs.Words.{id_of}
+use Rattle.edit_engine.specs.declared.showing.Dropping.{Dropping}
+use Rattle.edit_engine.specs.Grouping.{AnswersGroup}
+use Rattle.edit_engine.specs.Machines.{Machine, AnswersEdit}
+use Rattle.edit_engine.specs.Needing.{AnswersDrop}
+use Rattle.serve_messages.specs.declared.failure.Failure.{Failure}
+use Rattle.serve_answers.specs.declared.answer.Answer.{Answer}
+use Rattle.serve_answers.specs.declared.answer.Answer.TheVariants.{Word}
+use Rattle.serve_answers.specs.declared.words.Word.TheVariants as word
+use Rattle.serve_answers.specs.Replies.{drop_answer, edit_answer, group_answer}
+use Rattle.serve_calls.specs.declared.server.Server.{Server}
+use Rattle.serve_calls.specs.declared.sums.Sums.{Sums}
+use Rattle.serve_calls.specs.Sessions.{Clears, Steps}
+use Rattle.serve_calls.specs.Sums.{bytes_of, bytes_of_edit, with_edit}
+
+-- the sums after an edit is answered
+abbrev pub sums_after_edit : Sums → Edit → Result Receipt EditRefused → Sums
+sums_after_edit sums edit (Ok receipt) = with_edit sums receipt.steps (bytes_of_edit edit)
+sums_after_edit sums edit (Err refused) = sums
+
+-- the sums after a group is answered
+abbrev pub sums_after_group : Sums → List Edit → Result GroupReceipt GroupRefused → Sums
+sums_after_group sums edits (Ok receipt) = with_edit sums receipt.steps (bytes_of edits)
+sums_after_group sums edits (Err refused) = sums
+
+-- the session answers an edit so; an accepted one is added to the sums
+abbrev pub MakesEdit : {B S : Type 0} → (B → Machine → Type 0) → Server B S → Edit → Result Receipt EditRefused → Server B S → Type 0
+MakesEdit is_session old edit answer new =
+    Steps (is_session old.backend) (λ before after. AnswersEdit before edit answer after) (is_session new.backend)
+    × (new.sums ≡ sums_after_edit old.sums edit answer) × (new.source ≡ old.source)
+
+-- the result of an edit is the session's answer; or the refusal of its text, whatever the stream is: then nothing is asked
+abbrev pub EditsAs : {B S : Type 0} → (B → Machine → Type 0) → Server B S → Edit → Result Answer Failure → Server B S → Type 0
+EditsAs is_session old edit result new =
+    ((answer : Result Receipt EditRefused) × MakesEdit is_session old edit answer new × (result ≡ edit_answer answer))
+    ⊎ ((refused : EditRefused) × ((register : Register) → IsRefused register edit refused)
+    × (result ≡ edit_answer (Err refused)) × (new ≡ old))
+
+-- the session answers a group so; an accepted one is added to the sums
+abbrev pub MakesGroup : {B S : Type 0} → (B → Machine → Type 0) → Server B S → List Edit
+    → Result GroupReceipt GroupRefused → Server B S → Type 0
+MakesGroup is_session old edits answer new =
+    Steps (is_session old.backend) (λ before after. AnswersGroup before edits answer after) (is_session new.backend)
+    × (new.sums ≡ sums_after_group old.sums edits answer) × (new.source ≡ old.source)
+
+-- the result of a group is the session's answer; or a refusal whatever the stream is: then nothing is asked
+abbrev pub GroupsAs : {B S : Type 0} → (B → Machine → Type 0) → Server B S → List Edit → Result Answer Failure → Server B S → Type 0
+GroupsAs is_session old edits result new =
+    ((answer : Result GroupReceipt GroupRefused) × MakesGroup is_session old edits answer new
+    × (result ≡ group_answer answer))
+    ⊎ ((refused : GroupRefused) × ((register : Register) → IsGroupRefused register edits refused)
+    × (result ≡ group_answer (Err refused)) × (new ≡ old))
+
+-- the result of a drop is the session's answer, or that its cache is cleared
+abbrev pub DropsAs : {B S : Type 0} → (B → Machine → Type 0) → Server B S → Option ℕ → Result Answer Failure → Server B S → Type 0
+DropsAs is_session old (Some number) result new =
+    ((answer : Dropping)
+    × Steps (is_session old.backend) (λ before after. AnswersDrop before (id_of number) answer after) (is_session new.backend)
+    × (result ≡ drop_answer answer))
+    × (new.sums ≡ old.sums) × (new.source ≡ old.source)
+DropsAs is_session old None result new =
+    Clears (is_session old.backend) (is_session new.backend) × (result ≡ Ok (Word word.Cleared))
+    × (new.sums ≡ old.sums) × (new.source ≡ old.source)

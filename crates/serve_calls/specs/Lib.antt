@@ -1,0 +1,13 @@
+pub mod Answering
+pub mod Calls
+pub mod Editing
+pub mod Failing
+pub mod Jobs
+pub mod Lists
+pub mod Loading
+pub mod Requests
+pub mod Sessions
+pub mod Sums
+pub mod Taking
+pub mod WantedUnits
+pub mod Wanting

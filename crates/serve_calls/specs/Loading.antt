@@ -1,0 +1,110 @@
+-- A stream whose access units a server inserts one after the other, and the result.
+use Rattle.std.specs.Prelude.{◌≡◌, ◌⊎◌, ◌-◌, ◌≤◌, ⊤, ℕ, List, [], ◌∷◌, length, Option, None, Some, IfSome, Result, Ok, Err}
+use Rattle.annexb.specs.ByteStream.{joined}
+use Rattle.access_unit.specs.declared.room.Refusal.{Refusal as StreamRefusal}
+use Rattle.access_unit.specs.Rooms.{IsStream, IsStreamRefused, most_units}
+use Rattle.stream_edits.specs.declared.edits.Edit.TheVariants.{Insert}
+use Rattle.stream_edits.specs.declared.edits.Place.{Place}
+use Rattle.stream_edits.specs.declared.edits.Place.TheVariants.{First, After}
+use Rattle.stream_edits.specs.declared.receipts.Last.{Last}
+use Rattle.stream_edits.specs.declared.receipts.Receipt.{Receipt}
+use Rattle.stream_edits.specs.declared.refusals.EditRefused.{EditRefused}
+use Rattle.stream_edits.specs.declared.refusals.EditRefused.TheVariants as refusals
+use Rattle.stream_edits.specs.Streams.{last_of}
+use Rattle.edit_engine.specs.Machines.{Machine}
+use Rattle.serve_messages.specs.declared.call.Loaded.{Loaded}
+use Rattle.serve_messages.specs.declared.call.Loaded.TheVariants as loaded
+use Rattle.serve_messages.specs.declared.failure.Failure.{Failure}
+use Rattle.serve_messages.specs.declared.failure.Failure.TheVariants.{Refused}
+use Rattle.serve_messages.specs.declared.failure.Refusal.TheVariants as refusal
+use Rattle.serve_answers.specs.declared.answer.Answer.{Answer}
+use Rattle.serve_answers.specs.declared.answer.Answer.TheVariants as answer
+use Rattle.serve_calls.specs.declared.loading.Inserted.{Inserted}
+use Rattle.serve_calls.specs.declared.server.Server.{Server}
+use Rattle.serve_calls.specs.Editing.{MakesEdit}
+use Rattle.serve_calls.specs.Failing.{out_of_memory}
+use Rattle.serve_calls.specs.Sessions.{Asks}
+use Rattle.serve_calls.specs.Sums.{counted}
+
+-- before the first unit
+abbrev pub none_inserted : Inserted
+none_inserted = record { units = 0; first = None; last = None }
+
+-- the first id stays, if there is one
+abbrev pub first_of : Option ℕ → ℕ → Option ℕ
+first_of (Some first) id = Some first
+first_of None id = Some id
+
+-- after a unit more, with this id
+abbrev pub with_unit : Inserted → ℕ → Inserted
+with_unit inserted id =
+    record { units = counted inserted.units 1; first = first_of inserted.first id; last = Some id }
+
+-- the result of a load whose units were all inserted
+abbrev pub loaded_answer : Inserted → Answer
+loaded_answer inserted = answer.Loaded inserted.units inserted.first inserted.last
+
+-- the place after the last unit
+abbrev pub place_after : Option ℕ → Place
+place_after (Some id) = After id
+place_after None = First
+
+-- this is the end of the session's stream
+abbrev pub IsLast : {B S : Type 0} → (B → Machine → Type 0) → Server B S → Last → Type 0
+IsLast is_session server last = Asks (is_session server.backend) (λ machine. last ≡ last_of machine.register.stream)
+
+-- a unit is inserted after the last one, or memory ran out before the session was asked
+abbrev pub InsertsLast : {B S : Type 0} → (B → Machine → Type 0) → Server B S → List (List ℕ)
+    → Result Receipt EditRefused → Server B S → Type 0
+InsertsLast is_session old unit answer new =
+    ((last : Last) × IsLast is_session old last
+    × MakesEdit is_session old (Insert (place_after last.id) (joined unit)) answer new)
+    ⊎ ((answer ≡ Err refusals.Memory) × (new ≡ old))
+
+-- the units are inserted one after the other, to the end or to the first that is refused; those before it stay
+abbrev pub InsertsAll : {B S : Type 0} → (B → Machine → Type 0) → Server B S → List (List (List ℕ)) → Inserted
+    → Result Answer Failure → Server B S → Type 0
+InsertsAll is_session old [] inserted result new = (result ≡ Ok (loaded_answer inserted)) × (new ≡ old)
+InsertsAll {B} {S} is_session old (unit ∷ units) inserted result new =
+    ((receipt : Receipt) × (next : Server B S) × InsertsLast is_session old unit (Ok receipt) next
+    × InsertsAll is_session next units (with_unit inserted receipt.id) result new)
+    ⊎ ((refused : EditRefused) × InsertsLast is_session old unit (Err refused) new
+    × (result ≡ Err (Refused (refusal.Loading refused inserted.units))))
+
+-- the text that is loaded: the bytes that are given, or those of the file where they are known
+abbrev pub IsTextOf : {S : Type 0} → (S → List ℕ → Option (List ℕ)) → S → Loaded → List ℕ → Type 0
+IsTextOf file source (loaded.Text text) it = it ≡ text
+IsTextOf file source (loaded.File name) it = IfSome (file source name) (λ bytes. it ≡ bytes)
+
+-- why there is no text: a file that can't be read, or lack of memory
+abbrev pub IsTextless : Loaded → Failure → Type 0
+IsTextless (loaded.Text text) failure = failure ≡ out_of_memory
+IsTextless (loaded.File name) failure = (failure ≡ Refused refusal.CannotRead) ⊎ (failure ≡ out_of_memory)
+
+-- nothing is asked of the session, nothing is added to the sums, and the files stay as they are
+abbrev pub KeepsAll : {B S : Type 0} → (S → List ℕ → Option (List ℕ)) → Server B S → Server B S → Type 0
+KeepsAll file old new =
+    (new.backend ≡ old.backend) × (new.sums ≡ old.sums)
+    × ((name : List ℕ) → file new.source name ≡ file old.source name)
+
+-- for so many units the session's stream has room
+abbrev pub HasRoom : {B S : Type 0} → (B → Machine → Type 0) → Server B S → ℕ → Type 0
+HasRoom is_session server room =
+    (last : Last) × IsLast is_session server last × (room ≡ most_units - last.units)
+
+-- the result of a text that is loaded: its units are inserted; or it is refused, and nothing changes; or memory ran out
+abbrev pub LoadsText : {B S : Type 0} → (B → Machine → Type 0) → Server B S → List ℕ → Result Answer Failure → Server B S → Type 0
+LoadsText is_session old text result new =
+    ((room : ℕ) × (units : List (List (List ℕ))) × HasRoom is_session old room × IsStream text units
+    × (length units ≤ room) × InsertsAll is_session old units none_inserted result new)
+    ⊎ ((room : ℕ) × (refused : StreamRefusal) × HasRoom is_session old room × IsStreamRefused text room refused
+    × (result ≡ Err (Refused (refusal.Stream refused))) × (new ≡ old))
+    ⊎ ((result ≡ Err out_of_memory) × (new ≡ old))
+
+-- the result of a load: that of its text; or why there is none, and nothing changes
+abbrev pub LoadsAs : {B S : Type 0} → (B → Machine → Type 0) → (S → List ℕ → Option (List ℕ)) → Server B S → Loaded
+    → Result Answer Failure → Server B S → Type 0
+LoadsAs {B} {S} is_session file old it result new =
+    ((text : List ℕ) × (read : Server B S) × IsTextOf file old.source it text × KeepsAll file old read
+    × LoadsText is_session read text result new)
+    ⊎ ((failure : Failure) × IsTextless it failure × (result ≡ Err failure) × KeepsAll file old new)

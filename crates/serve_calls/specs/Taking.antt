@@ -1,0 +1,31 @@
+-- What a runner replies to one who asks for a job.
+use Rattle.std.specs.Prelude.{◌≡◌, ◌⊎◌, ℕ, Option, None, Some, Result, Ok, Err}
+use Rattle.picture_store.specs.declared.refusals.TakeRefused.{TakeRefused}
+use Rattle.picture_store.specs.declared.refusals.TakeRefused.TheVariants.{JobsSpent, Memory}
+use Rattle.edit_engine.specs.declared.replies.Reply.{Reply}
+use Rattle.edit_engine.specs.declared.replies.Reply.TheVariants as replies
+use Rattle.edit_engine.specs.declared.replies.TakenJob.{TakenJob}
+use Rattle.edit_engine.specs.Machines.{Machine}
+use Rattle.serve_messages.specs.declared.failure.Failure.{Failure}
+use Rattle.serve_messages.specs.declared.failure.Failure.TheVariants.{Refused}
+use Rattle.serve_messages.specs.declared.failure.Refusal.TheVariants as refusal
+use Rattle.serve_calls.specs.Failing.{out_of_memory}
+use Rattle.serve_calls.specs.Jobs.{TakesOne}
+
+-- the job that is taken, if a picture was due, or the failure
+abbrev pub taken_of : Result (Option TakenJob) TakeRefused → Result (Option TakenJob) Failure
+taken_of (Ok taken) = Ok taken
+taken_of (Err JobsSpent) = Err (Refused refusal.JobsSpent)
+taken_of (Err Memory) = Err out_of_memory
+
+-- the job of a reply to one who asks for a job
+abbrev pub taken_in : Reply → Result (Option TakenJob) Failure
+taken_in (replies.Take answer) = taken_of answer
+taken_in (replies.TakeFor answer) = taken_of answer
+taken_in reply = Ok None
+
+-- a job is taken, or the failure is said; or memory ran out and nothing changed
+abbrev pub TakesReply : Option ℕ → Machine → Result (Option TakenJob) Failure → Machine → Type 0
+TakesReply id old told new =
+    ((answer : Result (Option TakenJob) TakeRefused) × TakesOne id old answer new × (told ≡ taken_of answer))
+    ⊎ ((new ≡ old) × (told ≡ Err out_of_memory))

@@ -1,0 +1,173 @@
+//! A session alone, whose jobs are taken and landed by calls.
+
+ghost use Rattle.std.specs.Prelude.{◌≡◌, ◌≤◌, ◌↔◌, Err, IfOk, IfSome, IsErrOf, MatchOption, MatchResult, None, Some, true};
+ghost use Rattle.picture_cache.specs.Bounded.{most_room};
+ghost use Rattle.stand_in_device.specs.Inputs.{InputValue};
+ghost use Rattle.edit_engine.specs.Machines.{empty};
+ghost use Rattle.edit_engine.specs.Taken.{input_of};
+ghost use Rattle.serve_answers.specs.JobAnswers.{job_answer};
+ghost use Rattle.serve_calls.specs.Failing.{out_of_memory};
+ghost use Rattle.serve_calls.specs.Jobs.{TellsJob};
+ghost use Rattle.serve_calls.specs.Taking.{TakesReply, taken_in, taken_of};
+
+use crate::backend::{Asked, Backend};
+use crate::failing::OUT_OF_MEMORY;
+use edit_engine::{
+    Command, Config, ConfigFault, Dropping, EditRefused, GroupReceipt, GroupRefused, ReadEdit,
+    ReadGroup, Receipt, Reply, Runner, Session, TakeRefused, TakenJob,
+};
+use pictures::AuId;
+use serve_answers::{Answer, JobAnswer, of_give_back, of_land};
+use serve_messages::{Failure, Refusal};
+use std::alloc::{AllocError, Global};
+
+/// A session alone.
+#[derive(Drop)]
+pub struct Alone {
+    pub runner: Runner,
+}
+
+impl Alone {
+    /// An empty stream, and room for so many pictures that no unit has.
+    pub fn open(alloc: Global, cache: u16) -> Result<Alone, ConfigFault>
+        ensures ok { IfOk result (λ alone. alone.runner ≡ empty cache) }
+        ensures cache { IsErrOf result ConfigFault.Cache
+            ↔ ((1 ≤ cache) × (cache ≤ most_room) → ⊥) }
+    {
+        let runner = Runner::new(alloc, Config { cache })?;
+        Ok(Alone { runner })
+    }
+
+    /// Takes a job, or with an id one that the unit needs.
+    fn taken(&mut self, id: Option<AuId>) -> Result<Option<TakenJob>, Failure>
+        ensures { TakesReply id self.old.runner result self.new.runner }
+    {
+        match id {
+            Some(id) => replied(self.runner.step(Command::TakeFor(id))),
+            None => replied(self.runner.step(Command::Take)),
+        }
+    }
+
+    /// The result of a job that was taken. Where there is no memory for it, the job is given back.
+    fn told(&mut self, alloc: Global, taken: TakenJob) -> Result<Answer, Failure>
+        ensures { TellsJob taken self.old.runner result self.new.runner }
+    {
+        let number = taken.number;
+        match self.answer_of(alloc, taken) {
+            Some(job) => Ok(Answer::Job(Some(job))),
+            None => {
+                let _ = self.runner.step(Command::GiveBack(number));
+                Err(OUT_OF_MEMORY)
+            }
+        }
+    }
+
+    /// A job that is out with what it is made of, unless memory runs out.
+    fn answer_of(&self, alloc: Global, taken: TakenJob) -> Option<JobAnswer>
+        ensures { IfSome result (λ answer. (input : InputValue)
+            × (input_of self.now.runner taken.number ≡ Some input)
+            × (answer ≡ job_answer taken.number taken.unit input)) }
+    {
+        let input = self.runner.input(taken.number)?;
+        JobAnswer::of(alloc, taken.number, taken.unit, input).ok()
+    }
+}
+
+/// The job of a reply to one who asks for a job, if memory sufficed for one.
+fn replied(reply: Result<Reply, AllocError>) -> Result<Option<TakenJob>, Failure>
+    ensures { MatchResult reply
+        (λ reply. result ≡ taken_in reply) (λ _. result ≡ Err out_of_memory) }
+{
+    match reply {
+        Ok(reply) => taken_in(&reply),
+        Err(_) => Err(OUT_OF_MEMORY),
+    }
+}
+
+/// The job of a reply to one who asks for a job.
+fn taken_in(reply: &Reply) -> Result<Option<TakenJob>, Failure>
+    ensures { result ≡ taken_in reply.now }
+{
+    match reply {
+        Reply::Take(answer) | Reply::TakeFor(answer) => taken_of(answer),
+        _ => Ok(None),
+    }
+}
+
+/// The job that was taken, if a picture was due.
+fn taken_of(answer: &Result<Option<TakenJob>, TakeRefused>) -> Result<Option<TakenJob>, Failure>
+    ensures { result ≡ taken_of answer.now }
+{
+    match answer {
+        Ok(taken) => Ok(*taken),
+        Err(TakeRefused::JobsSpent) => Err(Failure::Refused(Refusal::JobsSpent)),
+        Err(TakeRefused::Memory) => Err(OUT_OF_MEMORY),
+    }
+}
+
+impl Asked for Alone {
+    ghost is_session = { λ alone machine. machine ≡ alone.runner };
+
+    fn look<T, F: FnOnce(&Session) -> T>(&self, ask: F) -> T {
+        let session = self.runner.session();
+        let _ = session.journal();
+        ask(session)
+    }
+}
+
+impl Backend for Alone {
+    ghost lends_jobs = { λ _. true };
+
+    fn edit(&mut self, read: ReadEdit) -> Result<Receipt, EditRefused> {
+        let _ = self.runner.session().journal();
+        self.runner.edit_read(read)
+    }
+
+    fn edit_group(&mut self, group: ReadGroup) -> Result<GroupReceipt, GroupRefused> {
+        let _ = self.runner.session().journal();
+        self.runner.edit_group_read(group)
+    }
+
+    fn drop_picture(&mut self, id: AuId) -> Dropping {
+        let _ = self.runner.session().journal();
+        self.runner.drop_picture(id)
+    }
+
+    fn clear_cache(&mut self) {
+        self.runner.clear_cache();
+    }
+
+    // Nobody decodes but by a call.
+    fn want(&mut self, _ids: &[AuId], _rest: bool) {}
+
+    fn has_jobs(&self) -> bool {
+        true
+    }
+
+    fn take(&mut self, alloc: Global, id: Option<AuId>) -> Result<Answer, Failure> {
+        let _ = self.runner.session().journal();
+        match self.taken(id) {
+            Ok(Some(taken)) => self.told(alloc, taken),
+            Ok(None) => Ok(Answer::Job(None)),
+            Err(failure) => Err(failure),
+        }
+    }
+
+    fn land(&mut self, number: u64) -> Result<Answer, Failure> {
+        let _ = self.runner.session().journal();
+        match self.runner.step(Command::Land(number)) {
+            Ok(Reply::Land(answer)) => Ok(of_land(answer)),
+            Ok(_) => unreachable!(),
+            Err(_) => Err(OUT_OF_MEMORY),
+        }
+    }
+
+    fn give_back(&mut self, number: u64) -> Result<Answer, Failure> {
+        let _ = self.runner.session().journal();
+        match self.runner.step(Command::GiveBack(number)) {
+            Ok(Reply::GiveBack(answer)) => Ok(of_give_back(answer)),
+            Ok(_) => unreachable!(),
+            Err(_) => Err(OUT_OF_MEMORY),
+        }
+    }
+}

@@ -1,0 +1,84 @@
+//! What keeps the session that calls are about.
+
+ghost use Rattle.std.specs.Prelude.{◌≡◌, ◌≤◌, Bool, true, false, Err, length};
+ghost use Rattle.std.specs.Fn.{FnOnceReturnsAt};
+ghost use Rattle.edit_engine.specs.Machines.{AnswersEdit, Machine};
+ghost use Rattle.edit_engine.specs.Grouping.{AnswersGroup};
+ghost use Rattle.edit_engine.specs.Needing.{AnswersDrop};
+ghost use Rattle.serve_calls.specs.Jobs.{GivesBackAs, LandsAs, TakesAs};
+ghost use Rattle.serve_calls.specs.Sessions.{Asks, Clears, Stays, Steps};
+
+use edit_engine::{
+    Dropping, EditRefused, GroupReceipt, GroupRefused, ReadEdit, ReadGroup, Receipt, Session,
+};
+use pictures::AuId;
+use serve_answers::Answer;
+use serve_messages::Failure;
+use std::alloc::Global;
+
+/// One who lends a session to be asked.
+pub trait Asked {
+    // Whether a session may be the one that is lent.
+    ghost is_session: { Self → Machine → Type 0 };
+
+    /// Lends the session to be asked.
+    fn look<T, F: FnOnce(&Session) -> T>(&self, ask: F) -> T
+        requires { F.IsAlwaysCallable ask }
+        ensures { Asks (is_session self.now)
+            (λ session. FnOnceReturnsAt F.FnOnce ask session result) };
+}
+
+/// One who keeps a session for a server.
+pub trait Backend: Asked {
+    // Whether there are calls about jobs.
+    ghost lends_jobs: { Self → Bool };
+
+    /// Edits the stream by an edit whose text is read.
+    fn edit(&mut self, read: ReadEdit) -> Result<Receipt, EditRefused>
+        ensures { Steps (Self.is_session self.old)
+            (λ before after. AnswersEdit before read result after) (Self.is_session self.new) };
+
+    /// Makes the edits of a group whose texts are read, as one step.
+    fn edit_group(&mut self, group: ReadGroup) -> Result<GroupReceipt, GroupRefused>
+        ensures { Steps (Self.is_session self.old)
+            (λ before after. AnswersGroup before group result after) (Self.is_session self.new) };
+
+    /// Drops the picture of the unit that has the id.
+    fn drop_picture(&mut self, id: AuId) -> Dropping
+        ensures { Steps (Self.is_session self.old)
+            (λ before after. AnswersDrop before id result after) (Self.is_session self.new) };
+
+    /// Drops the pictures that are cached.
+    fn clear_cache(&mut self)
+        ensures { Clears (Self.is_session self.old) (Self.is_session self.new) };
+
+    /// Has the pictures of these units made first, of which there are 64 at most, and those of all others too or not.
+    fn want(&mut self, ids: &[AuId], rest: bool)
+        requires { length ids.now ≤ 64 }
+        ensures { Stays (Self.is_session self.old) (Self.is_session self.new) };
+
+    /// Whether there are calls about jobs.
+    fn has_jobs(&self) -> bool
+        ensures { result ≡ lends_jobs self.now };
+
+    /// Takes a job, or with an id one that the unit needs.
+    fn take(&mut self, alloc: Global, id: Option<AuId>) -> Result<Answer, Failure>
+        ensures takes { lends_jobs self.old ≡ true → Steps (Self.is_session self.old)
+            (λ before after. TakesAs id before result after) (Self.is_session self.new) }
+        ensures none { lends_jobs self.old ≡ false
+            → (result ≡ Err Failure.NoMethod) × (self.new ≡ self.old) };
+
+    /// Lands the result of the job of this number.
+    fn land(&mut self, number: u64) -> Result<Answer, Failure>
+        ensures lands { lends_jobs self.old ≡ true → Steps (Self.is_session self.old)
+            (λ before after. LandsAs number before result after) (Self.is_session self.new) }
+        ensures none { lends_jobs self.old ≡ false
+            → (result ≡ Err Failure.NoMethod) × (self.new ≡ self.old) };
+
+    /// Gives the job of this number back.
+    fn give_back(&mut self, number: u64) -> Result<Answer, Failure>
+        ensures gives { lends_jobs self.old ≡ true → Steps (Self.is_session self.old)
+            (λ before after. GivesBackAs number before result after) (Self.is_session self.new) }
+        ensures none { lends_jobs self.old ≡ false
+            → (result ≡ Err Failure.NoMethod) × (self.new ≡ self.old) };
+}

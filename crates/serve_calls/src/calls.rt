@@ -1,0 +1,84 @@
+//! What calls are answered.
+
+ghost use Rattle.std.specs.Prelude.{◌≡◌, option_map};
+ghost use Rattle.edit_script.specs.Words.{id_of};
+ghost use Rattle.serve_calls.specs.Calls.{AnswersCall, IsOfJobs};
+ghost use Rattle.serve_calls.specs.Jobs.{GivesBackAs, LandsAs, TakesAs};
+
+use crate::backend::Backend;
+use crate::server::Server;
+use crate::wanted_units::WantedUnit;
+use console_io::Source;
+use edit_script::id_of_number;
+use pictures::AuId;
+use serve_answers::Answer;
+use serve_messages::{Call, Failure};
+use std::thread::Threads;
+
+impl<B: Backend, S: Source> Server<B, S> {
+    /// Does what a call asks for. The units that are wanted then are told of by notifications.
+    pub fn call<R: Threads + Sync>(
+        &mut self,
+        rt: &R,
+        wanted: &mut Vec<WantedUnit>,
+        call: Call,
+        is_answered: bool,
+    ) -> Result<Answer, Failure>
+        ensures { AnswersCall B.is_session B.lends_jobs S.file self.old wanted.old.items call
+            is_answered result self.new wanted.new.items }
+    {
+        match call {
+            Call::Load(loaded) => self.load(rt, loaded),
+            Call::Edit(edit) => self.edit(edit),
+            Call::Group(edits) => self.group(edits),
+            Call::Units {
+                from,
+                count,
+                controls,
+            } => self.units(from, count, controls),
+            Call::Find(position) => self.find(position),
+            Call::Show(number) => self.show(number),
+            Call::Want { ids, rest } => self.want(wanted, ids, rest, is_answered),
+            Call::Drop(number) => self.drop_picture(number),
+            Call::Take(number) => self.take(number),
+            Call::Land(number) => self.land(number),
+            Call::GiveBack(number) => self.give_back(number),
+            Call::Stats => self.stats(),
+            Call::Shutdown => Ok(Answer::Nothing),
+        }
+    }
+}
+
+impl<B: Backend, S> Server<B, S> {
+    /// Takes a job, or with a number one that its unit needs.
+    fn take(&mut self, number: Option<u64>) -> Result<Answer, Failure>
+        ensures { IsOfJobs B.is_session B.lends_jobs self.old (TakesAs (option_map id_of number))
+            result self.new }
+    {
+        self.backend.take(self.alloc, id_if_any(number))
+    }
+
+    /// Lands the result of the job of this number.
+    fn land(&mut self, number: u64) -> Result<Answer, Failure>
+        ensures { IsOfJobs B.is_session B.lends_jobs self.old (LandsAs number) result self.new }
+    {
+        self.backend.land(number)
+    }
+
+    /// Gives the job of this number back.
+    fn give_back(&mut self, number: u64) -> Result<Answer, Failure>
+        ensures { IsOfJobs B.is_session B.lends_jobs self.old (GivesBackAs number) result self.new }
+    {
+        self.backend.give_back(number)
+    }
+}
+
+/// The id of a number, if there is one.
+fn id_if_any(number: Option<u64>) -> Option<AuId>
+    ensures { result ≡ option_map id_of number }
+{
+    match number {
+        Some(number) => Some(id_of_number(number)),
+        None => None,
+    }
+}

@@ -1,0 +1,162 @@
+//! `load`: the units of a stream inserted one after the other.
+
+ghost use Rattle.std.specs.Prelude.{◌≡◌, ℕ, List, IfErr, IfOk, MatchResult};
+ghost use Rattle.serve_calls.specs.Failing.{out_of_memory};
+ghost use Rattle.serve_calls.specs.Loading.{InsertsAll, InsertsLast, IsLast, IsTextOf, IsTextless, LoadsAs, LoadsText, loaded_answer, none_inserted, place_after, with_unit};
+
+use crate::backend::{Asked, Backend};
+use crate::failing::OUT_OF_MEMORY;
+use crate::server::Server;
+use access_unit::{MOST_UNITS, ReadFault, read_units};
+use bytes::Bytes;
+use console_io::{InputFault, Source};
+use edit_engine::{EditRefused, Last, Place, ReadEdit, Receipt};
+use hashed_units::{HashedUnit, hash_units};
+use pictures::AuId;
+use serve_answers::Answer;
+use serve_messages::{Failure, Loaded, Refusal};
+use std::alloc::Global;
+use std::thread::Threads;
+
+/// How many units were inserted, and the ids of the first and the last of them.
+#[derive(Clone, Copy, Debug, PartialEq, Eq)]
+pub(crate) struct Inserted {
+    pub(crate) units: usize,
+    pub(crate) first: Option<u32>,
+    pub(crate) last: Option<u32>,
+}
+
+impl Inserted {
+    /// Before the first unit.
+    fn none() -> Inserted
+        ensures { result ≡ none_inserted }
+    {
+        Inserted {
+            units: 0,
+            first: None,
+            last: None,
+        }
+    }
+
+    /// After a unit more, with this id.
+    fn with_unit(self, id: AuId) -> Inserted
+        ensures { result ≡ with_unit self id }
+    {
+        Inserted {
+            units: self.units.saturating_add(1),
+            first: self.first.or(Some(id.number())),
+            last: Some(id.number()),
+        }
+    }
+
+    /// The result where all were inserted.
+    fn told(self) -> Answer
+        ensures { result ≡ loaded_answer self }
+    {
+        Answer::Loaded {
+            units: self.units,
+            first: self.first,
+            last: self.last,
+        }
+    }
+}
+
+impl<B: Backend, S: Source> Server<B, S> {
+    /// Inserts the units of a stream after the last one.
+    pub(crate) fn load<R: Threads + Sync>(
+        &mut self,
+        rt: &R,
+        loaded: Loaded,
+    ) -> Result<Answer, Failure>
+        ensures { LoadsAs B.is_session S.file self.old loaded result self.new }
+    {
+        match text_of(self.alloc, &mut self.source, loaded) {
+            Ok(text) => self.load_text(rt, &text),
+            Err(failure) => Err(failure),
+        }
+    }
+
+    /// Inserts the units of a text, for which there has to be room.
+    fn load_text<R: Threads + Sync>(&mut self, rt: &R, text: &Bytes) -> Result<Answer, Failure>
+        ensures { LoadsText B.is_session self.old text.now result self.new }
+    {
+        let room = MOST_UNITS.saturating_sub(self.last().units);
+        match read_units(rt, self.alloc, text, room) {
+            Ok(units) => match hash_units(rt, self.alloc, units) {
+                Ok(units) => self.insert_all(units),
+                Err(_) => Err(OUT_OF_MEMORY),
+            },
+            Err(ReadFault::Refused(refusal)) => Err(Failure::Refused(Refusal::Stream(refusal))),
+            Err(ReadFault::Memory) => Err(OUT_OF_MEMORY),
+        }
+    }
+
+    /// Inserts the units after the last one. One that is refused ends that, and those before it stay.
+    fn insert_all(&mut self, units: Vec<HashedUnit>) -> Result<Answer, Failure>
+        ensures { InsertsAll B.is_session self.old units.items none_inserted result self.new }
+    {
+        let mut inserted = Inserted::none();
+        for unit in units {
+            match self.insert_last(unit) {
+                Ok(receipt) => inserted = inserted.with_unit(receipt.id),
+                Err(refused) => {
+                    let units = inserted.units;
+                    return Err(Failure::Refused(Refusal::Loading { refused, units }));
+                }
+            }
+        }
+        Ok(inserted.told())
+    }
+
+    /// Inserts a unit after the last one.
+    fn insert_last(&mut self, unit: HashedUnit) -> Result<Receipt, EditRefused>
+        ensures { InsertsLast B.is_session self.old unit result self.new }
+    {
+        let place = place_after(self.last().id);
+        let read = ReadEdit::insertion(self.alloc, place, unit)?;
+        self.edit_read(read)
+    }
+
+    /// The end of the stream.
+    fn last(&self) -> Last
+        ensures { IsLast B.is_session self.now result }
+    {
+        self.backend.look(|session| session.last())
+    }
+}
+
+/// The place after the last unit, which has this id if there is one.
+fn place_after(id: Option<AuId>) -> Place
+    ensures { result ≡ place_after id }
+{
+    match id {
+        Some(id) => Place::After(id),
+        None => Place::First,
+    }
+}
+
+/// The text that is loaded.
+fn text_of<S: Source>(alloc: Global, source: &mut S, loaded: Loaded) -> Result<Bytes, Failure>
+    ensures ok { IfOk result (IsTextOf S.file source.old loaded) }
+    ensures err { IfErr result (IsTextless loaded) }
+    ensures kept { (name : List ℕ) → S.file source.new name ≡ S.file source.old name }
+{
+    match loaded {
+        Loaded::Text(text) => Ok(text),
+        Loaded::File(name) => match source.whole_file(alloc, name.as_str()) {
+            Ok(text) => bytes_of(text),
+            Err(InputFault::Memory) => Err(OUT_OF_MEMORY),
+            Err(InputFault::Unread) => Err(Failure::Refused(Refusal::CannotRead)),
+        },
+    }
+}
+
+/// The bytes of a file, to be shared.
+fn bytes_of(text: Vec<u8>) -> Result<Bytes, Failure>
+    ensures { MatchResult result (λ bytes. bytes ≡ text.items) (λ failure. failure ≡ out_of_memory) }
+{
+    match Bytes::from_vec(text) {
+        Ok(bytes) => Ok(bytes),
+        Err(_) => Err(OUT_OF_MEMORY),
+    }
+}

@@ -1,0 +1,64 @@
+//! The units that are wanted, and what was told of each.
+
+ghost use Rattle.std.specs.Prelude.{◌≡◌, ◌≢◌, All, IfOk, MatchBool, MatchOption, OnOk, Some};
+ghost use Rattle.edit_engine.specs.declared.showing.Shown.TheVariants.{Ready};
+ghost use Rattle.stand_in_device.specs.declared.picture.Picture.{Picture};
+ghost use Rattle.serve_calls.specs.WantedUnits.{AddsOne, AreWanted, IsAmong};
+
+use edit_engine::{Picture, Shown};
+use std::alloc::{AllocError, Global};
+
+/// A unit that is wanted, by its number, and the picture that was told of it last.
+#[derive(Clone, Copy, Debug, PartialEq, Eq, Drop)]
+pub struct WantedUnit {
+    pub number: u64,
+    pub told: Option<Picture>,
+}
+
+impl WantedUnit {
+    /// The picture that is to be told of the unit, where this is shown of it.
+    pub fn news(&self, shown: Shown) -> Option<Picture>
+        ensures { MatchOption result
+            ((picture : Picture) → shown ≡ Ready picture → self.now.told ≡ Some picture)
+            (λ picture. (shown ≡ Ready picture) × (self.now.told ≢ Some picture)) }
+    {
+        match shown {
+            Shown::Ready(picture) if self.told != Some(picture) => Some(picture),
+            _ => None,
+        }
+    }
+}
+
+/// The units of these numbers, each once, of which nothing was told.
+pub(crate) fn wanted_units(alloc: Global, numbers: &[u64]) -> Result<Vec<WantedUnit>, AllocError>
+    ensures { IfOk result (λ units. AreWanted numbers.now units.items) }
+{
+    let mut units: Vec<WantedUnit> = Vec::with_capacity(alloc, numbers.len())?;
+    for number in numbers {
+        add(&mut units, *number)?;
+    }
+    Ok(units)
+}
+
+/// Adds the unit of a number, unless it is there.
+fn add(units: &mut Vec<WantedUnit>, number: u64) -> Result<(), AllocError>
+    ensures { OnOk result (AddsOne units.old.items number units.new.items) }
+{
+    if has_number(units, number) {
+        return Ok(());
+    }
+    units.push(WantedUnit { number, told: None })?;
+    Ok(())
+}
+
+/// Whether one of the units has the number.
+fn has_number(units: &[WantedUnit], number: u64) -> bool
+    ensures { MatchBool result (IsAmong units.now number) (All (λ unit. unit.number ≢ number) units.now) }
+{
+    for unit in units {
+        if unit.number == number {
+            return true;
+        }
+    }
+    false
+}

@@ -14,7 +14,6 @@ mod order_key;
 mod period;
 mod periods;
 mod ranking;
-mod replacing;
 mod shown;
 mod splice;
 mod touching;

@@ -11,10 +11,10 @@ use crate::in_place::{keep, put_in};
 use crate::inside::Inside;
 use crate::order_key::{OrderKey, order_keys};
 use crate::ranking::rank;
-use crate::replacing::replace;
 use crate::shown::Shown;
 use std::alloc::{AllocError, Global};
 use std::marker::Model;
+use vec_ranges::replace_range;
 
 /// The units of a period, with the keys of the valid ones in output order, and room for more.
 #[derive(Debug, Drop)]
@@ -105,7 +105,7 @@ impl Period {
         let count = units.len();
         keep(&mut self.sorted, self.units.len(), low, high, count);
         put_in(&mut self.sorted, low, &units);
-        replace(&mut self.units, low, high, units);
+        replace_range(&mut self.units, low, high, units);
         self.room = self.room + (high - low) - count;
     }
 }

@@ -16,12 +16,12 @@ use crate::cutting::periods_of;
 use crate::inside::Inside;
 use crate::order_key::OrderKey;
 use crate::period::Period;
-use crate::replacing::replace;
 use crate::shown::Shown;
 use crate::splice::Splice;
 use crate::touching::{Touched, none_begins, units_after};
 use std::alloc::{AllocError, Global};
 use std::marker::Model;
+use vec_ranges::replace_range;
 
 /// The most units that are put inside a period one by one: the keys behind each of them move.
 const MOST_INSIDE: usize = 32;
@@ -304,7 +304,7 @@ fn put(periods: &mut Vec<Period>, splice: Splice)
         periods: new,
     } = splice;
     change_last(periods, first, inside);
-    replace(periods, first, past, new);
+    replace_range(periods, first, past, new);
 }
 
 /// Makes a change, if there is one, inside the last of the first periods.

@@ -3,13 +3,14 @@
 ghost use Rattle.std.specs.Prelude.{◌≡◌, ◌+◌, ◌-◌, ◌≤◌, ◌++◌, take, drop, vec_len};
 ghost use Rattle.std.specs.Vec.{vec_capacity};
 
-/// Puts these items in place of those from `from` on and below `to`. There is room for them beside all that are there. As
-/// many as these are written over them, and no other item moves.
+/// Puts these items in place of those from `from` on and below `to`. There is room for them where those are gone. As many
+/// as these are written over them, and no other item moves. It takes no memory.
 pub fn replace_range<T: Drop>(items: &mut Vec<T>, from: usize, to: usize, made: Vec<T>)
     requires ordered { from ≤ to }
     requires inside { to ≤ vec_len items.old }
-    requires room { vec_len items.old + vec_len made ≤ vec_capacity items.old }
-    ensures { items.new.items ≡ take from items.old.items ++ made.items ++ drop to items.old.items }
+    requires room { vec_len items.old + vec_len made ≤ vec_capacity items.old + (to - from) }
+    ensures items { items.new.items ≡ take from items.old.items ++ made.items ++ drop to items.old.items }
+    ensures capacity { vec_capacity items.old ≤ vec_capacity items.new }
 {
     if made.len() == to - from {
         write_over(items, from, to, made);
@@ -22,7 +23,8 @@ pub fn replace_range<T: Drop>(items: &mut Vec<T>, from: usize, to: usize, made: 
 fn write_over<T: Drop>(items: &mut Vec<T>, from: usize, to: usize, mut made: Vec<T>)
     requires inside { to ≤ vec_len items.old }
     requires equal { from + vec_len made ≡ to }
-    ensures { items.new.items ≡ take from items.old.items ++ made.items ++ drop to items.old.items }
+    ensures items { items.new.items ≡ take from items.old.items ++ made.items ++ drop to items.old.items }
+    ensures capacity { vec_capacity items.old ≤ vec_capacity items.new }
 {
     items[from..to].swap_with_slice(made.as_mut_slice());
 }
@@ -31,8 +33,9 @@ fn write_over<T: Drop>(items: &mut Vec<T>, from: usize, to: usize, mut made: Vec
 fn put_in_place<T: Drop>(items: &mut Vec<T>, from: usize, to: usize, mut made: Vec<T>)
     requires ordered { from ≤ to }
     requires inside { to ≤ vec_len items.old }
-    requires room { vec_len items.old + vec_len made ≤ vec_capacity items.old }
-    ensures { items.new.items ≡ take from items.old.items ++ made.items ++ drop to items.old.items }
+    requires room { vec_len items.old + vec_len made ≤ vec_capacity items.old + (to - from) }
+    ensures items { items.new.items ≡ take from items.old.items ++ made.items ++ drop to items.old.items }
+    ensures capacity { vec_capacity items.old ≤ vec_capacity items.new }
 {
     let count = made.len();
     remove_range(items, from, to);

@@ -7,6 +7,6 @@ returns-clause-items c =
     let splice = c.splice.inside in
     let periods = c.args.periods.now.items in
     let can = rw (← c.splice.view_is) at c.requires.can in
-    rw (← c.splice.view_is) (c.replace.ensures.items
+    rw (← c.splice.view_is) (c.replace_range.ensures.items
     ∙ ap (λ now. take splice.first now ++ splice.periods.items ++ drop splice.past now) c.change_last.ensures.items
     ∙ replaced periods splice.periods.items splice.inside splice.first splice.past can.ordered can.within)

@@ -39,12 +39,12 @@ invariant_of-self c =
     let within = rw (← c.inside.view_is, ← c.self.view_is) at c.requires.within in
     let room = rw (← c.inside.view_is, ← c.self.view_is) at c.requires.room in
     let permutation = rw (c.keep.ensures.items, c.len-count.ensures, inside.units.ok.0, c.deref.ensures.value) at c.put_in.ensures.permutation in
-    let long = ap length c.replace.ensures.items
+    let long = ap length c.replace_range.ensures.items
     ∙ length-spliced period.units.items inside.units.items period.sorted.items c.self.invariant.order inside.low inside.high ordered within in
     record {
       order =
-          rw c.replace.ensures.items (order_after period.units.items inside.units.items period.sorted.items c.self.invariant.order inside.low inside.high ordered within
+          rw c.replace_range.ensures.items (order_after period.units.items inside.units.items period.sorted.items c.self.invariant.order inside.low inside.high ordered within
           c.put_in.new.keys.items permutation c.put_in.ensures.sorted);
-      units_fit = omega (arith, long, c.replace.new.items.ok.0, c.replace.ensures.capacity, c.len-count.ensures, inside.units.ok.0, period.units.ok.0, c.self.invariant.units_fit, room, ordered, within);
-      keys_fit = omega (arith, long, c.replace.new.items.ok.0, c.put_in.ensures.capacity, c.keep.ensures.capacity, c.len-count.ensures, inside.units.ok.0, period.units.ok.0, c.self.invariant.keys_fit, room, ordered, within);
+      units_fit = omega (arith, long, c.replace_range.new.items.ok.0, c.replace_range.ensures.capacity, c.len-count.ensures, inside.units.ok.0, period.units.ok.0, c.self.invariant.units_fit, room, ordered, within);
+      keys_fit = omega (arith, long, c.replace_range.new.items.ok.0, c.put_in.ensures.capacity, c.keep.ensures.capacity, c.len-count.ensures, inside.units.ok.0, period.units.ok.0, c.self.invariant.keys_fit, room, ordered, within);
     }

@@ -182,11 +182,11 @@ invariant_of-self-2 c =
     let recounted : IsRecounted s.places s.cache.pairs s.cache.capacity found c.recount.new.places c.recount.new.cache.pairs =
     recounted_same s.places c.make_ready.new.places s.cache.pairs s.cache.capacity found c.recount.new.places
     c.recount.new.cache.pairs c.make_ready.ensures.same counted in
-    let found_are : c.replace_range-3.new.items.items ≡ found = rw (c.make_ready.ensures.found) at c.replace_range-3.ensures in
+    let found_are : c.replace_range-3.new.items.items ≡ found = rw (c.make_ready.ensures.found) at c.replace_range-3.ensures.items in
     let ids_are : c.replace_range.new.items.items ≡ ids_with c.args.stretch ids =
-    rw (c.make_room.ensures.ids) at c.replace_range.ensures in
+    rw (c.make_room.ensures.ids) at c.replace_range.ensures.items in
     let outcomes_are : c.replace_range-2.new.items.items ≡ outcomes_with c.args.stretch outcomes =
-    rw (c.make_room.ensures.outcomes) at c.replace_range-2.ensures in
+    rw (c.make_room.ensures.outcomes) at c.replace_range-2.ensures.items in
     let in_front : c.args.stretch.from ≤ length s.found.items =
     omega (
       arith,
@@ -256,11 +256,11 @@ returns-clause-ok c =
     let recounted : IsRecounted s.places s.cache.pairs s.cache.capacity found c.recount.new.places c.recount.new.cache.pairs =
     recounted_same s.places c.make_ready.new.places s.cache.pairs s.cache.capacity found c.recount.new.places
     c.recount.new.cache.pairs c.make_ready.ensures.same counted in
-    let found_are : c.replace_range-3.new.items.items ≡ found = rw (c.make_ready.ensures.found) at c.replace_range-3.ensures in
+    let found_are : c.replace_range-3.new.items.items ≡ found = rw (c.make_ready.ensures.found) at c.replace_range-3.ensures.items in
     let ids_are : c.replace_range.new.items.items ≡ ids_with c.args.stretch ids =
-    rw (c.make_room.ensures.ids) at c.replace_range.ensures in
+    rw (c.make_room.ensures.ids) at c.replace_range.ensures.items in
     let outcomes_are : c.replace_range-2.new.items.items ≡ outcomes_with c.args.stretch outcomes =
-    rw (c.make_room.ensures.outcomes) at c.replace_range-2.ensures in
+    rw (c.make_room.ensures.outcomes) at c.replace_range-2.ensures.items in
     let room : c.recount.new.cache.capacity ≡ s.cache.capacity = c.recount.ensures.room in
     let old : StoreValue = viewed s.keys ids outcomes s.found.items s.places s.cache.pairs s.cache.capacity s.out.items s.given in
     let is : viewed c.keys_from.new.keys ids outcomes s.found.items s.places s.cache.pairs s.cache.capacity s.out.items s.given ≡ old =

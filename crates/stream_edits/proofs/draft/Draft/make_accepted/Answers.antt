@@ -10,7 +10,7 @@ returns c =
     let units = c.args.self.now.units.items in
     let made : c.make.new.units.items ≡ stream_after change units = rw (c.reserve.ensures.items) at c.make.ensures in
     let brought = rw (c.units.ensures) at c.in_ok-ids.ensures in
-    let ids = rw (c.at-2.ensures, c.rest_from-2.ensures, brought, c.reserve-2.ensures.items, c.requires.ids) at c.replace_range.ensures in
+    let ids = rw (c.at-2.ensures, c.rest_from-2.ensures, brought, c.reserve-2.ensures.items, c.requires.ids) at c.replace_range.ensures.items in
     let long : c.len.result ≡ length units = omega (arith, c.len.ensures, c.reserve.new.self.ok.0, ap length c.reserve.ensures.items) in
     record {
       units_are = made;

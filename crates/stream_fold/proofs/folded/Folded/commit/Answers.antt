@@ -58,4 +58,4 @@ invariant_of-self c =
     c.self.invariant prepared.inside c.args.prepared.fold c.args.prepared.met prepared.made c.keep_end.new.end c.keep_end.ensures.none
     c.keep_end.ensures.some c.make.new.units.items c.replace_range.new.items.items c.store_anew.new.stored.states
     c.thin.new.stored.states c.thin-2.new.stored.states c.unwrap_or-2.result c.unwrap_or.result c.length_change.result c.make.ensures
-    c.replace_range.ensures ends c.store_anew.ensures stays c.length_change.ensures c.thin.ensures c.thin-2.ensures
+    c.replace_range.ensures.items ends c.store_anew.ensures stays c.length_change.ensures c.thin.ensures c.thin-2.ensures

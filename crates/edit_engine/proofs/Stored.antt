@@ -19,7 +19,7 @@ use Rattle.stream_edits.specs.Streams.{ids_of}
 use Rattle.stream_edits.proofs.Grouped.{Replays-entry, length-all}
 use Rattle.stream_fold.specs.Kept.{ArePast}
 use Rattle.stream_fold.specs.Prepared.{steps_in}
-use Rattle.ordered_fold.specs.Kept.{OrderedValue}
+use Rattle.stream_fold.specs.Ordered.{OrderedValue}
 use Rattle.edit_engine.specs.declared.preparing.Prepared.{Prepared}
 use Rattle.edit_engine.specs.Kept.{IsKept, IsPrepared, machine_of}
 use Rattle.edit_engine.specs.Moves.{ComeTo, Moves}

@@ -7,8 +7,8 @@ use Rattle.stream_edits.specs.declared.changes.Change.{Change}
 use Rattle.stream_edits.specs.Journals.{edits_of}
 use Rattle.stream_fold.specs.Meeting.{IsCounted}
 use Rattle.stream_fold.specs.Prepared.{change_in, steps_in}
-use Rattle.ordered_fold.specs.Kept.{OrderedValue}
-use Rattle.ordered_fold.specs.Prepared as ordering
+use Rattle.stream_fold.specs.Ordered.{OrderedValue}
+use Rattle.stream_fold.specs.OrderedChange as ordering
 use Rattle.picture_store.specs.Stores.{StoreValue}
 use Rattle.access_unit.specs.Rooms.{most_units}
 use Rattle.stream_edits.specs.Edits.{Register, no_units, Replays}

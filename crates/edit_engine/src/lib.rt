@@ -5,7 +5,7 @@
 //! plain fold over the stream as it is. `take` gives a job to decode, and `take_for` one that a unit needs; `land` takes the
 //! result, late or twice, `show` answers the picture of a unit as the stream is now, and `drop_picture` lets it go.
 //! A `Runner` follows commands on a session, one at a time, and `run` a list of them. Below are
-//! stream_edits, which says what an edit is, ordered_fold, which keeps the stream folded and makes anew what an edit
+//! stream_edits, which says what an edit is, stream_fold, which keeps the stream folded and makes anew what an edit
 //! changes, and picture_store, which keeps the pictures; above, the program.
 #![tactic(auto)]
 

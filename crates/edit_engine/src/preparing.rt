@@ -5,10 +5,10 @@ ghost use Rattle.stream_edits.specs.Changes.{IsInside, units_of};
 ghost use Rattle.edit_engine.specs.Kept.{IsPrepared};
 
 use crate::stretches::stretch_of;
-use ordered_fold::{OrderedFold, PreparedChange};
 use picture_store::Stretch;
 use std::alloc::{AllocError, Global};
 use stream_edits::Change;
+use stream_fold::{OrderedFold, PreparedChange};
 
 /// A change that is prepared: that of the fold, and the stretch that this makes anew.
 #[derive(Debug, Drop)]

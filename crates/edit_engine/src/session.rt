@@ -22,7 +22,6 @@ use crate::showing::Dropping;
 use base_types::Shared;
 use dep_keys::KeyId;
 use hashed_units::HashedOutcome;
-use ordered_fold::OrderedFold;
 use picture_store::{JobAt, Landing, MOST_ROOM, PictureStore, Returning, TakeRefused};
 use pictures::AuId;
 use stand_in_device::{Finished, Job};
@@ -32,6 +31,7 @@ use stream_edits::{
     AcceptedEdit, AcceptedGroup, Change, Edit, EditRefused, GroupReceipt, GroupRefused,
     JournalEntry, Last, ReadEdit, ReadGroup, Receipt, change_of, change_of_group, place_of,
 };
+use stream_fold::OrderedFold;
 
 /// A stream of access units under edits, with each unit's outcome, and with pictures, which jobs bring. Clauses see
 /// the accepted edits and what they leave, the keys whose pictures are held or cached, and the jobs that are out.

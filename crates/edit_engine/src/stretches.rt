@@ -1,7 +1,7 @@
 //! The stretch of a stream that a prepared change makes anew.
 
 ghost use Rattle.std.specs.Prelude.{◌≡◌, ◌≤◌, ◌++◌, length, IfOk, OnOk};
-ghost use Rattle.ordered_fold.specs.Prepared.{IsPrepared};
+ghost use Rattle.stream_fold.specs.OrderedChange.{IsPrepared};
 ghost use Rattle.stream_edits.specs.Changes.{rest_from};
 ghost use Rattle.stream_edits.specs.Streams.{ids_of};
 ghost use Rattle.stream_fold.specs.Prepared.{IsAnew, change_in};
@@ -9,12 +9,11 @@ ghost use Rattle.edit_engine.specs.Stretches.{IsStretchOf, ids_anew};
 
 use base_types::Shared;
 use hashed_units::HashedUnit;
-use ordered_fold::{OrderedFold, PreparedChange};
 use picture_store::Stretch;
 use pictures::AuId;
 use std::alloc::{AllocError, Global};
 use stream_edits::Change;
-use stream_fold::shares_of;
+use stream_fold::{OrderedFold, PreparedChange, shares_of};
 
 /// The units that a prepared change brings, and those behind it that it makes anew, in place of those that were there. The
 /// units in front of it are folded anew too, but keep their outcomes.

@@ -2,3 +2,16 @@ pub mod KeyPlaces
 pub mod Keys
 pub mod Placed
 pub mod Ranks
+pub mod ChangedInside
+pub mod Counts
+pub mod Cuts
+pub mod Finds
+pub mod Halves
+pub mod Insertion
+pub mod KeptKeys
+pub mod OrderedKeys
+pub mod Logarithms
+pub mod PeriodPositions
+pub mod Starts
+pub mod StreamKeys
+pub mod Splices

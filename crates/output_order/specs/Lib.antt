@@ -1,1 +1,8 @@
 pub mod OutputOrder
+pub mod Shown
+pub mod OrderKeys
+pub mod Periods
+pub mod InPlace
+pub mod Kept
+pub mod Bounds
+pub mod Places

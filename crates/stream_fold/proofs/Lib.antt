@@ -9,3 +9,5 @@ mod Committed
 mod Stretch
 mod InFront
 mod Digests
+mod Placed
+mod Stretches

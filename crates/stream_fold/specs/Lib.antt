@@ -5,3 +5,5 @@ pub mod Kept
 pub mod Storing
 pub mod Refolding
 pub mod Prepared
+pub mod Ordered
+pub mod OrderedChange

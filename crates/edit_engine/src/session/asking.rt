@@ -12,7 +12,7 @@ use crate::refusals::NoSuchUnit;
 use crate::showing::Shown;
 use dep_keys::KeyId;
 use outcomes::Outcome;
-use period_counts::Comparisons;
+use output_order::Comparisons;
 use pictures::AuId;
 
 impl Session {

@@ -1,6 +1,6 @@
 //! Positions by periods under changes of the stream, by positions worked out by hand (C.4.5.3).
 
-use period_counts::{Comparisons, Periods, Shown};
+use output_order::{Comparisons, Periods, Shown};
 use std::alloc::{AllocError, Global};
 use std::process::Abort;
 use std::test::Fail;

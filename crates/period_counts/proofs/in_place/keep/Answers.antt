@@ -1,8 +1,0 @@
-use Rattle.std.proofs.Common.{◌<◌}
-use Rattle.std.proofs.lemmas.List.Elements.{All-filter}
-use Rattle.period_counts.specs.InPlace.{stays}
-use Rattle.period_counts.proofs.in_place.keep.Goals as goal
-
-pub shift-requires-clause-below : goal.shift-requires-clause-below
-shift-requires-clause-below c =
-    rw c.take_out.ensures.items (All-filter (stays c.args.low c.args.high) (λ key. key.offset < c.args.units) c.args.keys.now.items c.requires.below)

@@ -1,7 +1,0 @@
-pub mod Shown
-pub mod OrderKeys
-pub mod Periods
-pub mod InPlace
-pub mod Kept
-pub mod Bounds
-pub mod Places

@@ -4,9 +4,9 @@ use Rattle.std.specs.Prelude.{◌↔◌, IsTrue, slice_get, option_and_then}
 use Rattle.std.specs.Bool.{Decides}
 use Rattle.std.specs.List.{zip}
 use Rattle.h264_controls.specs.declared.work.Work.{Work}
-use Rattle.outcomes.specs.declared.outcome.Outcome.{Outcome}
-use Rattle.outcomes.specs.declared.outcome.Outcome.TheVariants.{Plan, Fault, Empty}
-use Rattle.outcomes.specs.declared.outcome.Plan.{Plan as PlanValue}
+use Rattle.unit_outcomes.specs.declared.outcome.Outcome.{Outcome}
+use Rattle.unit_outcomes.specs.declared.outcome.Outcome.TheVariants.{Plan, Fault, Empty}
+use Rattle.unit_outcomes.specs.declared.outcome.Plan.{Plan as PlanValue}
 use Rattle.dep_keys.specs.KeyMaps.{Extends, IsKeyMap, KeyMap, tree_at}
 use Rattle.picture_keys.specs.Keys.{Key}
 use Rattle.picture_keys.specs.Known.{Known, key_of_outcome, keys_after, keys_of, known_with}

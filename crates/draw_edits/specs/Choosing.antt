@@ -1,6 +1,6 @@
 -- Which units of a stream a drawing shows after edits, and what it says of them (docs/OUTPUT.md).
 use Rattle.std.specs.Prelude.{◌≡◌, ℕ, List, [], ◌∷◌, Option, None, Some, take, drop}
-use Rattle.outcomes.specs.declared.outcome.Outcome.{Outcome}
+use Rattle.unit_outcomes.specs.declared.outcome.Outcome.{Outcome}
 use Rattle.stream_edits.specs.Streams.{Stream, place_among}
 use Rattle.edit_engine.specs.Streams.{outcome_in, position_in}
 use Rattle.unit_lines.specs.UnitLines.{outcome_lines}

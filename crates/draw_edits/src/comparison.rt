@@ -12,10 +12,10 @@ use base_types::Shared;
 use dep_keys::{KeyId, Keys};
 use edit_engine::Session;
 use hashed_units::HashedOutcome;
-use outcomes::Outcome;
 use picture_store::numbers_of;
 use pictures::AuId;
 use std::alloc::{AllocError, Global};
+use unit_outcomes::Outcome;
 
 /// The numbers of the keys of a stream's units before and after edits: equal ones exactly for equal keys.
 #[derive(Drop)]

@@ -4,7 +4,7 @@ ghost use Rattle.std.specs.Prelude.{◌≡◌, ◌↔◌, IsTrue};
 ghost use Rattle.std.specs.Bool.{Decides};
 
 use h264_controls::Request;
-use outcomes::{Outcome, Plan};
+use unit_outcomes::{Outcome, Plan};
 
 /// Whether both are the same.
 pub(crate) fn is_same_outcome(outcome: &Outcome, other: &Outcome) -> bool

@@ -2,7 +2,7 @@
 use Rattle.std.proofs.Common.{◌≡◌, ◌≢◌, ◌∙◌, ◌<◌, ◌≤◌, ◌⊎◌, ⊎_elim, ℕ, ◌+◌, zero, suc, List, [], ◌∷◌, ◌++◌, length, take, drop, refl, sym, ap, arith, length-append}
 use Rattle.std.proofs.lemmas.List.{drop-append-le, length-take, take-append-le, take_all}
 use Rattle.std.proofs.Math.ListN.{drop_of_length-le}
-use Rattle.outcomes.specs.declared.outcome.Outcome.{Outcome}
+use Rattle.unit_outcomes.specs.declared.outcome.Outcome.{Outcome}
 use Rattle.draw_run.specs.Chosen.{chosen, kept_from}
 use Rattle.draw_run.specs.declared.folded.KeptUnit.{KeptUnit}
 

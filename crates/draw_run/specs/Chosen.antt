@@ -1,6 +1,6 @@
 -- Which units of a stream a drawing shows, and what it says of them (docs/OUTPUT.md).
 use Rattle.std.specs.Prelude.{ℕ, zero, suc, ◌+◌, ◌-◌, ◌==◌, List, [], ◌∷◌, Option, None, map, take, drop, slice_get, if◌then◌else◌, option_and_then}
-use Rattle.outcomes.specs.declared.outcome.Outcome.{Outcome}
+use Rattle.unit_outcomes.specs.declared.outcome.Outcome.{Outcome}
 use Rattle.output_order.specs.OutputOrder.{positions_of}
 use Rattle.request_core.specs.Fold.{outcomes_of}
 use Rattle.unit_lines.specs.UnitLines.{outcome_lines}

@@ -8,12 +8,12 @@ ghost use Rattle.draw_run.specs.Chosen.{kept_lines, position_in};
 use crate::folded::KeptUnit;
 use h264_controls::Request;
 use header_types::SliceType;
-use outcomes::{Outcome, Plan};
 use pictures::AuId;
 use std::alloc::{AllocError, Global};
 use stream_layout::{DrawnUnit, EditMark, Kind, Picture, RefList, Reference, SliceTypes};
 use stream_svg::Caption;
 use unit_lines::UnitLines;
+use unit_outcomes::{Outcome, Plan};
 
 /// What is drawn of the units, of which these are all positions of their stream.
 pub(crate) fn drawn_units(

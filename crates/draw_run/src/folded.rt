@@ -7,11 +7,11 @@ ghost use Rattle.draw_run.specs.declared.folded.KeptUnit.{KeptUnit as KeptUnitVa
 
 use crate::choice::Choice;
 use access_unit::Unit;
-use outcomes::Outcome;
 use pictures::AuId;
 use plan_stream::shown_of;
 use request_core::{State, Steps, step};
 use std::alloc::{AllocError, Global};
+use unit_outcomes::Outcome;
 
 /// The fold over the units so far, with what is kept of those that are drawn.
 #[derive(Drop)]

@@ -1,7 +1,6 @@
 //! The places of boxes and arcs were worked out by hand: boxes of 52 pixels, 56 apart, from 60 on. The farthest arc of list 1 is
 //! a stub over two places, which goes 14 + 2 * 5 pixels and takes three quarters of them; faults make the band below 128.
 
-use outcomes::ValidityFault;
 use pictures::AuId;
 use std::alloc::{AllocError, Global};
 use std::process::Abort;
@@ -11,6 +10,7 @@ use stream_layout::{
     Shown, SliceTypes, arc_of, boxes_are_apart, lay_out,
 };
 use stream_svg::{Caption, document, escapes_are_read_back, push_escaped};
+use unit_outcomes::ValidityFault;
 
 const I: SliceTypes = SliceTypes {
     intra: true,

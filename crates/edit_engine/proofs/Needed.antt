@@ -2,7 +2,7 @@
 use Rattle.std.proofs.Common.{◌≡◌, refl, sym, ap, ◌∙◌, subst, ℕ, ◌<◌, List, length, Option, None, Some}
 use Rattle.std.specs.Prelude.{slice_get, Bool, true, false, Ok, Err}
 use Rattle.std.proofs.lemmas.Option.{same_Some}
-use Rattle.outcomes.specs.declared.outcome.Outcome.TheVariants.{Plan as Planned}
+use Rattle.unit_outcomes.specs.declared.outcome.Outcome.TheVariants.{Plan as Planned}
 use Rattle.stand_in_device.specs.Jobs.{JobValue}
 use Rattle.picture_store.specs.declared.refusals.TakeRefused.{TakeRefused}
 use Rattle.picture_store.specs.declared.refusals.TakeRefused.TheVariants.{JobsSpent, Memory}

@@ -4,9 +4,9 @@ use Rattle.std.specs.Prelude.{slice_get, slice_index_or, All, Contains, IfSome, 
 use Rattle.std.specs.List.{zip}
 use Rattle.std.proofs.lemmas.List.Elements.{Contains-push}
 use Rattle.std.proofs.lemmas.Option.{slice_get_read}
-use Rattle.outcomes.specs.declared.outcome.Outcome.{Outcome}
-use Rattle.outcomes.specs.declared.outcome.Outcome.TheVariants as outcomes
-use Rattle.outcomes.specs.declared.outcome.Plan.{Plan}
+use Rattle.unit_outcomes.specs.declared.outcome.Outcome.{Outcome}
+use Rattle.unit_outcomes.specs.declared.outcome.Outcome.TheVariants as outcomes
+use Rattle.unit_outcomes.specs.declared.outcome.Plan.{Plan}
 use Rattle.request_core.specs.Fold.{outcomes_of}
 use Rattle.stand_in_device.specs.Jobs.{JobValue}
 use Rattle.picture_keys.specs.Keys.{Key}

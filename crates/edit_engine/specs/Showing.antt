@@ -1,7 +1,7 @@
 -- What is shown of a unit, and the number of its key.
 use Rattle.std.specs.Prelude.{◌≡◌, ℕ, List, Option, None, Some, Contains, slice_get, option_and_then}
 use Rattle.std.specs.List.{zip}
-use Rattle.outcomes.specs.declared.outcome.Outcome.TheVariants as outcomes
+use Rattle.unit_outcomes.specs.declared.outcome.Outcome.TheVariants as outcomes
 use Rattle.request_core.specs.Fold.{outcomes_of}
 use Rattle.picture_keys.specs.Keys.{Key}
 use Rattle.picture_keys.specs.Known.{keys_of}

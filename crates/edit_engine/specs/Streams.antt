@@ -1,6 +1,6 @@
 -- What the plain fold says of a unit of a stream.
 use Rattle.std.specs.Prelude.{ℕ, Option, slice_get, option_and_then}
-use Rattle.outcomes.specs.declared.outcome.Outcome.{Outcome}
+use Rattle.unit_outcomes.specs.declared.outcome.Outcome.{Outcome}
 use Rattle.request_core.specs.Fold.{outcomes_of}
 use Rattle.output_order.specs.OutputOrder.{positions_of}
 use Rattle.stream_edits.specs.Streams.{Stream, place_of}

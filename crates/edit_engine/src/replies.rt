@@ -2,10 +2,10 @@
 
 use crate::refusals::{NoSuchUnit, NotOut};
 use crate::showing::{Dropping, Shown};
-use outcomes::Outcome;
 use picture_store::{Landing, Returning, TakeRefused};
 use pictures::AuId;
 use stream_edits::{EditRefused, GroupReceipt, GroupRefused, Receipt};
+use unit_outcomes::Outcome;
 
 /// What a command is answered, by the variant of the command's name.
 #[derive(Debug, Drop)]

@@ -1,7 +1,7 @@
 //! What is shown of a unit, and what comes of dropping its picture.
 
-use outcomes::ValidityFault;
 use stand_in_device::Picture;
+use unit_outcomes::ValidityFault;
 
 /// What is shown of a unit.
 #[derive(Clone, Copy, Debug, PartialEq, Eq)]

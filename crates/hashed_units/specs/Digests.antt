@@ -3,8 +3,8 @@ use Rattle.std.specs.Prelude.{◌≡◌, ℕ, List, length, map, filter}
 use Rattle.annexb.specs.ByteStream.{joined}
 use Rattle.annexb.specs.NalUnit.{is_slice}
 use Rattle.h264_controls.specs.declared.request.Request.{Request}
-use Rattle.outcomes.specs.declared.outcome.Outcome.{Outcome}
-use Rattle.outcomes.specs.declared.outcome.Outcome.TheVariants.{Plan, Fault, Empty}
+use Rattle.unit_outcomes.specs.declared.outcome.Outcome.{Outcome}
+use Rattle.unit_outcomes.specs.declared.outcome.Outcome.TheVariants.{Plan, Fault, Empty}
 use Rattle.hashed_units.specs.SliceBytes.{coded, slices_digest}
 
 -- the digest of the slices of these NAL units

@@ -4,9 +4,9 @@ ghost use Rattle.std.specs.Prelude.{◌≡◌};
 ghost use Rattle.hashed_units.specs.Digests.{IsDigestOf};
 
 use crate::digest::SlicesDigest;
-use outcomes::Outcome;
 use std::marker::Model;
 use std::ops::Deref;
+use unit_outcomes::Outcome;
 
 /// A unit's outcome, with the digest of its slices' bytes. Clauses see the outcome.
 #[derive(Debug)]
@@ -26,7 +26,7 @@ impl Drop for HashedOutcome {
 }
 
 impl Model for HashedOutcome {
-    ghost use Rattle.outcomes.specs.declared.outcome.Outcome.{Outcome};
+    ghost use Rattle.unit_outcomes.specs.declared.outcome.Outcome.{Outcome};
     ghost use Rattle.hashed_units.specs.Digests.{IsDigestOf};
 
     ghost Value = { Outcome };

@@ -1,9 +1,9 @@
 use access_unit::{Refusal, Refused};
-use outcomes::{Outcome, ValidityFault};
 use pictures::AuId;
 use std::alloc::{AllocError, Global};
 use std::test::Fail;
 use unit_json::{Encoder, Json, JsonLine};
+use unit_outcomes::{Outcome, ValidityFault};
 
 /// The text of the line of a unit.
 fn unit_text(alloc: Global, id: u32, outcome: &Outcome) -> Result<String, AllocError> {

@@ -1,6 +1,6 @@
 -- Where the needed units that were found name no others that wait, they are all.
 use Rattle.std.proofs.Common.{◌≡◌, refl, ℕ, ◌<◌, List, [], Contains, ◌↔◌, ◌⊎◌, inl, inr, subst, arith}
-use Rattle.outcomes.specs.declared.outcome.Outcome.{Outcome}
+use Rattle.unit_outcomes.specs.declared.outcome.Outcome.{Outcome}
 use Rattle.key_places.proofs.Members.{nowhere}
 use Rattle.needed_units.specs.Needed.{IsNeeded, AreNeeded, Names}
 use Rattle.needed_units.specs.Needed.IsNeeded.{itself, named}

@@ -1,7 +1,7 @@
 -- How a scan for needed units goes on.
 use Rattle.std.proofs.Common.{◌≡◌, refl, sym, subst, ℕ, suc, ◌+◌, ◌<◌, ◌≤◌, List, [], ◌∷◌, ◌++◌, Contains, ◌↔◌, ◌⊎◌, inl, inr, arith}
 use Rattle.std.proofs.lemmas.List.Elements.{Contains-append_left, Contains-push, Contains-push_cases}
-use Rattle.outcomes.specs.declared.outcome.Outcome.{Outcome}
+use Rattle.unit_outcomes.specs.declared.outcome.Outcome.{Outcome}
 use Rattle.key_places.proofs.Members.{nowhere}
 use Rattle.needed_units.specs.Needed.{IsNeeded, IsValid, Lists, Names}
 use Rattle.needed_units.specs.Needed.IsNeeded.{itself, named}

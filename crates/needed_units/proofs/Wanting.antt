@@ -7,9 +7,9 @@ use Rattle.std.proofs.lemmas.Bool.{eqb-true}
 use Rattle.std.proofs.lemmas.Option.{none-some, same_Some, slice_get_within, slice_get_read, slice_get-get_or}
 use Rattle.h264_controls.specs.declared.request.Request.{Request}
 use Rattle.h264_controls.specs.declared.work.Work.{Work}
-use Rattle.outcomes.specs.declared.outcome.Outcome.{Outcome}
-use Rattle.outcomes.specs.declared.outcome.Outcome.TheVariants.{Plan as Planned, Fault as Faulty, Empty}
-use Rattle.outcomes.specs.declared.outcome.Plan.{Plan}
+use Rattle.unit_outcomes.specs.declared.outcome.Outcome.{Outcome}
+use Rattle.unit_outcomes.specs.declared.outcome.Outcome.TheVariants.{Plan as Planned, Fault as Faulty, Empty}
+use Rattle.unit_outcomes.specs.declared.outcome.Plan.{Plan}
 use Rattle.dep_keys.specs.KeyMaps.{KeyMap, IsNodeOf, named, tree_at, tree_of}
 use Rattle.dep_keys.specs.Nodes.{NodeOf}
 use Rattle.key_places.specs.declared.places.Slot.{Slot}

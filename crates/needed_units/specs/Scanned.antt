@@ -1,6 +1,6 @@
 -- The places of needed units that were found, from the last one on.
 use Rattle.std.specs.Prelude.{ℕ, ◌<◌, ◌≤◌, List, ◌⊎◌, Contains}
-use Rattle.outcomes.specs.declared.outcome.Outcome.{Outcome}
+use Rattle.unit_outcomes.specs.declared.outcome.Outcome.{Outcome}
 use Rattle.needed_units.specs.Needed.{AreFalling, IsNeeded, IsValid, Lists, Names}
 
 -- from the place of the target down to this one the needed units are found, the last one first, and no others; these ids

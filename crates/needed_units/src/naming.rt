@@ -2,19 +2,19 @@
 
 ghost use Rattle.std.specs.Prelude.{◌≡◌, ℕ, ◌==◌, ◌⊎◌, ◌↔◌, Contains, IsTrue, OnOk, Some};
 ghost use Rattle.dep_keys.specs.KeyMaps.{tree_at};
-ghost use Rattle.outcomes.specs.declared.outcome.Outcome.TheVariants as becomes;
-ghost use Rattle.outcomes.specs.declared.outcome.Plan.{Plan};
+ghost use Rattle.unit_outcomes.specs.declared.outcome.Outcome.TheVariants as becomes;
+ghost use Rattle.unit_outcomes.specs.declared.outcome.Plan.{Plan};
 ghost use Rattle.picture_keys.specs.Keys.{Key, named_by_all};
 ghost use Rattle.picture_keys.specs.Known.{Known, key_at, key_of_outcome};
 ghost use Rattle.needed_units.specs.Held.{AreWanted, IsHeld};
 
 use dep_keys::{Fingerprint, KeyId, Keys};
 use key_places::Places;
-use outcomes::Outcome;
 use picture_keys::{Works, units_named};
 use pictures::AuId;
 use stand_in_device::Picture;
 use std::alloc::{AllocError, Global};
+use unit_outcomes::Outcome;
 
 /// Whether the picture of a key is held.
 pub fn is_held(places: &Places<Picture>, key: KeyId) -> bool

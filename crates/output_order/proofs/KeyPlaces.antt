@@ -7,7 +7,7 @@ use Rattle.std.proofs.lemmas.List.Elements.{All-nil, All-cons, recursion_from_Al
 use Rattle.std.proofs.lemmas.Map.Keys.{IsDistinct-cons}
 use Rattle.std.proofs.lemmas.Option.{none-some, same_Some}
 use Rattle.std.specs.List.{filter_map, cons_option, range_with_len, list_any, IsDistinct}
-use Rattle.outcomes.specs.declared.outcome.Outcome.{Outcome}
+use Rattle.unit_outcomes.specs.declared.outcome.Outcome.{Outcome}
 use Rattle.output_order.specs.declared.positions_by_key.Key.{Key}
 use Rattle.output_order.specs.OutputOrder.{order_of, period_at, key_at, keys}
 use Rattle.output_order.proofs.Ranks.{has_same_place}

@@ -6,9 +6,9 @@ use Rattle.std.proofs.lemmas.List.Sums.{sum_by_more}
 use Rattle.std.proofs.lemmas.Option.{slice_get_read}
 use Rattle.std.specs.List.{filter_map, cons_option, range_with_len, count_by}
 use mir.Val.{bool_byte}
-use Rattle.outcomes.specs.declared.outcome.Plan.{Plan}
-use Rattle.outcomes.specs.declared.outcome.Outcome.{Outcome}
-use Rattle.outcomes.specs.declared.outcome.Outcome.TheVariants as outcomes
+use Rattle.unit_outcomes.specs.declared.outcome.Plan.{Plan}
+use Rattle.unit_outcomes.specs.declared.outcome.Outcome.{Outcome}
+use Rattle.unit_outcomes.specs.declared.outcome.Outcome.TheVariants as outcomes
 use Rattle.output_order.specs.declared.positions_by_key.Key.{Key}
 use Rattle.output_order.specs.OutputOrder.{begins_period, order_of, period_at, key_at}
 

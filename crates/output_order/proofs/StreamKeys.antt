@@ -6,8 +6,8 @@ use Rattle.std.proofs.lemmas.List.Elements.{All-nil, All-cons, All-head, All-tai
 use Rattle.std.proofs.lemmas.List.Sums.{sum_by-cons, sum_by_more}
 use Rattle.std.proofs.lemmas.Option.{slice_get_read}
 use Rattle.std.specs.List.{filter_map, cons_option, range_with_len, count_by}
-use Rattle.outcomes.specs.declared.outcome.Outcome.{Outcome}
-use Rattle.outcomes.specs.declared.outcome.Outcome.TheVariants.{Plan, Fault, Empty}
+use Rattle.unit_outcomes.specs.declared.outcome.Outcome.{Outcome}
+use Rattle.unit_outcomes.specs.declared.outcome.Outcome.TheVariants.{Plan, Fault, Empty}
 use Rattle.output_order.specs.declared.positions_by_key.Key.{Key}
 use Rattle.output_order.specs.OutputOrder as order
 use Rattle.output_order.specs.declared.shown.Shown.{Shown}

@@ -1,7 +1,7 @@
 -- How many valid units a period has, by the outcomes of the whole stream, and how many comparisons a search among so many
 -- makes.
 use Rattle.std.specs.Prelude.{ℕ, ◌+◌, ◌^◌, ◌<◌, ◌≤◌, ◌==◌, List, count_by}
-use Rattle.outcomes.specs.declared.outcome.Outcome.{Outcome}
+use Rattle.unit_outcomes.specs.declared.outcome.Outcome.{Outcome}
 use Rattle.output_order.specs.OutputOrder.{period_at, keys}
 
 -- how many valid units there are in the period of the unit at a place

@@ -1,7 +1,7 @@
 -- What of a unit's outcome decides about positions (ITU-T H.264, C.4.5.3).
 use Rattle.std.specs.Prelude.{Bool, false, Option, Some, None}
-use Rattle.outcomes.specs.declared.outcome.Outcome.{Outcome}
-use Rattle.outcomes.specs.declared.outcome.Outcome.TheVariants.{Plan, Fault, Empty}
+use Rattle.unit_outcomes.specs.declared.outcome.Outcome.{Outcome}
+use Rattle.unit_outcomes.specs.declared.outcome.Outcome.TheVariants.{Plan, Fault, Empty}
 use Rattle.output_order.specs.declared.shown.Shown.{Shown}
 
 -- the picture order count of a valid unit, and whether it begins a period

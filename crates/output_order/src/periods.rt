@@ -2,7 +2,7 @@
 
 ghost use Rattle.std.specs.Prelude.{◌≡◌, ℕ, ◌+◌, ◌-◌, ◌<◌, ◌≤◌, ◌^◌, ◌↔◌, ◌++◌, List, [], length, map, max, take, drop, vec_len, IsTrue, IfOk, IfNone, IfSome, OnOk, OnErr, IsOk};
 ghost use Rattle.std.specs.Vec.{vec_capacity};
-ghost use Rattle.outcomes.specs.declared.outcome.Outcome.{Outcome};
+ghost use Rattle.unit_outcomes.specs.declared.outcome.Outcome.{Outcome};
 ghost use Rattle.output_order.specs.OutputOrder.{position_at};
 ghost use Rattle.output_order.specs.Shown.{shown_of};
 ghost use Rattle.output_order.specs.Periods.{units_of, spliced, ArePeriods};

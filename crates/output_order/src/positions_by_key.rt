@@ -2,8 +2,8 @@
 ghost use Rattle.std.specs.Prelude.{◌≡◌, IfOk};
 ghost use Rattle.output_order.specs.OutputOrder.{keys, positions_of};
 
-use outcomes::Outcome;
 use std::alloc::{AllocError, Global};
+use unit_outcomes::Outcome;
 
 /// What a valid unit is shown by: keys are compared by their fields in turn.
 #[derive(Clone, Copy, PartialEq, Eq, PartialOrd, Ord)]

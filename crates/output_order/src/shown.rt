@@ -3,7 +3,7 @@
 ghost use Rattle.std.specs.Prelude.{◌≡◌};
 ghost use Rattle.output_order.specs.Shown.{shown_of};
 
-use outcomes::Outcome;
+use unit_outcomes::Outcome;
 
 /// What decides about the place of a valid unit in output order.
 #[derive(Clone, Copy, Debug, PartialEq, Eq)]

@@ -1,9 +1,9 @@
 -- One unit more with the number of its key.
 use Rattle.std.proofs.Common.{◌≡◌, refl, ap, ◌∙◌, ℕ, ◌==◌, List, [], ◌∷◌, ◌++◌, Option, Some, if◌then◌else◌}
 use Rattle.h264_controls.specs.declared.work.Work.{Work}
-use Rattle.outcomes.specs.declared.outcome.Outcome.{Outcome}
-use Rattle.outcomes.specs.declared.outcome.Outcome.TheVariants as outcomes
-use Rattle.outcomes.specs.declared.outcome.Plan.{Plan}
+use Rattle.unit_outcomes.specs.declared.outcome.Outcome.{Outcome}
+use Rattle.unit_outcomes.specs.declared.outcome.Outcome.TheVariants as outcomes
+use Rattle.unit_outcomes.specs.declared.outcome.Plan.{Plan}
 use Rattle.dep_keys.specs.KeyMaps.{KeyMap, tree_at, tree_of, Extends}
 use Rattle.picture_keys.specs.Keys.{Key, works_of}
 use Rattle.picture_keys.specs.Known.{Known, key_of, key_of_outcome, known_with, known_after, keys_after}

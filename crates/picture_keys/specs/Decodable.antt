@@ -2,8 +2,8 @@
 use Rattle.std.specs.Prelude.{◌≡◌, ℕ, List, [], ◌∷◌, Option, None, Some, IsTrue, IsSome, slice_get}
 use Rattle.std.specs.List.{All}
 use Rattle.h264_controls.specs.declared.request.Request.{Request}
-use Rattle.outcomes.specs.declared.outcome.Outcome.{Outcome}
-use Rattle.outcomes.specs.declared.outcome.Outcome.TheVariants.{Plan, Fault, Empty}
+use Rattle.unit_outcomes.specs.declared.outcome.Outcome.{Outcome}
+use Rattle.unit_outcomes.specs.declared.outcome.Outcome.TheVariants.{Plan, Fault, Empty}
 use Rattle.stand_in_device.specs.Inputs.{are_of_one_picture, entries_of}
 use Rattle.picture_keys.specs.Known.{Known, key_at, key_of_outcome, known_with}
 

@@ -1,7 +1,7 @@
 -- What the keys of units depend on of the units before them.
 use Rattle.std.specs.Prelude.{◌≡◌, ℕ, List}
 use Rattle.std.specs.List.{All}
-use Rattle.outcomes.specs.declared.outcome.Outcome.{Outcome}
+use Rattle.unit_outcomes.specs.declared.outcome.Outcome.{Outcome}
 use Rattle.picture_keys.specs.Known.{Known, key_at, keys_after}
 
 -- the keys of some units are the same in both

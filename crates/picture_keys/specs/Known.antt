@@ -2,8 +2,8 @@
 use Rattle.std.specs.Prelude.{ℕ, ◌==◌, List, [], ◌∷◌, map, Option, None, Some, option_and_then}
 use Rattle.std.specs.Map.{lookup}
 use Rattle.h264_controls.specs.declared.request.Request.{Request}
-use Rattle.outcomes.specs.declared.outcome.Outcome.{Outcome}
-use Rattle.outcomes.specs.declared.outcome.Outcome.TheVariants.{Plan, Fault, Empty}
+use Rattle.unit_outcomes.specs.declared.outcome.Outcome.{Outcome}
+use Rattle.unit_outcomes.specs.declared.outcome.Outcome.TheVariants.{Plan, Fault, Empty}
 use Rattle.picture_keys.specs.Keys.{Key, works_of, named_by_all, tree_with}
 
 -- the keys of the valid units so far, each under the unit's id, the last one first

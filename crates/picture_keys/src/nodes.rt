@@ -12,9 +12,9 @@ use crate::works::Works;
 use dep_keys::{KeyId, Node};
 use h264_controls::Request;
 use hashed_units::SlicesDigest;
-use outcomes::Requests;
 use pictures::AuId;
 use std::alloc::{AllocError, Global};
+use unit_outcomes::Requests;
 
 /// The node of the key of these requests, of whose slices this is the digest, with the numbers of the keys of earlier
 /// units.

@@ -2,7 +2,7 @@
 
 ghost use Rattle.std.specs.Prelude.{◌≡◌, ℕ, ◌==◌, List, [], ◌∷◌, ◌++◌, Some, IfOk, OnErr, OnOk, if◌then◌else◌};
 ghost use Rattle.h264_controls.specs.declared.work.Work.{Work};
-ghost use Rattle.outcomes.specs.declared.outcome.Outcome.{Outcome as Becomes};
+ghost use Rattle.unit_outcomes.specs.declared.outcome.Outcome.{Outcome as Becomes};
 ghost use Rattle.dep_keys.specs.KeyMaps.{AreLive, Extends, IsKeyMap, KeyMap, tree_at, tree_of};
 ghost use Rattle.hashed_units.specs.Digests.{bytes_of};
 ghost use Rattle.hashed_units.specs.SliceBytes.{slices_digest};
@@ -16,11 +16,11 @@ use crate::numbers::KeyNumbers;
 use crate::works::Works;
 use dep_keys::{Fingerprint, KeyId, Keys};
 use hashed_units::{HashedOutcome, SlicesDigest};
-use outcomes::{Outcome, Requests};
 use pictures::AuId;
 use std::alloc::{AllocError, Global};
 use std::marker::Model;
 use std::ops::Deref;
+use unit_outcomes::{Outcome, Requests};
 
 /// The numbers of the keys of a stream's units, so far as these were gone over.
 #[derive(Debug)]

@@ -14,10 +14,10 @@ use base_types::Shared;
 use dep_keys::Work as KeyWork;
 use h264_controls::Work;
 use hashed_units::SlicesDigest;
-use outcomes::Requests;
 use sha2::{Digest, Sha256};
 use std::alloc::{AllocError, Global};
 use std::marker::Model;
+use unit_outcomes::Requests;
 
 /// The works of a unit's slices, in order, shared with its requests: the controls without timestamps, and the bytes, of
 /// which it has the digest.

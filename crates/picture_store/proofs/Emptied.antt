@@ -3,7 +3,7 @@ use Rattle.std.proofs.Common.{◌≡◌, refl, sym, ap, subst, ◌∙◌, ℕ, �
 use Rattle.std.specs.List.{zip}
 use Rattle.std.specs.Map.{keys_of as numbers_of}
 use Rattle.std.proofs.lemmas.Bool.{eqb-true, eq-eqb}
-use Rattle.outcomes.specs.declared.outcome.Outcome.{Outcome}
+use Rattle.unit_outcomes.specs.declared.outcome.Outcome.{Outcome}
 use Rattle.dep_keys.specs.KeyMaps.{tree_at}
 use Rattle.stand_in_device.specs.declared.picture.Picture.{Picture}
 use Rattle.picture_keys.specs.Keys.{Key}

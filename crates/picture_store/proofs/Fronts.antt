@@ -1,7 +1,7 @@
 -- The keys of a stream's units, of the first ones and of those after them.
 use Rattle.std.proofs.Common.{◌≡◌, refl, ap, sym, ◌∙◌, add-one, ℕ, zero, suc, ◌+◌, ◌<◌, ◌≤◌, List, [], ◌∷◌, ◌++◌, length, take, drop, get_or, Option, arith}
 use Rattle.std.specs.List.{zip}
-use Rattle.outcomes.specs.declared.outcome.Outcome.{Outcome}
+use Rattle.unit_outcomes.specs.declared.outcome.Outcome.{Outcome}
 use Rattle.picture_keys.specs.Keys.{Key}
 use Rattle.picture_keys.specs.Known.{Known, key_of_outcome, known_with, known_after, keys_after}
 use Rattle.picture_keys.specs.Numbered.{AllStandFor}

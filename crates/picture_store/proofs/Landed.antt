@@ -6,7 +6,7 @@ use Rattle.std.specs.List.{zip}
 use Rattle.std.proofs.lemmas.List.{map-append, take-map, drop-map}
 use Rattle.std.proofs.lemmas.List.Elements.{All-append, All-take, All-drop, All-map}
 use Rattle.std.proofs.lemmas.Bool.{eqb-true, eq-eqb}
-use Rattle.outcomes.specs.declared.outcome.Outcome.{Outcome}
+use Rattle.unit_outcomes.specs.declared.outcome.Outcome.{Outcome}
 use Rattle.dep_keys.specs.KeyMaps.{tree_at}
 use Rattle.stand_in_device.specs.declared.picture.Picture.{Picture}
 use Rattle.stand_in_device.specs.Jobs.{JobValue}

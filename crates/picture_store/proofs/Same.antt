@@ -1,6 +1,6 @@
 -- What is stored stays but for a schedule where more keys have numbers and more of these have slots.
 use Rattle.std.proofs.Common.{◌≡◌, sym, ap, subst, ◌∙◌, ℕ, ◌<◌, List, Option, None, Some, IsSome, inl, inr, rules}
-use Rattle.outcomes.specs.declared.outcome.Outcome.{Outcome}
+use Rattle.unit_outcomes.specs.declared.outcome.Outcome.{Outcome}
 use Rattle.dep_keys.specs.KeyMaps.{IsKeyMap}
 use Rattle.stand_in_device.specs.declared.picture.Picture.{Picture}
 use Rattle.key_places.specs.Places.{AreSame, place_of, place_at}

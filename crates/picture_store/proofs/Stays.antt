@@ -6,7 +6,7 @@ use Rattle.std.specs.Map.{keys_of as numbers_of}
 use Rattle.std.specs.List.{zip}
 use Rattle.std.specs.Option.{is_some}
 use Rattle.std.proofs.lemmas.List.Elements.{All-contains}
-use Rattle.outcomes.specs.declared.outcome.Outcome.{Outcome}
+use Rattle.unit_outcomes.specs.declared.outcome.Outcome.{Outcome}
 use Rattle.dep_keys.specs.KeyMaps.{tree_at, IsKeyMap}
 use Rattle.dep_keys.specs.Trees.Tree.{Bare}
 use Rattle.stand_in_device.specs.declared.picture.Picture.{Picture}

@@ -2,7 +2,7 @@
 use Rattle.std.proofs.Common.{◌≡◌, refl, ap, sym, ◌∙◌, ℕ, ◌-◌, List, [], ◌++◌, length, take, drop, Option, arith, append_assoc}
 use Rattle.std.specs.List.{zip}
 use Rattle.std.proofs.lemmas.List.{length-append, length-take-le, length-drop}
-use Rattle.outcomes.specs.declared.outcome.Outcome.{Outcome}
+use Rattle.unit_outcomes.specs.declared.outcome.Outcome.{Outcome}
 use Rattle.picture_keys.specs.Known.{known_after, keys_after, keys_of}
 use Rattle.picture_keys.specs.Numbered.{AllStandFor}
 use Rattle.picture_store.specs.declared.stretch.Stretch.{Stretch}

@@ -4,8 +4,8 @@ use Rattle.std.specs.Prelude.{All, Contains, slice_get, slice_index_or}
 use Rattle.std.specs.List.{zip}
 use Rattle.std.proofs.lemmas.List.{map-append, length-take-le}
 use Rattle.std.proofs.lemmas.List.Elements.{All-contains, All-push}
-use Rattle.outcomes.specs.declared.outcome.Outcome.{Outcome}
-use Rattle.outcomes.specs.declared.outcome.Outcome.TheVariants.{Plan as Planned, Fault as Faulty, Empty}
+use Rattle.unit_outcomes.specs.declared.outcome.Outcome.{Outcome}
+use Rattle.unit_outcomes.specs.declared.outcome.Outcome.TheVariants.{Plan as Planned, Fault as Faulty, Empty}
 use Rattle.dep_keys.specs.KeyMaps.{tree_at}
 use Rattle.stand_in_device.specs.declared.picture.Picture.{Picture}
 use Rattle.stand_in_device.specs.Inputs.{InputValue, is_whole}

@@ -3,7 +3,7 @@ use Rattle.std.proofs.Common.{sym, subst, ◌∙◌, ℕ, ◌<◌, List, Option,
 use Rattle.std.specs.Prelude.{Ok, Err}
 use Rattle.std.specs.List.{zip}
 use Rattle.std.specs.declared.cmp.Reverse.{Reverse}
-use Rattle.outcomes.specs.declared.outcome.Outcome.{Outcome}
+use Rattle.unit_outcomes.specs.declared.outcome.Outcome.{Outcome}
 use Rattle.stand_in_device.specs.declared.picture.Picture.{Picture}
 use Rattle.picture_store.specs.declared.answers.JobAt.{JobAt}
 use Rattle.picture_store.specs.declared.job_out.JobOut.{JobOut}

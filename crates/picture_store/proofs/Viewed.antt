@@ -1,7 +1,7 @@
 -- A store as contracts see it, from what it stores.
 use Rattle.std.proofs.Common.{ℕ, List, Option, OnErr, Result, Ok, Err, rules}
 use Rattle.std.specs.Map.{keys_of as numbers_of}
-use Rattle.outcomes.specs.declared.outcome.Outcome.{Outcome}
+use Rattle.unit_outcomes.specs.declared.outcome.Outcome.{Outcome}
 use Rattle.stand_in_device.specs.declared.picture.Picture.{Picture}
 use Rattle.picture_store.specs.declared.job_out.JobOut.{JobOut}
 use Rattle.picture_store.specs.Stores.{OutValue, StoreValue}

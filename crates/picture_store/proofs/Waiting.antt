@@ -3,8 +3,8 @@ use Rattle.std.proofs.Common.{◌≡◌, refl, sym, ap, subst, ◌∙◌, ℕ, z
 use Rattle.std.specs.Prelude.{option_and_then}
 use Rattle.std.proofs.lemmas.Option.{none-some, slice_get_within, get_or_from_slice_get}
 use Rattle.h264_controls.specs.declared.work.Work.{Work}
-use Rattle.outcomes.specs.declared.outcome.Outcome.TheVariants.{Plan as Planned}
-use Rattle.outcomes.specs.declared.outcome.Plan.{Plan}
+use Rattle.unit_outcomes.specs.declared.outcome.Outcome.TheVariants.{Plan as Planned}
+use Rattle.unit_outcomes.specs.declared.outcome.Plan.{Plan}
 use Rattle.dep_keys.specs.KeyMaps.{entered}
 use Rattle.picture_keys.specs.Keys.{Key, named_by_all, tree_with, works_of}
 use Rattle.picture_keys.specs.Known.{Known, key_at, known_after}

@@ -1,6 +1,6 @@
 -- What becomes of held and of cached pictures where a stream changes.
 use Rattle.std.specs.Prelude.{◌≡◌, ℕ, List, ◌⊎◌, ◌↔◌, Contains}
-use Rattle.outcomes.specs.declared.outcome.Outcome.{Outcome}
+use Rattle.unit_outcomes.specs.declared.outcome.Outcome.{Outcome}
 use Rattle.picture_keys.specs.Keys.{Key}
 use Rattle.key_places.specs.Left.{IsLeft, ArePut}
 use Rattle.picture_store.specs.Stores.{StoreValue, AreOneToOne, IsInUse}

@@ -1,7 +1,7 @@
 -- Which of the keys before a place the keys of the units from there on need.
 use Rattle.std.specs.Prelude.{◌≡◌, ℕ, List, take, drop, All}
 use Rattle.std.specs.List.{zip}
-use Rattle.outcomes.specs.declared.outcome.Outcome.{Outcome}
+use Rattle.unit_outcomes.specs.declared.outcome.Outcome.{Outcome}
 use Rattle.request_core.specs.States.{FoldState, marked_ids}
 use Rattle.checkpoints.specs.Stored.{IsStoredAt}
 use Rattle.picture_keys.specs.Depending.{DependOn}

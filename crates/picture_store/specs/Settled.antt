@@ -2,7 +2,7 @@
 use Rattle.std.specs.Prelude.{◌≡◌, ℕ, ◌<◌, ◌≤◌, List, ◌⊎◌, length, take, All, Contains, Option, IfSome}
 use Rattle.std.specs.List.{zip}
 use Rattle.std.specs.Map.{keys_of as numbers_of}
-use Rattle.outcomes.specs.declared.outcome.Outcome.{Outcome}
+use Rattle.unit_outcomes.specs.declared.outcome.Outcome.{Outcome}
 use Rattle.stand_in_device.specs.declared.picture.Picture.{Picture}
 use Rattle.key_places.specs.Counting.{times}
 use Rattle.key_places.specs.Places.{uses_at}

@@ -1,7 +1,7 @@
 -- What is kept of the pictures of a stream's units.
 use Rattle.std.specs.Prelude.{◌≡◌, ℕ, List, [], Option, Some, Contains, ◌↔◌, slice_get}
 use Rattle.std.specs.List.{zip}
-use Rattle.outcomes.specs.declared.outcome.Outcome.{Outcome}
+use Rattle.unit_outcomes.specs.declared.outcome.Outcome.{Outcome}
 use Rattle.dep_keys.specs.Trees.Tree.{Bare, Gap, With}
 use Rattle.stand_in_device.specs.Inputs.{InputValue}
 use Rattle.picture_keys.specs.Keys.{Key}

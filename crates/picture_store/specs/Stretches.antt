@@ -1,6 +1,6 @@
 -- A stretch of units in the place of another.
 use Rattle.std.specs.Prelude.{◌≡◌, ℕ, ◌≤◌, List, ◌++◌, length, take, drop}
-use Rattle.outcomes.specs.declared.outcome.Outcome.{Outcome}
+use Rattle.unit_outcomes.specs.declared.outcome.Outcome.{Outcome}
 use Rattle.picture_store.specs.declared.stretch.Stretch.{Stretch}
 
 -- a list with other items in the place of those from one place on and below another

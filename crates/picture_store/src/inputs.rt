@@ -13,10 +13,10 @@ use crate::naming::references_of;
 use dep_keys::{Fingerprint, KeyId, Keys};
 use h264_controls::Request;
 use key_places::Places;
-use outcomes::Outcome;
 use picture_keys::{Works, units_named};
 use stand_in_device::{Input, Picture};
 use std::alloc::{AllocError, Global};
+use unit_outcomes::Outcome;
 
 /// The requests of a unit with this key, and the pictures that they refer to, each of which is held.
 pub(crate) fn input_of<F: Fingerprint<Works>>(

@@ -4,7 +4,7 @@ ghost use Rattle.std.specs.Prelude.{◌≡◌, ◌↔◌, ℕ, ◌+◌, ◌*◌,
 ghost use Rattle.std.specs.Vec.{vec_capacity};
 ghost use Rattle.std.specs.List.{zip};
 ghost use Rattle.dep_keys.specs.KeyMaps.{Extends, IsKeyMap};
-ghost use Rattle.outcomes.specs.declared.outcome.Outcome.{Outcome as Becomes};
+ghost use Rattle.unit_outcomes.specs.declared.outcome.Outcome.{Outcome as Becomes};
 ghost use Rattle.picture_keys.specs.Known.{Known, keys_after, keys_of, known_after};
 ghost use Rattle.picture_keys.specs.Numbered.{AllStandFor, number_at, numbers_over};
 ghost use Rattle.picture_keys.specs.Following.{AreNumberedSome, Follow};

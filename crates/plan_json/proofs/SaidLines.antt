@@ -1,7 +1,7 @@
 -- The lines of units, printed one after the other.
 use Rattle.std.proofs.Common.{◌≡◌, ℕ, ◌+◌, ◌<◌, ◌≤◌, List, length, get_or, drop, refl, Option, None}
 use Rattle.std.proofs.lemmas.List.{drop_all, drop_more}
-use Rattle.outcomes.specs.declared.outcome.Outcome.{Outcome}
+use Rattle.unit_outcomes.specs.declared.outcome.Outcome.{Outcome}
 use Rattle.unit_json.specs.JsonLines.{unit_line}
 use Rattle.unit_json.specs.declared.json_line.JsonLine.{JsonLine}
 use Rattle.plan_json.specs.Said.{AreSaid, Said}

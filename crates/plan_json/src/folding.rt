@@ -6,10 +6,10 @@ ghost use Rattle.request_core.specs.Fold.{outcomes_of};
 ghost use Rattle.plan_json.specs.StreamLines.{numbered_from};
 
 use access_unit::Unit;
-use outcomes::Outcome;
 use pictures::AuId;
 use request_core::{State, Steps, step};
 use std::alloc::{AllocError, Global};
+use unit_outcomes::Outcome;
 
 /// Each unit's outcome of a stream, whose ids are 1, 2, 3 and so on.
 pub(crate) fn fold(alloc: Global, units: &[Unit]) -> Result<Vec<Outcome>, AllocError>

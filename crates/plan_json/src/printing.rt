@@ -9,10 +9,10 @@ ghost use Rattle.plan_json.specs.Said.{AreSaid, Said};
 use crate::folding::fold;
 use access_unit::Unit;
 use console_io::{PrintFault, Sink, write_bytes};
-use outcomes::Outcome;
 use pictures::AuId;
 use std::alloc::Global;
 use unit_json::{Encoder, JsonLine};
+use unit_outcomes::Outcome;
 
 /// Prints the line of each unit of a stream.
 pub(crate) fn print_stream<J: Encoder, W: Sink>(

@@ -1,7 +1,7 @@
 -- The fold over the units of a stream, unit after unit.
 use Rattle.std.proofs.Common.{◌≡◌, ◌∙◌, ℕ, ◌+◌, List, [], ◌∷◌, ◌++◌, length, map, refl, ap, sym, arith, suc}
 use Rattle.std.proofs.lemmas.List.{map-append}
-use Rattle.outcomes.specs.declared.outcome.Outcome.{Outcome}
+use Rattle.unit_outcomes.specs.declared.outcome.Outcome.{Outcome}
 use Rattle.request_core.specs.States.{FoldState, no_units}
 use Rattle.request_core.specs.Fold.{fold_step, outcomes_of}
 use Rattle.request_core.specs.Agreement.{state_from}

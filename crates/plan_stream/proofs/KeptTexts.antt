@@ -1,8 +1,8 @@
 -- The lines of units, of which those after the positions are kept.
 use Rattle.std.proofs.Common.{◌≡◌, ◌∙◌, ◌<◌, ◌≤◌, ℕ, ◌+◌, List, [], ◌∷◌, ◌++◌, length, map, drop, get_or, Option, None, refl, ap, sym, arith, append_assoc, append-nil}
 use Rattle.std.proofs.lemmas.List.{drop_all, drop_more}
-use Rattle.outcomes.specs.declared.outcome.Outcome.{Outcome}
-use Rattle.outcomes.specs.declared.outcome.Outcome.TheVariants as outcomes
+use Rattle.unit_outcomes.specs.declared.outcome.Outcome.{Outcome}
+use Rattle.unit_outcomes.specs.declared.outcome.Outcome.TheVariants as outcomes
 use Rattle.console_io.specs.declared.chunks.Chunks.{Chunks}
 use Rattle.console_io.specs.Chunks.{Adds, AppendsFront, waiting_of}
 use Rattle.console_io.proofs.Chunked.{adds-after, adds-more, front-wider}

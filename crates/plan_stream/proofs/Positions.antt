@@ -4,8 +4,8 @@ use Rattle.std.specs.Prelude.{option_map, option_and_then, slice_get}
 use Rattle.std.specs.List.{filter_map, range_with_len}
 use Rattle.std.proofs.lemmas.List.{length-map}
 use Rattle.std.proofs.lemmas.List.Sums.{sum_by-cons}
-use Rattle.outcomes.specs.declared.outcome.Outcome.{Outcome}
-use Rattle.outcomes.specs.declared.outcome.Outcome.TheVariants as outcomes
+use Rattle.unit_outcomes.specs.declared.outcome.Outcome.{Outcome}
+use Rattle.unit_outcomes.specs.declared.outcome.Outcome.TheVariants as outcomes
 use Rattle.output_order.specs.declared.positions_by_key.Key.{Key}
 use Rattle.output_order.specs.OutputOrder.{begins_period, is_earlier, key_at, order_of, period_at, positions_of}
 use Rattle.plan_stream.specs.Shown.{shown_of}

@@ -1,6 +1,6 @@
 -- The fold over a stream's units, and what is kept of each for its lines.
 use Rattle.std.specs.Prelude.{◌≡◌, ℕ, ◌+◌, ◌≤◌, ◌++◌, List, [], ◌∷◌, Option, length, map}
-use Rattle.outcomes.specs.declared.outcome.Outcome.{Outcome}
+use Rattle.unit_outcomes.specs.declared.outcome.Outcome.{Outcome}
 use Rattle.access_unit.specs.Rooms.{IsStream, most_units}
 use Rattle.request_core.specs.States.{no_units}
 use Rattle.request_core.specs.Fold.{outcomes_of}

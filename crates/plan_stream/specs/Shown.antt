@@ -1,7 +1,7 @@
 -- What is kept of a unit's outcome.
 use Rattle.std.specs.Prelude.{[]}
-use Rattle.outcomes.specs.declared.outcome.Outcome.{Outcome}
-use Rattle.outcomes.specs.declared.outcome.Outcome.TheVariants as outcomes
+use Rattle.unit_outcomes.specs.declared.outcome.Outcome.{Outcome}
+use Rattle.unit_outcomes.specs.declared.outcome.Outcome.TheVariants as outcomes
 
 -- a unit's outcome, without its requests
 abbrev pub shown_of : Outcome → Outcome

@@ -1,6 +1,6 @@
 -- The lines of a stream (docs/OUTPUT.md).
 use Rattle.std.specs.Prelude.{ℕ, ◌++◌, List, [], ◌∷◌, Option}
-use Rattle.outcomes.specs.declared.outcome.Outcome.{Outcome}
+use Rattle.unit_outcomes.specs.declared.outcome.Outcome.{Outcome}
 use Rattle.output_order.specs.OutputOrder.{positions_of}
 use Rattle.request_core.specs.Fold.{outcomes_of}
 use Rattle.unit_lines.specs.UnitLines.{outcome_lines}

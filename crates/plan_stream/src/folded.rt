@@ -6,11 +6,11 @@ ghost use Rattle.access_unit.specs.Rooms.{most_units};
 use crate::shown::shown_in;
 use crate::tails::Tails;
 use access_unit::Unit;
-use outcomes::Outcome;
 use pictures::AuId;
 use request_core::{State, UnitRead};
 use std::alloc::{AllocError, Global};
 use unit_lines::write_tail;
+use unit_outcomes::Outcome;
 
 /// The fold over the units so far, with what their lines need.
 #[derive(Drop)]

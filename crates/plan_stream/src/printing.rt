@@ -12,10 +12,10 @@ ghost use Rattle.unit_lines.specs.UnitLines.{unit_head};
 use crate::folded::Folded;
 use crate::tails::Tails;
 use console_io::{Chunks, PrintFault, Sink};
-use outcomes::Outcome;
 use pictures::AuId;
 use std::alloc::Global;
 use unit_lines::UnitHead;
+use unit_outcomes::Outcome;
 
 /// Prints the lines of all units that were folded.
 pub(crate) fn print_all<W: Sink>(

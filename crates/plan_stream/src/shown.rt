@@ -4,9 +4,9 @@ ghost use Rattle.std.specs.Prelude.{◌≡◌};
 ghost use Rattle.plan_stream.specs.Shown.{shown_of};
 ghost use Rattle.request_core.specs.Findings.{outcome_in};
 
-use outcomes::{Outcome, Plan, Requests};
 use request_core::Finding;
 use std::alloc::Global;
+use unit_outcomes::{Outcome, Plan, Requests};
 
 /// The unit's outcome, without its requests.
 pub fn shown_of(alloc: Global, outcome: &Outcome) -> Outcome

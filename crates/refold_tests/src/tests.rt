@@ -6,13 +6,13 @@ ghost use Rattle.std.specs.Prelude.{◌<◌, ◌≤◌, length};
 use access_unit::{Refused, read_unit};
 use base_types::Shared;
 use hashed_units::HashedUnit;
-use outcomes::Outcome;
 use output_order::Comparisons;
 use pictures::AuId;
 use std::alloc::{AllocError, AllocGlobal, Global};
 use std::process::Abort;
 use std::test::Fail;
 use stream_fold::{Change, Folded, OrderedFold};
+use unit_outcomes::Outcome;
 
 /// Sets and an IDR picture, of one macroblock, count type 2 and one reference frame; frame_num has four bits.
 const A: [u8; 23] = [

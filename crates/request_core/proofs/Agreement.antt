@@ -1,6 +1,6 @@
 -- A fold goes on from the state that it has reached.
 use Rattle.std.proofs.Common.{◌≡◌, refl, ap, sym, ◌∙◌, List, [], ◌∷◌, ◌++◌}
-use Rattle.outcomes.specs.declared.outcome.Outcome.{Outcome}
+use Rattle.unit_outcomes.specs.declared.outcome.Outcome.{Outcome}
 use Rattle.request_core.specs.States.{FoldState, no_units}
 use Rattle.request_core.specs.Fold.{fold_step, outcomes_from, outcomes_of}
 use Rattle.request_core.specs.Agreement.{GoOnAlike, Stream, state_from}

@@ -7,14 +7,14 @@ use Rattle.order_count.specs.Counting.{counts_of}
 use Rattle.pictures.specs.MarkedFrames.{Marked}
 use Rattle.ref_marking.specs.MarksAfter.{marks_after}
 use Rattle.validity_faults.specs.declared.validity_fault.ValidityFault.{ValidityFault}
-use Rattle.outcomes.specs.declared.outcome.Outcome.TheVariants.{Plan}
-use Rattle.unit_slices.specs.declared.stop.Stop.{Stop}
-use Rattle.unit_slices.specs.declared.stop.Stop.TheVariants.{Fault, Memory}
-use Rattle.unit_slices.specs.Answers.{Ends}
+use Rattle.unit_outcomes.specs.declared.outcome.Outcome.TheVariants.{Plan}
+use Rattle.slice_reading.specs.declared.stop.Stop.{Stop}
+use Rattle.slice_reading.specs.declared.stop.Stop.TheVariants.{Fault, Memory}
+use Rattle.slice_reading.specs.Answers.{Ends}
 use Rattle.request_core.specs.States.{FoldState}
-use Rattle.unit_slices.specs.Numbers.{gathered}
-use Rattle.unit_slices.specs.Slices.{SliceRead}
-use Rattle.unit_slices.specs.Faults.{first_shown}
+use Rattle.slice_reading.specs.Numbers.{gathered}
+use Rattle.slice_reading.specs.Slices.{SliceRead}
+use Rattle.slice_reading.specs.Faults.{first_shown}
 use Rattle.request_core.specs.Faults.{picture_rows}
 use Rattle.request_core.specs.Requests.{ListedSlice}
 use Rattle.request_core.specs.Fold.{passes, counted, listed, marked, state_after, plan_of, picture_after}

@@ -1,7 +1,7 @@
 -- A step of the fold is what the unit leads to as it was read.
 use Rattle.std.proofs.Common.{◌≡◌, ℕ, List, Ok, Err, ap, sym, ◌∙◌}
-use Rattle.outcomes.specs.declared.outcome.Outcome.{Outcome}
-use Rattle.outcomes.specs.declared.outcome.Outcome.TheVariants.{Fault}
+use Rattle.unit_outcomes.specs.declared.outcome.Outcome.{Outcome}
+use Rattle.unit_outcomes.specs.declared.outcome.Outcome.TheVariants.{Fault}
 use Rattle.validity_faults.specs.declared.validity_fault.ValidityFault.{ValidityFault}
 use Rattle.request_core.specs.Fold.{fold_step, outcome_of}
 use Rattle.request_core.specs.Readings.{ReadUnit, leads_to, read_of}

@@ -10,7 +10,7 @@ use Rattle.pictures.specs.declared.frames.Term.{Term}
 use Rattle.pictures.specs.declared.frames.Term.TheVariants.{ShortTerm}
 use Rattle.validity_faults.specs.declared.validity_fault.ValidityFault.TheVariants.{NoIdr, SpsChange, IdrFrameNum, FrameNumGap, FrameNumRepeat}
 use Rattle.set_types.specs.SameSets.{same_sps}
-use Rattle.unit_slices.specs.Faults.{Row}
+use Rattle.slice_reading.specs.Faults.{Row}
 use Rattle.request_core.specs.States.{FoldState}
 
 -- the active set is this one

@@ -1,6 +1,6 @@
 -- What is found of a unit before requests are made, and its outcome as a function of it.
-use Rattle.outcomes.specs.declared.outcome.Outcome.{Outcome}
-use Rattle.outcomes.specs.declared.outcome.Outcome.TheVariants as outcomes
+use Rattle.unit_outcomes.specs.declared.outcome.Outcome.{Outcome}
+use Rattle.unit_outcomes.specs.declared.outcome.Outcome.TheVariants as outcomes
 use Rattle.request_core.specs.declared.picture.Finding.{Finding}
 use Rattle.request_core.specs.declared.picture.Finding.TheVariants as findings
 use Rattle.request_core.specs.Pictures.{plan_in}

@@ -19,14 +19,14 @@ use Rattle.ref_lists.specs.declared.fault.ListFault.TheVariants as listing
 use Rattle.ref_lists.specs.ReferenceLists.{lists_of}
 use Rattle.validity_faults.specs.declared.validity_fault.ValidityFault.{ValidityFault}
 use Rattle.validity_faults.specs.declared.validity_fault.ValidityFault.TheVariants.{OrderRange, OrderTie, NoReference, BadModification, BadMarking, TooManyReferences}
-use Rattle.outcomes.specs.declared.outcome.Plan.{Plan}
-use Rattle.outcomes.specs.declared.outcome.Outcome.{Outcome}
-use Rattle.outcomes.specs.declared.outcome.Outcome.TheVariants as outcomes
-use Rattle.unit_slices.specs.ParameterSets.{put_all}
+use Rattle.unit_outcomes.specs.declared.outcome.Plan.{Plan}
+use Rattle.unit_outcomes.specs.declared.outcome.Outcome.{Outcome}
+use Rattle.unit_outcomes.specs.declared.outcome.Outcome.TheVariants as outcomes
+use Rattle.slice_reading.specs.ParameterSets.{put_all}
 use Rattle.request_core.specs.States.{FoldState, no_units}
-use Rattle.unit_slices.specs.Numbers.{gathered}
-use Rattle.unit_slices.specs.Slices.{SliceRead, slice_at}
-use Rattle.unit_slices.specs.Faults.{first_shown, slice_rows}
+use Rattle.slice_reading.specs.Numbers.{gathered}
+use Rattle.slice_reading.specs.Slices.{SliceRead, slice_at}
+use Rattle.slice_reading.specs.Faults.{first_shown, slice_rows}
 use Rattle.request_core.specs.Faults.{picture_rows}
 use Rattle.request_core.specs.Requests.{ListedSlice, requests_of}
 

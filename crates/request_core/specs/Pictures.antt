@@ -1,6 +1,6 @@
 -- A picture before requests are made, and its plan as a function of it.
 use Rattle.std.specs.Prelude.{ℕ, ℤ, Bool, List}
-use Rattle.outcomes.specs.declared.outcome.Plan.{Plan}
+use Rattle.unit_outcomes.specs.declared.outcome.Plan.{Plan}
 use Rattle.pictures.specs.declared.counts.Counts.{Counts}
 use Rattle.pictures.specs.declared.frames.Frame.{Frame}
 use Rattle.request_core.specs.Requests.{ListedSlice, requests_of}

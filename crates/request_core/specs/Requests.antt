@@ -11,7 +11,7 @@ use Rattle.h264_controls.specs.PredWeightsControl.{pred_weights_control}
 use Rattle.h264_controls.specs.SliceParamsControl.{slice_params_control}
 use Rattle.h264_controls.specs.DecodeParamsControl.{decode_params_control}
 use Rattle.h264_controls.specs.References.{references, timestamp}
-use Rattle.unit_slices.specs.Slices.{SliceRead}
+use Rattle.slice_reading.specs.Slices.{SliceRead}
 
 -- a slice with its reference lists
 pub record ListedSlice : Type 0 where

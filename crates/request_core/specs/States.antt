@@ -4,7 +4,7 @@ use Rattle.set_types.specs.declared.sps.Sps.{Sps}
 use Rattle.order_count.specs.declared.anchors.Anchor.{Anchor}
 use Rattle.order_count.specs.Anchors.{no_pictures}
 use Rattle.pictures.specs.MarkedFrames.{Marked, no_frames}
-use Rattle.unit_slices.specs.ParameterSets.{ParameterSets, no_sets}
+use Rattle.slice_reading.specs.ParameterSets.{ParameterSets, no_sets}
 
 -- the parameter sets, the set of the last IDR picture, what counting keeps, PrevRefFrameNum, and the marked frames
 pub record FoldState : Type 0 where

@@ -17,10 +17,10 @@ mod state;
 mod stepping;
 mod steps;
 
-pub use outcomes::{Outcome, Plan, Requests, ValidityFault};
 pub use picture::{Finding, Listed, Picture};
 pub use reading::UnitRead;
 pub use scratching::scratch;
 pub use state::State;
 pub use stepping::step;
 pub use steps::Steps;
+pub use unit_outcomes::{Outcome, Plan, Requests, ValidityFault};

@@ -5,11 +5,11 @@ ghost use Rattle.request_core.specs.Pictures.{plan_in};
 ghost use Rattle.request_core.specs.Findings.{outcome_in};
 
 use crate::requesting::requests_of;
-use outcomes::{Outcome, Plan, ValidityFault};
 use pictures::{AuId, Counts, Frame, List, Marks};
+use slice_reading::Slice;
 use std::alloc::{AllocError, Global};
 use std::marker::Model;
-use unit_slices::Slice;
+use unit_outcomes::{Outcome, Plan, ValidityFault};
 
 /// A slice with its reference lists.
 #[derive(Debug, Drop)]

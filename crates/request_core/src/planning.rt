@@ -5,19 +5,19 @@ ghost use Rattle.order_count.specs.Counting.{counts_of};
 ghost use Rattle.pictures.specs.PicOrderCnt.{are_in_range};
 ghost use Rattle.pictures.specs.Resetting.{counts_after_reset};
 ghost use Rattle.ref_marking.specs.MarksAfter.{marks_after};
-ghost use Rattle.unit_slices.specs.Numbers.{gathered};
+ghost use Rattle.slice_reading.specs.Numbers.{gathered};
 ghost use Rattle.request_core.specs.Fold.{counted, list_fault, listed, marked};
-ghost use Rattle.unit_slices.specs.Answers.{Answers, AnswersAs};
+ghost use Rattle.slice_reading.specs.Answers.{Answers, AnswersAs};
 
 use crate::picture::Listed;
 use crate::state::State;
 use order_count::count;
-use outcomes::ValidityFault;
 use pictures::{AuId, Counts, Marks};
 use ref_lists::{ListFault, lists};
 use ref_marking::{MarkFault, mark};
+use slice_reading::{Gathered, Slice, Stop};
 use std::alloc::Global;
-use unit_slices::{Gathered, Slice, Stop};
+use unit_outcomes::ValidityFault;
 
 /// The counts of the picture.
 pub(crate) fn count_picture(state: &State, slice: &Slice) -> Result<Counts, Stop>

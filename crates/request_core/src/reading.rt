@@ -2,8 +2,8 @@
 
 ghost use Rattle.std.specs.Prelude.{◌≡◌, ◌∷◌, ◌++◌, ℕ, List, Result, Ok, Some, None, IfOk};
 ghost use Rattle.validity_faults.specs.declared.validity_fault.ValidityFault.{ValidityFault};
-ghost use Rattle.unit_slices.specs.Answers.{AnswersAs};
-ghost use Rattle.unit_slices.specs.Slices.{SliceRead};
+ghost use Rattle.slice_reading.specs.Answers.{AnswersAs};
+ghost use Rattle.slice_reading.specs.Slices.{SliceRead};
 ghost use Rattle.request_core.specs.States.{FoldState};
 ghost use Rattle.request_core.specs.Findings.{step_in};
 ghost use Rattle.request_core.specs.Fold.{fold_step, with_sets};
@@ -13,11 +13,11 @@ use crate::picture::Finding;
 use crate::state::State;
 use crate::stepping::{pass, plan_picture};
 use access_unit::Unit;
-use outcomes::ValidityFault;
 use pictures::AuId;
+use slice_reading::{Slice, Stop, read_slices, tables_with};
 use std::alloc::{AllocError, Global};
 use std::marker::Model;
-use unit_slices::{Slice, Stop, read_slices, tables_with};
+use unit_outcomes::ValidityFault;
 
 /// A unit that was read over the state before it: what is found of it stands on its slices.
 #[derive(Debug, Drop)]
@@ -32,7 +32,7 @@ pub struct UnitRead {
 
 impl Model for UnitRead {
     ghost use Rattle.request_core.specs.Readings.{ReadUnit};
-    ghost use Rattle.unit_slices.specs.Gathering.{found};
+    ghost use Rattle.slice_reading.specs.Gathering.{found};
 
     ghost Value = { ReadUnit };
 

@@ -11,10 +11,10 @@ use h264_controls::{
     V4l2CtrlH264SliceParams, Work,
 };
 use header_types::SliceHeader;
-use outcomes::Requests;
 use pictures::{AuId, Counts, Marks};
 use set_types::Sps;
 use std::alloc::{AllocError, Global};
+use unit_outcomes::Requests;
 
 /// The controls of a slice of a picture with these counts. They share what the request before them has too.
 fn controls_of(

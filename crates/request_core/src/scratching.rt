@@ -7,9 +7,9 @@ use crate::state::State;
 use crate::stepping::step;
 use crate::steps::Steps;
 use access_unit::Unit;
-use outcomes::Outcome;
 use pictures::AuId;
 use std::alloc::{AllocError, Global};
+use unit_outcomes::Outcome;
 
 /// Each unit's outcome of a stream, in order: the plain fold that other ways are compared with.
 ///

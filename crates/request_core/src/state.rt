@@ -7,9 +7,9 @@ use base_types::Shared;
 use order_count::Anchor;
 use pictures::{Frame, Marks};
 use set_types::Sps;
+use slice_reading::Tables;
 use std::alloc::{AllocError, Global};
 use std::marker::Model;
-use unit_slices::Tables;
 
 /// What the fold keeps of the units before: the parameter sets, shared, and little else.
 #[derive(Debug)]

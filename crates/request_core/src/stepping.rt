@@ -5,12 +5,12 @@ ghost use Rattle.order_count.specs.Counting.{counts_of};
 ghost use Rattle.header_types.specs.Pictures.{is_idr};
 ghost use Rattle.pictures.specs.PicOrderCnt.{are_in_range};
 ghost use Rattle.pictures.specs.Resetting.{counts_after_reset};
-ghost use Rattle.unit_slices.specs.Faults.{first_shown};
+ghost use Rattle.slice_reading.specs.Faults.{first_shown};
 ghost use Rattle.request_core.specs.Faults.{picture_rows};
 ghost use Rattle.request_core.specs.Findings.{step_in};
 ghost use Rattle.request_core.specs.Fold.{passes, picture_after, picture_of, fold_step, state_after, plan_of, next_ref_frame_num};
 ghost use Rattle.request_core.specs.Pictures.{plan_in};
-ghost use Rattle.unit_slices.specs.Answers.{AnswersAs};
+ghost use Rattle.slice_reading.specs.Answers.{AnswersAs};
 
 use crate::checks::picture_fault;
 use crate::picture::{Finding, Listed, Picture};
@@ -21,11 +21,11 @@ use crate::steps::Steps;
 use access_unit::Unit;
 use base_types::Shared;
 use order_count::anchor_after;
-use outcomes::{Outcome, ValidityFault};
 use pictures::{AuId, Counts, Marks, after_reset, resets};
 use set_types::Sps;
+use slice_reading::{Slice, Stop, slice_fault};
 use std::alloc::{AllocError, Global};
-use unit_slices::{Slice, Stop, slice_fault};
+use unit_outcomes::{Outcome, ValidityFault};
 
 /// One step of the fold: the state after the unit, and the unit's outcome.
 ///

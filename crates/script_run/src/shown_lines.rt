@@ -5,10 +5,10 @@ ghost use Rattle.hex.specs.Hex.{encode_lower};
 ghost use Rattle.script_run.specs.ShownLines.{digits_line, fault_line, shown_line, word_line};
 
 use edit_engine::{Picture, Shown};
-use outcomes::ValidityFault;
 use std::alloc::{AllocError, Global};
 use std::fmt;
 use std::fmt::{Display, Formatter, Write};
+use unit_outcomes::ValidityFault;
 
 /// The line of what is shown of the unit of this number, a picture with its digits where `hex` asks for them.
 pub fn shown_line(alloc: Global, number: u64, shown: Shown, hex: bool) -> Result<String, AllocError>

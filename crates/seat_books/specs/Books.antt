@@ -1,7 +1,7 @@
 -- Books of seats, and when they agree with a journal.
 use Rattle.std.specs.Prelude.{◌≡◌, ◌⊎◌, ℕ, ◌+◌, ◌<◌, ◌≤◌, ◌==◌, Bool, false, List, [], ◌∷◌, Some, None, length, take, slice_get, option_and_then, All, Contains}
 use Rattle.std.specs.List.{list_any}
-use Rattle.outcomes.specs.declared.outcome.Outcome.TheVariants as outcomes
+use Rattle.unit_outcomes.specs.declared.outcome.Outcome.TheVariants as outcomes
 use Rattle.picture_keys.specs.Keys.{Key}
 use Rattle.picture_keys.specs.KeyPictures.{picture_of_key}
 use Rattle.stream_edits.specs.declared.edits.Edit.{Edit}

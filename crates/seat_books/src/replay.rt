@@ -10,7 +10,7 @@ ghost use Rattle.edit_engine.specs.Machines.{store_of};
 ghost use Rattle.edit_engine.specs.Showing.{HasKey};
 ghost use Rattle.edit_engine.specs.Streams.{outcome_in};
 ghost use Rattle.edit_engine.specs.declared.showing.Shown.TheVariants.{Ready, Pending};
-ghost use Rattle.outcomes.specs.declared.outcome.Outcome.TheVariants as outcomes;
+ghost use Rattle.unit_outcomes.specs.declared.outcome.Outcome.TheVariants as outcomes;
 ghost use Rattle.seat_books.specs.declared.book.SeatBook.{SeatBook as Book};
 ghost use Rattle.seat_books.specs.declared.receipts.SeatReceipt.{SeatReceipt as Receipt};
 ghost use Rattle.seat_books.specs.declared.receipts.SeatReceipt.TheVariants.{Show as ShowNoted, Drop as DropNoted};
@@ -25,11 +25,11 @@ use crate::making::make_entry;
 use crate::number_set::NumberSet;
 use crate::receipts::SeatReceipt;
 use edit_engine::{Config, Dropping, Edit, JournalEntry, Session, Shown};
-use outcomes::{Outcome, ValidityFault};
 use pictures::AuId;
 use stand_in_device::{Device, Picture};
 use std::alloc::{AllocError, Global};
 use std::slice;
+use unit_outcomes::{Outcome, ValidityFault};
 
 /// A journal replayed so far beside the book of a seat, counted from 0. Its session caches no picture, so that a picture which
 /// is held has been wanted ever since it was decoded. Of the keys whose pictures are held, `ready` has the numbers of those

@@ -1,9 +1,9 @@
 -- A unit's outcome, as a result (docs/SERVER.md).
 use Rattle.std.specs.Prelude.{ℕ, Bool, true, false, Option}
 use Rattle.std.specs.Option.{unwrap_or}
-use Rattle.outcomes.specs.declared.outcome.Outcome.{Outcome}
-use Rattle.outcomes.specs.declared.outcome.Outcome.TheVariants as outcomes
-use Rattle.outcomes.specs.declared.outcome.Plan.{Plan}
+use Rattle.unit_outcomes.specs.declared.outcome.Outcome.{Outcome}
+use Rattle.unit_outcomes.specs.declared.outcome.Outcome.TheVariants as outcomes
+use Rattle.unit_outcomes.specs.declared.outcome.Plan.{Plan}
 use Rattle.unit_json.specs.JsonLines.{counts_json, unit_line}
 use Rattle.serve_answers.specs.declared.unit_answers.BriefPlan.{BriefPlan}
 use Rattle.serve_answers.specs.declared.unit_answers.UnitAnswer.{UnitAnswer}

@@ -3,10 +3,10 @@
 use crate::job_answers::JobAnswer;
 use crate::unit_answers::UnitAnswer;
 use crate::words::{Digits, Word};
-use outcomes::ValidityFault;
 use pictures::AuId;
 use serde::{Serialize, Serializer};
 use serve_messages::Listed;
+use unit_outcomes::ValidityFault;
 
 /// The result of a call.
 #[derive(Debug, Drop, Serialize)]

@@ -3,11 +3,11 @@
 ghost use Rattle.std.specs.Prelude.{◌≡◌, IfOk};
 ghost use Rattle.serve_answers.specs.UnitAnswers.{unit_answer};
 
-use outcomes::Outcome;
 use pictures::AuId;
 use serde::Serialize;
 use std::alloc::{AllocError, Global};
 use unit_json::{CountsJson, JsonLine};
+use unit_outcomes::Outcome;
 
 /// A unit's outcome.
 #[derive(Debug, Drop, Serialize)]

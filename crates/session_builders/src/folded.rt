@@ -2,11 +2,11 @@
 
 use access_unit::Unit;
 use edit_engine::Session;
-use outcomes::Outcome;
 use output_order::positions;
 use pictures::AuId;
 use request_core::scratch;
 use std::alloc::{AllocError, Global};
+use unit_outcomes::Outcome;
 
 /// The session says this of the unit.
 fn tells(

@@ -1,8 +1,8 @@
 -- Questions about a stream.
 use Rattle.std.specs.Prelude.{ℕ, pos, length, Option, None, Some, Result, Ok, Err, slice_get}
 use Rattle.std.specs.Option.{option_map}
-use Rattle.outcomes.specs.declared.outcome.Outcome.{Outcome}
-use Rattle.outcomes.specs.declared.outcome.Outcome.TheVariants as outcomes
+use Rattle.unit_outcomes.specs.declared.outcome.Outcome.{Outcome}
+use Rattle.unit_outcomes.specs.declared.outcome.Outcome.TheVariants as outcomes
 use Rattle.validity_faults.specs.Numbers.{number_of}
 use Rattle.stream_edits.specs.Streams.{Stream, ids_of, place_of}
 use Rattle.edit_engine.specs.Streams.{outcome_in, position_in}

@@ -1,8 +1,8 @@
 -- The requests of a unit, as the stream is now, and of a job, as they were when it was taken; and what is told of them.
 use Rattle.std.specs.Prelude.{◌≡◌, ℕ, List, length, is_some, Option, None, Some, Result, Ok, Err, slice_get}
 use Rattle.std.specs.Option.{option_map}
-use Rattle.outcomes.specs.declared.outcome.Outcome.{Outcome}
-use Rattle.outcomes.specs.declared.outcome.Outcome.TheVariants as outcomes
+use Rattle.unit_outcomes.specs.declared.outcome.Outcome.{Outcome}
+use Rattle.unit_outcomes.specs.declared.outcome.Outcome.TheVariants as outcomes
 use Rattle.h264_controls.specs.declared.request.Request.{Request}
 use Rattle.stand_in_device.specs.Inputs.{InputValue}
 use Rattle.linux_layouts.specs.SpsLayout.{sps_layout}

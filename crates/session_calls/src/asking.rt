@@ -8,8 +8,8 @@ ghost use Rattle.session_calls.specs.Telling.{Tells};
 use crate::statuses::{DONE, NO_SUCH_PLACE, NO_SUCH_UNIT, NOT_VALID};
 use crate::telling::tell;
 use edit_engine::Session;
-use outcomes::Outcome;
 use pictures::AuId;
+use unit_outcomes::Outcome;
 
 /// The kind of a unit that has a plan.
 pub const KIND_PLAN: u32 = 0;

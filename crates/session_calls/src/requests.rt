@@ -9,8 +9,8 @@ use crate::statuses::{DONE, NO_SUCH_JOB, NO_SUCH_SLICE, NO_SUCH_UNIT, NO_WEIGHTS
 use edit_engine::{Runner, Session};
 use h264_controls::Request;
 use linux_layouts::{DecodeParams, Pps, PredWeights, ScalingMatrix, SliceParams, Sps};
-use outcomes::Outcome;
 use pictures::AuId;
+use unit_outcomes::Outcome;
 
 /// The request of a slice: its controls but the weights, ready for the Request API, and what else a decoder is told.
 #[repr(C)]

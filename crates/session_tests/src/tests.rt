@@ -15,10 +15,10 @@ mod stretches;
 mod texts;
 
 use edit_engine::{Config, EditRefused, NoSuchUnit, Receipt, Runner, Session};
-use outcomes::{Outcome, ValidityFault};
 use pictures::AuId;
 use session_builders::{Told, edit_of};
 use std::process::Abort;
+use unit_outcomes::{Outcome, ValidityFault};
 
 /// Sets and an IDR picture, of one macroblock, count type 2 and one reference frame.
 const A: &[u8] = &[

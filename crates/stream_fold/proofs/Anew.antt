@@ -7,7 +7,7 @@ use Rattle.std.proofs.Math.Seq.{take-length}
 use Rattle.std.proofs.lemmas.List.{drop-drop}
 use Rattle.std.proofs.lemmas.Bool.{cases_lt, eqb-true}
 use Rattle.std.proofs.lemmas.Map.Views.{Contains-from_lookup, Contains-keys_from_lookup, IsSome-lookup_from_Contains}
-use Rattle.outcomes.specs.declared.outcome.Outcome.{Outcome}
+use Rattle.unit_outcomes.specs.declared.outcome.Outcome.{Outcome}
 use Rattle.request_core.specs.States.{FoldState, no_units}
 use Rattle.request_core.specs.Agreement.{Stream, state_from}
 use Rattle.checkpoints.specs.Stored.{IsStoredAt, IsBefore, IsLast}

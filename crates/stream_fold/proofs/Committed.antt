@@ -6,7 +6,7 @@ use Rattle.std.proofs.lemmas.Bool.{cases_lt}
 use Rattle.std.proofs.lemmas.List.{length-take-le, take-take}
 use Rattle.std.proofs.lemmas.List.Elements.{All-weaker}
 use Rattle.std.proofs.Math.Seq.{take-length}
-use Rattle.outcomes.specs.declared.outcome.Outcome.{Outcome}
+use Rattle.unit_outcomes.specs.declared.outcome.Outcome.{Outcome}
 use Rattle.request_core.specs.States.{FoldState, no_units}
 use Rattle.request_core.specs.Fold.{outcomes_from, outcomes_of}
 use Rattle.request_core.specs.Agreement.{Stream, state_from}

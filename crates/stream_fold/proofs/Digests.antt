@@ -17,12 +17,12 @@ use Rattle.ref_marking.specs.MarksAfter.{marks_after}
 use Rattle.ref_lists.specs.declared.fault.ListFault.{ListFault}
 use Rattle.ref_lists.specs.ReferenceLists.{lists_of}
 use Rattle.validity_faults.specs.declared.validity_fault.ValidityFault.{ValidityFault}
-use Rattle.outcomes.specs.declared.outcome.Outcome.{Outcome}
-use Rattle.outcomes.specs.declared.outcome.Outcome.TheVariants as outcomes
-use Rattle.unit_slices.specs.ParameterSets.{ParameterSets, sps_under, pps_under}
-use Rattle.unit_slices.specs.Numbers.{joined, gathered}
-use Rattle.unit_slices.specs.Slices.{SliceRead, with_header, with_sps, with_pps, with_front, slice_at}
-use Rattle.unit_slices.specs.Faults.{first_shown, slice_rows}
+use Rattle.unit_outcomes.specs.declared.outcome.Outcome.{Outcome}
+use Rattle.unit_outcomes.specs.declared.outcome.Outcome.TheVariants as outcomes
+use Rattle.slice_reading.specs.ParameterSets.{ParameterSets, sps_under, pps_under}
+use Rattle.slice_reading.specs.Numbers.{joined, gathered}
+use Rattle.slice_reading.specs.Slices.{SliceRead, with_header, with_sps, with_pps, with_front, slice_at}
+use Rattle.slice_reading.specs.Faults.{first_shown, slice_rows}
 use Rattle.request_core.specs.States.{FoldState}
 use Rattle.request_core.specs.Faults.{picture_rows}
 use Rattle.request_core.specs.Requests.{ListedSlice, requests_of}

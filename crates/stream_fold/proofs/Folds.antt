@@ -2,7 +2,7 @@
 use Rattle.std.proofs.Common.{◌≡◌, ◌⊎◌, ℕ, zero, suc, ◌-◌, ◌≤◌, List, [], ◌∷◌, ◌++◌, length, take, drop, refl, ap, sym, ◌∙◌, arith, inl, inr}
 use Rattle.std.proofs.Math.Seq.{drop-length}
 use Rattle.std.proofs.lemmas.List.{take-append-drop, take-take}
-use Rattle.outcomes.specs.declared.outcome.Outcome.{Outcome}
+use Rattle.unit_outcomes.specs.declared.outcome.Outcome.{Outcome}
 use Rattle.request_core.specs.States.{FoldState, no_units}
 use Rattle.request_core.specs.Fold.{fold_step, outcomes_from, outcomes_of}
 use Rattle.request_core.specs.Agreement.{Stream, state_from}

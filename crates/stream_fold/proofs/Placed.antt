@@ -2,7 +2,7 @@
 use Rattle.std.proofs.Common.{◌≡◌, ℕ, ◌<◌, Option, Some, List, length, slice_get, get_or, refl, sym, ◌∙◌, arith}
 use Rattle.std.proofs.lemmas.List.FromFn.{get_or-map-range_with_len, length-map-range_with_len}
 use Rattle.std.proofs.lemmas.Option.{slice_get_read}
-use Rattle.outcomes.specs.declared.outcome.Outcome.{Outcome}
+use Rattle.unit_outcomes.specs.declared.outcome.Outcome.{Outcome}
 use Rattle.output_order.specs.OutputOrder.{position_at, positions_of}
 
 pub position_read : (outcomes : List Outcome) (place : ℕ) (position : Option ℕ) → place < length outcomes → position ≡ position_at outcomes place

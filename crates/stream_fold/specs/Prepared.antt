@@ -1,6 +1,6 @@
 -- A change that is prepared.
 use Rattle.std.specs.Prelude.{◌≡◌, ℕ, ◌+◌, ◌^◌, ◌<◌, ◌≤◌, List, ◌++◌, length, take, drop}
-use Rattle.outcomes.specs.declared.outcome.Outcome.{Outcome}
+use Rattle.unit_outcomes.specs.declared.outcome.Outcome.{Outcome}
 use Rattle.request_core.specs.Fold.{outcomes_of}
 use Rattle.request_core.specs.Agreement.{Stream}
 use Rattle.stream_edits.specs.declared.changes.Change.{Change}

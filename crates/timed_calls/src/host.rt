@@ -8,10 +8,10 @@ use crate::controls::fills_first;
 use anyhow::{Result, bail};
 use bytes::Bytes;
 use edit_engine::{Config, Edit, Landing, Place, Session, Shown};
-use outcomes::Outcome;
 use pictures::AuId;
 use stand_in_device::{Device, Undone};
 use std::alloc::Global;
+use unit_outcomes::Outcome;
 
 /// For how many pictures out of use there is room.
 const CACHE: u16 = 64;

@@ -2,9 +2,9 @@
 use Rattle.std.specs.Prelude.{ℕ, true, Option, map}
 use Rattle.std.specs.Option.{unwrap_or}
 use Rattle.access_unit.specs.declared.room.Refusal.{Refusal}
-use Rattle.outcomes.specs.declared.outcome.Outcome.{Outcome}
-use Rattle.outcomes.specs.declared.outcome.Outcome.TheVariants as outcomes
-use Rattle.outcomes.specs.declared.outcome.Plan.{Plan as PlanValue}
+use Rattle.unit_outcomes.specs.declared.outcome.Outcome.{Outcome}
+use Rattle.unit_outcomes.specs.declared.outcome.Outcome.TheVariants as outcomes
+use Rattle.unit_outcomes.specs.declared.outcome.Plan.{Plan as PlanValue}
 use Rattle.pictures.specs.declared.counts.Counts.{Counts}
 use Rattle.unit_json.specs.RequestsJson.{request_json}
 use Rattle.unit_json.specs.declared.json_line.CountsJson.{CountsJson}

@@ -6,10 +6,10 @@ ghost use Rattle.unit_json.specs.JsonLines.{counts_json, no_unit_line, plan_json
 use crate::numbered::{write_fault, write_refusal};
 use crate::request_json::RequestsJson;
 use access_unit::Refusal;
-use outcomes::{Outcome, Plan, ValidityFault};
 use pictures::{AuId, Counts};
 use serde::Serialize;
 use std::alloc::{AllocError, Global};
+use unit_outcomes::{Outcome, Plan, ValidityFault};
 
 /// A line: one object.
 #[derive(Debug, Drop, Serialize)]

@@ -1,8 +1,8 @@
 //! Faults and refusals as JSON objects: a number and a name.
 
 use access_unit::{Refusal, Refused};
-use outcomes::ValidityFault;
 use serde::{Serialize, Serializer};
+use unit_outcomes::ValidityFault;
 
 /// A fault or a refusal.
 #[derive(Drop, Serialize)]

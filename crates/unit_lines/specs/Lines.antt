@@ -11,7 +11,7 @@ use Rattle.h264_controls.specs.References.{timestamp}
 use Rattle.h264_controls.specs.DecodeParamsForm.{dpb_entry_flags}
 use Rattle.h264_controls.specs.SliceParamsForm.{slice_type_number}
 use Rattle.pictures.specs.declared.counts.Counts.{Counts}
-use Rattle.outcomes.specs.declared.outcome.Plan.{Plan}
+use Rattle.unit_outcomes.specs.declared.outcome.Plan.{Plan}
 
 -- the line of the unit itself, up to its position
 abbrev pub plan_head : ℕ → ℕ → List ℕ

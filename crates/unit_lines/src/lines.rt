@@ -7,9 +7,9 @@ ghost use Rattle.unit_lines.specs.Growing.{Grows};
 
 use crate::numbers::{put_field, put_signed, put_text};
 use crate::requests::put_request;
-use outcomes::{Outcome, Plan, ValidityFault};
 use pictures::{AuId, Counts};
 use std::alloc::{AllocError, Global};
+use unit_outcomes::{Outcome, Plan, ValidityFault};
 
 /// The lines of a unit: its outcome.
 #[derive(Drop)]

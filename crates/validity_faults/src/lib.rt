@@ -1,6 +1,6 @@
 //! Why a unit of a stream can't be decoded: the faults, each with its number, its name and its text.
 //!
-//! unit_slices finds those that the slices of a unit show by themselves, request_core the others; outcomes passes the type
+//! slice_reading finds those that the slices of a unit show by themselves, request_core the others; unit_outcomes passes the type
 //! on to all that stand above.
 #![tactic(auto)]
 

@@ -5,11 +5,11 @@ use super::told::Answer;
 use super::trees::{Key, Tree, key_at, key_with, named};
 use edit_engine::{Landing, Picture, Returning};
 use h264_controls::{Request, digest_form};
-use outcomes::Outcome;
 use pictures::AuId;
 use sha2::{Digest, Sha256};
 use stand_in_device::{Input, Reference};
 use std::alloc::{AllocError, Global};
+use unit_outcomes::Outcome;
 
 /// A job that was given: its key, what it was given to decode, and the picture of that.
 #[derive(Drop)]

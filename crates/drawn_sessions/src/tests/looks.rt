@@ -4,9 +4,9 @@ use super::plain::Plain;
 use super::trees::{Key, Tree, key_at};
 use dep_keys::KeyId;
 use edit_engine::{Last, NoSuchUnit, Session};
-use outcomes::Outcome;
 use pictures::AuId;
 use std::alloc::{AllocError, Global};
+use unit_outcomes::Outcome;
 
 /// The numbers of the keys in use, and all that were ever seen.
 #[derive(Drop)]

@@ -6,9 +6,9 @@ use super::told::{Answer, Change, Told};
 use super::trees::{Key, Seen, Tree, key_at};
 use access_unit::Unit;
 use edit_engine::{Session, Shown};
-use outcomes::Outcome;
 use pictures::AuId;
 use std::alloc::{AllocError, Global};
+use unit_outcomes::Outcome;
 
 /// A stream under edits, the outcomes of its units, and of their pictures.
 #[derive(Drop)]

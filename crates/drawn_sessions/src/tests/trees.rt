@@ -3,9 +3,9 @@
 use access_unit::Unit;
 use base_types::Shared;
 use h264_controls::{Request, Work};
-use outcomes::Outcome;
 use pictures::AuId;
 use std::alloc::{AllocError, Global};
+use unit_outcomes::Outcome;
 
 /// A tree, by its place among those that were seen: equal trees have one place.
 #[derive(Clone, Copy, PartialEq, Eq)]

@@ -11,9 +11,9 @@ use super::Session;
 use crate::refusals::NoSuchUnit;
 use crate::showing::Shown;
 use dep_keys::KeyId;
-use outcomes::Outcome;
 use output_order::Comparisons;
 use pictures::AuId;
+use unit_outcomes::Outcome;
 
 impl Session {
     /// What is shown of the unit that has the id. It takes no memory.

@@ -12,12 +12,12 @@ use super::row_holds;
 use access_unit::{Refused, Unit, read_unit};
 use h264_controls::Request;
 use header_types::SliceType;
-use outcomes::{Outcome, Plan, ValidityFault};
 use pictures::AuId;
 use request_core::{State, Steps, scratch, step};
 use std::alloc::{AllocError, AllocGlobal, Global};
 use std::process::Abort;
 use std::test::Fail;
+use unit_outcomes::{Outcome, Plan, ValidityFault};
 
 /// Sets and an IDR picture, of one macroblock, count type 2 and one reference frame.
 const A: [u8; 23] = [

@@ -5,13 +5,13 @@ ghost use Rattle.std.specs.Prelude.{replicate};
 use access_unit::Unit;
 use dep_keys::{Fingerprint, KeyId, Keys, Node, Sha256Fingerprint};
 use hashed_units::SlicesDigest;
-use outcomes::Outcome;
 use picture_keys::{KeyNumbers, Works, node_of};
 use pictures::AuId;
 use request_core::scratch;
 use std::alloc::{AllocError, AllocGlobal};
 use std::process::Abort;
 use std::test::Fail;
+use unit_outcomes::Outcome;
 
 /// Sets and an IDR picture, of one macroblock, count type 2 and one reference frame.
 const A: &[u8] = &[

@@ -1,11 +1,11 @@
 //! Output order, by positions worked out by hand (C.4.5.3).
 
 use super::row_holds;
-use outcomes::{Outcome, Plan, Requests, ValidityFault};
 use output_order::positions;
 use pictures::Counts;
 use std::alloc::{AllocError, Global};
 use std::test::Fail;
+use unit_outcomes::{Outcome, Plan, Requests, ValidityFault};
 
 /// A valid unit with this picture order count, which begins a period or not; a faulted one for `None`.
 fn outcome(alloc: Global, valid: Option<(i32, bool)>) -> Outcome {

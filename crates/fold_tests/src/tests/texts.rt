@@ -2,8 +2,8 @@
 
 use super::row_holds;
 use access_unit::{ReadFault, Refusal, Refused, StreamRefused};
-use outcomes::ValidityFault;
 use std::test::Fail;
+use unit_outcomes::ValidityFault;
 
 /// Each fault of a unit with its number, its name and its text.
 const FAULTS: [(ValidityFault, u8, &str, &str); 18] = [

@@ -12,11 +12,11 @@ use edit_engine::{
     Command, EditRefused, Landing, NotOut, Picture, Receipt, Reply, Returning, Runner, Shown,
     UnitReport,
 };
-use outcomes::{Outcome, ValidityFault};
 use pictures::AuId;
 use session_builders::{Told, edit_of};
 use std::alloc::{AllocError, AllocGlobal};
 use std::process::Abort;
+use unit_outcomes::{Outcome, ValidityFault};
 
 /// A command, and what it has to be answered.
 #[derive(Clone, Copy)]

@@ -6,11 +6,11 @@ use super::streams::{Planned, STREAMS, Stream, planned};
 use access_unit::{Unit, read_unit};
 use dep_keys::{KeyId, Keys, Sha256Fingerprint};
 use hashed_units::SlicesDigest;
-use outcomes::{Outcome, Requests};
 use picture_keys::{KeyNumbers, Works, node_of};
 use pictures::AuId;
 use request_core::{State, Steps, step};
 use std::alloc::{AllocError, Global};
+use unit_outcomes::{Outcome, Requests};
 
 /// Makes a step of the fold; where memory runs out none is counted.
 fn step_again(

@@ -2,8 +2,8 @@
 //! The pictures are hashes that tools/model-script prints, which has nothing of the program.
 
 use edit_engine::Picture;
-use outcomes::Outcome;
 use std::alloc::{AllocError, Global};
+use unit_outcomes::Outcome;
 
 /// A stream whose units are all valid or have no picture.
 #[derive(Clone, Copy)]

@@ -3,12 +3,12 @@
 use super::{A, P1, P1X, PICTURE_OF_A, after, empty_session, first, replace, row_holds};
 use Note::{Drops, Edits, Shows};
 use edit_engine::{Dropping, Edit, Picture, Session, Shown};
-use outcomes::ValidityFault;
 use pictures::AuId;
 use seat_books::{AuditFault, SeatBook, SeatReceipt, audit};
 use std::alloc::{AllocError, Global};
 use std::process::Abort;
 use std::test::Fail;
+use unit_outcomes::ValidityFault;
 
 /// The edit of the journal that has this number; another one for 0.
 fn edit_of(number: u32) -> Edit {

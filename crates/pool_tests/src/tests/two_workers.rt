@@ -6,7 +6,6 @@ use super::{
 };
 use decode_pool::{Desk, Gate, Seat, Settled, Worked, worker};
 use edit_engine::{Finished, Job, Session, Shown};
-use outcomes::ValidityFault;
 use pictures::AuId;
 use seat_books::{AuditFault, SeatBook, SeatReceipt, audit};
 use stand_in_device::{Device, Undone};
@@ -17,6 +16,7 @@ use std::test::Fail;
 use std::thread;
 use std::thread::Threads;
 use std::time::Clock;
+use unit_outcomes::ValidityFault;
 
 /// What job 1 waits for: that an edit was answered, and that job 2 was decoded.
 #[derive(Drop)]

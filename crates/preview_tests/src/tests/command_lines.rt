@@ -3,8 +3,8 @@
 use super::writers::{End, ShortWriter};
 use super::{A, LINES_OF_A, P1, row_holds};
 use Status::{Failure, Success, Usage};
+use cli::{run, run_on};
 use console_io::{Directory, Ended, PrintFault, Status};
-use program::{run, run_on};
 use std::alloc::{AllocError, Global};
 use std::io;
 use std::io::{ErrorKind, Read};

@@ -3,13 +3,13 @@
 use super::{A, P1, joined, row_holds};
 use access_unit::read_stream;
 use h264_controls::{Request, digest_form};
-use outcomes::Outcome;
 use pictures::AuId;
 use request_core::scratch;
 use std::alloc::{AllocError, Global};
 use std::process::Abort;
 use std::test::Fail;
 use std::thread::Threads;
+use unit_outcomes::Outcome;
 
 /// A place in the form, and the bytes that stand there.
 type Row = (usize, &'static [u8]);

@@ -3,9 +3,9 @@
 use super::scripts::TestFiles;
 use super::{P1, SETS};
 use Status::{Failure, Success};
+use cli::run_on;
 use console_io::Status;
 use plan_stream::plan_on;
-use program::run_on;
 use script_run::{Options, script_on};
 use std::process::Abort;
 use std::sync::Wait;

@@ -6,13 +6,13 @@ use Status::{Failure, Success};
 use bytes::Bytes;
 use console_io::{Ended, InputFault, Source, Status};
 use edit_engine::{Config, Edit, Place, Session};
-use outcomes::Outcome;
 use script_run::{Options, script_on};
 use std::alloc::{AllocError, Global};
 use std::process::Abort;
 use std::test::Fail;
 use std::thread::Threads;
 use unit_json::Json;
+use unit_outcomes::Outcome;
 
 /// The insertion of A as the first unit.
 pub(super) const INSERT_A: &str =

@@ -6,9 +6,9 @@ use Step::Unit;
 use Told::{After, Delete, First, Replace};
 use edit_engine::{Config, ConfigFault, Last, Session};
 use h264_controls::Request;
-use outcomes::{Outcome, Plan, ValidityFault};
 use pictures::AuId;
 use session_builders::Told;
+use unit_outcomes::{Outcome, Plan, ValidityFault};
 
 /// A sequence parameter set alone.
 const SPS: &[u8] = &[0, 0, 1, 0x67, 0x42, 0x00, 0x0A, 0xDA, 0x79];

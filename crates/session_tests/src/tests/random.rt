@@ -5,12 +5,12 @@ ghost use Rattle.std.specs.Prelude.{◌<◌, ◌≤◌, length, vec_len, IfSome}
 use super::{A, I, P1, P2, empty_session, row_holds};
 use access_unit::{Unit, read_unit};
 use edit_engine::{Last, Receipt, Session};
-use outcomes::Outcome;
 use pictures::AuId;
 use session_builders::{Told, edit_of, tells_each};
 use std::alloc::{AllocError, Global};
 use std::test::Fail;
 use test_builders::Draws;
+use unit_outcomes::Outcome;
 
 /// Texts: an IDR picture with sets and one without, P pictures with frame_num 1, 2 and 3, one with adaptive marking, a
 /// picture that is no reference, the sequence parameter set alone, another one under its id, and a text that is no unit.

@@ -5,11 +5,11 @@ use Shown::{At, Fault, Gone};
 use Step::Unit;
 use Told::{After, Delete, First};
 use edit_engine::{Command, Config, NoSuchUnit, Reply, Runner, UnitReport, run};
-use outcomes::{Outcome, ValidityFault};
 use pictures::AuId;
 use session_builders::{Told, edit_of};
 use std::alloc::{AllocError, Global};
 use std::test::Fail;
+use unit_outcomes::{Outcome, ValidityFault};
 
 /// What is reported of a unit is this.
 fn is_report(report: &Result<UnitReport, NoSuchUnit>, shown: Shown) -> bool {

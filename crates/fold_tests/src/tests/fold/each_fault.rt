@@ -7,11 +7,11 @@ use super::{fault_of, row_holds, unit};
 use Nal::{Bytes, Pps};
 use Order::Zero;
 use access_unit::Unit;
-use outcomes::{Outcome, ValidityFault};
 use pictures::AuId;
 use request_core::scratch;
 use std::process::Abort;
 use std::test::Fail;
+use unit_outcomes::{Outcome, ValidityFault};
 
 /// The units of a stream whose last one alone has a fault, and that fault.
 pub(super) type Stream = (&'static [&'static [Nal]], ValidityFault);

@@ -7,11 +7,11 @@ use super::{row_holds, unit};
 use Nal::{Bytes, Pps, Sps};
 use Order::{Two, Zero};
 use access_unit::Unit;
-use outcomes::Outcome;
 use request_core::State;
 use std::alloc::AllocGlobal;
 use std::process::Abort;
 use std::test::Fail;
+use unit_outcomes::Outcome;
 
 /// A sequence parameter set for 16 by 16 macroblocks, of count type 2 and one reference frame.
 const LARGE: Nal = Bytes(&[0x67, 0x42, 0x00, 0x0A, 0xDA, 0x04, 0x02, 0x1A]);

@@ -3,7 +3,7 @@
 use super::each_fault::{B, FAR, FIRST, I, P, PPS, SAME_COUNT, SPS, Stream};
 use super::writer::{Nal, Order, Slice};
 use Order::Zero;
-use outcomes::ValidityFault::{
+use unit_outcomes::ValidityFault::{
     BadMarking, BadModification, FrameNumGap, FrameNumRepeat, IdrFrameNum, NoIdr, OrderRange,
     OrderTie, SpsChange, TooManyReferences,
 };

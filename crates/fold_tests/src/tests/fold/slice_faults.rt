@@ -4,7 +4,7 @@ use super::each_fault::{CUT, FIRST, I, P, PAST, PPS, SPS, Stream};
 use super::writer::{Nal, Order, Slice};
 use Nal::{Bytes, Pps};
 use Order::Zero;
-use outcomes::ValidityFault::{
+use unit_outcomes::ValidityFault::{
     HeaderCut, HeaderValue, MissingPps, MissingSps, Redundant, SliceMismatch, SliceOrder,
 };
 

@@ -7,12 +7,12 @@ use super::slice_faults::SLICE_FAULTS;
 use super::writer::{Nal, Order, Slice};
 use Order::Zero;
 use access_unit::Unit;
-use outcomes::{Outcome, ValidityFault};
 use pictures::AuId;
 use request_core::{State, Steps, step};
 use std::alloc::{AllocError, AllocGlobal, Global};
 use std::process::Abort;
 use std::test::Fail;
+use unit_outcomes::{Outcome, ValidityFault};
 
 /// A long-term frame fills the window, which has no short-term frame to free.
 const NO_SHORT_TERM: [Stream; 1] = [(

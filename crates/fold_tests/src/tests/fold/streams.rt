@@ -5,8 +5,8 @@ use super::writer::{Nal, Order, Slice};
 use super::{only_request, row_holds};
 use Order::{One, Zero};
 use h264_controls::{Request, V4l2H264DpbEntry};
-use outcomes::Outcome;
 use std::test::Fail;
+use unit_outcomes::Outcome;
 
 /// A P slice with order count type 1.
 const ONE: Slice = Slice {

@@ -3,8 +3,8 @@ use Rattle.std.specs.List.{zip}
 use Rattle.std.specs.Prelude.{slice_get}
 use Rattle.std.proofs.lemmas.Option.{same_Some}
 use Rattle.std.proofs.lemmas.Result.{on_ok_weaker}
-use Rattle.outcomes.specs.declared.outcome.Outcome.{Outcome}
-use Rattle.outcomes.specs.declared.outcome.Outcome.TheVariants.{Plan as Planned}
+use Rattle.unit_outcomes.specs.declared.outcome.Outcome.{Outcome}
+use Rattle.unit_outcomes.specs.declared.outcome.Outcome.TheVariants.{Plan as Planned}
 use Rattle.picture_keys.specs.Known.{key_of_outcome}
 use Rattle.needed_units.proofs.Standing.{known_there, named_key, named_waits, own_key}
 use Rattle.needed_units.proofs.Wanting.{unit_read}

@@ -1,5 +1,5 @@
 use Rattle.std.proofs.Common.{◌++◌, ◌∷◌, ◌∙◌, [], ℕ, List, take, sym, ap, subst, append_assoc, add-one, inr, arith}
-use Rattle.outcomes.specs.declared.outcome.Outcome.{Outcome}
+use Rattle.unit_outcomes.specs.declared.outcome.Outcome.{Outcome}
 use Rattle.std.proofs.lemmas.List.{append-nil}
 use Rattle.picture_keys.specs.Following.{Follow, UnitNumbers}
 use Rattle.picture_keys.specs.Numbered.{number_at, numbers_over}

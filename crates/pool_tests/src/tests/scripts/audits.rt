@@ -2,7 +2,7 @@
 
 use super::{OPTIONS, OneFile, Row, is_as};
 use console_io::Status;
-use pool_run::audit_with_workers;
+use shared_run::audit_with_workers;
 use std::process::Abort;
 use std::sync::Wait;
 use std::thread::Threads;

@@ -6,7 +6,7 @@ use super::{OPTIONS, OneFile, Row, is_as};
 use console_io::Status;
 use decode_pool::Gate;
 use edit_engine::Job;
-use pool_run::{audit_with, script_with};
+use shared_run::{audit_with, script_with};
 use stand_in_device::{Finished, Undone};
 use std::alloc::{AllocError, Global};
 use std::process::Abort;

@@ -2,7 +2,7 @@
 
 use super::{OPTIONS, OneFile, REPAIRED, Row, is_as};
 use console_io::Status;
-use pool_run::script_with_workers;
+use shared_run::script_with_workers;
 use std::process::Abort;
 use std::sync::Wait;
 use std::thread::Threads;

@@ -2,7 +2,7 @@
 
 use super::{OPTIONS, OneFile, REPAIRED, Row};
 use console_io::{Sink, Status};
-use pool_run::{audit_with_workers, script_with_workers};
+use shared_run::{audit_with_workers, script_with_workers};
 use std::alloc::{AllocError, Global};
 use std::io;
 use std::io::{ErrorKind, Write};

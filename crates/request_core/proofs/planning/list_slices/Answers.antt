@@ -1,9 +1,9 @@
 use Rattle.std.proofs.Common.{◌≡◌, ◌∷◌, ◌++◌, map, [], take, ap, sym, ◌∙◌, ◌+◌}
 use Rattle.std.proofs.lemmas.List.{take_more, get_or_read}
-use Rattle.unit_slices.specs.Numbers.{gathered}
-use Rattle.unit_slices.specs.Gathering.{gathered_after}
+use Rattle.slice_reading.specs.Numbers.{gathered}
+use Rattle.slice_reading.specs.Gathering.{gathered_after}
 use Rattle.request_core.specs.Fold.{listed}
-use Rattle.unit_slices.proofs.Gathering.{gathered-map-more}
+use Rattle.slice_reading.proofs.Gathering.{gathered-map-more}
 use Rattle.request_core.proofs.planning.list_slices.Goals as goal
 
 pub loop-slice-preserved : goal.loop-slice-preserved

@@ -1,5 +1,5 @@
 use Rattle.std.proofs.Common.{◌≡◌, map, take}
-use Rattle.unit_slices.specs.Numbers.{gathered}
+use Rattle.slice_reading.specs.Numbers.{gathered}
 use Rattle.request_core.specs.Fold.{listed}
 use Rattle.request_core.proofs.planning.list_slices.Given as goal
 

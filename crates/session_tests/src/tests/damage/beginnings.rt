@@ -4,8 +4,8 @@ use crate::tests::{empty_session, row_holds};
 use access_unit::read_unit;
 use bytes::Bytes;
 use edit_engine::{Edit, Place, Session};
-use outcomes::{Outcome, ValidityFault};
 use std::alloc::Global;
+use unit_outcomes::{Outcome, ValidityFault};
 
 /// Sets and an IDR picture, of one macroblock, count type 2 and one reference frame.
 static WHOLE: [u8; 23] = [

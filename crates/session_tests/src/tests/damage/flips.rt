@@ -5,13 +5,13 @@ use crate::tests::{empty_session, row_holds};
 use access_unit::{Unit, read_unit};
 use bytes::Bytes;
 use edit_engine::{Edit, EditRefused, Job, Landing, Place, Session, Shown};
-use outcomes::Outcome;
 use pictures::AuId;
 use session_builders::tells_each;
 use stand_in_device::{Device, Undone};
 use std::alloc::{AllocError, Global};
 use std::process::Abort;
 use std::test::Fail;
+use unit_outcomes::Outcome;
 
 /// An IDR picture with its sets, a P picture, and a B picture that is shown between them.
 static TEXTS: [&[u8]; 3] = [

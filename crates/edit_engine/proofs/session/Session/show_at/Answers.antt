@@ -1,8 +1,8 @@
 use Rattle.std.proofs.Common.{◌≡◌, ◌<◌, length, Some, ap, sym, ◌∙◌, refl, arith}
 use Rattle.std.specs.Prelude.{slice_get}
 use Rattle.std.proofs.lemmas.Option.{slice_get_read}
-use Rattle.outcomes.specs.declared.outcome.Outcome.{Outcome}
-use Rattle.outcomes.specs.declared.outcome.Outcome.TheVariants.{Empty, Fault, Plan}
+use Rattle.unit_outcomes.specs.declared.outcome.Outcome.{Outcome}
+use Rattle.unit_outcomes.specs.declared.outcome.Outcome.TheVariants.{Empty, Fault, Plan}
 use Rattle.edit_engine.proofs.Looked.{place_kept}
 use Rattle.edit_engine.proofs.Pictured.{IsOf, IsOf-kept}
 use Rattle.edit_engine.proofs.Seen.{length-folded, shows_empty, shows_fault, shows_pending, shows_ready}

@@ -1,5 +1,5 @@
 use Rattle.std.proofs.Common.{ap, ◌∙◌}
-use Rattle.outcomes.specs.declared.outcome.Outcome.TheVariants.{Fault}
+use Rattle.unit_outcomes.specs.declared.outcome.Outcome.TheVariants.{Fault}
 use Rattle.request_core.proofs.Readings.{step_faulted, step_found}
 use Rattle.request_core.specs.Findings.{step_in}
 use Rattle.request_core.specs.Readings.{ReadUnit}

@@ -1,6 +1,6 @@
 use Rattle.std.proofs.Common.{[], ◌∷◌, ◌++◌, refl, ap, ◌∙◌}
 use Rattle.request_core.specs.States.{FoldState}
-use Rattle.outcomes.specs.declared.outcome.Outcome.{Outcome}
+use Rattle.unit_outcomes.specs.declared.outcome.Outcome.{Outcome}
 use Rattle.stream_fold.proofs.Going.{step_goes_on}
 use Rattle.stream_fold.proofs.refold.Refold.make_step.Goals as goal
 

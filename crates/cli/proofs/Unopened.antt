@@ -1,0 +1,78 @@
+-- What is told where no file is opened for a name.
+use Rattle.std.proofs.Common.{ℕ, Bool, true, false, List, Option, Some, None, IfSome, inl, inr}
+use Rattle.std.proofs.KnownBytes.{Keeps-refl}
+use Rattle.std.specs.Borrow.{Bor}
+use Rattle.std.specs.Prelude.{Result}
+use Rattle.console_io.specs.Inputs.{Files, text_named}
+use Rattle.console_io.specs.Messages.{Tells, input_fault_text}
+use Rattle.console_io.specs.declared.chunks.PrintFault.{PrintFault}
+use Rattle.console_io.specs.declared.input.InputFault.{InputFault}
+use Rattle.console_io.specs.declared.input.InputFault.TheVariants as input
+use Rattle.plan_stream.specs.declared.fault.PlanFault.TheVariants as fault
+use Rattle.script_run.specs.RunFaults.{fault_of_input}
+use Rattle.script_run.proofs.Told.{stops-unread}
+use Rattle.script_run.specs.Messages.{run_fault_text}
+use Rattle.shared_run.proofs.Told.{ends-unread, stops-unread as seat-stops-unread}
+use Rattle.cli_args.specs.CommandLine.{audit, draw, plan, run}
+use Rattle.plan_json.proofs.Ends.{ends-unread as ends-unread-json}
+use Rattle.cli.specs.Programs.{FailsAt, StopsScript, says_json}
+
+-- what holds of each holds of the one that is there
+some-all : {T : Type 0} (known : Option T) {P : T → Type 0} → ((value : T) → P value) → IfSome known P
+some-all None all = tt
+some-all (Some value) all = all value
+
+-- a run tells it as any input
+told-so : {T : Type 0} (told : Result T PrintFault) (mute : Type 0) (had has : Option (List ℕ)) (name : Bor (List ℕ)) (it : InputFault)
+    → Tells told mute had has (input_fault_text name.now it)
+    → Tells told mute had has (run_fault_text (fault_of_input name it))
+told-so told mute had has name input.Unread tells = tells
+told-so told mute had has name input.Memory tells = tells
+
+module _ {T : Type 0} (files : Files) (standard : Option (List ℕ)) (told : Result T PrintFault) (refused mute : Type 0) (old had has : Option (List ℕ)) where
+  -- of a plan
+  pub plan-unopened : (name : List ℕ) (it : InputFault) → Tells told mute had has (input_fault_text name it)
+      → FailsAt files standard (plan name false) told refused old old mute had has
+  plan-unopened name input.Unread tells =
+      (fault.Unread, some-all (text_named files standard name) (λ text. Keeps-refl old), tells)
+  plan-unopened name input.Memory tells =
+      (fault.Memory, some-all (text_named files standard name) (λ text. inl (Keeps-refl old)), tells)
+
+  -- of one as JSON
+  pub plan_json-unopened : (name : List ℕ) (it : InputFault) → Tells told mute had has (input_fault_text name it)
+      → FailsAt files standard (plan name true) told refused old old mute had has
+  plan_json-unopened name it tells =
+      ends-unread-json says_json (text_named files standard name) name told refused old mute had has it tells
+
+  -- of a drawing
+  pub draw-unopened : (name : List ℕ) (from units : ℕ) (it : InputFault) → Tells told mute had has (input_fault_text name it)
+      → FailsAt files standard (draw name from units) told refused old old mute had has
+  draw-unopened name from units input.Unread tells =
+      (fault.Unread, some-all (text_named files standard name) (λ text. Keeps-refl old), tells)
+  draw-unopened name from units input.Memory tells =
+      (fault.Memory, some-all (text_named files standard name) (λ text. inl (Keeps-refl old)), tells)
+
+  -- of a run
+  pub run-unopened : (name : Bor (List ℕ)) (workers : Option ℕ) (room : ℕ) (hex : Bool) (it : InputFault)
+      → Tells told mute had has (input_fault_text name.now it)
+      → FailsAt files standard (run name.now workers room hex) told refused old old mute had has
+  run-unopened name workers room hex it tells = (
+    fault_of_input name it,
+    some-all (text_named files standard name.now) (λ text. unread workers text),
+    told-so told mute had has name it tells,
+  )
+    where
+      unread : (workers : Option ℕ) (text : List ℕ)
+          → StopsScript workers files name.now text room hex (fault_of_input name it) refused old old
+      unread None text = stops-unread says_json files name text room hex it refused old
+      unread (Some count) text = seat-stops-unread files name text hex it refused old
+
+  -- of an audit
+  pub audit-unopened : (name : Bor (List ℕ)) (workers room : ℕ) (it : InputFault)
+      → Tells told mute had has (input_fault_text name.now it)
+      → FailsAt files standard (audit name.now workers room) told refused old old mute had has
+  audit-unopened name workers room it tells = inr (
+    fault_of_input name it,
+    some-all (text_named files standard name.now) (λ text. ends-unread files name text it refused old),
+    told-so told mute had has name it tells,
+  )

@@ -1,8 +1,0 @@
-use Rattle.program.proofs.Unopened.{draw-unopened}
-use Rattle.program.proofs.running.draw_named.Goals as goal
-
-pub returns-in-Err-clause-fails : goal.returns-in-Err-clause-fails
-returns-in-Err-clause-fails g c failure =
-    draw-unopened (g.D.Directory.bytes c.args.directory.now) (g.I.Read.remaining c.args.standard) c.failed.result.told _ _
-    (g.W.Write.contents c.args.output.now) _ _ c.args.name.now c.args.choice.from c.args.choice.units c.in-Err.fault
-    (rw c.failed.ensures c.say_input_fault.ensures)

@@ -1,0 +1,26 @@
+-- What planning answers, by what the fold says.
+use Rattle.std.specs.Prelude.{◌≡◌, ⊤, Result, Ok, Err}
+use Rattle.slice_front.specs.declared.fault.HeaderFault.{HeaderFault}
+use Rattle.slice_front.specs.declared.fault.HeaderFault.TheVariants as headers
+use Rattle.slice_reading.specs.Slices.{header_fault}
+use Rattle.validity_faults.specs.declared.validity_fault.ValidityFault.{ValidityFault}
+use Rattle.slice_reading.specs.declared.stop.Stop.{Stop}
+use Rattle.slice_reading.specs.declared.stop.Stop.TheVariants.{Fault, Memory}
+
+-- the fault is what the fold says; for lack of memory nothing is said
+abbrev pub Ends : {Y : Type 0} → Stop → Result Y ValidityFault → Type 0
+Ends (Fault fault) says = says ≡ Err fault
+Ends Memory says = ⊤
+
+-- the answer is what the fold says, unless memory ran out
+abbrev pub AnswersAs : {X Y : Type 0} → (X → Y) → Result X Stop → Result Y ValidityFault → Type 0
+AnswersAs view (Ok x) says = says ≡ Ok (view x)
+AnswersAs view (Err stop) says = Ends stop says
+
+abbrev pub Answers : {X : Type 0} → Result X Stop → Result X ValidityFault → Type 0
+Answers answer says = AnswersAs (λ x. x) answer says
+
+-- how the fault of a header ends it
+abbrev pub StopsAt : Stop → HeaderFault → Type 0
+StopsAt stop headers.Memory = stop ≡ Memory
+StopsAt stop fault = stop ≡ Fault (header_fault fault)

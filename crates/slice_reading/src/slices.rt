@@ -1,0 +1,151 @@
+//! The slices of a unit, each with its header and the sets that it names.
+
+ghost use Rattle.std.specs.Prelude.{◌≡◌, ◌∷◌, ◌++◌, map, Ok, Err, IfOk, option_map};
+ghost use Rattle.annexb.specs.ByteStream.{start_code};
+ghost use Rattle.set_controls.specs.SetControls.{set_controls};
+ghost use Rattle.slice_reading.specs.Numbers.{joined, gathered, lower};
+ghost use Rattle.slice_reading.specs.Slices.{slice_at, header_fault};
+ghost use Rattle.slice_reading.specs.Answers.{Answers, AnswersAs, StopsAt};
+
+use crate::gathered::Gathered;
+use crate::sets::Sets;
+use crate::stop::Stop;
+use crate::tables::Tables;
+use access_unit::SharedNal;
+use base_types::Shared;
+use bytes::Bytes;
+use header_types::SliceHeader;
+use set_controls::SetControls;
+use set_types::Sps;
+use slice_front::{HeaderFault, Start, peek_start};
+use slice_header::read_from;
+use std::alloc::{AllocError, Global};
+use std::marker::Model;
+use validity_faults::ValidityFault;
+
+/// A slice: its NAL unit, the parameter sets that it names, with the controls that these decide, and its header.
+#[derive(Debug)]
+pub struct Slice {
+    nal: SharedNal,
+    sets: Sets,
+    pub(crate) header: SliceHeader,
+}
+
+// By hand, so that whoever drops one is proved over one call.
+impl Drop for Slice {
+    fn drop(self) {
+        let Slice {
+            nal: _,
+            sets: _,
+            header: _,
+        } = self;
+    }
+}
+
+impl Model for Slice {
+    ghost use Rattle.slice_reading.specs.Slices.{SliceRead};
+
+    ghost Value = { SliceRead };
+
+    ghost view = { λ slice. record { nal = slice.nal; sps = slice.sets.sps; pps = slice.sets.pps; header = slice.header } };
+}
+
+impl Slice {
+    /// Its header.
+    pub fn header(&self) -> &SliceHeader
+        ensures { result.now ≡ self.now.header }
+    {
+        &self.header
+    }
+
+    /// The sequence parameter set that it names.
+    pub fn sps(&self) -> &Shared<Sps>
+        ensures { result.now ≡ self.now.sps }
+    {
+        &self.sets.sps
+    }
+
+    /// The controls that the parameter sets decide that it names, with one owner more.
+    pub fn controls(&self) -> Result<Shared<SetControls>, AllocError>
+        ensures { IfOk result (λ controls. controls ≡ set_controls self.now.sps self.now.pps) }
+    {
+        self.sets.controls()
+    }
+
+    /// The bytes 00 00 01 and its NAL unit, with one owner more.
+    pub fn coded(&self) -> Result<Bytes, AllocError>
+        ensures { IfOk result (λ bytes. bytes ≡ start_code ++ self.now.nal) }
+    {
+        self.nal.coded()
+    }
+}
+
+/// The slices of these NAL units, each read against the tables, or the fault of the lowest number that any shows.
+///
+/// A slice shares its sets and their controls with the tables, or with the slice before it, where those have the same.
+pub fn read_slices(alloc: Global, tables: &Tables, nals: &[SharedNal]) -> Result<Vec<Slice>, Stop>
+    ensures { AnswersAs (λ slices. slices.items) result
+        (gathered (map (slice_at tables.now) nals.now)) }
+{
+    let mut slices = Gathered::with_capacity(alloc, nals.len())?;
+    for nal in nals {
+        let slice = read_slice(alloc, tables, slices.last(), nal);
+        slices.add(slice)?;
+    }
+    slices.finish()
+}
+
+/// The slice of a NAL unit, or the fault that it shows. It shares the sets of the last slice that was read where those are
+/// the same. The front of the unit is unescaped once.
+#[tactic(auto, unfolding(crate::specs::Slices::slice_at))]
+fn read_slice(
+    alloc: Global,
+    tables: &Tables,
+    last: Option<&Slice>,
+    nal: &SharedNal,
+) -> Result<Slice, Stop>
+    ensures { Answers result (slice_at tables.now nal.now) }
+{
+    let unit = nal.nal();
+    let start = Start::of(&unit);
+    let front = match peek_start(&start) {
+        Ok(front) => front,
+        Err(fault) => return Err(stop(fault)),
+    };
+    let Some(pps) = tables.pps(front.pic_parameter_set_id) else {
+        return Err(Stop::Fault(ValidityFault::MissingPps));
+    };
+    let Some(sps) = tables.sps(pps.set().seq_parameter_set_id.get()) else {
+        return Err(Stop::Fault(ValidityFault::MissingSps));
+    };
+    match read_from(alloc, &start, sps.set(), pps.set()) {
+        Ok(header) => Ok(Slice {
+            nal: nal.clone()?,
+            sets: Sets::of(alloc, last_sets(last), sps, pps)?,
+            header,
+        }),
+        Err(fault) => Err(stop(fault)),
+    }
+}
+
+/// The sets that the last slice names, if there was one.
+fn last_sets(last: Option<&Slice>) -> Option<&Sets>
+    ensures { option_map (λ sets. sets.now) result
+        ≡ option_map (λ slice. record { sps = slice.now.sps; pps = slice.now.pps }) last.entry }
+{
+    match last {
+        Some(slice) => Some(&slice.sets),
+        None => None,
+    }
+}
+
+/// A header's fault as the fault of its unit.
+fn stop(fault: HeaderFault) -> Stop
+    ensures { StopsAt result fault }
+{
+    match fault {
+        HeaderFault::Cut => Stop::Fault(ValidityFault::HeaderCut),
+        HeaderFault::Value => Stop::Fault(ValidityFault::HeaderValue),
+        HeaderFault::Memory => Stop::Memory,
+    }
+}

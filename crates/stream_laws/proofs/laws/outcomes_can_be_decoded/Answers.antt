@@ -1,5 +1,0 @@
-use Rattle.stream_laws.proofs.Decodable.{AllCanDecode-outcomes_of}
-use Rattle.stream_laws.proofs.laws.outcomes_can_be_decoded.Goals as goal
-
-pub returns : goal.returns
-returns c = AllCanDecode-outcomes_of

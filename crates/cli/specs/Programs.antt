@@ -1,4 +1,5 @@
--- What the program does with the words of a command line, on files and a standard input (docs/OUTPUT.md).
+-- What the program does with the words of a command line, on files and a standard input
+-- (docs/OUTPUT.md).
 use Rattle.std.specs.Prelude.{◌≡◌, ◌⊎◌, ℕ, Bool, true, false, List, [], Option, None, Some, IfSome, Result, ⊤}
 use Rattle.std.specs.Io.KnownBytes.{Appends, Keeps}
 use Rattle.clap.specs.Words.{Text}
@@ -43,8 +44,9 @@ StopsScript None files name text room hex fault refused old new =
 StopsScript (Some workers) files name text room hex fault refused old new =
     StopsSeatBy files name text hex fault refused old new
 
--- what is asked for was done, of what its names stand for, and nothing was told; but of a drawing after edits, what was refused
--- of these. Of what a server writes nothing is said. Of the second output it is said whether it refused, and what it had and has
+-- what is asked for was done, of what its names stand for, and nothing was told; but of a drawing
+-- after edits, what was refused of these. Of what a server writes nothing is said. Of the second
+-- output it is said whether it refused, and what it had and has
 abbrev pub IsDone : {T : Type 0} → Files → Option (List ℕ) → Wanted → Result T PrintFault → Option (List ℕ) → Option (List ℕ)
     → Type 0 → Option (List ℕ) → Option (List ℕ) → Type 0
 IsDone files standard (plan name false) told old new mute had has =
@@ -64,7 +66,8 @@ IsDone files standard (audit name workers room) told old new mute had has =
     IfSome (text_named files standard name) (λ text. WritesAgreed files text old new) × Keeps had has
 IsDone files standard (serve workers room) told old new mute had has = Keeps had has
 
--- it ended by a fault, which was told; of the two outputs it is said whether each refused, and what it had and has
+-- it ended by a fault, which was told; of the two outputs it is said whether each refused, and what
+-- it had and has
 abbrev pub FailsAt : {T : Type 0} → Files → Option (List ℕ) → Wanted → Result T PrintFault
     → Type 0 → Option (List ℕ) → Option (List ℕ) → Type 0 → Option (List ℕ) → Option (List ℕ) → Type 0
 FailsAt files standard (plan name true) told refused old new mute had has =

@@ -15,7 +15,8 @@ pub(crate) struct UnreadText<'a> {
     pub(crate) fault: InputFault,
 }
 
-/// The texts that two names stand for, each the standard input for `-`, which is read once where both are.
+/// The texts that two names stand for, each the standard input for `-`, which is read once where
+/// both are.
 pub(crate) fn named_texts<'a, D: Directory, I: Read + Drop>(
     alloc: Global,
     directory: &D,

@@ -32,7 +32,8 @@ use std::sync::Wait;
 use std::thread::Threads;
 use unit_json::Json;
 
-/// Does what the process's words ask for, with these threads. Words that can't be read are a wrong command line.
+/// Does what the process's words ask for, with these threads. Words that can't be read are a wrong
+/// command line.
 pub fn run<D: Directory, I: Read + Drop, W: Sink + Send, E: Sink>(
     threads: &(impl Threads + Wait + Sync),
     alloc: Global,
@@ -42,7 +43,8 @@ pub fn run<D: Directory, I: Read + Drop, W: Sink + Send, E: Sink>(
     output: &mut W,
     errors: &mut E,
 ) -> Ended
-    // At success what the words ask for was done, on what they name, and nothing was told but of refused edits.
+    // At success what the words ask for was done, on what they name, and nothing was told but of
+    // refused edits.
     ensures right { result.status ≡ Status.Success → IsOkAnd words (λ words.
         Succeeds (D.bytes directory.now) (I.remaining standard) (map string_bytes words.items) result.told
         (W.contents output.old) (W.contents output.new)
@@ -244,7 +246,8 @@ fn draw_named<D: Directory, I: Read + Drop, W: Sink, E: Sink>(
     }
 }
 
-/// Draws the chosen units of the stream that the first name stands for, after the edits of the script that the second one does.
+/// Draws the chosen units of the stream that the first name stands for, after the edits of the
+/// script that the second one does.
 fn draw_edited_named<D: Directory, I: Read + Drop, W: Sink, E: Sink>(
     threads: &(impl Threads + Sync),
     alloc: Global,
@@ -277,7 +280,8 @@ fn draw_edited_named<D: Directory, I: Read + Drop, W: Sink, E: Sink>(
     }
 }
 
-/// Runs the script that the options name, whose files the directory has: in one thread, or beside so many workers.
+/// Runs the script that the options name, whose files the directory has: in one thread, or beside
+/// so many workers.
 fn run_named<D: Directory, I: Read + Drop, W: Sink, E: Sink>(
     threads: &(impl Threads + Wait + Sync),
     alloc: Global,

@@ -12,8 +12,8 @@ use std::io::Read;
 use std::sync::Wait;
 use std::thread::Threads;
 
-/// Serves the messages of the standard input, in one thread or beside so many workers. The directory has the files that are
-/// loaded.
+/// Serves the messages of the standard input, in one thread or beside so many workers. The
+/// directory has the files that are loaded.
 pub(crate) fn serve_on<D: Directory, I: Read + Drop, W: Sink + Send, E: Sink>(
     threads: &(impl Threads + Wait + Sync),
     alloc: Global,

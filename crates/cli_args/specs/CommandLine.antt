@@ -96,10 +96,11 @@ preview_app = with_subcommand (with_subcommand (with_subcommand (with_subcommand
     (on_top (λ s. record s { has_version = true; subcommand_required = true }) (new_app (codes "preview")))
     plan_app.top) draw_app.top) run_app.top) audit_app.top) serve_app.top
 
--- what is asked for: the plan of a file, as JSON or not; a drawing of so many units of it, from an id on; one after a script's
--- edits, of so many units from an id or from the first on; a run of a script, in one thread or beside so many workers, with so
--- much room, and with the hashes of pictures or without; its audit, beside so many workers and with so much room; or a server,
--- in one thread or beside so many workers, and with so much room
+-- what is asked for: the plan of a file, as JSON or not; a drawing of so many units of it, from an
+-- id on; one after a script's edits, of so many units from an id or from the first on; a run of a
+-- script, in one thread or beside so many workers, with so much room, and with the hashes of
+-- pictures or without; its audit, beside so many workers and with so much room; or a server, in one
+-- thread or beside so many workers, and with so much room
 pub data Wanted : Type 0 where
   plan : Text → Bool → Wanted
   draw : Text → ℕ → ℕ → Wanted

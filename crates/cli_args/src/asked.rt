@@ -14,7 +14,8 @@ pub const MOST_WORKERS: usize = 64;
 /// What the command line asks for.
 #[derive(Clone, Copy, Debug)]
 pub enum Asked<'a> {
-    /// The plan of the stream in this file, `-` being the standard input: in lines of text, or as JSON.
+    /// The plan of the stream in this file, `-` being the standard input: in lines of text, or as
+    /// JSON.
     Plan {
         file: &'a str,
         json: bool,
@@ -24,13 +25,15 @@ pub enum Asked<'a> {
         file: &'a str,
         choice: Choice,
     },
-    /// A drawing of the chosen units of that stream after the edits of the script of this name, `-` being the standard input.
+    /// A drawing of the chosen units of that stream after the edits of the script of this name, `-`
+    /// being the standard input.
     DrawEdited {
         file: &'a str,
         script: &'a str,
         choice: EditedChoice,
     },
-    /// A run of the script that the options name, `-` being the standard input: in one thread, or beside workers.
+    /// A run of the script that the options name, `-` being the standard input: in one thread, or
+    /// beside workers.
     Run {
         options: Options<'a>,
         workers: Option<Workers>,

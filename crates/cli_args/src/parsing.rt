@@ -79,7 +79,8 @@ fn read_draw<'a>(draw: &ArgMatches<'a>) -> Option<Asked<'a>>
     Some(drawing(file, draw.get_str("edits"), from, units))
 }
 
-/// A drawing of so many units, from an id on if one is given, after the edits of a script if one is.
+/// A drawing of so many units, from an id on if one is given, after the edits of a script if one
+/// is.
 fn drawing<'a>(file: &'a str, script: Option<&'a str>, from: Option<u32>, units: usize) -> Asked<'a>
     requires { units ≤ 1000 }
     ensures { wanted_of result ≡ drawing file.entry.now (option_map (λ name. name.now) script.entry) from units }

@@ -3,7 +3,8 @@ use Rattle.std.specs.Prelude.{◌≡◌, ℕ, Option, None, Some}
 use Rattle.edit_engine.specs.Machines.{Machine}
 use Rattle.session_calls.specs.Statuses.{no_session}
 
--- without a session the call says so, tells nothing and changes nothing; else it does this with the session
+-- without a session the call says so, tells nothing and changes nothing; else it does this with the
+-- session
 abbrev pub Does : {A : Type 0} → Option Machine → ℕ → A → A → Option Machine → (Machine → Machine → Type 0) → Type 0
 Does None status told tells new does = (status ≡ no_session) × (tells ≡ told) × (new ≡ None)
 Does (Some machine) status told tells new does = (next : Machine) × (new ≡ Some next) × does machine next

@@ -8,7 +8,8 @@ use Rattle.session_calls.specs.Statuses.{cache_range, done, is_open, memory, no_
 abbrev pub IsRoom : ℕ → Type 0
 IsRoom cache = (1 ≤ cache) × (cache ≤ most_room)
 
--- a session with an empty stream is there, or the room of its cache may not be, or memory was refused
+-- a session with an empty stream is there, or the room of its cache may not be, or memory was
+-- refused
 abbrev pub OpensNone : ℕ → ℕ → Option Machine → Type 0
 OpensNone cache status new =
     (IsRoom cache × (status ≡ done) × (new ≡ Some (empty cache)))

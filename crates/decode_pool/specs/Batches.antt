@@ -37,8 +37,8 @@ GivesBackAll from (job ∷ jobs) counts to final =
 abbrev pub TakesNone : Machine → Machine → Type 0
 TakesNone from to = ((refused : TakeRefused) × AnswersTake from (Err refused) to) ⊎ (to ≡ from)
 
--- what a worker does next that took these jobs one after the other: it decodes them, as many as it may have or as there
--- are; or none is due, and it sleeps; or it ends
+-- what a worker does next that took these jobs one after the other: it decodes them, as many as it
+-- may have or as there are; or none is due, and it sleeps; or it ends
 abbrev pub TakesSome : Machine → List JobValue → Next → Machine → Type 0
 TakesSome from jobs next.Decodes to = (jobs ≢ []) × TakesAll from jobs to
 TakesSome from jobs next.DecodesLast to = (jobs ≢ [])
@@ -46,9 +46,9 @@ TakesSome from jobs next.DecodesLast to = (jobs ≢ [])
 TakesSome from jobs next.Sleeps to = (jobs ≡ []) × AnswersTake from (Ok None) to
 TakesSome from jobs next.Ends to = (jobs ≡ []) × TakesNone from to
 
--- what a worker does next that asks for the wanted ids alone: it decodes the job of the first for which a needed unit is due;
--- or none is due for any and the rest isn't wanted, and it sleeps; or one is due and can't be taken, or the session isn't
--- asked, and it ends
+-- what a worker does next that asks for the wanted ids alone: it decodes the job of the first for
+-- which a needed unit is due; or none is due for any and the rest isn't wanted, and it sleeps; or
+-- one is due and can't be taken, or the session isn't asked, and it ends
 abbrev pub TakesUrgent : Machine → Wants → List JobValue → Next → Machine → Type 0
 TakesUrgent from wants jobs next.Decodes to =
     (job : JobValue) × (jobs ≡ job ∷ []) × AnswersTakeFirst from (urgent wants) (Ok (Some job)) to
@@ -64,6 +64,7 @@ pub record TakesRest (from : Machine) (wants : Wants) (jobs : List JobValue) (st
   pub wanted : wants.rest ≡ true
   pub takes : TakesSome from jobs step to
 
--- what a worker does next: what is wanted first, and the rest only where no needed unit is due for that
+-- what a worker does next: what is wanted first, and the rest only where no needed unit is due for
+-- that
 abbrev pub TakesNext : Machine → Wants → List JobValue → Next → Machine → Type 0
 TakesNext from wants jobs step to = TakesUrgent from wants jobs step to ⊎ TakesRest from wants jobs step to

@@ -60,8 +60,8 @@ is_edit (receipts.Drop id answer n) = false
 abbrev pub edits_in : List SeatBook → ℕ
 edits_in books = sum_by (λ book. count_by is_edit book.receipts.items) books
 
--- the seats are those that were opened, their books agree with the journal, and each entry of the journal stands in one
--- of them, as many as the seats made
+-- the seats are those that were opened, their books agree with the journal, and each entry of the
+-- journal stands in one of them, as many as the seats made
 pub record IsFinished (opened : ℕ) (seats : List Seat) (journal : List (List Edit)) : Type 0 where
   pub numbered : AreNumbered opened seats
   pub books : List SeatBook
@@ -70,7 +70,8 @@ pub record IsFinished (opened : ℕ) (seats : List Seat) (journal : List (List E
   pub once : IsEachOnce journal books
   pub counted : edits_in books ≡ length journal
 
--- the seats are those that were opened and their books agree with the journal, but one of its entries stands in no book
+-- the seats are those that were opened and their books agree with the journal, but one of its
+-- entries stands in no book
 pub record LacksBook (opened : ℕ) (seats : List Seat) (journal : List (List Edit)) : Type 0 where
   pub numbered : AreNumbered opened seats
   pub books : List SeatBook
@@ -80,14 +81,16 @@ pub record LacksBook (opened : ℕ) (seats : List Seat) (journal : List (List Ed
   pub within : at < length journal
   pub lacks : is_noted books (at + 1) ≡ false
 
--- the seats are those that were opened, and this receipt is the first that doesn't agree with the journal
+-- the seats are those that were opened, and this receipt is the first that doesn't agree with the
+-- journal
 pub record HasFault (opened : ℕ) (seats : List Seat) (journal : List (List Edit)) (seat number : ℕ) : Type 0 where
   pub numbered : AreNumbered opened seats
   pub books : List SeatBook
   pub theirs : AreBooksOf opened seats books
   pub disagrees : Disagrees journal books seat number
 
--- why a desk isn't finished, of the seats alone or of the journal too; lack of memory says nothing of either
+-- why a desk isn't finished, of the seats alone or of the journal too; lack of memory says nothing
+-- of either
 abbrev pub IsFault : ℕ → List Seat → FinishFault → Option (List (List Edit)) → Type 0
 IsFault opened seats faults.SeatMissing None = AreNumbered opened seats → ⊥
 IsFault opened seats faults.SeatMissing (Some journal) = LacksBook opened seats journal
@@ -113,8 +116,8 @@ abbrev pub copied : {V W : Type 0} → (V → List (List Edit)) → Result V W �
 copied items (Ok copy) = Some (items copy)
 copied items (Err wanted) = None
 
--- a refusal tells this cause with the copy of the journal; where there was no memory for one, and there alone, that memory
--- is wanted
+-- a refusal tells this cause with the copy of the journal; where there was no memory for one, and
+-- there alone, that memory is wanted
 abbrev pub Tells : FinishFault → Option (List (List Edit)) → Refusal → Type 0
 Tells cause (Some journal) refusal = (refusal.cause ≡ cause) × (journal_in refusal ≡ Some journal)
 Tells cause None refusal = IsWant refusal

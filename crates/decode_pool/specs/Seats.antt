@@ -34,8 +34,8 @@ AreNew n seats =
     × ((at : ℕ) (seat : Seat) → slice_get seats at ≡ Some seat
     → (seat.number ≡ at + 1) × (seat.book.receipts.items ≡ []))
 
--- what a seat answers to an edit of a session that is lent: what the session answers; or memory for the book is refused,
--- and nothing changes
+-- what a seat answers to an edit of a session that is lent: what the session answers; or memory for
+-- the book is refused, and nothing changes
 abbrev pub AnswersEditIn : Machine → Edit → Result Receipt EditRefused → Machine → Type 0
 AnswersEditIn old edit answer new =
     AnswersEdit old edit answer new ⊎ ((answer ≡ Err refusals.Memory) × (new ≡ old))
@@ -49,12 +49,14 @@ Notes old receipt new =
 abbrev pub NotesNothing : Seat → Seat → Type 0
 NotesNothing old new = (new.number ≡ old.number) × (new.book.receipts.items ≡ old.book.receipts.items)
 
--- an accepted edit is noted with the id that it was answered and the journal's length, a refused one isn't
+-- an accepted edit is noted with the id that it was answered and the journal's length, a refused
+-- one isn't
 abbrev pub NotesEdit : Seat → Edit → Result Receipt EditRefused → ℕ → Seat → Type 0
 NotesEdit old edit (Ok receipt) n new = Notes old (receipts.Edit edit receipt.id n) new
 NotesEdit old edit (Err refused) n new = NotesNothing old new
 
--- an accepted group is noted as one receipt, with the ids that it was answered and the journal's length, a refused one isn't
+-- an accepted group is noted as one receipt, with the ids that it was answered and the journal's
+-- length, a refused one isn't
 abbrev pub NotesGroup : Seat → List Edit → Result GroupReceipt GroupRefused → ℕ → Seat → Type 0
 NotesGroup old edits (Ok receipt) n new =
     Notes old (receipts.Group (record { edits = edits; ids = receipt.ids.items }) n) new
@@ -65,13 +67,14 @@ abbrev pub NotesShow : Seat → ℕ → Result Shown AllocError → ℕ → Seat
 NotesShow old id (Ok answer) n new = Notes old (receipts.Show id answer n) new
 NotesShow old id (Err wanted) n new = NotesNothing old new
 
--- what a seat answers to a drop on a session that is lent: what the session answers; or memory for the book is refused,
--- and nothing changes
+-- what a seat answers to a drop on a session that is lent: what the session answers; or memory for
+-- the book is refused, and nothing changes
 abbrev pub AnswersDropIn : Machine → ℕ → Result Dropping AllocError → Machine → Type 0
 AnswersDropIn old id (Ok answer) new = AnswersDrop old id answer new
 AnswersDropIn old id (Err wanted) new = new ≡ old
 
--- what is answered to a drop is noted with the journal's length; where memory runs out, nothing is dropped
+-- what is answered to a drop is noted with the journal's length; where memory runs out, nothing is
+-- dropped
 abbrev pub NotesDrop : Seat → ℕ → Result Dropping AllocError → ℕ → Seat → Type 0
 NotesDrop old id (Ok answer) n new = Notes old (receipts.Drop id answer n) new
 NotesDrop old id (Err wanted) n new = NotesNothing old new
@@ -122,17 +125,18 @@ IsPendingAt machine at =
 abbrev pub IsSomePending : Machine → Type 0
 IsSomePending machine = (at : ℕ) × IsPendingAt machine at
 
--- no unit is pending, or one is, or all that is wanted is done, of a session and of what is wanted of it, which no clause can
--- name
+-- no unit is pending, or one is, or all that is wanted is done, of a session and of what is wanted
+-- of it, which no clause can name
 abbrev pub WaitsForOne : Settled → Type 0
 WaitsForOne settled.Done = (machine : Machine) × IsReached machine × AreSettledFrom machine 0
 WaitsForOne settled.Idle = (machine : Machine) × IsReached machine × IsSomePending machine
 WaitsForOne settled.Rested =
     (machine : Machine) × IsReached machine × IsSomePending machine × ((wants : Wants) × IsAtRest machine wants)
 
--- how a wait for the pictures of a session ends, of which so much is wanted and so many workers of so many have ended: no
--- unit is pending; or one is, but all that is wanted is done; or that isn't so and no worker is left. It goes on while a unit
--- is pending, something that is wanted may not be done, and a worker is left
+-- how a wait for the pictures of a session ends, of which so much is wanted and so many workers of
+-- so many have ended: no unit is pending; or one is, but all that is wanted is done; or that isn't
+-- so and no worker is left. It goes on while a unit is pending, something that is wanted may not be
+-- done, and a worker is left
 abbrev pub IsSettledBy : Machine → Status → ℕ → Result Settled ℕ → Type 0
 IsSettledBy machine status workers (Ok settled.Done) = AreSettledFrom machine 0
 IsSettledBy machine status workers (Ok settled.Rested) = IsSomePending machine × IsAtRest machine status.wanted
@@ -147,8 +151,8 @@ WaitsForUnit id settled.Done = (machine : Machine) × IsReached machine × IsSet
 WaitsForUnit id settled.Idle = (machine : Machine) × IsReached machine × Shows machine id shown.Pending
 WaitsForUnit id settled.Rested = ⊥
 
--- how a wait for the unit of an id ends, of which so many workers of so many have ended: it isn't pending, or it is and no
--- worker is left; it goes on while it is and one is left
+-- how a wait for the unit of an id ends, of which so many workers of so many have ended: it isn't
+-- pending, or it is and no worker is left; it goes on while it is and one is left
 abbrev pub IsSettledForBy : Machine → ℕ → ℕ → ℕ → Option Settled → Type 0
 IsSettledForBy machine id ended workers (Some settled.Done) = IsSettled machine id
 IsSettledForBy machine id ended workers (Some settled.Idle) = Shows machine id shown.Pending × (workers ≤ ended)

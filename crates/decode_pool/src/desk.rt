@@ -11,14 +11,16 @@ use std::alloc::{AllocError, Global};
 use std::sync::{Condvar, Mutex, MutexGuard, Wait};
 use worker_jobs::{Tally, TooManyWanted};
 
-/// A session that threads share: seats edit it and ask, workers decode. One lock is round all of it, which is held for a
-/// call of the session and no longer.
+/// A session that threads share: seats edit it and ask, workers decode. One lock is round all of
+/// it, which is held for a call of the session and no longer.
 #[derive(Drop)]
 pub struct Desk {
     pub(crate) state: Mutex<State>,
-    /// Told where a job may be due, of which one worker is woken. A worker that takes one tells it on.
+    /// Told where a job may be due, of which one worker is woken. A worker that takes one tells it
+    /// on.
     pub(crate) job_due: Condvar,
-    /// Told where no unit may be pending any more, or not one that is waited for or wanted, or a worker has ended.
+    /// Told where no unit may be pending any more, or not one that is waited for or wanted, or a
+    /// worker has ended.
     pub(crate) settled: Condvar,
     /// Told where the session may have another picture to show.
     pub(crate) changed: Condvar,
@@ -55,8 +57,8 @@ impl Desk {
         Ok((desk, new_seats(alloc, seats)?))
     }
 
-    /// Closes the desk: each worker brings the jobs that it has, if it has some, and ends, and nobody waits for news. Seats
-    /// may go on.
+    /// Closes the desk: each worker brings the jobs that it has, if it has some, and ends, and
+    /// nobody waits for news. Seats may go on.
     pub fn close<R: Wait>(&self, rt: &R) {
         let mut state = self.state.lock(rt);
         state.status.closed = true;
@@ -71,9 +73,9 @@ impl Desk {
         }
     }
 
-    /// Waits until no unit is pending; or all that is wanted is done, where the rest isn't wanted; or until no worker is left
-    /// though one is pending. Units are looked at from the first one that was pending before, and from the first of all once
-    /// none is left.
+    /// Waits until no unit is pending; or all that is wanted is done, where the rest isn't wanted;
+    /// or until no worker is left though one is pending. Units are looked at from the first one
+    /// that was pending before, and from the first of all once none is left.
     pub(crate) fn settle<R: Wait>(&self, rt: &R) -> Settled
         ensures { WaitsForOne result }
     {
@@ -93,9 +95,9 @@ impl Desk {
         unreachable!()
     }
 
-    /// Waits until the unit of the id isn't pending, or until no worker is left though it is. Meanwhile the unit is wanted
-    /// before all others, but for those that other threads have waited for longer. Where there is no room for one more that
-    /// waits, it waits for room too.
+    /// Waits until the unit of the id isn't pending, or until no worker is left though it is.
+    /// Meanwhile the unit is wanted before all others, but for those that other threads have waited
+    /// for longer. Where there is no room for one more that waits, it waits for room too.
     pub(crate) fn settle_for<R: Wait>(&self, rt: &R, id: AuId) -> Settled
         ensures { WaitsForUnit id result }
     {
@@ -132,7 +134,8 @@ impl Desk {
         }
     }
 
-    /// Makes these the ids that are wanted first, in order of urgency. Where they are too many, nothing changes.
+    /// Makes these the ids that are wanted first, in order of urgency. Where they are too many,
+    /// nothing changes.
     pub(crate) fn want<R: Wait>(&self, rt: &R, ids: &[AuId]) -> Result<(), TooManyWanted>
         ensures { IsErr result ↔ (64 < length ids.now) }
     {
@@ -149,8 +152,9 @@ impl Desk {
         self.tell(state);
     }
 
-    /// Wakes whom a change of the stream or of what is wanted, or the end of a worker may concern: a worker that sleeps, as a
-    /// job may be due; each seat that waits, as what it waits for may be there; and who waits for news. It lets the lock go first.
+    /// Wakes whom a change of the stream or of what is wanted, or the end of a worker may concern:
+    /// a worker that sleeps, as a job may be due; each seat that waits, as what it waits for may be
+    /// there; and who waits for news. It lets the lock go first.
     pub(crate) fn tell(&self, state: MutexGuard<'_, State>) {
         let mut state = state;
         let wakes_worker = state.status.workers.tell_one();
@@ -168,8 +172,8 @@ impl Desk {
         }
     }
 
-    /// A worker comes back, and brings all results that it has in hand. It wakes the seats that wait for single units, of which
-    /// one may be there, and who waits for news.
+    /// A worker comes back, and brings all results that it has in hand. It wakes the seats that
+    /// wait for single units, of which one may be there, and who waits for news.
     pub(crate) fn come_back(&self, state: &mut State, tally: &mut Tally)
         ensures results { tally.new.results.items ≡ [] }
         ensures jobs { tally.new.jobs.items ≡ tally.old.jobs.items }
@@ -184,7 +188,8 @@ impl Desk {
         }
     }
 
-    /// A worker ends: it brings the results that it has in hand, gives back the jobs, and is counted.
+    /// A worker ends: it brings the results that it has in hand, gives back the jobs, and is
+    /// counted.
     pub(crate) fn end_worker<R: Wait>(&self, rt: &R, tally: &mut Tally)
         ensures jobs { tally.new.jobs.items ≡ [] }
         ensures results { tally.new.results.items ≡ [] }

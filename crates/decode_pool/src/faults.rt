@@ -13,12 +13,13 @@ use thiserror::Error;
 /// Why a desk isn't finished.
 #[derive(Clone, Copy, Debug, PartialEq, Eq, Hash, Error)]
 pub enum FinishFault {
-    /// The seats aren't those that the desk was opened with: a number is missing, is there twice or is none of theirs. Or,
-    /// where the journal is handed back too, one of its edits or groups stands in no book.
+    /// The seats aren't those that the desk was opened with: a number is missing, is there twice or
+    /// is none of theirs. Or, where the journal is handed back too, one of its edits or groups
+    /// stands in no book.
     #[error("a seat is missing")]
     SeatMissing,
-    /// This receipt is the first that doesn't agree with the journal, in the first book that has one. Both are counted
-    /// from 1.
+    /// This receipt is the first that doesn't agree with the journal, in the first book that has
+    /// one. Both are counted from 1.
     #[error("receipt {number} of seat {seat} doesn't agree with the journal")]
     SeatDisagrees { seat: usize, number: usize },
     /// A growth was refused.

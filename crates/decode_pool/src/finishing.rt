@@ -33,9 +33,10 @@ impl From<AllocError> for Refusal {
     }
 }
 
-/// Ends a desk. Its session is handed out where the seats are those that the desk was opened with and their books bear out
-/// the session's journal: each receipt agrees with it, and each of its edits and groups stands in one book. Else all that
-/// was handed in is handed back. A seat of another desk is known by its number and its book alone.
+/// Ends a desk. Its session is handed out where the seats are those that the desk was opened with
+/// and their books bear out the session's journal: each receipt agrees with it, and each of its
+/// edits and groups stands in one book. Else all that was handed in is handed back. A seat of
+/// another desk is known by its number and its book alone.
 pub fn finish(alloc: Global, desk: Desk, seats: Vec<Seat>) -> Result<Session, Unfinished>
     ensures ok { IfOk result (λ session. IsFinished desk.seats seats.items session.journal) }
     ensures jobs { IfOk result JobsDiffer }
@@ -101,7 +102,8 @@ fn look_through(
     Ok(())
 }
 
-/// Why a desk isn't finished whose books don't pass their audit, with this copy of the journal of which that is said.
+/// Why a desk isn't finished whose books don't pass their audit, with this copy of the journal of
+/// which that is said.
 fn refusal_of(fault: AuditFault, copy: Result<Vec<JournalEntry>, AllocError>) -> Refusal
     ensures { TellsAudit fault (copied (λ it. it.items) copy) result }
 {
@@ -113,7 +115,8 @@ fn refusal_of(fault: AuditFault, copy: Result<Vec<JournalEntry>, AllocError>) ->
     }
 }
 
-/// Why a desk isn't finished, with this copy of the journal of which that is said; or that there was no memory for it.
+/// Why a desk isn't finished, with this copy of the journal of which that is said; or that there
+/// was no memory for it.
 fn with_journal(cause: FinishFault, copy: Result<Vec<JournalEntry>, AllocError>) -> Refusal
     ensures { Tells cause (copied (λ it. it.items) copy) result }
 {

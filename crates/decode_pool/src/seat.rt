@@ -47,8 +47,8 @@ impl Seat {
         &self.book
     }
 
-    /// Edits a session that is lent, and notes the edit where it is accepted. What the book needs is made first: where
-    /// memory for that is refused, the session isn't asked.
+    /// Edits a session that is lent, and notes the edit where it is accepted. What the book needs
+    /// is made first: where memory for that is refused, the session isn't asked.
     pub fn edit_in(&mut self, session: &mut Session, edit: Edit) -> Result<Receipt, EditRefused>
         ensures session { AnswersEditIn session.old edit result session.new }
         ensures book { NotesEdit self.old edit result (length session.new.journal) self.new }
@@ -77,8 +77,8 @@ impl Seat {
         Ok(receipt)
     }
 
-    /// Makes edits together on a session that is lent, as one step, and notes them as one receipt where they are accepted.
-    /// What the book needs is made first, as in `edit_in`.
+    /// Makes edits together on a session that is lent, as one step, and notes them as one receipt
+    /// where they are accepted. What the book needs is made first, as in `edit_in`.
     pub fn edit_group_in(
         &mut self,
         session: &mut Session,
@@ -91,7 +91,8 @@ impl Seat {
         self.edit_group_read_in(session, group)
     }
 
-    /// Makes edits together on a session that is lent as `edit_group_in` does, those of a group whose texts are read.
+    /// Makes edits together on a session that is lent as `edit_group_in` does, those of a group
+    /// whose texts are read.
     pub fn edit_group_read_in(
         &mut self,
         session: &mut Session,
@@ -104,7 +105,8 @@ impl Seat {
         self.edit_noted_group_in(session, group, note)
     }
 
-    /// Makes edits together on a session that is lent, those of a group whose texts are read, of which this is noted.
+    /// Makes edits together on a session that is lent, those of a group whose texts are read, of
+    /// which this is noted.
     pub(crate) fn edit_noted_group_in(
         &mut self,
         session: &mut Session,
@@ -140,8 +142,9 @@ impl Seat {
         Ok(shown)
     }
 
-    /// Drops the picture of the unit that has the id, of a session that is lent, and notes what comes of that. The place in
-    /// the book is made first: where memory for it is refused, the session isn't asked.
+    /// Drops the picture of the unit that has the id, of a session that is lent, and notes what
+    /// comes of that. The place in the book is made first: where memory for it is refused, the
+    /// session isn't asked.
     pub fn drop_picture_in(
         &mut self,
         session: &mut Session,
@@ -158,8 +161,9 @@ impl Seat {
         Ok(answer)
     }
 
-    /// Edits the desk's session as `edit_in` does, while no one else does. The edit's text is read before that, so that
-    /// others don't wait for it; an edit that is refused for its text asks no session.
+    /// Edits the desk's session as `edit_in` does, while no one else does. The edit's text is read
+    /// before that, so that others don't wait for it; an edit that is refused for its text asks no
+    /// session.
     pub fn edit<R: Wait>(&mut self, rt: &R, desk: &Desk, edit: Edit) -> Result<Receipt, EditRefused>
         ensures { EditsOne self.old edit result self.new }
     {
@@ -182,9 +186,9 @@ impl Seat {
         answer
     }
 
-    /// Makes edits together on the desk's session as `edit_group_in` does, while no one else edits it or asks. Their texts
-    /// are read and they are copied for the book before that, so that others don't wait for it; a group that is refused for
-    /// its size asks no session.
+    /// Makes edits together on the desk's session as `edit_group_in` does, while no one else edits
+    /// it or asks. Their texts are read and they are copied for the book before that, so that
+    /// others don't wait for it; a group that is refused for its size asks no session.
     pub fn edit_group<R: Wait>(
         &mut self,
         rt: &R,
@@ -197,7 +201,8 @@ impl Seat {
         self.edit_group_read(rt, desk, group)
     }
 
-    /// Makes edits together on the desk's session as `edit_group` does, those of a group whose texts are read.
+    /// Makes edits together on the desk's session as `edit_group` does, those of a group whose
+    /// texts are read.
     pub fn edit_group_read<R: Wait>(
         &mut self,
         rt: &R,
@@ -220,8 +225,8 @@ impl Seat {
         desk.state.lock(rt).show(self, id)
     }
 
-    /// Drops the picture of the unit that has the id, of the desk's session, as `drop_picture_in` does. A job for it may be
-    /// due again then.
+    /// Drops the picture of the unit that has the id, of the desk's session, as `drop_picture_in`
+    /// does. A job for it may be due again then.
     pub fn drop_picture<R: Wait>(
         &mut self,
         rt: &R,
@@ -248,8 +253,9 @@ impl Seat {
         desk.state.lock(rt).last()
     }
 
-    /// Waits until no unit of the desk's stream is pending; or one is, but the rest isn't wanted, no wanted unit is pending and
-    /// no job is out; or until no worker is left though one is pending: as many have ended as the desk was opened for.
+    /// Waits until no unit of the desk's stream is pending; or one is, but the rest isn't wanted,
+    /// no wanted unit is pending and no job is out; or until no worker is left though one is
+    /// pending: as many have ended as the desk was opened for.
     pub fn settle<R: Wait>(&self, rt: &R, desk: &Desk) -> Settled
         ensures { WaitsForOne result }
     {

@@ -28,9 +28,9 @@ pub use settling::Settled;
 use std::alloc::{AllocError, Global};
 use worker_jobs::Tally;
 
-/// What lies under the lock of a desk: the session, and what its threads do. Jobs that are out have different numbers and
-/// keys. The session is this module's alone: what a thread does with it is one of the calls below, each of which is one of
-/// the session's own.
+/// What lies under the lock of a desk: the session, and what its threads do. Jobs that are out have
+/// different numbers and keys. The session is this module's alone: what a thread does with it is
+/// one of the calls below, each of which is one of the session's own.
 #[derive(Debug, Drop)]
 pub(crate) struct State {
     session: Session,
@@ -39,7 +39,8 @@ pub(crate) struct State {
 }
 
 impl State {
-    /// An open desk's, before the first edit: its session has an empty stream, and no worker has ended.
+    /// An open desk's, before the first edit: its session has an empty stream, and no worker has
+    /// ended.
     pub(crate) fn open(alloc: Global, config: Config) -> Result<State, AllocError>
         requires { (1 ≤ config.cache) × (config.cache ≤ 4096) }
         ensures session { IfOk result (λ state. state.session ≡ empty config.cache) }
@@ -151,8 +152,8 @@ impl State {
         tally.take_in(&mut self.session)
     }
 
-    /// A worker takes a job for the first wanted id for which a needed unit is due, if there is one: whether it has one more
-    /// in hand.
+    /// A worker takes a job for the first wanted id for which a needed unit is due, if there is
+    /// one: whether it has one more in hand.
     pub(crate) fn take_first(&mut self, tally: &mut Tally) -> Result<bool, TakeRefused>
         requires { tally.old.count < 2 ^ 63 }
         ensures session { TakesFirstIn self.old.session (urgent self.old.status.wanted) tally.old result self.new.session tally.new }

@@ -5,8 +5,8 @@ ghost use Rattle.worker_jobs.specs.Wanted.{all_units};
 
 use worker_jobs::Wanted;
 
-/// Threads that sleep, and how many of them were told to wake up and haven't yet. One that awakes without that counts as
-/// told, so that nobody who was told is counted when all are awake.
+/// Threads that sleep, and how many of them were told to wake up and haven't yet. One that awakes
+/// without that counts as told, so that nobody who was told is counted when all are awake.
 #[derive(Clone, Copy, Debug, Drop)]
 pub(crate) struct Sleepers {
     asleep: usize,
@@ -67,8 +67,8 @@ impl Sleepers {
     }
 }
 
-/// What the threads of a desk do: whether the desk is closed, how many workers have ended, how many have jobs or results
-/// in hand, who sleeps, and what seats want first.
+/// What the threads of a desk do: whether the desk is closed, how many workers have ended, how many
+/// have jobs or results in hand, who sleeps, and what seats want first.
 #[derive(Debug, Drop)]
 pub(crate) struct Status {
     pub(crate) closed: bool,

@@ -31,7 +31,8 @@ impl Desk {
         answer
     }
 
-    /// Makes the edits of a group whose texts are read, as one step, while no one else edits the session or asks.
+    /// Makes the edits of a group whose texts are read, as one step, while no one else edits the
+    /// session or asks.
     pub fn edit_group_read<R: Wait>(
         &self,
         rt: &R,
@@ -60,8 +61,9 @@ impl Desk {
         self.state.lock(rt).clear_cache();
     }
 
-    /// Waits until the session may show another picture of some unit than it did when `seen` was answered, 0 being the
-    /// beginning, and answers what to wait from next. None once the desk is closed.
+    /// Waits until the session may show another picture of some unit than it did when `seen` was
+    /// answered, 0 being the beginning, and answers what to wait from next. None once the desk is
+    /// closed.
     pub fn news<R: Wait>(&self, rt: &R, seen: u64) -> Option<u64>
         ensures { IfSome result (λ news. news ≢ seen) }
     {

@@ -8,19 +8,22 @@ use std::alloc::Global;
 use std::sync::Wait;
 use worker_jobs::{Gate, Tally, Worked};
 
-/// How often a worker goes to the desk at most: each time it takes a job or more, and never more than 2^63 in all.
+/// How often a worker goes to the desk at most: each time it takes a job or more, and never more
+/// than 2^63 in all.
 const MOST_ROUNDS: u64 = 1 << 63;
 
 /// How many jobs a worker takes at once at most.
 const MOST_AT_ONCE: usize = 8;
 
-/// Takes jobs of a desk, decodes them by the gate and brings what comes of them, until the desk is closed. It ends too
-/// where the gate hands a job back, which it then gives back, where a job is due and none can be taken or memory runs out,
-/// and after 2^63 jobs. No one has the lock while it decodes.
+/// Takes jobs of a desk, decodes them by the gate and brings what comes of them, until the desk is
+/// closed. It ends too where the gate hands a job back, which it then gives back, where a job is
+/// due and none can be taken or memory runs out, and after 2^63 jobs. No one has the lock while it
+/// decodes.
 ///
-/// It takes a job for the first wanted id for which one is due, alone. Where there is none such, it takes of the rest, if
-/// that is wanted: one job at a time while another worker has none, and else up to twice as many as the time before, at most
-/// eight. Where it ends with jobs that it hasn't decoded, it gives them back.
+/// It takes a job for the first wanted id for which one is due, alone. Where there is none such, it
+/// takes of the rest, if that is wanted: one job at a time while another worker has none, and else
+/// up to twice as many as the time before, at most eight. Where it ends with jobs that it hasn't
+/// decoded, it gives them back.
 pub fn worker<D: Gate + Drop, R: Wait>(rt: &R, alloc: Global, desk: &Desk, gate: D) -> Worked {
     let mut gate = gate;
     let mut tally = Tally::new(alloc);
@@ -35,10 +38,11 @@ pub fn worker<D: Gate + Drop, R: Wait>(rt: &R, alloc: Global, desk: &Desk, gate:
     tally.worked()
 }
 
-/// Brings the results that a worker has in hand and takes its next jobs, or sleeps until some are due; whether it has jobs
-/// then. While it has the lock it may so make several steps of the session, one after the other. One who may have left
-/// jobs that are due wakes another worker for them; one who finds none when it comes may have brought the last picture,
-/// which the seats that wait for it are told. Results are told to those who wait for news.
+/// Brings the results that a worker has in hand and takes its next jobs, or sleeps until some are
+/// due; whether it has jobs then. While it has the lock it may so make several steps of the
+/// session, one after the other. One who may have left jobs that are due wakes another worker for
+/// them; one who finds none when it comes may have brought the last picture, which the seats that
+/// wait for it are told. Results are told to those who wait for news.
 fn exchange<R: Wait>(rt: &R, desk: &Desk, tally: &mut Tally, most: usize) -> bool
     requires none { tally.old.jobs.items ≡ [] }
     requires some { 0 < most }

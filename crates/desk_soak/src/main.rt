@@ -1,8 +1,10 @@
-//! The program `desk_soak`: seats that edit and are shown units, drawn at random, and workers that decode, each in a thread of
-//! its own at one desk. At the end the desk is finished, so that the seats' books are held against the journal.
+//! The program `desk_soak`: seats that edit and are shown units, drawn at random, and workers that
+//! decode, each in a thread of its own at one desk. At the end the desk is finished, so that the
+//! seats' books are held against the journal.
 //!
-//! `desk_soak SEATS WORKERS COMMANDS SEED` lets each seat draw so many commands and prints `agreed`, or why not, which is a
-//! failure. tools/soak runs it at length; the gate runs it briefly.
+//! `desk_soak SEATS WORKERS COMMANDS SEED` lets each seat draw so many commands and prints
+//! `agreed`, or why not, which is a failure. tools/soak runs it at length; the gate runs it
+//! briefly.
 #![tactic(auto)]
 
 mod load;

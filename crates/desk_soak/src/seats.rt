@@ -7,8 +7,8 @@ use pictures::AuId;
 use std::sync::Wait;
 use test_builders::Draws;
 
-/// Sets and an IDR picture of one macroblock; another IDR picture; P pictures with frame_num 1, the second one with a byte
-/// more, and 2; a unit without a slice; and what is no unit.
+/// Sets and an IDR picture of one macroblock; another IDR picture; P pictures with frame_num 1, the
+/// second one with a byte more, and 2; a unit without a slice; and what is no unit.
 const TEXTS: [&[u8]; 7] = [
     &[
         0, 0, 1, 0x67, 0x42, 0x00, 0x0A, 0xDA, 0x79, 0, 0, 1, 0x68, 0xCE, 0x38, 0x80, 0, 0, 1,

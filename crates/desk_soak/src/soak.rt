@@ -39,8 +39,8 @@ fn said_of(fault: FinishFault) -> Result<&'static str, AllocError> {
     }
 }
 
-/// Runs each seat in a thread beside the workers, until all pictures are there, and hands the seats back. The threads have
-/// ended then.
+/// Runs each seat in a thread beside the workers, until all pictures are there, and hands the seats
+/// back. The threads have ended then.
 fn run_beside<R: Threads + Wait + Sync>(
     rt: &R,
     alloc: Global,

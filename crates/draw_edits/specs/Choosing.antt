@@ -10,7 +10,8 @@ abbrev pub from_place : {X : Type 0} → Option ℕ → List X → List X
 from_place None items = []
 from_place (Some place) items = drop place items
 
--- so many of the ids, in stream order: from the first on, or from this one on, and none where it isn't among them
+-- so many of the ids, in stream order: from the first on, or from this one on, and none where it
+-- isn't among them
 abbrev pub chosen_ids : Option ℕ → ℕ → List ℕ → List ℕ
 chosen_ids None units ids = take units ids
 chosen_ids (Some from) units ids = take units (from_place (place_among ids from) ids)

@@ -16,7 +16,8 @@ pub record IsOf (stream : Stream) (snapshot : Snapshot) : Type 0 where
   pub ids_are : snapshot.ids.items ≡ ids_of stream
   pub outcomes_are : snapshot.outcomes.items ≡ outcomes_of stream
 
--- the numbers stand for the keys of two streams' units in one map of keys, so that equal ones stand for equal keys
+-- the numbers stand for the keys of two streams' units in one map of keys, so that equal ones stand
+-- for equal keys
 pub record AreOfBoth (before after : Stream) (numbers others : List (Option ℕ)) : Type 0 where
   pub keys : KeyMap (List Work)
   pub map : IsKeyMap keys

@@ -21,16 +21,16 @@ use Rattle.draw_edits.specs.Marks.{AreOpenedAs}
 use Rattle.draw_edits.specs.declared.fault.EditsFault.{EditsFault}
 use Rattle.draw_edits.specs.declared.fault.EditsFault.TheVariants.{Script, Refused, Memory, Unwritten}
 
--- so many units of a session's stream, from the first or from an id on, are in the document, in stream order: their shapes are
--- opened with their marks, by a stream before, and with their lines
+-- so many units of a session's stream, from the first or from an id on, are in the document, in
+-- stream order: their shapes are opened with their marks, by a stream before, and with their lines
 abbrev pub IsDrawnOf : Option ℕ → ℕ → Machine → Machine → List ℕ → Type 0
 IsDrawnOf from units before after document =
     (openings : List (List ℕ))
     × AreOpenedAs before.register.stream after (chosen_ids from units (ids_of after.register.stream)) openings
     × HasParts openings document
 
--- the document shows the text's stream after the script's edits, which were made when all its pictures were held, and this is
--- told of the edits that are refused
+-- the document shows the text's stream after the script's edits, which were made when all its
+-- pictures were held, and this is told of the edits that are refused
 pub record IsDrawnAfter (from : Option ℕ) (units : ℕ) (text script document told : List ℕ) : Type 0 where
   pub before : Machine
   pub held : IsHeld text before
@@ -52,8 +52,9 @@ WritesFront from units text script old new =
     ⊎ ((refusal : Refusal) × IsStreamRefused text most_units refusal × AppendsFront old new (refusal_text refusal))
     ⊎ ((document told : List ℕ) × IsDrawnAfter from units text script document told × AppendsFront old new document)
 
--- what was written where the drawing ended by this fault: nothing where a line of the script is wrong, the whole line of the
--- text's refusal, nothing or a prefix where memory runs out or the writer refused
+-- what was written where the drawing ended by this fault: nothing where a line of the script is
+-- wrong, the whole line of the text's refusal, nothing or a prefix where memory runs out or the
+-- writer refused
 abbrev pub EndsBy : Option ℕ → ℕ → List ℕ → List ℕ → EditsFault → Type 0 → Option (List ℕ) → Option (List ℕ) → Type 0
 EndsBy from units text script (Script number) refused old new = HasFirstWrongForEdits script number × Keeps old new
 EndsBy from units text script (Refused refusal) refused old new =
@@ -66,7 +67,8 @@ abbrev pub fault_of_script : ScriptFault → EditsFault
 fault_of_script (scripts.Line number) = Script number
 fault_of_script scripts.Memory = Memory
 
--- what is said of it on standard error; nothing where the stream's refusal is printed, or it is the writer that takes no more
+-- what is said of it on standard error; nothing where the stream's refusal is printed, or it is the
+-- writer that takes no more
 abbrev pub edits_fault_text : EditsFault → List ℕ
 edits_fault_text (Script number) = script_fault_text number
 edits_fault_text (Refused refusal) = []

@@ -1,4 +1,5 @@
--- The edits of a script made on a session, and what is told of those that are refused (docs/OUTPUT.md).
+-- The edits of a script made on a session, and what is told of those that are refused
+-- (docs/OUTPUT.md).
 use Rattle.std.specs.Prelude.{◌≡◌, ℕ, ◌++◌, List, [], codes, decimal, Result, Ok, Err}
 use Rattle.stream_edits.specs.declared.group_refused.GroupRefused.{GroupRefused}
 use Rattle.stream_edits.specs.declared.receipts.GroupReceipt.{GroupReceipt}
@@ -16,7 +17,8 @@ use Rattle.script_run.specs.Sequences.{AreAnswered}
 abbrev pub line_words : ℕ → List ℕ
 line_words number = codes "line " ++ (decimal number ++ codes ": ")
 
--- what is told of an edit: where it is refused the line that answers it, after the number of its own line
+-- what is told of an edit: where it is refused the line that answers it, after the number of its
+-- own line
 abbrev pub edit_told : ℕ → Result Receipt EditRefused → List ℕ
 edit_told number (Ok receipt) = []
 edit_told number (Err refused) = line_words number ++ refused_line refused
@@ -26,7 +28,8 @@ abbrev pub group_told : ℕ → Result GroupReceipt GroupRefused → List ℕ
 group_told number (Ok receipt) = []
 group_told number (Err refused) = line_words number ++ group_refused_line refused
 
--- the command of the line with this number is made, or refused and changes nothing, and this is told of it
+-- the command of the line with this number is made, or refused and changes nothing, and this is
+-- told of it
 abbrev pub Makes : Machine → ℕ × EditCommand → List ℕ → Machine → Type 0
 Makes old (number, commands.Edit edit) told new =
     (answer : Result Receipt EditRefused) × AnswersEdit old edit answer new × (told ≡ edit_told number answer)

@@ -24,7 +24,8 @@ key_in stream id = option_and_then (slice_get (keys_in stream)) (place_of stream
 abbrev pub IsAsBefore : Stream → Stream → ℕ → Type 0
 IsAsBefore before after id = (outcome_in before id ≡ outcome_in after id) × (key_in before id ≡ key_in after id)
 
--- what became of the picture of the unit that has the id: it is held, or pending, or the unit has no key
+-- what became of the picture of the unit that has the id: it is held, or pending, or the unit has
+-- no key
 abbrev pub IsStateOf : Machine → ℕ → Option PictureState → Type 0
 IsStateOf machine id (Some Stayed) = (key : Key) × HasKey machine.register.stream id key × Contains machine.held key
 IsStateOf machine id (Some Pending) =

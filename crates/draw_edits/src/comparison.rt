@@ -17,7 +17,8 @@ use pictures::AuId;
 use std::alloc::{AllocError, Global};
 use unit_outcomes::Outcome;
 
-/// The numbers of the keys of a stream's units before and after edits: equal ones exactly for equal keys.
+/// The numbers of the keys of a stream's units before and after edits: equal ones exactly for equal
+/// keys.
 #[derive(Drop)]
 pub(crate) struct KeysOfBoth {
     pub(crate) before: Vec<Option<KeyId>>,

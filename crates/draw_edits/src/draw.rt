@@ -21,9 +21,9 @@ use plan_stream::print_refusal;
 use std::alloc::Global;
 use std::thread::Threads;
 
-/// Draws the chosen units of the stream of a text after the edits of a script, which are made when all pictures of the stream
-/// are held; or prints the stream's refusal. What is refused of the edits is told to `errors`, as is a line of the script that
-/// is no edit, and that memory runs out.
+/// Draws the chosen units of the stream of a text after the edits of a script, which are made when
+/// all pictures of the stream are held; or prints the stream's refusal. What is refused of the
+/// edits is told to `errors`, as is a line of the script that is no edit, and that memory runs out.
 pub fn draw_edited<W: Sink, E: Sink>(
     threads: &(impl Threads + Sync),
     alloc: Global,
@@ -55,7 +55,8 @@ pub fn draw_edited<W: Sink, E: Sink>(
     }
 }
 
-/// Draws the chosen units, or prints the stream's refusal, and gives what is told of edits that are refused.
+/// Draws the chosen units, or prints the stream's refusal, and gives what is told of edits that are
+/// refused.
 fn draw<W: Sink>(
     threads: &(impl Threads + Sync),
     alloc: Global,
@@ -89,7 +90,8 @@ fn held(threads: &(impl Threads + Sync), alloc: Global, text: &Bytes) -> Result<
     Ok(session)
 }
 
-/// Writes the document of the session's stream after the edits, and gives what is told of those that are refused.
+/// Writes the document of the session's stream after the edits, and gives what is told of those
+/// that are refused.
 fn write_edited<W: Sink>(
     alloc: Global,
     choice: EditedChoice,

@@ -12,8 +12,8 @@ use std::alloc::{AllocError, Global};
 use std::fmt;
 use std::fmt::{Display, Formatter, Write};
 
-/// Makes the edits and groups one after the other, each the command of the line of its number, and gives what is told of
-/// those that are refused.
+/// Makes the edits and groups one after the other, each the command of the line of its number, and
+/// gives what is told of those that are refused.
 pub(crate) fn make_edits(
     alloc: Global,
     session: &mut Session,

@@ -43,8 +43,8 @@ impl From<ScriptFault> for EditsFault {
     }
 }
 
-/// Says why a stream isn't drawn after edits. A refusal is printed where the drawing would be, and a writer that takes no
-/// more is known to who reads it.
+/// Says why a stream isn't drawn after edits. A refusal is printed where the drawing would be, and
+/// a writer that takes no more is known to who reads it.
 pub(crate) fn say_edits_fault<E: Sink>(fault: EditsFault, errors: &mut E) -> Result<(), PrintFault>
     ensures { Tells result (E.refuses errors.new) (E.contents errors.old) (E.contents errors.new)
         (edits_fault_text fault) }

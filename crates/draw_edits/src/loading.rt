@@ -12,7 +12,8 @@ use hashed_units::{HashedUnit, hash_units};
 use std::alloc::{AllocError, Global};
 use std::thread::Threads;
 
-/// For how many pictures that no unit has any more the session has room, as a script's has by default.
+/// For how many pictures that no unit has any more the session has room, as a script's has by
+/// default.
 const ROOM: u16 = 64;
 
 /// A session with the stream of this text.

@@ -30,6 +30,7 @@ kept_lines positions unit = outcome_lines unit.id (position_in positions unit.id
 abbrev pub lines_by : ℕ → ℕ → List Outcome → List (List ℕ)
 lines_by from units outcomes = map (kept_lines (positions_of outcomes)) (chosen from units (kept_from 1 outcomes))
 
--- the lines of so many units of a stream from an id on: by its plain fold, and by where in the output each picture stands
+-- the lines of so many units of a stream from an id on: by its plain fold, and by where in the
+-- output each picture stands
 abbrev pub chosen_lines : ℕ → ℕ → List (List (List ℕ)) → List (List ℕ)
 chosen_lines from units parts = lines_by from units (outcomes_of (numbered_from 1 parts))

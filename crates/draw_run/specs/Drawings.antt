@@ -10,8 +10,8 @@ use Rattle.stream_svg.specs.Documents.{HasTitles}
 use Rattle.unit_lines.specs.Refusals.{refusal_text}
 use Rattle.draw_run.specs.Chosen.{chosen_lines}
 
--- the text is a stream, and the document shows so many of its units from an id on: their lines are the titles of its shapes, in
--- stream order
+-- the text is a stream, and the document shows so many of its units from an id on: their lines are
+-- the titles of its shapes, in stream order
 pub record IsDrawn (from units : ℕ) (text document : List ℕ) : Type 0 where
   pub parts : List (List (List ℕ))
   pub stream : IsStream text parts
@@ -29,8 +29,8 @@ WritesFront from units text old new =
     ⊎ ((refusal : Refusal) × IsStreamRefused text most_units refusal × AppendsFront old new (refusal_text refusal))
     ⊎ ((document : List ℕ) × IsDrawn from units text document × AppendsFront old new document)
 
--- what was written of a text whose drawing ended by this fault: nothing where it wasn't read, the whole line of its
--- refusal, or a prefix where memory runs out or the writer refused
+-- what was written of a text whose drawing ended by this fault: nothing where it wasn't read, the
+-- whole line of its refusal, or a prefix where memory runs out or the writer refused
 abbrev pub EndsBy : ℕ → ℕ → List ℕ → PlanFault → Type 0 → Option (List ℕ) → Option (List ℕ) → Type 0
 EndsBy from units text Unread refused old new = Keeps old new
 EndsBy from units text (Refused refusal) refused old new =

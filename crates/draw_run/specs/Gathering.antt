@@ -16,7 +16,8 @@ pub record AreTaken (text : List ℕ) (done : List (List (List ℕ))) (left : Li
   pub accepted : AreAccepted done
   pub counted : count ≡ length done
 
--- the refusal is the text's as far as it is read, with this left, or the access units so far were folded
+-- the refusal is the text's as far as it is read, with this left, or the access units so far were
+-- folded
 abbrev pub ComesTo : List ℕ → List ℕ → Option Refusal → ℕ → Folded → Type 0
 ComesTo text left None count folded =
     (done : List (List (List ℕ))) × AreTaken text done left count × (length done ≤ most_units) × IsFoldOf done folded

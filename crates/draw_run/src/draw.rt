@@ -20,8 +20,8 @@ use std::io::Read;
 use stream_layout::lay_out;
 use stream_svg::document;
 
-/// Draws the chosen units of the stream that the reader gives, or prints the stream's refusal. Where the reader fails or
-/// memory runs out, `errors` is told; the reader has this name there.
+/// Draws the chosen units of the stream that the reader gives, or prints the stream's refusal.
+/// Where the reader fails or memory runs out, `errors` is told; the reader has this name there.
 pub fn draw_on<R: Read, W: Sink, E: Sink>(
     alloc: Global,
     name: &str,

@@ -157,8 +157,8 @@ impl Gathered {
     }
 }
 
-/// Why the stream is refused, where the access unit at this index is refused so: of several the first is named, unless the
-/// stream doesn't split.
+/// Why the stream is refused, where the access unit at this index is refused so: of several the
+/// first is named, unless the stream doesn't split.
 fn refusal_with(before: Option<Refusal>, index: usize, refused: Refused) -> Option<Refusal>
     ensures { result ≡ refusal_with before index refused }
 {

@@ -1,5 +1,6 @@
-//! The places of boxes and arcs were worked out by hand: boxes of 52 pixels, 56 apart, from 60 on. The farthest arc of list 1 is
-//! a stub over two places, which goes 14 + 2 * 5 pixels and takes three quarters of them; faults make the band below 128.
+//! The places of boxes and arcs were worked out by hand: boxes of 52 pixels, 56 apart, from 60 on.
+//! The farthest arc of list 1 is a stub over two places, which goes 14 + 2 * 5 pixels and takes
+//! three quarters of them; faults make the band below 128.
 
 use pictures::AuId;
 use std::alloc::{AllocError, Global};
@@ -30,8 +31,8 @@ const B: SliceTypes = SliceTypes {
     bipredicted: true,
 };
 
-/// What the five units are drawn as: an I, a P and a B picture, which is output before the P picture, a fault, and a unit
-/// without a picture.
+/// What the five units are drawn as: an I, a P and a B picture, which is output before the P
+/// picture, a fault, and a unit without a picture.
 const KINDS: [Kind; 5] = [
     Kind::Picture(Picture {
         types: I,
@@ -52,8 +53,8 @@ const KINDS: [Kind; 5] = [
     Kind::Empty,
 ];
 
-/// What edits did to the five units: the first one's picture stayed, the second one changed, and so did the fault, which has no
-/// picture.
+/// What edits did to the five units: the first one's picture stayed, the second one changed, and so
+/// did the fault, which has no picture.
 const MARKS: [EditMark; 5] = [
     EditMark {
         changed: false,
@@ -77,8 +78,8 @@ const MARKS: [EditMark; 5] = [
     },
 ];
 
-/// By the place of a unit, the frames that its lists name: the list, the number of the frame's unit, and whether it is a
-/// long-term frame. Unit 9 isn't drawn.
+/// By the place of a unit, the frames that its lists name: the list, the number of the frame's
+/// unit, and whether it is a long-term frame. Unit 9 isn't drawn.
 const REFERENCES: [(usize, RefList, u32, bool); 4] = [
     (1, RefList::Zero, 1, true),
     (2, RefList::Zero, 1, true),
@@ -207,8 +208,8 @@ fn rows(rt: HostRuntime) -> Result<(), Fail> {
     Ok(())
 }
 
-/// Of arcs: the place of the unit, which of its references it is, where the arc begins and ends, and whether the frame's unit is
-/// drawn.
+/// Of arcs: the place of the unit, which of its references it is, where the arc begins and ends,
+/// and whether the frame's unit is drawn.
 const ARCS: [(usize, usize, Point, Point, bool); 4] = [
     (
         1,

@@ -112,7 +112,8 @@ impl List {
         }
     }
 
-    /// Draws a command, which both follow and whose answer is counted: whether they agree in it and in what is seen then.
+    /// Draws a command, which both follow and whose answer is counted: whether they agree in it and
+    /// in what is seen then.
     fn step(
         &mut self,
         alloc: Global,
@@ -157,7 +158,8 @@ impl List {
     }
 }
 
-/// Whether a session and the plain model agree on a list that is drawn, with room for so many pictures in the cache.
+/// Whether a session and the plain model agree on a list that is drawn, with room for so many
+/// pictures in the cache.
 fn list_agrees(
     alloc: Global,
     draws: &mut Draws,

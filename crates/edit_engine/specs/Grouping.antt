@@ -12,14 +12,16 @@ use Rattle.edit_engine.specs.Machines.{Machine, RefitsTo, store_of}
 use Rattle.stream_fold.specs.Kept.{spacing}
 use Rattle.edit_engine.specs.MeetingPoints.{IsMeetingPoint}
 
--- the steps are few: whatever front and rest the streams before and after have in common, at most 64 more than the new units
--- between them and those of the rest after which the folds agree, or there are no more
+-- the steps are few: whatever front and rest the streams before and after have in common, at most
+-- 64 more than the new units between them and those of the rest after which the folds agree, or
+-- there are no more
 abbrev pub AreFewForAll : Stream → Stream → ℕ → Type 0
 AreFewForAll old new steps =
     (front rest count : ℕ) → IsMeetingPoint old new front rest count → steps ≤ length new - (front + rest) + count + 64
 
--- the steps are those of one stretch, one for each of its units as they are after: fewer than the spacing in front of the
--- units that differ, those that stand in their place, and those past them up to where the folds agree or there are no more
+-- the steps are those of one stretch, one for each of its units as they are after: fewer than the
+-- spacing in front of the units that differ, those that stand in their place, and those past them
+-- up to where the folds agree or there are no more
 pub record AreCounted (old new : Stream) (steps : ℕ) : Type 0 where
   pub front : ℕ
   pub rest : ℕ
@@ -32,8 +34,8 @@ pub record AreCounted (old new : Stream) (steps : ℕ) : Type 0 where
   pub meets : IsMeetingPoint old new front rest count
   pub exact : steps ≡ ahead + (length new - (front + rest)) + count
 
--- the edits are accepted as one step with the receipt: the pictures change once, between the streams before and after all
--- of them
+-- the edits are accepted as one step with the receipt: the pictures change once, between the
+-- streams before and after all of them
 pub record EditsAll (old : Machine) (edits : List Edit) (receipt : GroupReceipt) (new : Machine) : Type 0 where
   pub sized : IsSized edits
   pub made : MakesAll old.register edits receipt.ids.items new.register

@@ -37,7 +37,8 @@ pub record IsKept (journal : List (List Edit)) (register : Register) (store : St
   pub bounded : length register.stream ≤ most_units
   pub replayed : Replays no_units (edits_of journal) register
 
--- what is prepared is the change, in few steps, each of them counted, and the stretch that this makes anew
+-- what is prepared is the change, in few steps, each of them counted, and the stretch that this
+-- makes anew
 pub record IsPrepared (change : Change) (stream : Stream) (ordered : OrderedValue) (prepared : Prepared) : Type 0 where
   pub change_is : change_in prepared.change.refolded ≡ change
   pub ready : ordering.IsPrepared ordered prepared.change

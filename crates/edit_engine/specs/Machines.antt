@@ -16,9 +16,10 @@ use Rattle.stream_fold.specs.Meeting.{IsCounted, IsMeeting}
 use Rattle.stream_edits.specs.Reading.{IsHashedFor}
 use Rattle.stream_edits.specs.Refusals.{IsRefused}
 
--- the room of the cache; the accepted edits in order, those of a group as one entry, and what they leave; the number of
--- each unit's key, nothing for a unit that isn't valid; the keys whose pictures are held, and those whose pictures are cached, the one put last first; the
--- jobs that are out; and how many numbers of jobs were given
+-- the room of the cache; the accepted edits in order, those of a group as one entry, and what they
+-- leave; the number of each unit's key, nothing for a unit that isn't valid; the keys whose
+-- pictures are held, and those whose pictures are cached, the one put last first; the jobs that are
+-- out; and how many numbers of jobs were given
 pub record Machine : Type 0 where
   pub room : ℕ
   pub journal : List (List Edit)
@@ -34,7 +35,8 @@ abbrev pub empty : ℕ → Machine
 empty room =
     record { room = room; journal = []; register = no_units; numbers = []; held = []; cached = []; out = []; jobs = 0 }
 
--- the pictures of the units, as they are stored: those of the stream's ids and of each unit's outcome
+-- the pictures of the units, as they are stored: those of the stream's ids and of each unit's
+-- outcome
 abbrev pub store_of : Machine → StoreValue
 store_of machine = record {
   ids = ids_of machine.register.stream;
@@ -51,12 +53,13 @@ store_of machine = record {
 abbrev pub RefitsTo : StoreValue → Stream → StoreValue → Type 0
 RefitsTo old stream new = Refits old (ids_of stream) (outcomes_of stream) new
 
--- the steps are few: at most 64 more than units past the changed one after which the folds before and after the change
--- agree, or there are no more units
+-- the steps are few: at most 64 more than units past the changed one after which the folds before
+-- and after the change agree, or there are no more units
 abbrev pub AreFew : Change → Stream → ℕ → Type 0
 AreFew change stream steps = (count : ℕ) → IsMeeting change stream count → steps ≤ count + 64
 
--- the edit comes to a change that leaves this, and takes few steps of the fold, each of them counted
+-- the edit comes to a change that leaves this, and takes few steps of the fold, each of them
+-- counted
 pub record Refolds (old : Register) (edit : Edit) (steps : ℕ) (new : Register) : Type 0 where
   pub accepted : AcceptedEdit
   pub comes_to : IsFor old edit accepted

@@ -4,8 +4,8 @@ use Rattle.stream_edits.specs.Common.{IsFront, IsRest}
 use Rattle.stream_edits.specs.Streams.{Stream}
 use Rattle.stream_fold.specs.Streams.{state_past}
 
--- both have so many units in common in front and so many, all behind those, at the end; past so many of the latter the folds
--- agree in state, or there are no more units
+-- both have so many units in common in front and so many, all behind those, at the end; past so
+-- many of the latter the folds agree in state, or there are no more units
 pub record IsMeetingPoint (old new : Stream) (front rest count : ℕ) : Type 0 where
   pub in_front : IsFront old new front
   pub at_end : IsRest old new rest

@@ -1,4 +1,5 @@
--- What a unit of a session needs: pending units, jobs that are taken for one, and pictures that are dropped.
+-- What a unit of a session needs: pending units, jobs that are taken for one, and pictures that are
+-- dropped.
 use Rattle.std.specs.Prelude.{◌≡◌, ℕ, slice_get, Bool, true, false, Option, None, Some, Result, Ok, Err}
 use Rattle.stand_in_device.specs.Jobs.{JobValue}
 use Rattle.picture_store.specs.declared.refusals.TakeRefused.{TakeRefused}
@@ -27,7 +28,8 @@ abbrev pub IsAnyOutFor : Machine → ℕ → Type 0
 IsAnyOutFor machine id =
     (at : ℕ) × (place_of machine.register.stream id ≡ Some at) × IsAnyOutBy (store_of machine) at
 
--- a job is taken for the unit of the id: that of the earliest of its needed units that are due, which has this id
+-- a job is taken for the unit of the id: that of the earliest of its needed units that are due,
+-- which has this id
 pub record TakesFor (old : Machine) (id unit : ℕ) (job : JobValue) (new : Machine) : Type 0 where
   pub target : ℕ
   pub target_is : place_of old.register.stream id ≡ Some target
@@ -36,7 +38,8 @@ pub record TakesFor (old : Machine) (id unit : ℕ) (job : JobValue) (new : Mach
   pub takes : pictures.TakesFor (store_of old) target (record { at = at; job = job }) (store_of new)
   pub stream : KeepsStream old new
 
--- an answer to one who asks for a job for a unit, and which unit it is of; what is needed is gathered in memory first
+-- an answer to one who asks for a job for a unit, and which unit it is of; what is needed is
+-- gathered in memory first
 abbrev pub TellsTakeFor : Machine → ℕ → Result (Option (ℕ × JobValue)) TakeRefused → Machine → Type 0
 TellsTakeFor old id (Ok (Some told)) new = TakesFor old id told.0 told.1 new
 TellsTakeFor old id (Ok None) new = (IsAnyDueFor old id → ⊥) × (new ≡ old)

@@ -70,8 +70,8 @@ GivesJobBack old number (Ok returning) new =
     (job : JobValue) × IsTaken old number job × AnswersGiveBack old job returning new
 GivesJobBack old number (Err none) new = IsNotOut old number new
 
--- the reply to a command, from the state before it to the state after it: a line for each command, which says what its
--- reply is
+-- the reply to a command, from the state before it to the state after it: a line for each command,
+-- which says what its reply is
 abbrev pub Answers : Machine → Command → Reply → Machine → Type 0
 Answers old (commands.Edit edit) reply new =
     (answer : Result Receipt EditRefused) × (reply ≡ replies.Edit answer) × AnswersEdit old edit answer new

@@ -20,8 +20,8 @@ keys_in stream = keys_of (zip (ids_of stream) (outcomes_of stream))
 abbrev pub HasKey : Stream → ℕ → Key → Type 0
 HasKey stream id key = option_and_then (slice_get (keys_in stream)) (place_of stream id) ≡ Some (Some key)
 
--- what is shown of the unit that has the id: the picture of its key where that is held, that it isn't, the unit's fault,
--- that the unit has no picture, or that there is no such unit
+-- what is shown of the unit that has the id: the picture of its key where that is held, that it
+-- isn't, the unit's fault, that the unit has no picture, or that there is no such unit
 abbrev pub Shows : Machine → ℕ → Shown → Type 0
 Shows machine id (shown.Ready picture) =
     (key : Key) × HasKey machine.register.stream id key × Contains machine.held key × (picture ≡ picture_of_key key)
@@ -31,7 +31,8 @@ Shows machine id (shown.Fault fault) = outcome_in machine.register.stream id ≡
 Shows machine id shown.Empty = outcome_in machine.register.stream id ≡ Some outcomes.Empty
 Shows machine id shown.NoSuchUnit = place_of machine.register.stream id ≡ None
 
--- the number of the key of the unit that has the id: nothing for a unit that isn't valid, which has no key
+-- the number of the key of the unit that has the id: nothing for a unit that isn't valid, which has
+-- no key
 abbrev pub HasNumber : Machine → ℕ → Option ℕ → Type 0
 HasNumber machine id (Some number) =
     (key : Key) × HasKey machine.register.stream id key

@@ -1,12 +1,13 @@
 //! A session over a stream of access units under edits.
 //!
-//! `Session` keeps a stream; `edit` inserts, deletes and replaces units, given as bytes, and answers a receipt or a
-//! refusal that changes nothing; `edit_group` makes several edits as one step. What `outcome` and `position` answer is the
-//! plain fold over the stream as it is. `take` gives a job to decode, and `take_for` one that a unit needs; `land` takes the
-//! result, late or twice, `show` answers the picture of a unit as the stream is now, and `drop_picture` lets it go.
+//! `Session` keeps a stream; `edit` inserts, deletes and replaces units, given as bytes, and
+//! answers a receipt or a refusal that changes nothing; `edit_group` makes several edits as one
+//! step. What `outcome` and `position` answer is the plain fold over the stream as it is. `take`
+//! gives a job to decode, and `take_for` one that a unit needs; `land` takes the result, late or
+//! twice, `show` answers the picture of a unit as the stream is now, and `drop_picture` lets it go.
 //! A `Runner` follows commands on a session, one at a time, and `run` a list of them. Below are
-//! stream_edits, which says what an edit is, stream_fold, which keeps the stream folded and makes anew what an edit
-//! changes, and picture_store, which keeps the pictures; above, the program.
+//! stream_edits, which says what an edit is, stream_fold, which keeps the stream folded and makes
+//! anew what an edit changes, and picture_store, which keeps the pictures; above, the program.
 #![tactic(auto)]
 
 mod commands;

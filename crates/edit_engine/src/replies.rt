@@ -32,8 +32,8 @@ pub enum Reply {
     Cleared,
 }
 
-/// A job that is out, and its unit: the first of the stream, when the job was taken, that has the job's key, or for a job
-/// that was taken for a unit the first of its needed units that has it.
+/// A job that is out, and its unit: the first of the stream, when the job was taken, that has the
+/// job's key, or for a job that was taken for a unit the first of its needed units that has it.
 #[derive(Clone, Copy, Debug, PartialEq, Eq)]
 pub struct TakenJob {
     pub number: u64,

@@ -23,8 +23,8 @@ use std::alloc::{AllocError, Global};
 use std::marker::Model;
 use stream_edits::{EditRefused, GroupReceipt, GroupRefused, ReadEdit, ReadGroup, Receipt};
 
-/// A session that follows commands, one at a time, with the jobs that are out and a device that decodes them. Clauses
-/// see it as the session.
+/// A session that follows commands, one at a time, with the jobs that are out and a device that
+/// decodes them. Clauses see it as the session.
 pub struct Runner {
     alloc: Global,
     session: Session,
@@ -76,8 +76,8 @@ impl Runner {
         })
     }
 
-    /// Follows a command and answers it. An edit that runs out of memory is answered so; where anything else runs out of memory,
-    /// there is no answer.
+    /// Follows a command and answers it. An edit that runs out of memory is answered so; where
+    /// anything else runs out of memory, there is no answer.
     pub fn step(&mut self, command: Command) -> Result<Reply, AllocError>
         ensures ok { IfOk result (λ reply. Answers self.old command reply self.new) }
         ensures err { OnErr result (self.new ≡ self.old) }
@@ -123,21 +123,24 @@ impl Runner {
         self.session.edit_group_read(group)
     }
 
-    /// Drops the picture of the unit that has the id, as `step` does at `Command::Drop`. It takes no memory.
+    /// Drops the picture of the unit that has the id, as `step` does at `Command::Drop`. It takes
+    /// no memory.
     pub fn drop_picture(&mut self, id: AuId) -> Dropping
         ensures { AnswersDrop self.old id result self.new }
     {
         self.session.drop_picture(id)
     }
 
-    /// Drops the pictures that are cached, as `step` does at `Command::ClearCache`. It takes no memory.
+    /// Drops the pictures that are cached, as `step` does at `Command::ClearCache`. It takes no
+    /// memory.
     pub fn clear_cache(&mut self)
         ensures { self.new ≡ record self.old { cached = [] } }
     {
         self.session.clear_cache();
     }
 
-    /// What the job of this number is made of, as it was when the job was taken, if it is out. It takes no memory.
+    /// What the job of this number is made of, as it was when the job was taken, if it is out. It
+    /// takes no memory.
     pub fn input(&self, number: u64) -> Option<&Input>
         ensures value { MatchOption result
             (input_of self.now number ≡ None)
@@ -172,8 +175,8 @@ fn report(
     }
 }
 
-/// Follows the commands in turn, from an empty stream, and answers each. An edit that runs out of memory is answered so; any
-/// other lack of memory ends the run.
+/// Follows the commands in turn, from an empty stream, and answers each. An edit that runs out of
+/// memory is answered so; any other lack of memory ends the run.
 pub fn run(alloc: Global, config: Config, commands: &[Command]) -> Result<Vec<Reply>, AllocError>
     requires { (1 ≤ config.cache) × (config.cache ≤ most_room) }
     ensures { IfOk result (λ replies. IsRun config.cache commands.now replies.items) }

@@ -33,8 +33,9 @@ use stream_edits::{
 };
 use stream_fold::OrderedFold;
 
-/// A stream of access units under edits, with each unit's outcome, and with pictures, which jobs bring. Clauses see
-/// the accepted edits and what they leave, the keys whose pictures are held or cached, and the jobs that are out.
+/// A stream of access units under edits, with each unit's outcome, and with pictures, which jobs
+/// bring. Clauses see the accepted edits and what they leave, the keys whose pictures are held or
+/// cached, and the jobs that are out.
 #[derive(Debug)]
 pub struct Session {
     alloc: Global,
@@ -97,11 +98,12 @@ impl Session {
 
     /// Edits the stream. A refused edit changes nothing and spends no id.
     ///
-    /// The refusal is the first in the order of `EditRefused`, but for Memory, which may stand in for a later one, as
-    /// `stream_edits::change_of` says.
+    /// The refusal is the first in the order of `EditRefused`, but for Memory, which may stand in
+    /// for a later one, as `stream_edits::change_of` says.
     ///
-    /// A picture stays held where nothing that it is made of changes. One whose unit is gone or is made of something
-    /// else is cached while there is room, and held again at once where a unit is made of the same once more.
+    /// A picture stays held where nothing that it is made of changes. One whose unit is gone or is
+    /// made of something else is cached while there is room, and held again at once where a unit is
+    /// made of the same once more.
     pub fn edit(&mut self, edit: Edit) -> Result<Receipt, EditRefused>
         ensures { AnswersEdit self.old edit result self.new }
     {
@@ -127,11 +129,12 @@ impl Session {
         })
     }
 
-    /// Makes edits together, as one step: all of them, each on the stream that those before it left, or none. An edit may
-    /// name an id that one before it gave.
+    /// Makes edits together, as one step: all of them, each on the stream that those before it
+    /// left, or none. An edit may name an id that one before it gave.
     ///
-    /// The pictures change once, between the streams before and after the group, by the rule of an edit. A refused group
-    /// changes nothing and spends no id. Memory may stand in for the refusal of an edit.
+    /// The pictures change once, between the streams before and after the group, by the rule of an
+    /// edit. A refused group changes nothing and spends no id. Memory may stand in for the refusal
+    /// of an edit.
     pub fn edit_group(&mut self, edits: Vec<Edit>) -> Result<GroupReceipt, GroupRefused>
         ensures { AnswersGroup self.old edits.items result self.new }
     {
@@ -161,7 +164,8 @@ impl Session {
         })
     }
 
-    /// Makes the change that edits come to, with so many ids given then, and says in how many steps of the fold.
+    /// Makes the change that edits come to, with so many ids given then, and says in how many steps
+    /// of the fold.
     fn make(&mut self, change: Change, given: u32, edits: JournalEntry) -> Result<u64, AllocError>
         requires inside { IsInside change self.old.register.stream }
         requires come { ComeTo self.old.register edits change given }
@@ -178,10 +182,11 @@ impl Session {
         Ok(steps)
     }
 
-    /// Gives a picture to decode: the earliest one of the stream that isn't held and isn't out as a job, and whose
-    /// references' pictures are all held. `None` where there is no such picture.
+    /// Gives a picture to decode: the earliest one of the stream that isn't held and isn't out as a
+    /// job, and whose references' pictures are all held. `None` where there is no such picture.
     ///
-    /// The job isn't bound to its unit: its result is taken wherever the same picture is wanted when it lands.
+    /// The job isn't bound to its unit: its result is taken wherever the same picture is wanted
+    /// when it lands.
     pub fn take(&mut self) -> Result<Option<Job>, TakeRefused>
         ensures answers { AnswersTake self.old result self.new }
         // A pending unit stays so only as long as a job is out.
@@ -208,9 +213,10 @@ impl Session {
         }
     }
 
-    /// Gives a picture to decode for the unit that has the id: the earliest one that is due of those that it needs, down to
-    /// pictures that are held. `None` where there is none, as for an id that isn't there. Whoever lands what is taken for a
-    /// unit gets to its picture: while it is pending, `None` is answered only as long as a job that it waits for is out.
+    /// Gives a picture to decode for the unit that has the id: the earliest one that is due of
+    /// those that it needs, down to pictures that are held. `None` where there is none, as for an
+    /// id that isn't there. Whoever lands what is taken for a unit gets to its picture: while it is
+    /// pending, `None` is answered only as long as a job that it waits for is out.
     pub fn take_for(&mut self, id: AuId) -> Result<Option<Job>, TakeRefused>
         ensures answers { AnswersTakeFor self.old id result self.new }
         ensures waits { IfOk result (λ job. job ≡ None
@@ -249,15 +255,16 @@ impl Session {
         self.store.land(finished)
     }
 
-    /// Takes a job back that wasn't decoded, so that its picture is given to decode again. It takes no memory.
+    /// Takes a job back that wasn't decoded, so that its picture is given to decode again. It takes
+    /// no memory.
     pub fn give_back(&mut self, job: Job) -> Returning
         ensures { AnswersGiveBack self.old job result self.new }
     {
         self.store.give_back(job)
     }
 
-    /// Drops the picture of the unit that has the id, and with it that of each unit that has the same key. It isn't cached
-    /// by that: a job has to make it again. It takes no memory.
+    /// Drops the picture of the unit that has the id, and with it that of each unit that has the
+    /// same key. It isn't cached by that: a job has to make it again. It takes no memory.
     pub fn drop_picture(&mut self, id: AuId) -> Dropping
         ensures { AnswersDrop self.old id result self.new }
     {

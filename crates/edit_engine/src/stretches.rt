@@ -15,8 +15,8 @@ use std::alloc::{AllocError, Global};
 use stream_edits::Change;
 use stream_fold::{OrderedFold, PreparedChange, shares_of};
 
-/// The units that a prepared change brings, and those behind it that it makes anew, in place of those that were there. The
-/// units in front of it are folded anew too, but keep their outcomes.
+/// The units that a prepared change brings, and those behind it that it makes anew, in place of
+/// those that were there. The units in front of it are folded anew too, but keep their outcomes.
 pub(crate) fn stretch_of(
     alloc: Global,
     ordered: &OrderedFold,

@@ -22,12 +22,14 @@ numbered_command it = (it.0, command_of it.1)
 abbrev pub IsEditScript : List ℕ → List (ℕ × EditCommand) → Type 0
 IsEditScript text commands = AreRead (read_lines text) (map numbered_command commands) None
 
--- the text is no script, its first wrong line has this number, and all commands before it are edits and groups
+-- the text is no script, its first wrong line has this number, and all commands before it are edits
+-- and groups
 abbrev pub IsWrongAfterEdits : List ℕ → ℕ → Type 0
 IsWrongAfterEdits text number =
     (commands : List (ℕ × EditCommand)) × AreRead (read_lines text) (map numbered_command commands) (Some number)
 
--- of the commands that are read of the text, the first that is neither an edit nor a group has this number
+-- of the commands that are read of the text, the first that is neither an edit nor a group has this
+-- number
 pub record IsNoEdit (text : List ℕ) (number : ℕ) : Type 0 where
   pub before : List (ℕ × EditCommand)
   pub command : Command
@@ -36,12 +38,13 @@ pub record IsNoEdit (text : List ℕ) (number : ℕ) : Type 0 where
   pub read : AreRead (read_lines text) (map numbered_command before ++ (number, command) ∷ after) wrong
   pub none : (it : EditCommand) → ¬ (command_of it ≡ command)
 
--- the first line that is wrong, or is a command that is neither an edit nor a group, has this number
+-- the first line that is wrong, or is a command that is neither an edit nor a group, has this
+-- number
 abbrev pub HasFirstWrongForEdits : List ℕ → ℕ → Type 0
 HasFirstWrongForEdits text number = IsWrongAfterEdits text number ⊎ IsNoEdit text number
 
--- an answer for a text: the edits and groups that it is a script of, or its first line that is wrong in such a script, or that
--- memory runs out
+-- an answer for a text: the edits and groups that it is a script of, or its first line that is
+-- wrong in such a script, or that memory runs out
 abbrev pub IsReadForEdits : List ℕ → Result (Vec (ℕ × EditCommand)) ScriptFault → Type 0
 IsReadForEdits text (Ok commands) = IsEditScript text commands.items
 IsReadForEdits text (Err (Line number)) = HasFirstWrongForEdits text number

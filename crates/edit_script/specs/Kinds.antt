@@ -16,7 +16,8 @@ module _ {C : Type 0} (as_command : C → Command) where
   abbrev pub IsScriptOf : List ℕ → List C → Type 0
   IsScriptOf text commands = IsScript text (map as_command commands)
 
-  -- the text is no script, its first wrong line has this number, and all commands before it are of the kind
+  -- the text is no script, its first wrong line has this number, and all commands before it are of
+  -- the kind
   pub record IsWrongForAll (text : List ℕ) (number : ℕ) : Type 0 where
     pub numbered : List (ℕ × Command)
     pub commands : List C
@@ -38,8 +39,8 @@ module _ {C : Type 0} (as_command : C → Command) where
   abbrev pub HasFirstWrongFor : List ℕ → ℕ → Type 0
   HasFirstWrongFor text number = IsWrongForAll text number ⊎ IsNoneOfKind text number
 
-  -- an answer for a text: the commands of the kind that it is a script of, or its first line that is wrong for the kind, or
-  -- that memory ran out
+  -- an answer for a text: the commands of the kind that it is a script of, or its first line that
+  -- is wrong for the kind, or that memory ran out
   abbrev pub IsReadAs : List ℕ → Result (Vec C) ScriptFault → Type 0
   IsReadAs text (Ok commands) = IsScriptOf text commands.items
   IsReadAs text (Err (Line number)) = HasFirstWrongFor text number

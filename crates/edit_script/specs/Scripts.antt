@@ -78,7 +78,8 @@ pub record IsNoCommandAt (lines : List (ℕ × List ℕ)) (number : ℕ) : Type 
   pub no_command : (command : Command) → ¬ IsLine line command
   pub no_group : ¬ IsGroupLine line
 
--- the first of the lines begins a group, in which the first line that is no edit has this number and doesn't end it
+-- the first of the lines begins a group, in which the first line that is no edit has this number
+-- and doesn't end it
 pub record IsNoEditAt (lines : List (ℕ × List ℕ)) (number : ℕ) : Type 0 where
   pub first : ℕ × List ℕ
   pub inside : List (ℕ × List ℕ)
@@ -104,7 +105,8 @@ pub record IsUnclosedAt (lines : List (ℕ × List ℕ)) (number : ℕ) : Type 0
 abbrev pub IsWrongAt : List (ℕ × List ℕ) → ℕ → Type 0
 IsWrongAt lines number = IsNoCommandAt lines number ⊎ IsNoEditAt lines number ⊎ IsUnclosedAt lines number
 
--- the lines are these commands, each with its number, to the end or to the first wrong line, which has this number
+-- the lines are these commands, each with its number, to the end or to the first wrong line, which
+-- has this number
 abbrev pub AreRead : List (ℕ × List ℕ) → List (ℕ × Command) → Option ℕ → Type 0
 AreRead lines [] None = lines ≡ []
 AreRead lines [] (Some number) = IsWrongAt lines number

@@ -7,8 +7,8 @@ use crate::reading::{Reading, read_commands};
 use crate::script::ScriptFault;
 use std::alloc::Global;
 
-/// The edits and groups of a script, each with the number of its first line, or its first line that is wrong, or is a command
-/// of another kind.
+/// The edits and groups of a script, each with the number of its first line, or its first line that
+/// is wrong, or is a command of another kind.
 pub fn read_edit_script(
     alloc: Global,
     text: &[u8],

@@ -10,7 +10,8 @@ use pictures::AuId;
 use std::alloc::Global;
 use stream_edits::Edit;
 
-/// What a script asks of a seat. Jobs are the workers' then, and of a unit a seat is shown the picture alone.
+/// What a script asks of a seat. Jobs are the workers' then, and of a unit a seat is shown the
+/// picture alone.
 #[derive(Debug, Drop)]
 pub enum SeatCommand<'a> {
     /// An edit of the stream.
@@ -60,7 +61,8 @@ impl<'a> Kind<'a> for SeatCommand<'a> {
     }
 }
 
-/// The commands of a script that a seat runs, or its first line that is wrong, or is a command that is none of a seat's.
+/// The commands of a script that a seat runs, or its first line that is wrong, or is a command that
+/// is none of a seat's.
 pub fn read_seat_script<'a>(
     alloc: Global,
     text: &'a [u8],

@@ -66,8 +66,8 @@ impl<'a> Kind<'a> for SessionCommand<'a> {
     }
 }
 
-/// The commands of a script that runs on a session alone, or its first line that is wrong, or is a command that is none of a
-/// session's.
+/// The commands of a script that runs on a session alone, or its first line that is wrong, or is a
+/// command that is none of a session's.
 pub fn read_session_script<'a>(
     alloc: Global,
     text: &'a [u8],

@@ -15,7 +15,8 @@ unit_digest units = slices_digest (map coded (filter is_slice units))
 abbrev pub slice_bytes : List (List ℕ) → ℕ
 slice_bytes units = length (joined (filter is_slice units))
 
--- the digest is that of these NAL units' slices, and so many bytes were hashed for it: each byte of the slices once
+-- the digest is that of these NAL units' slices, and so many bytes were hashed for it: each byte of
+-- the slices once
 pub record IsHashed (units : List (List ℕ)) (digest : List ℕ) (hashed : ℕ) : Type 0 where
   pub digest_is : digest ≡ unit_digest units
   pub hashed_is : hashed ≡ slice_bytes units

@@ -11,14 +11,16 @@ use access_unit::SharedNal;
 use h264_controls::Request;
 use sha2::{Digest, Sha256};
 
-/// The SHA-256 of the slices of a picture: of each its bytes, from the start code on, after their number.
+/// The SHA-256 of the slices of a picture: of each its bytes, from the start code on, after their
+/// number.
 #[derive(Clone, Copy, Debug, Drop)]
 pub struct SlicesDigest {
     bytes: [u8; 32],
 }
 
 impl SlicesDigest {
-    /// The digest of these slices, whose bytes are counted as they are hashed, each with its start code.
+    /// The digest of these slices, whose bytes are counted as they are hashed, each with its start
+    /// code.
     pub fn of(slices: &[SharedNal], hashed: &mut HashedBytes) -> SlicesDigest
         requires { hashed.old + length (joined slices.now) < 2 ^ 64 }
         ensures value { result.bytes ≡ slices_digest (map coded slices.now) }

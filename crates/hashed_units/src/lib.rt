@@ -1,8 +1,8 @@
 //! Units and outcomes with the digest of their slices' bytes.
 //!
-//! A unit's bytes are hashed once, when the unit is read: `HashedUnit` keeps the digest and how many bytes were hashed beside
-//! the unit, and `HashedOutcome` the digest beside its outcome, so that keys of pictures are looked for without the
-//! bytes. Clauses see the unit and the outcome.
+//! A unit's bytes are hashed once, when the unit is read: `HashedUnit` keeps the digest and how
+//! many bytes were hashed beside the unit, and `HashedOutcome` the digest beside its outcome, so
+//! that keys of pictures are looked for without the bytes. Clauses see the unit and the outcome.
 #![tactic(auto)]
 
 mod digest;

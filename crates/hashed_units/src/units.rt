@@ -10,7 +10,8 @@ use rayon::prelude::*;
 use std::alloc::{AllocError, Global};
 use std::thread::Threads;
 
-/// These units, whose slices' bytes are hashed in several threads, and in this one where none can be started.
+/// These units, whose slices' bytes are hashed in several threads, and in this one where none can
+/// be started.
 pub fn hash_units(
     rt: &(impl Threads + Sync),
     alloc: Global,

@@ -87,7 +87,8 @@ later_last known own outcome units count id key is = record {
     last_place zero above below valid = absurd (omega (arith, above))
     last_place (suc place) above below valid = is.last place (omega (arith, above)) (omega (arith, below)) valid
 
--- a key that is known after so many units is that of the last valid one of them that has the id, or was known before
+-- a key that is known after so many units is that of the last valid one of them that has the id, or
+-- was known before
 pub known_of : (known : Known) (units : List (ℕ × Outcome)) (count id : ℕ) (key : Key)
     → key_at (known_after known (take count units)) id ≡ Some key
     → IsLastOf known units count id key ⊎ ((key_at known id ≡ Some key) × AreNone units count id)

@@ -10,8 +10,8 @@ use Rattle.picture_keys.specs.Decodable.{OutcomeCanDecode, AllCanDecode}
 use Rattle.h264_controls.specs.declared.work.Work.{Work}
 use Rattle.dep_keys.specs.KeyMaps.{KeyMap}
 
--- the unit at a place, after those whose keys are known: it stands between those before and those after it, and its key
--- and whether it can be decoded are said by those before it
+-- the unit at a place, after those whose keys are known: it stands between those before and those
+-- after it, and its key and whether it can be decoded are said by those before it
 pub record IsAt (known : Known) (units : List (ℕ × Outcome)) (at : ℕ) (unit : ℕ × Outcome) : Type 0 where
   pub parts : units ≡ take at units ++ unit ∷ drop (suc at) units
   pub got : slice_get units at ≡ Some unit

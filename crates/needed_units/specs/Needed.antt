@@ -15,8 +15,8 @@ Lists units at id =
     (own : ℕ) × (plan : Plan) × (slice_get units at ≡ Some (own, outcomes.Plan plan))
     × Contains (named_by_all plan.requests) (Some id)
 
--- the lists of the unit at one place name that at another: they have the id of it, the last valid unit of that id before
--- the one that names it
+-- the lists of the unit at one place name that at another: they have the id of it, the last valid
+-- unit of that id before the one that names it
 pub record Names (units : List (ℕ × Outcome)) (at other : ℕ) : Type 0 where
   pub id : ℕ
   pub listed : Lists units at id
@@ -24,8 +24,8 @@ pub record Names (units : List (ℕ × Outcome)) (at other : ℕ) : Type 0 where
   pub valid : IsValid units other id
   pub last : (place : ℕ) → other < place → place < at → IsValid units place id → ⊥
 
--- the least set of places that has this one and, with each of its places, each one that the lists of its unit name, of
--- those whose units wait for their pictures
+-- the least set of places that has this one and, with each of its places, each one that the lists
+-- of its unit name, of those whose units wait for their pictures
 pub data IsNeeded (units : List (ℕ × Outcome)) (Waits : ℕ → Type 0) (target : ℕ) : ℕ → Type 0 where
   itself : Waits target → IsNeeded units Waits target target
   named : (at other : ℕ) → IsNeeded units Waits target at → Names units at other → Waits other

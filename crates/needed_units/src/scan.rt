@@ -15,16 +15,17 @@ use pictures::AuId;
 use std::alloc::{AllocError, Global};
 
 /// What was found so far: the places of needed units, the last one first, and the ids of those that
-/// these name and that weren't met yet. Those are of frames that are marked at the place where the scan
-/// is, so that there are at most 16 of them.
+/// these name and that weren't met yet. Those are of frames that are marked at the place where the
+/// scan is, so that there are at most 16 of them.
 #[derive(Debug, Drop)]
 pub(crate) struct Scan {
     pub(crate) wanted: Vec<AuId>,
     pub(crate) needed: Vec<usize>,
 }
 
-/// The places of the units that the picture of the unit at a place needs, the last one first: none where that unit isn't
-/// valid, or its picture is held. Each place from there down to the earliest of them is gone over once.
+/// The places of the units that the picture of the unit at a place needs, the last one first: none
+/// where that unit isn't valid, or its picture is held. Each place from there down to the earliest
+/// of them is gone over once.
 pub fn needed_places<F: Fingerprint<Works>>(
     alloc: Global,
     units: &Units<'_, F>,
@@ -63,8 +64,8 @@ fn waiting_key<F: Fingerprint<Works>>(units: &Units<'_, F>, at: usize) -> Option
     Some(key)
 }
 
-/// Goes over the places below one, down to where no unit is wanted any more: within the period, as no
-/// lists name a unit before it.
+/// Goes over the places below one, down to where no unit is wanted any more: within the period, as
+/// no lists name a unit before it.
 fn go_down<F: Fingerprint<Works>>(
     alloc: Global,
     units: &Units<'_, F>,

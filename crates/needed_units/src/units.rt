@@ -8,8 +8,8 @@ use picture_keys::Works;
 use pictures::AuId;
 use stand_in_device::Picture;
 
-/// The units of a stream column by column: their ids, their outcomes and the numbers of their keys; and beside them
-/// the keys, and the pictures that are held.
+/// The units of a stream column by column: their ids, their outcomes and the numbers of their keys;
+/// and beside them the keys, and the pictures that are held.
 #[derive(Drop)]
 pub struct Units<'a, F: Fingerprint<Works>> {
     pub keys: &'a Keys<Works, F>,

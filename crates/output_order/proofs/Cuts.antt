@@ -9,7 +9,8 @@ use Rattle.output_order.specs.Shown.{begins_period}
 use Rattle.output_order.specs.Periods.{PeriodValue, units_of, IsPeriod, IsBegun, ArePeriods}
 use Rattle.output_order.proofs.Starts.{units_of-append}
 
--- the units before `start` are cut, and of those from there up to a place none begins a period but the first
+-- the units before `start` are cut, and of those from there up to a place none begins a period but
+-- the first
 pub record IsCutUpTo (units : List (Option Shown)) (start at : ℕ) (periods : List PeriodValue) : Type 0 where
   pub ordered : start ≤ at
   pub units_are : units_of periods ≡ take start units

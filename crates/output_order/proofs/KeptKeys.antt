@@ -141,7 +141,8 @@ map-behind from to offset other (Some shown ∷ units) past is =
     ∙ ap (λ rest. let one : OrderKey = record { order = shown.order; offset = other } in one ∷ rest)
     (map-behind from to (offset + 1) (other + 1) units (omega (arith, past)) (omega (arith, past, is)))
 
--- nothing goes from between two places that are one, and nothing moves by nothing, or where no key stands
+-- nothing goes from between two places that are one, and nothing moves by nothing, or where no key
+-- stands
 pub filter-nothing : (low high : ℕ) (keys : List OrderKey) → high ≤ low → filter (stays low high) keys ≡ keys
 filter-nothing low high [] none = refl
 filter-nothing low high (key ∷ keys) none =

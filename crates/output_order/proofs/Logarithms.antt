@@ -4,7 +4,8 @@ use Rattle.std.proofs.Math.Nat.{pow-succ'}
 use Rattle.std.proofs.lemmas.Nat.{pow_pos}
 use Rattle.output_order.specs.Bounds.{IsSearched}
 
--- among so many more a search goes on: what it has made and what it has still to make are the least and the most of all
+-- among so many more a search goes on: what it has made and what it has still to make are the least
+-- and the most of all
 pub record IsOnWay (all size begun made : ℕ) : Type 0 where
   pub least : (steps : ℕ) → 2 ^ steps ≤ all + 1 → (left : ℕ) × (2 ^ left ≤ size + 1) × (begun + steps ≤ made + left)
   pub most : (steps : ℕ) → all < 2 ^ steps → (left : ℕ) × (size < 2 ^ left) × (made + left ≤ begun + steps)

@@ -24,7 +24,8 @@ begun units = count_by begins_period units
 abbrev pub period_of : ℕ → Shown → ℕ
 period_of period shown = period + cond shown.begins_period 1 0
 
--- the keys of the valid units, of which the first stands at a place and before which so many periods began
+-- the keys of the valid units, of which the first stands at a place and before which so many
+-- periods began
 abbrev pub keys_from : ℕ → ℕ → List (Option Shown) → List Key
 keys_from period place [] = []
 keys_from period place (None ∷ units) = keys_from period (place + 1) units

@@ -19,8 +19,8 @@ pub record InsideValue : Type 0 where
   pub high : ℕ
   pub units : List (Option Shown)
 
--- these periods in the place of those from the first up to the one past them; and, if at all, a change inside the period
--- before the first of those
+-- these periods in the place of those from the first up to the one past them; and, if at all, a
+-- change inside the period before the first of those
 pub record Change : Type 0 where
   pub inside : Option InsideValue
   pub first : ℕ

@@ -1,4 +1,5 @@
--- Output order: by picture order count within each period, and period after period (ITU-T H.264, 8.2.1 and C.4.5.3).
+-- Output order: by picture order count within each period, and period after period (ITU-T H.264,
+-- 8.2.1 and C.4.5.3).
 use Rattle.std.specs.Prelude.{ℕ, ℤ, ◌+◌, Bool, false, Option, Some, None, option_map, option_and_then, List, length, map, take, slice_get, count_by}
 use Rattle.std.specs.List.{filter_map, range_with_len}
 use Rattle.std.specs.Ordering.{is_lt, nat_cmp, int_cmp, ordering_then}

@@ -1,4 +1,5 @@
--- The units of a stream by periods: each begins with the unit that begins it, but for the first (ITU-T H.264, 8.2.1).
+-- The units of a stream by periods: each begins with the unit that begins it, but for the first
+-- (ITU-T H.264, 8.2.1).
 use Rattle.std.specs.Prelude.{◌≡◌, ℕ, false, true, Option, List, [], ◌∷◌, ◌++◌, All, take, drop, is_some, count_by}
 use Rattle.std.specs.List.{flat_map}
 use Rattle.output_order.specs.declared.shown.Shown.{Shown}

@@ -12,8 +12,9 @@ pub record IsFound (periods : List PeriodValue) (place at : ℕ) : Type 0 where
   pub from : (count_at periods at).start ≤ place
   pub below : (d : PeriodValue) → place < (count_at periods at).start + length (slice_index_or periods at d).units
 
--- these periods have all that stands between two places; the first has a unit before them, if it isn't the stream's first,
--- and no other one has; the last begins before the second place, if it isn't the stream's first
+-- these periods have all that stands between two places; the first has a unit before them, if it
+-- isn't the stream's first, and no other one has; the last begins before the second place, if it
+-- isn't the stream's first
 pub record IsTouched (periods : List PeriodValue) (low high : ℕ) (touched : Touched) : Type 0 where
   pub ordered : touched.first ≤ touched.past
   pub within : touched.past ≤ length periods
@@ -25,8 +26,8 @@ pub record IsTouched (periods : List PeriodValue) (low high : ℕ) (touched : To
   pub next : touched.first + 1 < length periods → low ≤ length (units_of (take (touched.first + 1) periods))
   pub last : 1 < touched.past → length (units_of (take (touched.past - 1) periods)) < high
 
--- these units can take the place of those between two places inside a period: it keeps its first unit, none of them begins a
--- period, they are few, and it has room for them
+-- these units can take the place of those between two places inside a period: it keeps its first
+-- unit, none of them begins a period, they are few, and it has room for them
 pub record IsInside (periods : List PeriodValue) (at low high : ℕ) (units : List (Option Shown)) : Type 0 where
   pub within : at < length periods
   pub kept : length (units_of (take at periods)) < low

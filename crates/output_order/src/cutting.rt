@@ -22,7 +22,8 @@ fn room_behind(units: usize) -> usize
     units / 2 + 8
 }
 
-/// The periods of these units: one begins with the first, and with each unit that begins one. The last has room for more.
+/// The periods of these units: one begins with the first, and with each unit that begins one. The
+/// last has room for more.
 pub(crate) fn periods_of(alloc: Global, units: &[Option<Shown>]) -> Result<Vec<Period>, AllocError>
     ensures periods { IfOk result (λ periods. ArePeriods periods.items) }
     ensures units { IfOk result (λ periods. units_of periods.items ≡ units.now) }

@@ -57,7 +57,8 @@ fn shift(keys: &mut Vec<OrderKey>, units: usize, from: usize, to: usize)
     }
 }
 
-/// Keeps the keys of the units that stay, of `units` in all, where `count` others come between two places.
+/// Keeps the keys of the units that stay, of `units` in all, where `count` others come between two
+/// places.
 pub(crate) fn keep(keys: &mut Vec<OrderKey>, units: usize, low: usize, high: usize, count: usize)
     requires ordered { low ≤ high }
     requires fits { units + low + count < 2 ^ 64 }
@@ -85,7 +86,8 @@ fn insert(keys: &mut Vec<OrderKey>, key: OrderKey)
     };
 }
 
-/// Puts the keys of these units, of which the first is at a place, among others, which stand in output order.
+/// Puts the keys of these units, of which the first is at a place, among others, which stand in
+/// output order.
 pub(crate) fn put_in(keys: &mut Vec<OrderKey>, place: usize, units: &[Option<Shown>])
     requires sorted { IsSortedBy is_first keys.old.items }
     requires room { vec_len keys.old + length units.now ≤ vec_capacity keys.old }

@@ -1,10 +1,10 @@
-//! Output order: the place of each picture among those that are shown (ITU-T H.264, C.4.5.3), from the outcomes of a
-//! stream's units.
+//! Output order: the place of each picture among those that are shown (ITU-T H.264, C.4.5.3), from
+//! the outcomes of a stream's units.
 //!
-//! `positions` sorts a whole stream's. `Periods` keeps them under changes: for each period its units with the keys of the
-//! valid ones in output order, and how many valid units earlier periods have. A position is found by a search in one
-//! period. A change of a few units inside one period moves the keys behind theirs; any other change makes anew the periods
-//! that it touches.
+//! `positions` sorts a whole stream's. `Periods` keeps them under changes: for each period its
+//! units with the keys of the valid ones in output order, and how many valid units earlier periods
+//! have. A position is found by a search in one period. A change of a few units inside one period
+//! moves the keys behind theirs; any other change makes anew the periods that it touches.
 #![tactic(auto)]
 
 mod comparisons;

@@ -28,9 +28,10 @@ const MOST_INSIDE: usize = 32;
 
 /// A stream's units by periods, with what decides about their positions.
 ///
-/// A look-up takes time that grows with the logarithms of the number of periods and of the size of one. A change of a few
-/// units inside one period searches for their places in it and moves the keys behind them. Any other change makes the
-/// periods that it touches anew. Those after them are counted again.
+/// A look-up takes time that grows with the logarithms of the number of periods and of the size of
+/// one. A change of a few units inside one period searches for their places in it and moves the
+/// keys behind them. Any other change makes the periods that it touches anew. Those after them are
+/// counted again.
 #[derive(Debug)]
 pub struct Periods {
     periods: Vec<Period>,
@@ -81,8 +82,8 @@ impl Periods {
         }
     }
 
-    /// The position of the unit at a place, by the outcomes of the stream's units; `None` where it isn't valid. Each
-    /// pair of units that is compared is counted. Takes no memory.
+    /// The position of the unit at a place, by the outcomes of the stream's units; `None` where it
+    /// isn't valid. Each pair of units that is compared is counted. Takes no memory.
     pub fn position_in(&self, place: usize, comparisons: &mut Comparisons) -> Option<usize>
         requires within { place < length (units_of self.now.periods) }
         requires room { comparisons.old + length (units_of self.now.periods) < 2 ^ 64 }
@@ -112,8 +113,9 @@ impl Periods {
         Some(count.earlier + period.rank(key, comparisons))
     }
 
-    /// Prepares that these units take the place of those between two places. All that the change takes but room is made
-    /// here. No period is made anew for a few units inside one period that has room for them.
+    /// Prepares that these units take the place of those between two places. All that the change
+    /// takes but room is made here. No period is made anew for a few units inside one period that
+    /// has room for them.
     pub fn prepare_splice(
         &self,
         alloc: Global,
@@ -215,8 +217,8 @@ impl Periods {
             start: start_of(&self.counts, first),
         }
     }
-    /// Whether these units can take the place of others inside the one period that is touched: it keeps its first unit, none
-    /// of them begins a period, they are few, and it has room.
+    /// Whether these units can take the place of others inside the one period that is touched: it
+    /// keeps its first unit, none of them begins a period, they are few, and it has room.
     fn is_inside(&self, touched: Touched, low: usize, high: usize, units: &[Option<Shown>]) -> bool
         requires ordered { low ≤ high }
         requires touched { IsTouched self.now.periods low high touched }

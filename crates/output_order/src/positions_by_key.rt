@@ -16,10 +16,12 @@ pub struct Key {
     pub place: usize,
 }
 
-/// The position of each unit in output order, by the unit's place in the stream; `None` where the unit isn't valid.
+/// The position of each unit in output order, by the unit's place in the stream; `None` where the
+/// unit isn't valid.
 ///
-/// Units are shown period after period; within a period by picture order count; and with equal counts in decoding
-/// order. The position of a unit is the number of valid units that are shown before it.
+/// Units are shown period after period; within a period by picture order count; and with equal
+/// counts in decoding order. The position of a unit is the number of valid units that are shown
+/// before it.
 pub fn positions(alloc: Global, outcomes: &[Outcome]) -> Result<Vec<Option<usize>>, AllocError>
     ensures { IfOk result (λ found. found.items ≡ positions_of outcomes.now) }
 {

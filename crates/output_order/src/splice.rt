@@ -6,8 +6,8 @@ use crate::inside::Inside;
 use crate::period::Period;
 use std::marker::Model;
 
-/// Periods that are to take the place of others, and units that are to stand inside the one before those. They were made
-/// where memory could still be refused.
+/// Periods that are to take the place of others, and units that are to stand inside the one before
+/// those. They were made where memory could still be refused.
 #[derive(Debug, Drop)]
 pub struct Splice {
     pub(crate) inside: Option<Inside>,

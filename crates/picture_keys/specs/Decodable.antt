@@ -27,7 +27,8 @@ OutcomeCanDecode known (Plan plan) = CanDecode known plan.requests
 OutcomeCanDecode known (Fault fault) = Unit {0}
 OutcomeCanDecode known Empty = Unit {0}
 
--- units with their outcomes, after those whose keys are known: each can be decoded once those before it are
+-- units with their outcomes, after those whose keys are known: each can be decoded once those
+-- before it are
 abbrev pub AllCanDecode : Known → List (ℕ × Outcome) → Type 0
 AllCanDecode known [] = Unit {0}
 AllCanDecode known (unit ∷ units) =

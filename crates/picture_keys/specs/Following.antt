@@ -11,7 +11,8 @@ pub record UnitNumbers : Type 0 where
   pub numbers : Numbers
   pub found : List (Option ℕ)
 
--- they are those of the keys of these units, each with its id and its outcome, after those whose keys are known
+-- they are those of the keys of these units, each with its id and its outcome, after those whose
+-- keys are known
 pub record Follow (keys : KeyMap (List Work)) (known : Known) (units : List (ℕ × Outcome)) (found : UnitNumbers) : Type 0 where
   pub numbered : AreNumbered keys found.numbers (known_after known units)
   pub stand : AllStandFor keys found.found (keys_after known units)
@@ -20,7 +21,8 @@ pub record Follow (keys : KeyMap (List Work)) (known : Known) (units : List (ℕ
 abbrev pub AreNumberedSome : KeyMap (List Work) → Numbers → Type 0
 AreNumberedSome keys numbers = (known : Known) × AreNumbered keys numbers known
 
--- a unit was given the number of its key, after those whose keys are known; one that isn't valid has none
+-- a unit was given the number of its key, after those whose keys are known; one that isn't valid
+-- has none
 pub record HasNumber (keys : KeyMap (List Work)) (numbers : Numbers) (known : Known) (id : ℕ) (outcome : Outcome)
     (number : Option ℕ) : Type 0 where
   pub numbered : AreNumbered keys numbers (known_with known id (key_of_outcome known outcome))

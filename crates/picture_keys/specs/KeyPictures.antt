@@ -1,4 +1,5 @@
--- The picture of a key, by the stand-in device: the digest of the key's works and of its references' pictures.
+-- The picture of a key, by the stand-in device: the digest of the key's works and of its
+-- references' pictures.
 use Rattle.std.specs.Prelude.{◌≡◌, ℕ, List, [], ◌∷◌, ◌++◌, length, take, drop, map, Option, None, Some, option_map, option_and_then}
 use Rattle.std.specs.List.{flat_map}
 use Rattle.sha2.specs.Sha256.{sha256}
@@ -11,7 +12,8 @@ use Rattle.stand_in_device.specs.Pictures.{picture_bytes, size_bytes}
 use Rattle.picture_keys.specs.Keys.{Key, named_by_all}
 use Rattle.picture_keys.specs.Known.{Known, key_at}
 
--- the record of a slice: its controls, its bytes after their number, and the pictures at the entries of its lists
+-- the record of a slice: its controls, its bytes after their number, and the pictures at the
+-- entries of its lists
 abbrev pub work_record : Work → List (Option Picture) → List ℕ
 work_record work pictures =
     digest_form work.controls ++ size_bytes work.bytes ++ work.bytes ++ flat_map picture_bytes pictures
@@ -33,7 +35,8 @@ picture_after pictures (With first rest) = picture_after (pictures ++ Some (pict
 abbrev pub picture_of_key : Key → Picture
 picture_of_key key = picture_after [] key
 
--- at each entry of the lists of an input's requests stands the picture of the key that is known of the unit named
+-- at each entry of the lists of an input's requests stands the picture of the key that is known of
+-- the unit named
 abbrev pub ShowsKnown : Known → InputValue → Type 0
 ShowsKnown known input =
     map (picture_of_frame input.references) (named_by_all input.requests)

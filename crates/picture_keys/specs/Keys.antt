@@ -8,8 +8,8 @@ use Rattle.dep_keys.specs.Trees.Tree.{Bare}
 use Rattle.dep_keys.specs.KeyMaps.{entered}
 use Rattle.stand_in_device.specs.Inputs.{entries_of}
 
--- the key of a picture: the works of its slices and, at each entry of their lists, slice by slice and list 0 first, the
--- key of the picture that is named, or nothing
+-- the key of a picture: the works of its slices and, at each entry of their lists, slice by slice
+-- and list 0 first, the key of the picture that is named, or nothing
 abbrev pub Key : Type 0
 Key = Tree (List Work)
 

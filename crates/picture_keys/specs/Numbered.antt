@@ -18,7 +18,8 @@ Numbers = List (ℕ × ℕ)
 abbrev pub number_at : Numbers → ℕ → Option ℕ
 number_at numbers id = lookup (is_at (nat_cmp id)) numbers
 
--- the numbers of units whose ids and numbers stand in columns, nothing for a unit without a key, after others
+-- the numbers of units whose ids and numbers stand in columns, nothing for a unit without a key,
+-- after others
 abbrev pub numbers_over : Numbers → List ℕ → List (Option ℕ) → Numbers
 numbers_over numbers [] found = numbers
 numbers_over numbers (id ∷ ids) [] = numbers
@@ -47,7 +48,8 @@ numbers_in numbers request = map (number_named numbers) (named_by request)
 abbrev pub numbers_named : Numbers → List Request → List (Option ℕ)
 numbers_named numbers requests = flat_map (numbers_in numbers) requests
 
--- the number, if there is one, is a live one and that of the key; where there is none, there is no key
+-- the number, if there is one, is a live one and that of the key; where there is none, there is no
+-- key
 abbrev pub StandsFor : KeyMap (List Work) → Option ℕ → Option Key → Type 0
 StandsFor keys None key = key ≡ None
 StandsFor keys (Some number) None = ⊥

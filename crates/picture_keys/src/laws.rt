@@ -11,14 +11,15 @@ ghost use Rattle.picture_keys.specs.Known.{Known, key_of};
 ghost use Rattle.picture_keys.specs.Numbered.{AreNumbered, Numbers, numbers_named};
 ghost use Rattle.picture_keys.specs.KeyPictures.{ShowsKnown, picture_of_key};
 
-/// Where the pictures that an input refers to are those of the keys that are known, its own picture is that of its key.
+/// Where the pictures that an input refers to are those of the keys that are known, its own picture
+/// is that of its key.
 pub fn picture_is_that_of_its_key()
     ensures { (known : Known) (input : InputValue) → ShowsKnown known input
         → picture_of input ≡ picture_of_key (key_of known input.requests) }
 {}
 
-/// Where numbers stand for the keys that are known, the node that is made over them names live keys alone, and its tree
-/// is the key.
+/// Where numbers stand for the keys that are known, the node that is made over them names live keys
+/// alone, and its tree is the key.
 pub fn node_is_that_of_its_key()
     ensures tree { (keys : KeyMap (List Work)) (numbers : Numbers) (known : Known)
         (requests : List Request)

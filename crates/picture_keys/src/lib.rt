@@ -1,8 +1,9 @@
 //! Keys of the pictures of a stream: what each is made of, down to the pictures that refer to none.
 //!
-//! The key of a valid unit is the tree of its slices' works with, at each entry of their reference lists, the key of the
-//! picture that the entry names; timestamps are no part of it. dep_keys keeps such trees under numbers: here are the
-//! works that stand in its nodes, the node of a unit, and the law that the picture of a unit is the one of its key.
+//! The key of a valid unit is the tree of its slices' works with, at each entry of their reference
+//! lists, the key of the picture that the entry names; timestamps are no part of it. dep_keys keeps
+//! such trees under numbers: here are the works that stand in its nodes, the node of a unit, and
+//! the law that the picture of a unit is the one of its key.
 #![tactic(auto)]
 
 mod laws;

@@ -7,8 +7,8 @@ use h264_controls::{References, Request};
 use pictures::AuId;
 use std::alloc::{AllocError, Global};
 
-/// The units that requests name, entry by entry: at each entry of their lists, slice by slice and list 0 first, the unit
-/// whose picture is named, or nothing where the entry is missing.
+/// The units that requests name, entry by entry: at each entry of their lists, slice by slice and
+/// list 0 first, the unit whose picture is named, or nothing where the entry is missing.
 pub fn units_named(alloc: Global, requests: &[Request]) -> Result<Vec<Option<AuId>>, AllocError>
     ensures { IfOk result (λ units. units.items ≡ named_by_all requests.now) }
 {

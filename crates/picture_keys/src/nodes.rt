@@ -16,8 +16,8 @@ use pictures::AuId;
 use std::alloc::{AllocError, Global};
 use unit_outcomes::Requests;
 
-/// The node of the key of these requests, of whose slices this is the digest, with the numbers of the keys of earlier
-/// units.
+/// The node of the key of these requests, of whose slices this is the digest, with the numbers of
+/// the keys of earlier units.
 pub fn node_of(
     alloc: Global,
     numbers: &mut KeyNumbers<'_>,

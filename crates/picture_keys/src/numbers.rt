@@ -12,8 +12,9 @@ use std::alloc::{AllocError, Global};
 use std::collections::BTreeMap;
 use std::marker::Model;
 
-/// The numbers of the keys of units' pictures, found by the units' ids: those of the first units of a stream, which stand in
-/// columns, the ids in one and the numbers in the other, and those of units after them.
+/// The numbers of the keys of units' pictures, found by the units' ids: those of the first units of
+/// a stream, which stand in columns, the ids in one and the numbers in the other, and those of
+/// units after them.
 #[derive(Debug, Drop)]
 pub struct KeyNumbers<'a> {
     ids: &'a [AuId],
@@ -54,8 +55,8 @@ impl<'a> KeyNumbers<'a> {
         }
     }
 
-    /// The number of the key of the unit that has the id. One of the first units is looked for from the last of them on, and
-    /// that once: from then on it is among those that were seen.
+    /// The number of the key of the unit that has the id. One of the first units is looked for from
+    /// the last of them on, and that once: from then on it is among those that were seen.
     pub fn get(&mut self, id: AuId) -> Result<Option<KeyId>, AllocError>
         ensures ok { IfOk result (λ number. number ≡ number_at self.old id) }
         ensures same { self.new ≡ self.old }

@@ -58,8 +58,8 @@ impl<'a> UnitKeys<'a> {
         }
     }
 
-    /// Goes over one unit more. The key of a valid one is interned. Where memory runs out, the unit wasn't gone over,
-    /// and may be again; its key may have been added, which then no unit has.
+    /// Goes over one unit more. The key of a valid one is interned. Where memory runs out, the unit
+    /// wasn't gone over, and may be again; its key may have been added, which then no unit has.
     pub fn add<F: Fingerprint<Works>>(
         &mut self,
         alloc: Global,
@@ -91,7 +91,8 @@ impl<'a> UnitKeys<'a> {
         self.numbers.get(id)
     }
 
-    /// The number of each unit's key, in the order of the units, nothing for a unit that isn't valid.
+    /// The number of each unit's key, in the order of the units, nothing for a unit that isn't
+    /// valid.
     pub fn into_found(self) -> Vec<Option<KeyId>>
         ensures { result.items ≡ self.entry.found }
     {
@@ -100,8 +101,8 @@ impl<'a> UnitKeys<'a> {
     }
 }
 
-/// Interns the key of a unit and gives the unit its number, or nothing where it isn't valid. Where memory runs out, no
-/// unit is given one.
+/// Interns the key of a unit and gives the unit its number, or nothing where it isn't valid. Where
+/// memory runs out, no unit is given one.
 fn number_of<F: Fingerprint<Works>>(
     alloc: Global,
     numbers: &mut KeyNumbers<'_>,
@@ -124,7 +125,8 @@ fn number_of<F: Fingerprint<Works>>(
     }
 }
 
-/// Interns the key of a unit's requests, and gives the unit its number. Where memory runs out, no unit is given one.
+/// Interns the key of a unit's requests, and gives the unit its number. Where memory runs out, no
+/// unit is given one.
 fn intern<F: Fingerprint<Works>>(
     alloc: Global,
     numbers: &mut KeyNumbers<'_>,

@@ -19,8 +19,8 @@ use std::alloc::{AllocError, Global};
 use std::marker::Model;
 use unit_outcomes::Requests;
 
-/// The works of a unit's slices, in order, shared with its requests: the controls without timestamps, and the bytes, of
-/// which it has the digest.
+/// The works of a unit's slices, in order, shared with its requests: the controls without
+/// timestamps, and the bytes, of which it has the digest.
 #[derive(Debug, Drop)]
 pub struct Works {
     slices: Vec<Shared<Work>>,

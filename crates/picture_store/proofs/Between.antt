@@ -5,7 +5,8 @@ use Rattle.std.proofs.lemmas.List.{get_or-drop, get_or-take, length-drop, length
 use Rattle.std.specs.List.Sorted.{IsPartitionPoint}
 use Rattle.picture_store.specs.declared.schedule.Dependent.{Dependent}
 
--- those before the first place wait for keys below this one, and those before the second for none above it
+-- those before the first place wait for keys below this one, and those before the second for none
+-- above it
 module _ (xs : List Dependent) (key from to : ℕ) (from_in : from ≤ length xs) (to_in : to ≤ length xs)
     (first : IsPartitionPoint (λ (d : Dependent). ltb d.entry key ≡ true) (λ (d : Dependent). ltb d.entry key ≡ false) xs from)
     (second : IsPartitionPoint (λ (d : Dependent). leb d.entry key ≡ true) (λ (d : Dependent). leb d.entry key ≡ false) xs to) where

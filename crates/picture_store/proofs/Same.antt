@@ -1,4 +1,5 @@
--- What is stored stays but for a schedule where more keys have numbers and more of these have slots.
+-- What is stored stays but for a schedule where more keys have numbers and more of these have
+-- slots.
 use Rattle.std.proofs.Common.{◌≡◌, sym, ap, subst, ◌∙◌, ℕ, ◌<◌, List, Option, None, Some, IsSome, inl, inr, rules}
 use Rattle.unit_outcomes.specs.declared.outcome.Outcome.{Outcome}
 use Rattle.dep_keys.specs.KeyMaps.{IsKeyMap}

@@ -154,7 +154,8 @@ take_front (suc m) (suc n) [] ys below within = absurd (omega (arith, within))
 take_front (suc m) (suc n) (x ∷ xs) ys below within =
     ap (λ rest. x ∷ rest) (take_front m n xs ys (omega (arith, below)) (omega (arith, within)))
 
--- of the units in front of a place as many need none as before, where pictures that were held stay held
+-- of the units in front of a place as many need none as before, where pictures that were held stay
+-- held
 pub settled_front : (places more : PlacesValue) (cached : List (ℕ × Picture)) (out : List JobOut) (found later : List (Option ℕ))
     (count from least : ℕ) → least ≤ count → least ≤ from → from ≤ length found → AreSettled places out found count
     → ArePlaced (take from found ++ later) places cached more → AreSettled more out (take from found ++ later) least

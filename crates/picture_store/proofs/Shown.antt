@@ -1,4 +1,5 @@
--- Where the picture of each unit that requests name is there, the input of the requests is whole and shows their keys.
+-- Where the picture of each unit that requests name is there, the input of the requests is whole
+-- and shows their keys.
 use Rattle.std.proofs.Common.{◌≡◌, refl, sym, ap, subst, ◌∙◌, ℕ, ◌==◌, Bool, true, false, cond, ◌&&◌, List, [], ◌∷◌, length, map, Option, Some, None, IsSome, is_some, find, All, Contains, slice_get, arith}
 use Rattle.std.specs.Prelude.{option_and_then, IsTrue}
 use Rattle.std.specs.Option.{option_map}

@@ -5,8 +5,9 @@ use Rattle.picture_keys.specs.Keys.{Key}
 use Rattle.key_places.specs.Left.{IsLeft, ArePut}
 use Rattle.picture_store.specs.Stores.{StoreValue, AreOneToOne, IsInUse}
 
--- a store takes the units of a changed stream: the keys in use that were held or cached are held, and leave the cache;
--- then those that were held and are no longer in use are put into it; a key that stays in use keeps its number
+-- a store takes the units of a changed stream: the keys in use that were held or cached are held,
+-- and leave the cache; then those that were held and are no longer in use are put into it; a key
+-- that stays in use keeps its number
 pub record Refits (old : StoreValue) (ids : List ℕ) (outcomes : List Outcome) (new : StoreValue) : Type 0 where
   pub ids_are : new.ids ≡ ids
   pub outcomes_are : new.outcomes ≡ outcomes

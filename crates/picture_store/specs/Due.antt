@@ -15,8 +15,8 @@ AreHeld places [] = Unit {0}
 AreHeld places (None ∷ entries) = AreHeld places entries
 AreHeld places (Some number ∷ entries) = IsHeld places number × AreHeld places entries
 
--- the key of this number is due: it has a place without a picture, is in no job that is out, and the pictures at its own
--- entries are held
+-- the key of this number is due: it has a place without a picture, is in no job that is out, and
+-- the pictures at its own entries are held
 pub record IsDueNumber (keys : Trees) (places : PlacesValue) (out : List JobOut) (number : ℕ) : Type 0 where
   pub awaited : place_at places number ≡ Some None
   pub free : Contains (numbers_out out) number → ⊥

@@ -20,8 +20,8 @@ use Rattle.picture_store.specs.Stores.{OutValue, StoreValue, units_of, IsInUse, 
 abbrev pub most_jobs : ℕ
 most_jobs = 18446744073709551615
 
--- the key is due: it is in use, its picture isn't held, it is in no job that is out, and the pictures at its own entries
--- are held
+-- the key is due: it is in use, its picture isn't held, it is in no job that is out, and the
+-- pictures at its own entries are held
 pub record IsDue (store : StoreValue) (key : Key) : Type 0 where
   pub in_use : IsInUse store key
   pub awaited : Contains store.held key → ⊥
@@ -32,8 +32,8 @@ pub record IsDue (store : StoreValue) (key : Key) : Type 0 where
 abbrev pub IsAnyDue : StoreValue → Type 0
 IsAnyDue store = (key : Key) × IsDue store key
 
--- a job is taken: it is that of the due key whose unit stands earliest, under the next number, with the requests of that
--- unit and the pictures of their references
+-- a job is taken: it is that of the due key whose unit stands earliest, under the next number, with
+-- the requests of that unit and the pictures of their references
 pub record Takes (old : StoreValue) (job : JobValue) (new : StoreValue) : Type 0 where
   pub before : List (ℕ × Outcome)
   pub id : ℕ
@@ -54,8 +54,8 @@ pub record Takes (old : StoreValue) (job : JobValue) (new : StoreValue) : Type 0
     given = job.number;
   }
 
--- the job of the unit at a place, which is due, is given: under the next number, with the requests of that unit and the
--- pictures of their references
+-- the job of the unit at a place, which is due, is given: under the next number, with the requests
+-- of that unit and the pictures of their references
 pub record Gives (old : StoreValue) (at : ℕ) (job : JobValue) (new : StoreValue) : Type 0 where
   pub before : List (ℕ × Outcome)
   pub id : ℕ
@@ -106,8 +106,8 @@ pub record IsOut (store : StoreValue) (job : JobValue) (at : ℕ) (out : OutValu
 abbrev pub without : StoreValue → ℕ → StoreValue
 without store at = record store { out = remove store.out at }
 
--- a result lands: that of no job that is out changes nothing; else the job is out no more, and its picture is held where
--- its key is in use and waits for it
+-- a result lands: that of no job that is out changes nothing; else the job is out no more, and its
+-- picture is held where its key is in use and waits for it
 abbrev pub AnswersLand : StoreValue → JobValue → Landing → StoreValue → Type 0
 AnswersLand old job landings.Foreign new = IsForeign old job × (new ≡ old)
 AnswersLand old job landings.Stale new =

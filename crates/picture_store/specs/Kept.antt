@@ -24,7 +24,8 @@ use Rattle.picture_store.specs.Places.{PlacesValue}
 abbrev pub Trees : Type 0
 Trees = KeyMap (List Work)
 
--- the key of a number; each number that is stored is live, so that what stands for another doesn't matter
+-- the key of a number; each number that is stored is live, so that what stands for another doesn't
+-- matter
 abbrev pub key_for : Trees → ℕ → Key
 key_for keys number = unwrap_or (tree_at keys number) (Bare [])
 
@@ -53,8 +54,8 @@ pub record AreRight (keys : Trees) (places : PlacesValue) : Type 0 where
   pub one : IsKeyMap keys
   pub held : (number : ℕ) (picture : Picture) → place_at places number ≡ Some (Some picture) → IsRight keys number picture
 
--- the units' numbers are those of their keys, each key in use has its place and no other has one, each picture is that
--- of its key, and no key in use is cached
+-- the units' numbers are those of their keys, each key in use has its place and no other has one,
+-- each picture is that of its key, and no key in use is cached
 pub record IsKept (keys : Trees) (ids : List ℕ) (outcomes : List Outcome) (found : List (Option ℕ))
     (places : PlacesValue) (cached : List (ℕ × Picture)) (out : List JobOut) : Type 0 where
   pub right : AreRight keys places

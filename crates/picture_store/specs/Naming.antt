@@ -41,7 +41,8 @@ AreThere references units =
 abbrev pub AreOnce : List Reference → Type 0
 AreOnce references = (time : ℕ) → count_by (λ reference. reference.timestamp == time) references ≤ 1
 
--- nothing is added, or the picture of the entry for the unit that is named there, whose timestamp has none
+-- nothing is added, or the picture of the entry for the unit that is named there, whose timestamp
+-- has none
 abbrev pub AddsAtMostEntry : List Reference → PlacesValue → Option ℕ → Option ℕ → List Reference → Type 0
 AddsAtMostEntry old places unit entry new =
     (new ≡ old) ⊎ ((named : ℕ) × (picture : Picture) × (unit ≡ Some named) × (picture_in places entry ≡ Some picture)

@@ -7,13 +7,15 @@ use Rattle.checkpoints.specs.Stored.{IsStoredAt}
 use Rattle.picture_keys.specs.Depending.{DependOn}
 use Rattle.picture_keys.specs.Numbered.{Numbers, number_at}
 
--- wherever a state is stored, the keys of the units from there on depend on those of the frames alone that it marks
+-- wherever a state is stored, the keys of the units from there on depend on those of the frames
+-- alone that it marks
 abbrev pub TellNeeds : List (ℕ × FoldState) → List ℕ → List Outcome → Type 0
 TellNeeds states ids outcomes =
     (place : ℕ) (state : FoldState) → IsStoredAt states place state
     → DependOn (marked_ids state) (drop place (zip ids outcomes))
 
--- a state is stored at the place, and the keys of the frames that it marks have the same numbers in both
+-- a state is stored at the place, and the keys of the frames that it marks have the same numbers in
+-- both
 abbrev pub AgreeAt : List (ℕ × FoldState) → ℕ → Numbers → Numbers → Type 0
 AgreeAt states place before after =
     (state : FoldState) × IsStoredAt states place state

@@ -10,8 +10,9 @@ use Rattle.picture_store.specs.Jobs.{IsDue}
 abbrev pub IsPending : StoreValue → ℕ → Type 0
 IsPending store at = (key : Key) × HasKey store at key × (Contains store.held key → ⊥)
 
--- the unit at the second place is a needed unit of that at the first: it is in the least set that has this one and, with
--- each of its units, each unit that its lists name, of those that are pending
+-- the unit at the second place is a needed unit of that at the first: it is in the least set that
+-- has this one and, with each of its units, each unit that its lists name, of those that are
+-- pending
 abbrev pub IsNeededBy : StoreValue → ℕ → ℕ → Type 0
 IsNeededBy store target at = IsNeeded (units_of store) (IsPending store) target at
 

@@ -18,7 +18,8 @@ held_or place other = other
 abbrev pub carried : PlacesValue → List (ℕ × Picture) → ℕ → Option Picture
 carried places cached number = held_or (place_at places number) (lookup (λ other. number == other) cached)
 
--- there is a place for each key of the units, with the picture that was held or cached, and no other place
+-- there is a place for each key of the units, with the picture that was held or cached, and no
+-- other place
 abbrev pub ArePlaced : List (Option ℕ) → PlacesValue → List (ℕ × Picture) → PlacesValue → Type 0
 ArePlaced found old cached places =
     (number : ℕ)

@@ -1,4 +1,5 @@
--- The places of keys, counted anew where the keys of some units come in the place of those of others.
+-- The places of keys, counted anew where the keys of some units come in the place of those of
+-- others.
 use Rattle.std.specs.Prelude.{◌≡◌, ℕ, ◌<◌, List, ◌++◌, ◌⊎◌, Contains, Option, Some, IsSome}
 use Rattle.std.specs.Map.{keys_of as numbers_of}
 use Rattle.key_places.specs.Left.{IsLeft, ArePut}
@@ -7,15 +8,16 @@ use Rattle.key_places.specs.Places.{place_at, uses_at, numbers_held}
 use Rattle.stand_in_device.specs.declared.picture.Picture.{Picture}
 use Rattle.picture_store.specs.Places.{PlacesValue, ArePlaced}
 
--- each place counts the units that use its key, no key in use is cached, and these are the keys of the units that go
+-- each place counts the units that use its key, no key in use is cached, and these are the keys of
+-- the units that go
 pub record IsCountable (places : PlacesValue) (cached : List (ℕ × Picture)) (front goes back : List (Option ℕ))
     (leaving : List ℕ) : Type 0 where
   pub counted : (number : ℕ) → uses_at places number ≡ times number (front ++ goes ++ back)
   pub apart : (number : ℕ) → 0 < uses_at places number → Contains (numbers_of cached) number → ⊥
   pub leave : (number : ℕ) → times_in number leaving ≡ times number goes
 
--- so it is where these keys have come: a key in use has the picture that was held or cached, and left the cache, into which
--- those went that were held and whose keys are no longer in use
+-- so it is where these keys have come: a key in use has the picture that was held or cached, and
+-- left the cache, into which those went that were held and whose keys are no longer in use
 pub record IsRecounted (old : PlacesValue) (cached : List (ℕ × Picture)) (room : ℕ) (found : List (Option ℕ)) (new : PlacesValue)
     (more : List (ℕ × Picture)) : Type 0 where
   pub counted : (number : ℕ) → uses_at new number ≡ times number found

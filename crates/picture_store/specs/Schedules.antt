@@ -63,8 +63,8 @@ pub record IsEarliestDue (keys : Trees) (places : PlacesValue) (out : List JobOu
 abbrev pub IsNeededHere : List (ℕ × Outcome) → List (Option ℕ) → PlacesValue → ℕ → ℕ → Type 0
 IsNeededHere units found places target at = IsNeeded units (IsWaiting found places) target at
 
--- the needed units of a target are scheduled: each that is due is in the queue, and each is listed as
--- one that waits for the keys to which it refers and whose pictures aren't held; what stands in
+-- the needed units of a target are scheduled: each that is due is in the queue, and each is listed
+-- as one that waits for the keys to which it refers and whose pictures aren't held; what stands in
 -- either is needed as long as it waits
 pub record AreScheduled (keys : Trees) (units : List (ℕ × Outcome)) (found : List (Option ℕ)) (places : PlacesValue)
     (out : List JobOut) (target : ℕ) (dependents : List Dependent) (queue : List (Reverse ℕ)) : Type 0 where
@@ -92,8 +92,8 @@ pub record AddsDue (keys : Trees) (places : PlacesValue) (out : List JobOut) (fo
   pub only : (at : ℕ) → IsQueued after at → IsQueued queue at ⊎ Comes at
   pub all : (at : ℕ) → Comes at → IsDueThere keys places out found at → IsQueued after at
 
--- a schedule goes on where the picture of an entry is held: those of its dependents that are due come
--- to its queue; or nothing stays of it
+-- a schedule goes on where the picture of an entry is held: those of its dependents that are due
+-- come to its queue; or nothing stays of it
 abbrev pub GoesOn : Trees → PlacesValue → List JobOut → List (Option ℕ) → ℕ → Option Schedule → Option Schedule → Type 0
 GoesOn keys places out found entry old None = Unit {0}
 GoesOn keys places out found entry None (Some new) = ⊥

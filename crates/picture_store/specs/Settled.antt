@@ -13,7 +13,8 @@ use Rattle.picture_store.specs.Kept.{Trees, numbers_out, IsKept}
 use Rattle.picture_store.specs.Due.{IsHeld}
 use Rattle.picture_store.specs.Schedules.{IsScheduled}
 
--- the unit of this number needs no job: it has no key, or the picture of its key is held or that of a job that is out
+-- the unit of this number needs no job: it has no key, or the picture of its key is held or that of
+-- a job that is out
 abbrev pub NeedsNone : PlacesValue → List JobOut → Option ℕ → Type 0
 NeedsNone places out number = IfSome number (λ n. IsHeld places n ⊎ Contains (numbers_out out) n)
 
@@ -21,8 +22,9 @@ NeedsNone places out number = IfSome number (λ n. IsHeld places n ⊎ Contains 
 abbrev pub AreSettled : PlacesValue → List JobOut → List (Option ℕ) → ℕ → Type 0
 AreSettled places out found count = (count ≤ length found) × All (NeedsNone places out) (take count found)
 
--- what is stored: what is kept of the stream, where each place counts the units that use its key and no key in use is cached;
--- how many units are known to need no job; and the schedule of the units that one needs
+-- what is stored: what is kept of the stream, where each place counts the units that use its key
+-- and no key in use is cached; how many units are known to need no job; and the schedule of the
+-- units that one needs
 pub record IsStored (keys : Trees) (ids : List ℕ) (outcomes : List Outcome) (found : List (Option ℕ))
     (places : PlacesValue) (cached : List (ℕ × Picture)) (out : List JobOut) (count : ℕ) (schedule : Option Schedule) : Type 0 where
   pub kept : IsKept keys ids outcomes found places cached out

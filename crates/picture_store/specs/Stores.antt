@@ -13,9 +13,9 @@ pub record OutValue : Type 0 where
   pub key : Key
   pub input : InputValue
 
--- the ids of a stream's units, their outcomes, and the number of each unit's key; how many pictures may be
--- cached; the keys whose pictures are held, those whose pictures are cached, the one put last first; the jobs that are
--- out; and how many numbers of jobs were given
+-- the ids of a stream's units, their outcomes, and the number of each unit's key; how many pictures
+-- may be cached; the keys whose pictures are held, those whose pictures are cached, the one put
+-- last first; the jobs that are out; and how many numbers of jobs were given
 pub record StoreValue : Type 0 where
   pub ids : List ℕ
   pub outcomes : List Outcome
@@ -55,8 +55,8 @@ AreNumbered store = (key : Key) → IsInUse store key → (number : ℕ) × IsNu
 abbrev pub IsNumberInUse : StoreValue → ℕ → Type 0
 IsNumberInUse store number = (key : Key) × IsNumberOf store key number
 
--- numbers of keys in use before and after are equal exactly where the keys are: one that stays in use keeps its number,
--- and no other has that
+-- numbers of keys in use before and after are equal exactly where the keys are: one that stays in
+-- use keeps its number, and no other has that
 abbrev pub AreOneToOne : StoreValue → StoreValue → Type 0
 AreOneToOne old new =
     (key other : Key) (number another : ℕ) → IsNumberOf old key number → IsNumberOf new other another

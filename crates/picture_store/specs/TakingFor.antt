@@ -15,8 +15,8 @@ pub record TakesFor (old : StoreValue) (target : ℕ) (told : JobAt) (new : Stor
   pub needed : IsNeededBy old target told.at
   pub earliest : (at : ℕ) → at < told.at → IsNeededBy old target at → IsDueAt old at → ⊥
 
--- what `take_for` tells: a job and at which place its unit stands, that no needed unit is due, or why no job is given;
--- what is needed is gathered in memory first
+-- what `take_for` tells: a job and at which place its unit stands, that no needed unit is due, or
+-- why no job is given; what is needed is gathered in memory first
 abbrev pub TellsTakeFor : StoreValue → ℕ → Result (Option JobAt) TakeRefused → StoreValue → Type 0
 TellsTakeFor old target (Ok (Some told)) new = TakesFor old target told new
 TellsTakeFor old target (Ok None) new = (IsAnyDueBy old target → ⊥) × (new ≡ old)

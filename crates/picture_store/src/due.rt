@@ -1,4 +1,5 @@
-//! Which key is due: its picture is wanted, no job makes it, and the pictures that it refers to are held.
+//! Which key is due: its picture is wanted, no job makes it, and the pictures that it refers to are
+//! held.
 
 ghost use Rattle.std.specs.Prelude.{◌≡◌, ◌<◌, ◌↔◌, ℕ, Option, Some, None, length, take, All, Contains, IfSome, IsSome, IsTrue, MatchOption, slice_get, slice_index_or};
 ghost use Rattle.picture_store.specs.Kept.{AreRight};

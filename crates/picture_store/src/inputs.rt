@@ -18,7 +18,8 @@ use stand_in_device::{Input, Picture};
 use std::alloc::{AllocError, Global};
 use unit_outcomes::Outcome;
 
-/// The requests of a unit with this key, and the pictures that they refer to, each of which is held.
+/// The requests of a unit with this key, and the pictures that they refer to, each of which is
+/// held.
 pub(crate) fn input_of<F: Fingerprint<Works>>(
     alloc: Global,
     keys: &Keys<Works, F>,

@@ -4,8 +4,8 @@ ghost use Rattle.std.specs.Prelude.{ℕ};
 ghost use Rattle.picture_store.specs.Stores.{StoreValue};
 ghost use Rattle.picture_store.specs.Pending.{IsStuck};
 
-/// Something is due: where the unit at a place is pending and no needed unit's key is out, a needed unit is due. So no unit
-/// is ever stuck.
+/// Something is due: where the unit at a place is pending and no needed unit's key is out, a needed
+/// unit is due. So no unit is ever stuck.
 pub fn something_is_due()
     ensures { (store : StoreValue) (at : ℕ) → IsStuck store at → ⊥ }
 {}

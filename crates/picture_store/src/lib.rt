@@ -1,12 +1,13 @@
-//! The pictures of a stream's units: which are held, which wait, which are cached after their keys went out of use, and
-//! the jobs that are out.
+//! The pictures of a stream's units: which are held, which wait, which are cached after their keys
+//! went out of use, and the jobs that are out.
 //!
-//! `PictureStore` knows a stream by its units' ids and the outcome of each. `refit` takes a stretch of it that changed,
-//! and finds the keys of its units and of those after it whose keys may have changed with it: a picture whose key stays in
-//! use stays held. `take` gives the job of the earliest picture that can be decoded, `take_for` that of the earliest which a
-//! unit needs, `land` takes its result, late or twice, `give_back` the job undone, `picture` shows what is held, and
-//! `drop_picture` lets it go. Below are needed_units, picture_keys, which gives keys their numbers, and picture_cache; above
-//! is the session.
+//! `PictureStore` knows a stream by its units' ids and the outcome of each. `refit` takes a stretch
+//! of it that changed, and finds the keys of its units and of those after it whose keys may have
+//! changed with it: a picture whose key stays in use stays held. `take` gives the job of the
+//! earliest picture that can be decoded, `take_for` that of the earliest which a unit needs, `land`
+//! takes its result, late or twice, `give_back` the job undone, `picture` shows what is held, and
+//! `drop_picture` lets it go. Below are needed_units, picture_keys, which gives keys their numbers,
+//! and picture_cache; above is the session.
 #![tactic(auto)]
 
 mod answers;

@@ -12,7 +12,8 @@ use pictures::AuId;
 use stand_in_device::{Picture, Reference};
 use std::alloc::{AllocError, Global};
 
-/// The pictures of the units that are named, each once, by the numbers of the keys that stand at the same entries.
+/// The pictures of the units that are named, each once, by the numbers of the keys that stand at
+/// the same entries.
 pub(crate) fn references_of(
     alloc: Global,
     places: &Places<Picture>,

@@ -26,8 +26,8 @@ fn leaving(alloc: Global, found: &[Option<KeyId>]) -> Result<Vec<KeyId>, AllocEr
     Ok(keys)
 }
 
-/// Makes room for the numbers and the keys of units that come in the place of those between two places, and gives the keys
-/// of these. The places stay.
+/// Makes room for the numbers and the keys of units that come in the place of those between two
+/// places, and gives the keys of these. The places stay.
 pub(crate) fn make_ready(
     alloc: Global,
     found: &mut Vec<Option<KeyId>>,
@@ -53,8 +53,8 @@ pub(crate) fn make_ready(
     Ok(leaving)
 }
 
-/// Counts the keys of the units that come, for which there is room, and then those of units that go. Memory runs out for
-/// the cache alone.
+/// Counts the keys of the units that come, for which there is room, and then those of units that
+/// go. Memory runs out for the cache alone.
 pub(crate) fn recount(
     places: &mut Places<Picture>,
     cache: &mut PictureCache<KeyId, Picture>,

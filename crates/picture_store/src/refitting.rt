@@ -26,7 +26,8 @@ use request_core::State;
 use stand_in_device::Picture;
 use std::alloc::{AllocError, Global};
 
-/// The numbers of the keys of units, nothing for one that isn't valid. Keys that have a number keep it.
+/// The numbers of the keys of units, nothing for one that isn't valid. Keys that have a number keep
+/// it.
 pub fn numbers_of<F: Fingerprint<Works>>(
     alloc: Global,
     keys: &mut Keys<Works, F>,
@@ -67,7 +68,8 @@ fn go_over<F: Fingerprint<Works>>(
     Ok(())
 }
 
-/// What is kept of the units of a stream, column by column: their ids, their outcomes, and the numbers of their keys.
+/// What is kept of the units of a stream, column by column: their ids, their outcomes, and the
+/// numbers of their keys.
 #[derive(Clone, Copy, Debug)]
 struct Columns<'a> {
     ids: &'a [AuId],
@@ -87,8 +89,8 @@ impl<'a> Columns<'a> {
     }
 }
 
-/// The numbers of the keys of a stretch's units and of as many after it as may have others than before, and the place
-/// past these, from which on all keys stay.
+/// The numbers of the keys of a stretch's units and of as many after it as may have others than
+/// before, and the place past these, from which on all keys stay.
 pub(crate) fn keys_from<F: Fingerprint<Works>>(
     alloc: Global,
     keys: &mut Keys<Works, F>,
@@ -123,7 +125,8 @@ pub(crate) fn keys_from<F: Fingerprint<Works>>(
     Ok((past, after.into_found()))
 }
 
-/// Goes over the units from a place on up to where the keys of those after it stay, and gives that place.
+/// Goes over the units from a place on up to where the keys of those after it stay, and gives that
+/// place.
 fn go_on<F: Fingerprint<Works>>(
     alloc: Global,
     keys: &mut Keys<Works, F>,
@@ -159,7 +162,8 @@ fn go_on<F: Fingerprint<Works>>(
     Ok(units.ids.len())
 }
 
-/// Whether a state is stored at a place, and the keys of all frames that are marked there have the numbers that they had.
+/// Whether a state is stored at a place, and the keys of all frames that are marked there have the
+/// numbers that they had.
 fn agree_at(
     states: &Checkpoints<State>,
     at: usize,
@@ -229,8 +233,8 @@ pub(crate) fn sweep<F: Fingerprint<Works>>(
     keys.sweep(&roots)
 }
 
-/// Forgets those keys, where there are so many that it is time to, and says how many will be enough the next time: twice as
-/// many as are left, and some more.
+/// Forgets those keys, where there are so many that it is time to, and says how many will be enough
+/// the next time: twice as many as are left, and some more.
 pub(crate) fn sweep_at<F: Fingerprint<Works>>(
     alloc: Global,
     enough: usize,

@@ -4,8 +4,8 @@ use base_types::Shared;
 use hashed_units::HashedOutcome;
 use pictures::AuId;
 
-/// Units that stand in the place of those from one place of a stream on and below another: their ids, and what becomes of
-/// each.
+/// Units that stand in the place of those from one place of a stream on and below another: their
+/// ids, and what becomes of each.
 #[derive(Debug, Drop)]
 pub struct Stretch {
     pub from: usize,

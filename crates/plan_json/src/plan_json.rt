@@ -16,8 +16,9 @@ use std::io::Read;
 use std::thread::Threads;
 use unit_json::{Encoder, JsonLine};
 
-/// Prints the units of the stream that the reader gives, a line each by this encoder, or the line of its refusal. Where the
-/// reader fails or memory runs out, `errors` is told; the reader has this name there.
+/// Prints the units of the stream that the reader gives, a line each by this encoder, or the line
+/// of its refusal. Where the reader fails or memory runs out, `errors` is told; the reader has this
+/// name there.
 pub fn plan_json_on<J: Encoder, R: Read, W: Sink, E: Sink>(
     threads: &(impl Threads + Sync),
     alloc: Global,

@@ -18,7 +18,8 @@ abbrev pub fault_of_print : PrintFault → PlanFault
 fault_of_print print.Memory = Memory
 fault_of_print print.Unwritten = Unwritten
 
--- what is said of the stream of this name; nothing where its refusal is printed, or it is the writer that takes no more
+-- what is said of the stream of this name; nothing where its refusal is printed, or it is the
+-- writer that takes no more
 abbrev pub plan_fault_text : List ℕ → PlanFault → List ℕ
 plan_fault_text name Unread = unread_text name
 plan_fault_text name (Refused refusal) = []

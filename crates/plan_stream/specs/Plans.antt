@@ -32,8 +32,9 @@ abbrev pub WritesFront : List ℕ → Option (List ℕ) → Option (List ℕ) �
 WritesFront text old new =
     Keeps old new ⊎ ((lines : List ℕ) × (IsPlanned text lines ⊎ IsRefused text lines) × AppendsFront old new lines)
 
--- what was written of a text whose plan ended by this fault: nothing where it wasn't read, the whole line of its
--- refusal, nothing or a prefix of its units' lines where memory runs out, or any prefix where the writer refused
+-- what was written of a text whose plan ended by this fault: nothing where it wasn't read, the
+-- whole line of its refusal, nothing or a prefix of its units' lines where memory runs out, or any
+-- prefix where the writer refused
 abbrev pub EndsBy : List ℕ → PlanFault → Type 0 → Option (List ℕ) → Option (List ℕ) → Type 0
 EndsBy text Unread refused old new = Keeps old new
 EndsBy text (Refused refusal) refused old new =

@@ -5,7 +5,8 @@ use Rattle.access_unit.specs.declared.refused.Refused.TheVariants as refusals
 use Rattle.access_unit.specs.declared.room.Refusal.{Refusal}
 use Rattle.access_unit.specs.declared.room.Refusal.TheVariants.{Split, Unit, StreamFull}
 
--- the access unit at this index is the first that is refused, unless one before it was, or the stream doesn't split
+-- the access unit at this index is the first that is refused, unless one before it was, or the
+-- stream doesn't split
 abbrev pub refused_after : Option Refusal → ℕ → Refused → Option Refusal
 refused_after None index refused = Some (Unit index refused)
 refused_after (Some StreamFull) index refused = Some (Unit index refused)

@@ -42,8 +42,8 @@ impl From<PrintFault> for PlanFault {
     }
 }
 
-/// Says why the plan of the stream of this name isn't printed whole. A refusal is printed where the plan would be, and
-/// a writer that takes no more is known to who reads it.
+/// Says why the plan of the stream of this name isn't printed whole. A refusal is printed where the
+/// plan would be, and a writer that takes no more is known to who reads it.
 pub fn say_plan_fault<E: Sink>(
     fault: PlanFault,
     name: &str,

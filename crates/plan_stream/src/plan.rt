@@ -19,8 +19,8 @@ use std::alloc::Global;
 use std::io::Read;
 use unit_lines::RefusalLine;
 
-/// Prints the plan of the stream that the reader gives, or its refusal. Where the reader fails or memory runs out,
-/// `errors` is told; the reader has this name there.
+/// Prints the plan of the stream that the reader gives, or its refusal. Where the reader fails or
+/// memory runs out, `errors` is told; the reader has this name there.
 pub fn plan_on<R: Read, W: Sink, E: Sink>(
     alloc: Global,
     name: &str,

@@ -73,7 +73,8 @@ fn print_lines<W: Sink>(
     Ok(())
 }
 
-/// Prints the lines of a unit, of which those after its position are kept. The others are written into the line first.
+/// Prints the lines of a unit, of which those after its position are kept. The others are written
+/// into the line first.
 fn print_unit<W: Sink>(
     head: &UnitHead<'_>,
     tail: &[u8],

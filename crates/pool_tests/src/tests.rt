@@ -155,7 +155,8 @@ impl Sign {
     }
 }
 
-/// Looks at both signs until they are given, with 100 microseconds after each look. Whether they were, in a million looks.
+/// Looks at both signs until they are given, with 100 microseconds after each look. Whether they
+/// were, in a million looks.
 fn are_both_given(rt: &impl Clock, one: &Sign, other: &Sign) -> bool {
     for _turn in 0..MOST_TURNS {
         if one.is_given() && other.is_given() {

@@ -137,9 +137,10 @@ pub(crate) const CLOCK: [u8; 2116] = [
     0xDF, 0x2A, 0x16, 0xA8,
 ];
 
-/// What is printed for it. Types, frame_nums and header sizes are ffmpeg's (tools/compare-headers), the order of
-/// output too (ffprobe). The rest follows by hand: each picture is a reference with one slice, picture order count
-/// type 2 and one reference frame, so counts are twice frame_num and the picture before is the one entry.
+/// What is printed for it. Types, frame_nums and header sizes are ffmpeg's (tools/compare-headers),
+/// the order of output too (ffprobe). The rest follows by hand: each picture is a reference with
+/// one slice, picture order count type 2 and one reference frame, so counts are twice frame_num and
+/// the picture before is the one entry.
 pub(crate) const CLOCK_LINES: [&str; 24] = [
     "unit 1 position 0 counts 0 0 requests 1\n",
     "request 1.0 ts 1000 bits 30 type 2 frame 0 dpb - l0 - l1 - hold 0\n",

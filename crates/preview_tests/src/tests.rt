@@ -1,4 +1,5 @@
-//! Runs over memory: texts in, lines out. Each table's rows were worked out by hand from docs/OUTPUT.md and the standard.
+//! Runs over memory: texts in, lines out. Each table's rows were worked out by hand from
+//! docs/OUTPUT.md and the standard.
 
 mod command_lines;
 mod controls;

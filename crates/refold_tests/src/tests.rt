@@ -14,7 +14,8 @@ use std::test::Fail;
 use stream_fold::{Change, Folded, OrderedFold};
 use unit_outcomes::Outcome;
 
-/// Sets and an IDR picture, of one macroblock, count type 2 and one reference frame; frame_num has four bits.
+/// Sets and an IDR picture, of one macroblock, count type 2 and one reference frame; frame_num has
+/// four bits.
 const A: [u8; 23] = [
     0, 0, 1, 0x67, 0x42, 0x00, 0x0A, 0xDA, 0x79, 0, 0, 1, 0x68, 0xCE, 0x38, 0x80, 0, 0, 1, 0x65,
     0x88, 0x84, 0x80,
@@ -64,8 +65,8 @@ fn unit(rt: &(impl Abort + AllocGlobal), text: &[u8]) -> Result<Shared<HashedUni
     }
 }
 
-/// Puts the unit, if there is one, in place of those from `at` on and below `rest`, under the id of the place, and says how
-/// many steps of the fold it took.
+/// Puts the unit, if there is one, in place of those from `at` on and below `rest`, under the id of
+/// the place, and says how many steps of the fold it took.
 fn changed(
     alloc: Global,
     folded: &mut Folded,
@@ -140,7 +141,8 @@ fn is_valid(folded: &Folded, at: usize) -> bool {
     }
 }
 
-/// A thousand units: the first has the sets, the 601st is an IDR picture, the others are P pictures that follow.
+/// A thousand units: the first has the sets, the 601st is an IDR picture, the others are P pictures
+/// that follow.
 fn thousand(rt: &(impl Abort + AllocGlobal)) -> Result<Folded, AllocError> {
     let mut folded = Folded::new(rt.alloc())?;
     append(rt, &mut folded, &A)?;
@@ -163,7 +165,8 @@ fn an_append_makes_one_step(rt: HostRuntime) -> Result<(), Fail> {
     Ok(())
 }
 
-/// From the state stored at place 480 to that at 512, which stays; and from the last one, at 992, to the end.
+/// From the state stored at place 480 to that at 512, which stays; and from the last one, at 992,
+/// to the end.
 #[test]
 fn a_replacement_in_a_long_stream_makes_few_steps(rt: HostRuntime) -> Result<(), Fail> {
     let mut folded = thousand(&rt)?;
@@ -236,8 +239,8 @@ fn a_position_takes_few_comparisons(rt: HostRuntime) -> Result<(), Fail> {
     Ok(())
 }
 
-/// Whether a deletion that is refused for lack of memory leaves the stream and the outcomes of its units as they were, and
-/// one that isn't leaves the picture behind it without the one before.
+/// Whether a deletion that is refused for lack of memory leaves the stream and the outcomes of its
+/// units as they were, and one that isn't leaves the picture behind it without the one before.
 fn holds_where_refused(rt: &(impl Abort + AllocGlobal)) -> Result<bool, AllocError> {
     let mut folded = Folded::new(rt.alloc())?;
     append(rt, &mut folded, &A)?;

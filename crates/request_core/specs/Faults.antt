@@ -1,4 +1,5 @@
--- What keeps a picture from being decoded after those before it, before it is counted (ITU-T H.264, 7.4.1.2.1 and 7.4.3).
+-- What keeps a picture from being decoded after those before it, before it is counted (ITU-T H.264,
+-- 7.4.1.2.1 and 7.4.3).
 use Rattle.std.specs.Prelude.{ℕ, ◌+◌, ◌%◌, ◌==◌, Bool, true, false, not, ◌&&◌, ◌||◌, List, [], ◌∷◌, Option, None, Some}
 use Rattle.std.specs.List.{list_any}
 use Rattle.set_types.specs.declared.sps.Sps.{Sps}

@@ -5,8 +5,8 @@ use Rattle.pictures.specs.declared.counts.Counts.{Counts}
 use Rattle.pictures.specs.declared.frames.Frame.{Frame}
 use Rattle.request_core.specs.Requests.{ListedSlice, requests_of}
 
--- a picture of the unit of an id: the frames that were marked before it, its counts, its place in output order, and its
--- slices with their lists
+-- a picture of the unit of an id: the frames that were marked before it, its counts, its place in
+-- output order, and its slices with their lists
 pub record Pictured : Type 0 where
   pub id : ℕ
   pub frames : List Frame

@@ -1,4 +1,5 @@
--- The requests of a picture (Linux media documentation, stateless codec controls for H.264 in slice-based mode).
+-- The requests of a picture (Linux media documentation, stateless codec controls for H.264 in
+-- slice-based mode).
 use Rattle.std.specs.Prelude.{ℕ, Bool, true, false, List, [], ◌∷◌, ◌++◌, Option, option_map}
 use Rattle.annexb.specs.ByteStream.{start_code}
 use Rattle.pictures.specs.declared.counts.Counts.{Counts}

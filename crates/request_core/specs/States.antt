@@ -1,4 +1,5 @@
--- What the fold over a stream keeps of the units before (ITU-T H.264, 7.4.1.2.1, 7.4.3, 8.2.1 and 8.2.5).
+-- What the fold over a stream keeps of the units before (ITU-T H.264, 7.4.1.2.1, 7.4.3, 8.2.1 and
+-- 8.2.5).
 use Rattle.std.specs.Prelude.{ℕ, List, map, Option, None}
 use Rattle.set_types.specs.declared.sps.Sps.{Sps}
 use Rattle.order_count.specs.declared.anchors.Anchor.{Anchor}
@@ -6,7 +7,8 @@ use Rattle.order_count.specs.Anchors.{no_pictures}
 use Rattle.pictures.specs.MarkedFrames.{Marked, no_frames}
 use Rattle.slice_reading.specs.ParameterSets.{ParameterSets, no_sets}
 
--- the parameter sets, the set of the last IDR picture, what counting keeps, PrevRefFrameNum, and the marked frames
+-- the parameter sets, the set of the last IDR picture, what counting keeps, PrevRefFrameNum, and
+-- the marked frames
 pub record FoldState : Type 0 where
   pub tables : ParameterSets
   pub active : Option Sps

@@ -1,4 +1,5 @@
-//! What a picture stands on: its counts, the lists of its slices, and the frames that are marked after it.
+//! What a picture stands on: its counts, the lists of its slices, and the frames that are marked
+//! after it.
 
 ghost use Rattle.std.specs.Prelude.{◌≡◌, ◌∷◌, ◌++◌, map, Ok, Err, IfOk, IsTrue};
 ghost use Rattle.order_count.specs.Counting.{counts_of};

@@ -49,7 +49,8 @@ impl UnitRead {
         with_slices(alloc, state, slices)
     }
 
-    /// The state after the unit, and what is found of it: one step of the fold, which makes no requests.
+    /// The state after the unit, and what is found of it: one step of the fold, which makes no
+    /// requests.
     pub fn step<'a>(&'a self, alloc: Global, id: AuId) -> Result<(State, Finding<'a>), AllocError>
         ensures { (before : FoldState) (unit : List (List ℕ)) → self.now ≡ read_of before unit
             → IfOk result (λ step. step_in step ≡ fold_step before id unit) }

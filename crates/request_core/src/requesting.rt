@@ -16,7 +16,8 @@ use set_types::Sps;
 use std::alloc::{AllocError, Global};
 use unit_outcomes::Requests;
 
-/// The controls of a slice of a picture with these counts. They share what the request before them has too.
+/// The controls of a slice of a picture with these counts. They share what the request before them
+/// has too.
 fn controls_of(
     alloc: Global,
     marks: &Marks,

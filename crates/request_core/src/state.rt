@@ -71,8 +71,8 @@ impl State {
         })
     }
 
-    /// Whether both are the same: the sets in the tables by their contents, the marked frames with their ids, in decode
-    /// order.
+    /// Whether both are the same: the sets in the tables by their contents, the marked frames with
+    /// their ids, in decode order.
     pub fn is_same(&self, other: &State) -> bool
         ensures { IsTrue result ↔ (self.now ≡ other.now) }
     {

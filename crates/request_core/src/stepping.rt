@@ -29,7 +29,8 @@ use unit_outcomes::{Outcome, ValidityFault};
 
 /// One step of the fold: the state after the unit, and the unit's outcome.
 ///
-/// It counts one step where it answers. Where memory runs out nothing is changed, and nothing counted.
+/// It counts one step where it answers. Where memory runs out nothing is changed, and nothing
+/// counted.
 pub fn step(
     alloc: Global,
     state: &State,

@@ -1,4 +1,5 @@
--- Commands answered one after the other, and what was written where the last one isn't answered in full.
+-- Commands answered one after the other, and what was written where the last one isn't answered in
+-- full.
 use Rattle.std.proofs.Common.{◌≡◌, ◌∙◌, ℕ, List, [], ◌∷◌, ◌++◌, Option, refl, ap, sym, inl, inr, append_assoc, append-nil}
 use Rattle.std.proofs.KnownBytes.{Appends-trans}
 use Rattle.std.specs.Io.KnownBytes.{Appends}

@@ -221,7 +221,8 @@ not_pending old id new told none_out waits =
       none_out = λ out. none_out (pending.0, pending.1, out);
     })
 
--- where no needed unit's key is out, and all jobs for a unit land that can be taken, it isn't pending
+-- where no needed unit's key is out, and all jobs for a unit land that can be taken, it isn't
+-- pending
 pub settled_there : (old : Machine) (id : ℕ) (jobs : List TakenJob) (new : Machine) → Settles (Some id) old jobs new
     → (IsAnyOutFor old id → ⊥) → IsPendingIn new id → ⊥
 settled_there old id [] new settles none_out =

@@ -49,8 +49,8 @@ abbrev pub report_json : ℕ → Result UnitReport NoSuchUnit → JsonLine
 report_json number (Ok report) = unit_line (id_of number) report.position report.outcome
 report_json number (Err none) = no_unit_json number
 
--- the lines of a session's reply, which name the number that was asked for; pictures have digits where they are asked
--- for. That all numbers of jobs were given has no line: it ends the run
+-- the lines of a session's reply, which name the number that was asked for; pictures have digits
+-- where they are asked for. That all numbers of jobs were given has no line: it ends the run
 abbrev pub reply_lines : Bool → ℕ → Reply → Option (List ℕ)
 reply_lines hex number (replies.Edit answer) = Some (edit_line answer)
 reply_lines hex number (replies.Group answer) = Some (group_answer_line answer)

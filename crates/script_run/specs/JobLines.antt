@@ -15,7 +15,8 @@ taken_line (Some job) =
     codes "job " ++ (decimal job.number ++ (codes " unit " ++ (decimal job.unit ++ codes "\n")))
 taken_line None = codes "job none\n"
 
--- what became of the result of a job, in a word; a result of no job that is out is like a job that isn't out
+-- what became of the result of a job, in a word; a result of no job that is out is like a job that
+-- isn't out
 abbrev pub landing_word : Result Landing NotOut → List ℕ
 landing_word (Ok landing.Taken) = codes "taken"
 landing_word (Ok landing.Stale) = codes "stale"

@@ -40,8 +40,8 @@ place_after None = First
 abbrev pub end_of : Stream → Place
 end_of stream = place_after (last_of stream).id
 
--- the units that are left are inserted after the last one, each by an edit, of so many in all: to the end, or to the
--- first edit that is refused
+-- the units that are left are inserted after the last one, each by an edit, of so many in all: to
+-- the end, or to the first edit that is refused
 abbrev pub InsertsAll : ℕ → Machine → List (List (List ℕ)) → List ℕ → Machine → Type 0
 InsertsAll count old [] lines new = (lines ≡ loaded_line count) × (new ≡ old)
 InsertsAll count old (part ∷ parts) lines new =
@@ -64,8 +64,8 @@ Loads old text lines new =
     ⊎ ((refusal : Refusal) × IsStreamRefused text (room_of old.register.stream) refusal
     × (lines ≡ refusal_text refusal) × (new ≡ old))
 
--- the session replies to what it is told, and the lines are those of its reply, with a picture's digits or without;
--- the number is the one asked for
+-- the session replies to what it is told, and the lines are those of its reply, with a picture's
+-- digits or without; the number is the one asked for
 abbrev pub Follows : Bool → Machine → Told → ℕ → List ℕ → Machine → Type 0
 Follows hex old told number lines new =
     (reply : Reply) × Replies old told reply new × (reply_lines hex number reply ≡ Some lines)
@@ -105,8 +105,8 @@ module _ (says : JsonLine → List ℕ → Type 0) where
   abbrev pub WritesRun : Files → Bool → Machine → List SessionCommand → Machine → Option (List ℕ) → Option (List ℕ) → Type 0
   WritesRun files hex from commands to old new = AreWritten (Answers files hex) from commands to old new
 
-  -- the text is a script, and what answers its commands was written: they were run from the empty stream, for a cache
-  -- of this room, and pictures have their digits or not
+  -- the text is a script, and what answers its commands was written: they were run from the empty
+  -- stream, for a cache of this room, and pictures have their digits or not
   pub record WritesScript (files : Files) (text : List ℕ) (room : ℕ) (hex : Bool) (old new : Option (List ℕ)) : Type 0 where
     pub commands : List SessionCommand
     pub last : Machine

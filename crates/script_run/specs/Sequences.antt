@@ -1,4 +1,5 @@
--- Commands that are answered one after the other, by whatever answers them, and what is written of that (docs/OUTPUT.md).
+-- Commands that are answered one after the other, by whatever answers them, and what is written of
+-- that (docs/OUTPUT.md).
 use Rattle.std.specs.Prelude.{◌≡◌, ℕ, ◌++◌, List, [], ◌∷◌, Option, ◌⊎◌}
 use Rattle.std.specs.Io.KnownBytes.{Appends}
 use Rattle.console_io.specs.Chunks.{AppendsFront}
@@ -18,8 +19,8 @@ module _ {S C : Type 0} (answers : S → C → List ℕ → S → Type 0) where
   AreWritten from commands to old new = (lines : List ℕ) × AreAnswered from commands lines to × Appends old new lines
 
 module _ {S C : Type 0} (answers : S → C → List ℕ → S → Type 0) (is_fault : C → RunFault → Type 0) where
-  -- a command isn't answered by this fault, and nothing more was written; or its answer is these lines, of which the
-  -- writer took a front and then refused
+  -- a command isn't answered by this fault, and nothing more was written; or its answer is these
+  -- lines, of which the writer took a front and then refused
   abbrev pub StopsIn : S → C → List ℕ → RunFault → Type 0 → Option (List ℕ) → Option (List ℕ) → Type 0
   StopsIn from command before fault refused old new =
       (is_fault command fault × Appends old new before)

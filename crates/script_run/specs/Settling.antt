@@ -1,4 +1,5 @@
--- How `settle` leads from one state of the session to another: for all units, or for the one of an id (docs/OUTPUT.md).
+-- How `settle` leads from one state of the session to another: for all units, or for the one of an
+-- id (docs/OUTPUT.md).
 use Rattle.std.specs.Prelude.{◌≡◌, ℕ, Bool, true, false, List, [], ◌∷◌, Ok, Option, Some, None}
 use Rattle.edit_engine.specs.declared.commands.Command.TheVariants as told
 use Rattle.edit_engine.specs.declared.replies.Reply.{Reply}
@@ -8,7 +9,8 @@ use Rattle.edit_engine.specs.Machines.{Machine}
 use Rattle.edit_engine.specs.Runs.{Answers as Replies}
 use Rattle.edit_engine.specs.Taken.{input_of}
 
--- this job is taken, or none, since no picture is due, or none of those that the unit of the id needs
+-- this job is taken, or none, since no picture is due, or none of those that the unit of the id
+-- needs
 abbrev pub Takes : Option ℕ → Machine → Option TakenJob → Machine → Type 0
 Takes None old job new = Replies old told.Take (replies.Take (Ok job)) new
 Takes (Some id) old job new = Replies old (told.TakeFor id) (replies.TakeFor (Ok job)) new

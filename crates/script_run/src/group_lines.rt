@@ -37,7 +37,8 @@ impl<'a> Display for Ids<'a> {
     }
 }
 
-/// The line of a refused group: with the place of the edit that is refused, counted from 0, where it is one edit's refusal.
+/// The line of a refused group: with the place of the edit that is refused, counted from 0, where
+/// it is one edit's refusal.
 #[derive(Drop)]
 pub struct GroupRefusedLine(pub GroupRefused);
 

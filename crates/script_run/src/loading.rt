@@ -20,8 +20,9 @@ use std::alloc::{AllocError, Global};
 use std::thread::Threads;
 use unit_lines::RefusalLine;
 
-/// Inserts the units of the file of this name after the last one, each by an edit, and gives the line that says how
-/// many; or why the file's stream is refused, or why an edit is, which ends the loading.
+/// Inserts the units of the file of this name after the last one, each by an edit, and gives the
+/// line that says how many; or why the file's stream is refused, or why an edit is, which ends the
+/// loading.
 pub fn load<'a, S: Source>(
     threads: &(impl Threads + Sync),
     alloc: Global,
@@ -60,7 +61,8 @@ pub fn shared_file<'a, S: Source>(
     }
 }
 
-/// Inserts the units after the last one, and gives the line that says how many, or why one is refused.
+/// Inserts the units after the last one, and gives the line that says how many, or why one is
+/// refused.
 fn insert_all(
     alloc: Global,
     units: Vec<HashedUnit>,

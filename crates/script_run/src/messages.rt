@@ -1,5 +1,5 @@
-//! What is said on standard error of a script that isn't run to its end. It takes no memory, and where it can't be
-//! written nothing more is said.
+//! What is said on standard error of a script that isn't run to its end. It takes no memory, and
+//! where it can't be written nothing more is said.
 
 ghost use Rattle.console_io.specs.Messages.{Tells};
 ghost use Rattle.script_run.specs.Messages.{run_fault_text, script_fault_text};

@@ -28,9 +28,9 @@ use std::thread::Threads;
 use unit_json::{Encoder, JsonLine};
 use unit_lines::UnitLines;
 
-/// Runs the script that the reader gives, whose files the source gives, on a session of its own. Each line that is a
-/// command is answered by one write, and `json` by a line of this encoder. Why the run ends before the script does is told to
-/// `errors`.
+/// Runs the script that the reader gives, whose files the source gives, on a session of its own.
+/// Each line that is a command is answered by one write, and `json` by a line of this encoder. Why
+/// the run ends before the script does is told to `errors`.
 pub fn script_on<J: Encoder, R: Read, S: Source, W: Sink, E: Sink>(
     threads: &(impl Threads + Sync),
     alloc: Global,
@@ -113,8 +113,8 @@ fn run_text<'a, J: Encoder, S: Source, W: Sink>(
     )
 }
 
-/// Runs the commands one after the other, and writes what each one prints, pictures with digits where `hex` asks for
-/// them.
+/// Runs the commands one after the other, and writes what each one prints, pictures with digits
+/// where `hex` asks for them.
 fn run_commands<'a, J: Encoder, S: Source, W: Sink>(
     threads: &(impl Threads + Sync),
     alloc: Global,
@@ -222,7 +222,8 @@ fn say_unit<J: Encoder>(
     }
 }
 
-/// The line of JSON of what is reported of the unit of this number: its outcome, or that there is none.
+/// The line of JSON of what is reported of the unit of this number: its outcome, or that there is
+/// none.
 fn json_line(
     alloc: Global,
     number: u64,

@@ -1,4 +1,5 @@
-//! `settle`: jobs taken and landed one after the other, all that are due or those that a unit needs.
+//! `settle`: jobs taken and landed one after the other, all that are due or those that a unit
+//! needs.
 
 ghost use Rattle.std.specs.Prelude.{◌≡◌, ◌≤◌, List, Some, IfOk, IsErrOf, OnOk, string_bytes};
 ghost use Rattle.picture_store.specs.Jobs.{most_jobs};
@@ -29,9 +30,9 @@ impl From<AllocError> for Stopped {
     }
 }
 
-/// Takes jobs for the unit that has the id and lands their results, one after the other, until none of the pictures that
-/// it needs is due. Jobs that are out stay out; where none of them is of a picture that the unit needs, its own is there at
-/// the end.
+/// Takes jobs for the unit that has the id and lands their results, one after the other, until none
+/// of the pictures that it needs is due. Jobs that are out stay out; where none of them is of a
+/// picture that the unit needs, its own is there at the end.
 pub fn settle_for(runner: &mut Runner, id: AuId) -> Result<(), Stopped>
     ensures settles { OnOk result ((jobs : List TakenJob)
         × Settles (Some id) runner.old jobs runner.new) }
@@ -42,7 +43,8 @@ pub fn settle_for(runner: &mut Runner, id: AuId) -> Result<(), Stopped>
     settle_jobs(runner, Some(id))
 }
 
-/// Takes and lands all jobs, or those for the unit that has the id, and gives the line that says so.
+/// Takes and lands all jobs, or those for the unit that has the id, and gives the line that says
+/// so.
 pub(crate) fn settle(
     alloc: Global,
     runner: &mut Runner,
@@ -61,8 +63,8 @@ pub(crate) fn settle(
     }
 }
 
-/// Takes jobs, all or those for the unit that has the id, and lands their results, one after the other, until no picture is
-/// due.
+/// Takes jobs, all or those for the unit that has the id, and lands their results, one after the
+/// other, until no picture is due.
 fn settle_jobs(runner: &mut Runner, unit: Option<AuId>) -> Result<(), Stopped>
     ensures settles { OnOk result ((jobs : List TakenJob)
         × Settles unit runner.old jobs runner.new) }

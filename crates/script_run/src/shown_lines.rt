@@ -10,7 +10,8 @@ use std::fmt;
 use std::fmt::{Display, Formatter, Write};
 use unit_outcomes::ValidityFault;
 
-/// The line of what is shown of the unit of this number, a picture with its digits where `hex` asks for them.
+/// The line of what is shown of the unit of this number, a picture with its digits where `hex` asks
+/// for them.
 pub fn shown_line(alloc: Global, number: u64, shown: Shown, hex: bool) -> Result<String, AllocError>
     ensures { IfOk result (λ line. string_bytes line ≡ shown_line hex number shown) }
 {

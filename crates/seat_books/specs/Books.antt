@@ -42,9 +42,9 @@ pub record LeadTo (journal : List (List Edit)) (n : ℕ) (register : Register) :
   pub within : n ≤ length journal
   pub replayed : Replays no_units (edits_of (take n journal)) register
 
--- the receipt of edits agrees, after the books of lower seats and the earlier receipts of its own: they are the journal's
--- entry at its length, which replay gives its ids; its length is above those of earlier receipts, and no book of a lower
--- seat has that entry
+-- the receipt of edits agrees, after the books of lower seats and the earlier receipts of its own:
+-- they are the journal's entry at its length, which replay gives its ids; its length is above those
+-- of earlier receipts, and no book of a lower seat has that entry
 pub record EditAgrees (journal : List (List Edit)) (lower : List SeatBook) (earlier : List SeatReceipt)
     (edits : List Edit) (ids : List ℕ) (n : ℕ) : Type 0 where
   pub at : ℕ
@@ -72,7 +72,8 @@ abbrev pub HasKeyAfter : List (List Edit) → ℕ → ℕ → Key → Type 0
 HasKeyAfter journal n id key =
     (register : Register) × LeadTo journal n register × HasKey register.stream id key
 
--- the receipt is of a picture that was shown of a unit with the key, which stayed in use up to so many entries
+-- the receipt is of a picture that was shown of a unit with the key, which stayed in use up to so
+-- many entries
 abbrev pub ShowsReady : List (List Edit) → ℕ → Key → SeatReceipt → Type 0
 ShowsReady journal n key (receipts.Show id (shown.Ready picture) from) =
     HasKeyAfter journal from id key × StaysInUse journal key from n
@@ -96,7 +97,8 @@ pub record IsDroppedElsewhere (journal : List (List Edit)) (books : List SeatBoo
   pub above : from ≤ length_in receipt
   pub below : length_in receipt ≤ to
 
--- one of the earlier receipts of the seat is of such a picture, which no receipt after it drops, nor one of another seat
+-- one of the earlier receipts of the seat is of such a picture, which no receipt after it drops,
+-- nor one of another seat
 pub record WasReady (journal : List (List Edit)) (books : List SeatBook) (seat : ℕ) (earlier : List SeatReceipt) (n : ℕ)
     (key : Key) : Type 0 where
   pub at : ℕ
@@ -107,9 +109,10 @@ pub record WasReady (journal : List (List Edit)) (books : List SeatBook) (seat :
       → DropsKey journal key other → ⊥
   pub nowhere : IsDroppedElsewhere journal books seat key (length_in receipt) n → ⊥
 
--- the answer of a show is possible after so many entries, which lead to the stream: the picture of the unit's key; that a
--- valid unit waits, whose key isn't one that was shown ready before and stayed in use, undropped; the unit's fault; that
--- the unit has no picture; or that there is no such unit
+-- the answer of a show is possible after so many entries, which lead to the stream: the picture of
+-- the unit's key; that a valid unit waits, whose key isn't one that was shown ready before and
+-- stayed in use, undropped; the unit's fault; that the unit has no picture; or that there is no
+-- such unit
 abbrev pub IsPossible : List (List Edit) → List SeatBook → ℕ → List SeatReceipt → ℕ → Stream → ℕ → Shown → Type 0
 IsPossible journal books seat earlier n stream id (shown.Ready picture) =
     (key : Key) × HasKey stream id key × (picture ≡ picture_of_key key)
@@ -124,16 +127,18 @@ IsPossible journal books seat earlier n stream id shown.NoSuchUnit = place_of st
 abbrev pub HasNoKey : Stream → ℕ → Type 0
 HasNoKey stream id = option_and_then (slice_get (keys_in stream)) (place_of stream id) ≡ Some None
 
--- the answer of a drop is possible after so many entries, which lead to the stream: that the picture of a valid unit was
--- dropped; that no picture was held of one that isn't valid, or that may be shown pending; or that there is no such unit
+-- the answer of a drop is possible after so many entries, which lead to the stream: that the
+-- picture of a valid unit was dropped; that no picture was held of one that isn't valid, or that
+-- may be shown pending; or that there is no such unit
 abbrev pub IsDropPossible : List (List Edit) → List SeatBook → ℕ → List SeatReceipt → ℕ → Stream → ℕ → Dropping → Type 0
 IsDropPossible journal books seat earlier n stream id dropping.Dropped = (key : Key) × HasKey stream id key
 IsDropPossible journal books seat earlier n stream id dropping.NotHeld =
     HasNoKey stream id ⊎ IsPossible journal books seat earlier n stream id shown.Pending
 IsDropPossible journal books seat earlier n stream id dropping.NoSuchUnit = place_of stream id ≡ None
 
--- the receipt of a show agrees, after the earlier receipts of its book: its length is that of the journal at most, and
--- not below those of earlier receipts, and after so many entries its answer is possible
+-- the receipt of a show agrees, after the earlier receipts of its book: its length is that of the
+-- journal at most, and not below those of earlier receipts, and after so many entries its answer is
+-- possible
 pub record ShowAgrees (journal : List (List Edit)) (books : List SeatBook) (seat : ℕ) (earlier : List SeatReceipt) (id : ℕ)
     (answer : Shown) (n : ℕ) : Type 0 where
   pub register : Register
@@ -149,8 +154,8 @@ pub record DropAgrees (journal : List (List Edit)) (books : List SeatBook) (seat
   pub later : All (λ receipt. length_in receipt ≤ n) earlier
   pub possible : IsDropPossible journal books seat earlier n register.stream id answer
 
--- a receipt of the seat, counted from 0, agrees with the journal, beside the books of all seats and after the earlier
--- receipts of its own
+-- a receipt of the seat, counted from 0, agrees with the journal, beside the books of all seats and
+-- after the earlier receipts of its own
 abbrev pub Agrees : List (List Edit) → List SeatBook → ℕ → List SeatReceipt → SeatReceipt → Type 0
 Agrees journal books seat earlier (receipts.Edit edit id n) =
     EditAgrees journal (take seat books) earlier (edit ∷ []) (id ∷ []) n

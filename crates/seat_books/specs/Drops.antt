@@ -43,13 +43,15 @@ abbrev pub IsLost : Stream → ℕ → List SeatDrop → Key → Type 0
 IsLost stream seat drops key =
     (drop : SeatDrop) × Contains drops drop × (drop.seat ≡ seat → ⊥) × HasKey stream drop.id key
 
--- of the keys in use, the numbers are those of the keys that the drops of other seats than this one are of
+-- of the keys in use, the numbers are those of the keys that the drops of other seats than this one
+-- are of
 abbrev pub AreLost : Machine → ℕ → List SeatDrop → NumberSet → Type 0
 AreLost machine seat drops gone =
     (key : Key) (number : ℕ) → IsNumberOf (store_of machine) key number
     → IsLost machine.register.stream seat drops key ↔ IsTrue (has gone number)
 
--- the key of the unit that has the id, if it has one, isn't ready any more, and is one of those that other seats drop
+-- the key of the unit that has the id, if it has one, isn't ready any more, and is one of those
+-- that other seats drop
 pub record LosesOne (old : Replay) (id : ℕ) (new : Replay) : Type 0 where
   pub lost : ℕ → Bool
   pub is : (key : Key) (number : ℕ) → IsNumberOf (store_of old.session) key number

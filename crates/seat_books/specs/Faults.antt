@@ -17,7 +17,8 @@ pub record IsFirstFault (journal : List (List Edit)) (books : List SeatBook) (se
   pub before : FirstAgree journal books seat book at
   pub differs : Agrees journal books seat (take at book) receipt → ⊥
 
--- the book of the seat, counted from 1, has it at the number, and the books of all lower seats agree
+-- the book of the seat, counted from 1, has it at the number, and the books of all lower seats
+-- agree
 pub record Disagrees (journal : List (List Edit)) (books : List SeatBook) (seat number : ℕ) : Type 0 where
   pub at : ℕ
   pub book : SeatBook

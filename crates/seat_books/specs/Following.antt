@@ -24,14 +24,15 @@ pub record IsFront (journal : List (List Edit)) (machine : Machine) : Type 0 whe
   pub front : machine.journal ≡ take (length machine.journal) journal
   pub leads : LeadTo journal (length machine.journal) machine.register
 
--- of the keys whose pictures a session holds, the numbers are those of the keys that a receipt shows as ready and that
--- stayed in use, undropped, and each such key's picture is held
+-- of the keys whose pictures a session holds, the numbers are those of the keys that a receipt
+-- shows as ready and that stayed in use, undropped, and each such key's picture is held
 abbrev pub AreReady : List (List Edit) → List SeatBook → ℕ → List SeatReceipt → ℕ → Machine → NumberSet → Type 0
 AreReady journal books seat earlier n machine ready =
     (key : Key) (number : ℕ) → IsNumberOf (store_of machine) key number
     → WasReady journal books seat earlier n key ↔ (Contains machine.held key × IsTrue (has ready number))
 
--- of the keys in use, the numbers are those of the keys of which another seat's book has a drop with just this length
+-- of the keys in use, the numbers are those of the keys of which another seat's book has a drop
+-- with just this length
 abbrev pub AreGone : List (List Edit) → List SeatBook → ℕ → ℕ → Machine → NumberSet → Type 0
 AreGone journal books seat n machine gone =
     (key : Key) (number : ℕ) → IsNumberOf (store_of machine) key number
@@ -43,8 +44,8 @@ pub record IsBare (machine : Machine) : Type 0 where
   pub cached_none : machine.cached ≡ []
   pub out_none : machine.out ≡ []
 
--- the journal's first entries were made, no fewer than any of the seat's receipts notes, and the keys are those that are
--- ready and those that other seats drop here
+-- the journal's first entries were made, no fewer than any of the seat's receipts notes, and the
+-- keys are those that are ready and those that other seats drop here
 pub record IsReplayed (journal : List (List Edit)) (books : List SeatBook) (seat : ℕ) (earlier : List SeatReceipt)
     (replay : Replay) : Type 0 where
   pub own : replay.seat ≡ seat

@@ -18,14 +18,15 @@ use crate::replay::Replay;
 use edit_engine::JournalEntry;
 use std::alloc::{AllocError, Global};
 
-/// Whether the books of seats, in the seats' order, agree with a journal of which each edit is accepted after those before
-/// it; or else the first receipt that doesn't, in the first book that has one. Each book is followed over the journal once,
-/// up to the length that its last receipt notes. So this takes as long as to make the journal's edits once for each book that
-/// isn't empty, to decode a picture when a receipt shows that it is ready, and some steps for each receipt, of a picture
-/// that was dropped for each book that comes to its length.
+/// Whether the books of seats, in the seats' order, agree with a journal of which each edit is
+/// accepted after those before it; or else the first receipt that doesn't, in the first book that
+/// has one. Each book is followed over the journal once, up to the length that its last receipt
+/// notes. So this takes as long as to make the journal's edits once for each book that isn't empty,
+/// to decode a picture when a receipt shows that it is ready, and some steps for each receipt, of a
+/// picture that was dropped for each book that comes to its length.
 ///
-/// An entry that no session's journal has, of no edit or of more than 1,024, is answered as lack of memory where a book comes
-/// to it.
+/// An entry that no session's journal has, of no edit or of more than 1,024, is answered as lack of
+/// memory where a book comes to it.
 pub fn audit(alloc: Global, journal: &[JournalEntry], books: &[SeatBook]) -> Result<(), AuditFault>
     requires { (register : Register) × Replays no_units (edits_of journal.now) register }
     ensures ok { OnOk result (BooksAgree journal.now books.now) }
@@ -45,8 +46,8 @@ pub fn audit(alloc: Global, journal: &[JournalEntry], books: &[SeatBook]) -> Res
     Ok(())
 }
 
-/// The number of the first receipt of a seat's book that doesn't agree. The books of lower seats have noted edits at these
-/// lengths, and those of all seats these drops.
+/// The number of the first receipt of a seat's book that doesn't agree. The books of lower seats
+/// have noted edits at these lengths, and those of all seats these drops.
 fn first_fault(
     alloc: Global,
     journal: &[JournalEntry],

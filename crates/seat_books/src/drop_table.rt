@@ -24,7 +24,8 @@ pub(crate) struct DropTable {
 }
 
 impl DropTable {
-    /// The drops that the books of seats note with lengths up to this one, which is that of the journal.
+    /// The drops that the books of seats note with lengths up to this one, which is that of the
+    /// journal.
     pub(crate) fn of(
         alloc: Global,
         books: &[SeatBook],

@@ -55,8 +55,8 @@ impl Replay {
         }
     }
 
-    /// Whether this may be answered to the seat that drops a picture now. Where it may and the picture was dropped, the unit's
-    /// key isn't ready any more.
+    /// Whether this may be answered to the seat that drops a picture now. Where it may and the
+    /// picture was dropped, the unit's key isn't ready any more.
     pub(crate) fn loses(&mut self, id: AuId, answer: Dropping) -> bool
         ensures { (journal : List (List EditValue)) (books : List Book) (seat : ℕ) (earlier : List Receipt)
             → IsReplayed journal books seat earlier self.old

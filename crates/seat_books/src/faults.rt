@@ -10,8 +10,8 @@ use thiserror::Error;
 /// Why an audit isn't passed.
 #[derive(Clone, Copy, Debug, PartialEq, Eq, Hash, Error)]
 pub enum AuditFault {
-    /// This receipt is the first that doesn't agree, in the first book that has one. Seats and receipts are counted
-    /// from 1.
+    /// This receipt is the first that doesn't agree, in the first book that has one. Seats and
+    /// receipts are counted from 1.
     #[error("receipt {number} of seat {seat} doesn't agree with the journal")]
     SeatDisagrees { seat: usize, number: usize },
     /// A growth was refused.

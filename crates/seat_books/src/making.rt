@@ -9,7 +9,8 @@ use edit_engine::{Edit, GroupReceipt, Session};
 use pictures::AuId;
 use std::alloc::{AllocError, Global};
 
-/// Makes the edits of an entry, and answers the ids that they are given. A journal's are refused only when memory runs out.
+/// Makes the edits of an entry, and answers the ids that they are given. A journal's are refused
+/// only when memory runs out.
 pub(crate) fn make_entry(
     alloc: Global,
     session: &mut Session,

@@ -11,7 +11,8 @@ use crate::number_set::NumberSet;
 use crate::receipts::SeatReceipt;
 use std::alloc::{AllocError, Global};
 
-/// The lengths at which one of the books has a receipt of the edit or group that made the journal so long.
+/// The lengths at which one of the books has a receipt of the edit or group that made the journal
+/// so long.
 pub fn noted_lengths(alloc: Global, books: &[SeatBook]) -> Result<NumberSet, AllocError>
     ensures { IfOk result (AreNoted books.now) }
 {

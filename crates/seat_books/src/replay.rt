@@ -31,10 +31,11 @@ use std::alloc::{AllocError, Global};
 use std::slice;
 use unit_outcomes::{Outcome, ValidityFault};
 
-/// A journal replayed so far beside the book of a seat, counted from 0. Its session caches no picture, so that a picture which
-/// is held has been wanted ever since it was decoded. Of the keys whose pictures are held, `ready` has the numbers of those
-/// that the book shows as ready since then and nobody has dropped. Of the keys in use, `gone` has the numbers of those that
-/// other seats have dropped at just this length.
+/// A journal replayed so far beside the book of a seat, counted from 0. Its session caches no
+/// picture, so that a picture which is held has been wanted ever since it was decoded. Of the keys
+/// whose pictures are held, `ready` has the numbers of those that the book shows as ready since
+/// then and nobody has dropped. Of the keys in use, `gone` has the numbers of those that other
+/// seats have dropped at just this length.
 pub(crate) struct Replay {
     pub(crate) alloc: Global,
     pub(crate) seat: usize,
@@ -77,8 +78,8 @@ impl Replay {
         })
     }
 
-    /// Whether the next receipt of the book agrees. The books of lower seats have noted edits at these lengths, and those of
-    /// all seats these drops.
+    /// Whether the next receipt of the book agrees. The books of lower seats have noted edits at
+    /// these lengths, and those of all seats these drops.
     pub(crate) fn agrees(
         &mut self,
         journal: &[JournalEntry],
@@ -174,7 +175,8 @@ impl Replay {
         Ok(self.loses(id, answer))
     }
 
-    /// Whether the receipt of a show or a drop may have the length. Where it may, the entries up to that are made.
+    /// Whether the receipt of a show or a drop may have the length. Where it may, the entries up to
+    /// that are made.
     fn comes_to(
         &mut self,
         journal: &[JournalEntry],
@@ -250,8 +252,8 @@ impl Replay {
         }
     }
 
-    /// Whether this is the picture of the unit's key, which is ready then. Once what is due is decoded, the session holds the
-    /// picture of each valid unit.
+    /// Whether this is the picture of the unit's key, which is ready then. Once what is due is
+    /// decoded, the session holds the picture of each valid unit.
     fn shows(&mut self, id: AuId, picture: Picture) -> Result<bool, AllocError>
         ensures { IfOk result (λ possible. (journal : List (List EditValue)) (books : List Book) (seat : ℕ)
             (earlier : List Receipt) → IsReplayed journal books seat earlier self.old

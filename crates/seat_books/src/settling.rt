@@ -49,8 +49,8 @@ impl Replay {
         }
     }
 
-    /// Decodes a job that was taken, which is told with its unit, and lands its result. What was ready of its key was so before
-    /// the key went out of use, as its picture wasn't held.
+    /// Decodes a job that was taken, which is told with its unit, and lands its result. What was
+    /// ready of its key was so before the key went out of use, as its picture wasn't held.
     fn decode(&mut self, id: AuId, job: Job) -> Result<bool, AllocError>
         ensures stays { IfOk result (λ _. (before : Machine)
             → TellsTake before (Ok (Some (id, job))) self.old.session

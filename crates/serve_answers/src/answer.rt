@@ -24,7 +24,8 @@ pub enum Answer {
         id: u32,
         steps: u64,
     },
-    /// The number of a group, the ids of its edits' units, and in how many steps of the fold it was made.
+    /// The number of a group, the ids of its edits' units, and in how many steps of the fold it was
+    /// made.
     Grouped {
         edit: u64,
         #[serde(serialize_with = "write_ids")]

@@ -1,8 +1,9 @@
 //! What the server's calls are answered, as results of JSON-RPC (docs/SERVER.md).
 //!
-//! An `Answer` is made of what a session answers, or of what is asked of it, and has just the members that are written; a
-//! refusal is a `Failure` of serve_messages. Below are edit_engine, whose replies these are made of, and unit_json, for what
-//! becomes of a unit; above is serve_calls.
+//! An `Answer` is made of what a session answers, or of what is asked of it, and has just the
+//! members that are written; a refusal is a `Failure` of serve_messages. Below are edit_engine,
+//! whose replies these are made of, and unit_json, for what becomes of a unit; above is
+//! serve_calls.
 #![tactic(auto)]
 
 mod answer;

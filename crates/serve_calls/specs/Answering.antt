@@ -18,7 +18,8 @@ use Rattle.serve_calls.specs.declared.sums.Sums.{Sums}
 use Rattle.serve_calls.specs.Failing.{IsUnlessMemory}
 use Rattle.serve_calls.specs.Sessions.{Asks}
 
--- the outcome of the unit of the id as a result, with its controls or without, if there is such a unit
+-- the outcome of the unit of the id as a result, with its controls or without, if there is such a
+-- unit
 abbrev pub unit_in : Stream → Bool → ℕ → Option UnitAnswer
 unit_in stream controls id =
     option_and_then (λ outcome. option_map (λ position. unit_answer id position outcome controls) (position_in stream id))

@@ -17,7 +17,8 @@ use Rattle.serve_calls.specs.Loading.{LoadsAs}
 use Rattle.serve_calls.specs.Sessions.{Steps}
 use Rattle.serve_calls.specs.Wanting.{WantsAs}
 
--- a call about jobs: the session answers it where there are such calls, and else no method has the name and nothing changes
+-- a call about jobs: the session answers it where there are such calls, and else no method has the
+-- name and nothing changes
 abbrev pub IsOfJobs : {B S : Type 0} → (B → Machine → Type 0) → (B → Bool) → Server B S
     → (Machine → Result Answer Failure → Machine → Type 0) → Result Answer Failure → Server B S → Type 0
 IsOfJobs is_session lends_jobs old step result new =

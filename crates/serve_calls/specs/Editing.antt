@@ -39,7 +39,8 @@ MakesEdit is_session old edit answer new =
     Steps (is_session old.backend) (λ before after. AnswersEdit before edit answer after) (is_session new.backend)
     × (new.sums ≡ sums_after_edit old.sums edit answer) × (new.source ≡ old.source)
 
--- the result of an edit is the session's answer; or the refusal of its text, whatever the stream is: then nothing is asked
+-- the result of an edit is the session's answer; or the refusal of its text, whatever the stream
+-- is: then nothing is asked
 abbrev pub EditsAs : {B S : Type 0} → (B → Machine → Type 0) → Server B S → Edit → Result Answer Failure → Server B S → Type 0
 EditsAs is_session old edit result new =
     ((answer : Result Receipt EditRefused) × MakesEdit is_session old edit answer new × (result ≡ edit_answer answer))
@@ -53,7 +54,8 @@ MakesGroup is_session old edits answer new =
     Steps (is_session old.backend) (λ before after. AnswersGroup before edits answer after) (is_session new.backend)
     × (new.sums ≡ sums_after_group old.sums edits answer) × (new.source ≡ old.source)
 
--- the result of a group is the session's answer; or a refusal whatever the stream is: then nothing is asked
+-- the result of a group is the session's answer; or a refusal whatever the stream is: then nothing
+-- is asked
 abbrev pub GroupsAs : {B S : Type 0} → (B → Machine → Type 0) → Server B S → List Edit → Result Answer Failure → Server B S → Type 0
 GroupsAs is_session old edits result new =
     ((answer : Result GroupReceipt GroupRefused) × MakesGroup is_session old edits answer new

@@ -24,8 +24,8 @@ abbrev pub TakesOne : Option ℕ → Machine → Result (Option TakenJob) TakeRe
 TakesOne (Some id) old answer new = TakesJobFor old id answer new
 TakesOne None old answer new = TakesJob old answer new
 
--- the result of a job that is taken: the job with what it is made of; or there is no memory to tell it, and it is given back
--- then, unless there is none for that either
+-- the result of a job that is taken: the job with what it is made of; or there is no memory to tell
+-- it, and it is given back then, unless there is none for that either
 abbrev pub TellsJob : TakenJob → Machine → Result Answer Failure → Machine → Type 0
 TellsJob taken old result new =
     ((input : InputValue) × (input_of old taken.number ≡ Some input) × (new ≡ old)
@@ -33,8 +33,8 @@ TellsJob taken old result new =
     ⊎ ((answer : Result Returning NotOut) × GivesJobBack old taken.number answer new × (result ≡ Err out_of_memory))
     ⊎ ((new ≡ old) × (result ≡ Err out_of_memory))
 
--- the result of one who asks for a job: the job; null where no picture is due; that all numbers were given; or that memory
--- ran out and nothing changed
+-- the result of one who asks for a job: the job; null where no picture is due; that all numbers
+-- were given; or that memory ran out and nothing changed
 abbrev pub TakesAs : Option ℕ → Machine → Result Answer Failure → Machine → Type 0
 TakesAs id old result new =
     ((taken : TakenJob) × (between : Machine) × TakesOne id old (Ok (Some taken)) between
@@ -49,7 +49,8 @@ LandsAs number old result new =
     ((answer : Result Landing NotOut) × LandsJob old number answer new × (result ≡ Ok (land_answer answer)))
     ⊎ ((new ≡ old) × (result ≡ Err out_of_memory))
 
--- the result of the job of the number that is given back, or that memory ran out and nothing changed
+-- the result of the job of the number that is given back, or that memory ran out and nothing
+-- changed
 abbrev pub GivesBackAs : ℕ → Machine → Result Answer Failure → Machine → Type 0
 GivesBackAs number old result new =
     ((answer : Result Returning NotOut) × GivesJobBack old number answer new × (result ≡ Ok (give_back_answer answer)))

@@ -61,7 +61,8 @@ InsertsLast is_session old unit answer new =
     × MakesEdit is_session old (Insert (place_after last.id) (joined unit)) answer new)
     ⊎ ((answer ≡ Err refusals.Memory) × (new ≡ old))
 
--- the units are inserted one after the other, to the end or to the first that is refused; those before it stay
+-- the units are inserted one after the other, to the end or to the first that is refused; those
+-- before it stay
 abbrev pub InsertsAll : {B S : Type 0} → (B → Machine → Type 0) → Server B S → List (List (List ℕ)) → Inserted
     → Result Answer Failure → Server B S → Type 0
 InsertsAll is_session old [] inserted result new = (result ≡ Ok (loaded_answer inserted)) × (new ≡ old)
@@ -92,7 +93,8 @@ abbrev pub HasRoom : {B S : Type 0} → (B → Machine → Type 0) → Server B 
 HasRoom is_session server room =
     (last : Last) × IsLast is_session server last × (room ≡ most_units - last.units)
 
--- the result of a text that is loaded: its units are inserted; or it is refused, and nothing changes; or memory ran out
+-- the result of a text that is loaded: its units are inserted; or it is refused, and nothing
+-- changes; or memory ran out
 abbrev pub LoadsText : {B S : Type 0} → (B → Machine → Type 0) → Server B S → List ℕ → Result Answer Failure → Server B S → Type 0
 LoadsText is_session old text result new =
     ((room : ℕ) × (units : List (List (List ℕ))) × HasRoom is_session old room × IsStream text units

@@ -29,7 +29,8 @@ abbrev pub IsRefusedAs : {B S : Type 0} → Server B S → List WantedUnit → F
 IsRefusedAs old wanted failure served new wants =
     (served.answer ≡ Err failure) × (served.is_last ≡ false) × (new ≡ old) × (wants ≡ wanted)
 
--- a request is served by the call that it asks for; one that is refused is answered so, and changes nothing
+-- a request is served by the call that it asks for; one that is refused is answered so, and changes
+-- nothing
 abbrev pub IsServedBy : {B S : Type 0} → (B → Machine → Type 0) → (B → Bool) → (S → List ℕ → Option (List ℕ)) → Server B S
     → List WantedUnit → Bool → Result Call Failure → Served → Server B S → List WantedUnit → Type 0
 IsServedBy is lends file old wanted answered (Ok it) served new wants =
@@ -37,7 +38,8 @@ IsServedBy is lends file old wanted answered (Ok it) served new wants =
 IsServedBy is lends file old wanted answered (Err failure) served new wants =
     IsRefusedAs old wanted failure served new wants
 
--- a request is served: as the call that its method and parameters are, or as the refusal of it that these come to
+-- a request is served: as the call that its method and parameters are, or as the refusal of it that
+-- these come to
 abbrev pub IsServed : {B S : Type 0} → (B → Machine → Type 0) → (B → Bool) → (S → List ℕ → Option (List ℕ)) → Server B S
     → List WantedUnit → Parts → Served → Server B S → List WantedUnit → Type 0
 IsServed is lends file old wanted parts served new wants =

@@ -1,5 +1,6 @@
--- The session that answers a server's calls: one that may be what the server keeps. A session alone is the only one that may
--- be; of a desk's, which lies under a lock, no clause knows which one it is.
+-- The session that answers a server's calls: one that may be what the server keeps. A session alone
+-- is the only one that may be; of a desk's, which lies under a lock, no clause knows which one it
+-- is.
 use Rattle.std.specs.Prelude.{◌≡◌, []}
 use Rattle.stream_edits.specs.Edits.{no_units, Replays}
 use Rattle.stream_edits.specs.Journals.{edits_of}
@@ -20,6 +21,7 @@ Steps before step after =
 abbrev pub Stays : (Machine → Type 0) → (Machine → Type 0) → Type 0
 Stays before after = (machine : Machine) → before machine → after machine
 
--- whichever session may be the one before a call may be it after the call, without the pictures that it has cached
+-- whichever session may be the one before a call may be it after the call, without the pictures
+-- that it has cached
 abbrev pub Clears : (Machine → Type 0) → (Machine → Type 0) → Type 0
 Clears before after = (machine : Machine) → before machine → after (record machine { cached = [] })

@@ -78,14 +78,16 @@ abbrev pub wanted_after : Bool → List WantedUnit → List WantedUnit → List 
 wanted_after true units told = told
 wanted_after false units told = units
 
--- the result of one who wants units, and which are wanted then: those of the ids, each once, and what the session tells of them
+-- the result of one who wants units, and which are wanted then: those of the ids, each once, and
+-- what the session tells of them
 abbrev pub Wants : {B : Type 0} → (B → Machine → Type 0) → B → List ℕ → Bool → Result Answer Failure → List WantedUnit → B → Type 0
 Wants is_session old ids is_answered result wanted new =
     (units : List WantedUnit) × (told : ToldNow) × AreWanted ids units
     × Asks (is_session old) (λ machine. TellsOf machine units told) × Stays (is_session old) (is_session new)
     × (result ≡ Ok (Wanted told.ready.items told.not_now.items)) × (wanted ≡ wanted_after is_answered units told.units.items)
 
--- the result of a want: that there are too many ids, or that memory ran out, and nothing changes; or what is told
+-- the result of a want: that there are too many ids, or that memory ran out, and nothing changes;
+-- or what is told
 abbrev pub WantsAs : {B S : Type 0} → (B → Machine → Type 0) → Server B S → List WantedUnit → List ℕ → Bool
     → Result Answer Failure → Server B S → List WantedUnit → Type 0
 WantsAs is_session old wanted ids is_answered result new wants =

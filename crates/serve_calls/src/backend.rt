@@ -52,7 +52,8 @@ pub trait Backend: Asked {
     fn clear_cache(&mut self)
         ensures { Clears (Self.is_session self.old) (Self.is_session self.new) };
 
-    /// Has the pictures of these units made first, of which there are 64 at most, and those of all others too or not.
+    /// Has the pictures of these units made first, of which there are 64 at most, and those of all
+    /// others too or not.
     fn want(&mut self, ids: &[AuId], rest: bool)
         requires { length ids.now ≤ 64 }
         ensures { Stays (Self.is_session self.old) (Self.is_session self.new) };

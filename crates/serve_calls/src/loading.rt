@@ -91,7 +91,8 @@ impl<B: Backend, S: Source> Server<B, S> {
         }
     }
 
-    /// Inserts the units after the last one. One that is refused ends that, and those before it stay.
+    /// Inserts the units after the last one. One that is refused ends that, and those before it
+    /// stay.
     fn insert_all(&mut self, units: Vec<HashedUnit>) -> Result<Answer, Failure>
         ensures { InsertsAll B.is_session self.old units.items none_inserted result self.new }
     {

@@ -117,8 +117,8 @@ fn told_of(
     }
 }
 
-/// The unit at an output position. It is looked for a little before the place of the same number and after it, and then
-/// further before it.
+/// The unit at an output position. It is looked for a little before the place of the same number
+/// and after it, and then further before it.
 fn found(session: &Session, position: u64) -> Option<Found>
     ensures { IsFound session.now.register.stream position result }
 {

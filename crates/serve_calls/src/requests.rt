@@ -23,8 +23,8 @@ pub struct Served {
 }
 
 impl<B: Backend, S: Source> Server<B, S> {
-    /// Does what a message asks for. One that is refused, since it is no request, for its method or for a parameter, changes
-    /// nothing.
+    /// Does what a message asks for. One that is refused, since it is no request, for its method or
+    /// for a parameter, changes nothing.
     pub fn serve<R: Threads + Sync>(
         &mut self,
         rt: &R,

@@ -59,7 +59,8 @@ impl ToldNow {
 }
 
 impl<B: Backend, S> Server<B, S> {
-    /// Has units looked at first. The pictures that are told by the answer count as told, if there is one.
+    /// Has units looked at first. The pictures that are told by the answer count as told, if there
+    /// is one.
     pub(crate) fn want(
         &mut self,
         wanted: &mut Vec<WantedUnit>,

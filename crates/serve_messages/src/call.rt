@@ -37,12 +37,14 @@ pub enum Call {
     Find(u64),
     /// What is shown of the unit of this number.
     Show(u64),
-    /// That the units of these numbers are looked at first, and whether all others are looked at too.
+    /// That the units of these numbers are looked at first, and whether all others are looked at
+    /// too.
     Want {
         ids: Listed<u64>,
         rest: bool,
     },
-    /// That the picture of the unit of this number is gone; without a number, that of each cached key.
+    /// That the picture of the unit of this number is gone; without a number, that of each cached
+    /// key.
     Drop(Option<u64>),
     /// A picture to decode, as a job; with a number, one that the unit of this number needs.
     Take(Option<u64>),

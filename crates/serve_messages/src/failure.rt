@@ -17,8 +17,8 @@ pub enum Failure {
     NotRequest,
     /// No method has the name.
     NoMethod,
-    /// The first of the method's parameters that is missing, of the wrong type or out of range; none where they are an array
-    /// and the method has no parameter.
+    /// The first of the method's parameters that is missing, of the wrong type or out of range;
+    /// none where they are an array and the method has no parameter.
     Parameters(Option<Parameter>),
     /// What was asked for is refused.
     Refused(Refusal),

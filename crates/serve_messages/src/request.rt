@@ -13,7 +13,8 @@ use serde_json::Value;
 use std::alloc::Global;
 
 impl<'a> Request<'a> {
-    /// The call that it asks for, or why it asks for none. Methods about jobs are there where `has_jobs` says so.
+    /// The call that it asks for, or why it asks for none. Methods about jobs are there where
+    /// `has_jobs` says so.
     pub fn call(&self, alloc: Global, has_jobs: bool) -> Result<Call, Failure>
         ensures { IsRequestAnswer (called has_jobs (parts_of self.now)) result }
     {

@@ -19,7 +19,8 @@ abbrev pub IsNoValue : List ℕ → Failure → Type 0
 IsNoValue text failure =
     ((failure ≡ NotJson) × (IsUtf8 text → read_text text ≡ None)) ⊎ (failure ≡ out_of_memory)
 
--- the message of a text is served, if the text is a value; else that is refused, and nothing changes
+-- the message of a text is served, if the text is a value; else that is refused, and nothing
+-- changes
 abbrev pub ServesText : {B S : Type 0} → (B → Machine → Type 0) → (B → Bool) → (S → List ℕ → Option (List ℕ)) → Server B S
     → List WantedUnit → List ℕ → Served → Server B S → List WantedUnit → Type 0
 ServesText is lends file old wanted text served new wants =
@@ -27,8 +28,8 @@ ServesText is lends file old wanted text served new wants =
     × IsServedIf is lends file old wanted (request_in value) served new wants)
     ⊎ ((failure : Failure) × IsNoValue text failure × IsRefusedAs old wanted failure served new wants)
 
--- how a server goes on after a message: it ends where that asks for the end, where a line can't be written, or where there is
--- no memory for one
+-- how a server goes on after a message: it ends where that asks for the end, where a line can't be
+-- written, or where there is no memory for one
 abbrev pub GoesOn : Bool → Result (Unit {0}) ServeEnd → Type 0
 GoesOn is_last (Ok it) = is_last ≡ false
 GoesOn is_last (Err Done) = is_last ≡ true

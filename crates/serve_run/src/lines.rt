@@ -52,7 +52,8 @@ impl<I: Read + Drop> Lines<I> {
         }
     }
 
-    /// The line of a text that was read to its end, to the input's or as far as a line may go, so many bytes.
+    /// The line of a text that was read to its end, to the input's or as far as a line may go, so
+    /// many bytes.
     fn ended(&mut self, text: Vec<u8>, count: u64) -> io::Result<Line> {
         let mut text = text;
         if count == 0 {

@@ -1,4 +1,5 @@
-//! A desk beside whose workers a server answers, and the writer that it shares with the thread that tells of pictures.
+//! A desk beside whose workers a server answers, and the writer that it shares with the thread that
+//! tells of pictures.
 
 ghost use Rattle.std.specs.Prelude.{◌≤◌, false, length};
 

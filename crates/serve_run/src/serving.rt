@@ -20,7 +20,8 @@ use std::alloc::Global;
 use std::io::{ErrorKind, Read, Write};
 use std::thread::Threads;
 
-/// Serves the messages of an input with a session alone, in this thread. The files that are loaded are the source's.
+/// Serves the messages of an input with a session alone, in this thread. The files that are loaded
+/// are the source's.
 pub fn serve_alone<R: Threads + Sync, I: Read + Drop, S: Source + Drop, W: Write>(
     rt: &R,
     alloc: Global,

@@ -1,4 +1,5 @@
-//! The threads of a server with workers: one for each of these, one that tells of pictures, and that of the reader.
+//! The threads of a server with workers: one for each of these, one that tells of pictures, and
+//! that of the reader.
 
 ghost use Rattle.std.specs.Prelude.{◌≡◌, ◌≤◌, length, IfOk};
 
@@ -51,8 +52,8 @@ fn devices(alloc: Global, count: usize) -> Result<Vec<Device>, AllocError>
     Ok(made)
 }
 
-/// Serves the messages of an input while a worker for each gate decodes in a thread of its own. The files that are loaded
-/// are the source's.
+/// Serves the messages of an input while a worker for each gate decodes in a thread of its own. The
+/// files that are loaded are the source's.
 pub fn serve_with<R, D, I, S, W>(
     rt: &R,
     alloc: Global,
@@ -80,8 +81,8 @@ where
     }
 }
 
-/// Serves the messages of lines beside the threads of an office. However that ends, the desk is closed then, and the
-/// threads have ended.
+/// Serves the messages of lines beside the threads of an office. However that ends, the desk is
+/// closed then, and the threads have ended.
 fn serve_beside<'a, R, D, I, S, W>(
     rt: &'a R,
     alloc: Global,
@@ -135,7 +136,8 @@ where
     serve_lines(rt, alloc, office, lines, source)
 }
 
-/// Tells of wanted units whenever the session may have another picture to show, until the desk is closed.
+/// Tells of wanted units whenever the session may have another picture to show, until the desk is
+/// closed.
 fn tell_on<R: Wait, W: Write>(rt: &R, office: &Office<W>) {
     let mut seen = 0;
     for _ in rt.forever() {
@@ -149,7 +151,8 @@ fn tell_on<R: Wait, W: Write>(rt: &R, office: &Office<W>) {
     }
 }
 
-/// Tells of wanted units as they are now. One that can't be told is told of later, or the next answer fails.
+/// Tells of wanted units as they are now. One that can't be told is told of later, or the next
+/// answer fails.
 fn tell<R: Wait, W: Write>(rt: &R, office: &Office<W>) {
     let session = AtDesk {
         rt,

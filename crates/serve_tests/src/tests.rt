@@ -63,7 +63,8 @@ fn served<R: AllocGlobal + Threads + Sync>(rt: &R, input: &[u8]) -> (ServeEnd, V
     (end, output)
 }
 
-/// Whether a session alone answers the messages of the rows by their lines, to the end of its input.
+/// Whether a session alone answers the messages of the rows by their lines, to the end of its
+/// input.
 fn answers_so<R: Abort + AllocGlobal + Threads + Sync>(rt: &R, rows: &[Row]) -> bool {
     let Ok(messages) = messages_of(rt.alloc(), rows) else {
         return false;

@@ -1,5 +1,5 @@
-//! What tests of sessions share: edits as their tables have them, and what a session says of its units held against the
-//! plain fold. Tests alone use it.
+//! What tests of sessions share: edits as their tables have them, and what a session says of its
+//! units held against the plain fold. Tests alone use it.
 #![tactic(auto)]
 
 mod folded;

@@ -40,7 +40,8 @@ without_plan kind fault = record {
   slices = 0;
 }
 
--- a unit's outcome, as it is told: of a fault its number, of a plan its counts and how many slices there are
+-- a unit's outcome, as it is told: of a fault its number, of a plan its counts and how many slices
+-- there are
 abbrev pub told_outcome : Outcome → UnitOutcome
 told_outcome (outcomes.Plan plan) = record {
   kind = 0;

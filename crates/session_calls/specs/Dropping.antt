@@ -12,13 +12,15 @@ told_dropping droppings.Dropped = done
 told_dropping droppings.NotHeld = not_held
 told_dropping droppings.NoSuchUnit = no_such_unit
 
--- the picture of the unit of the id is dropped, or it is said why not; or memory is refused, and nothing changes
+-- the picture of the unit of the id is dropped, or it is said why not; or memory is refused, and
+-- nothing changes
 abbrev pub DropsTo : Machine → ℕ → ℕ → Machine → Type 0
 DropsTo old id status new =
     ((answer : Dropping) × AnswersDrop old id answer new × (status ≡ told_dropping answer))
     ⊎ ((status ≡ memory) × (new ≡ old))
 
--- no picture is cached any more, and nothing else changes; or memory is refused, and nothing changes
+-- no picture is cached any more, and nothing else changes; or memory is refused, and nothing
+-- changes
 abbrev pub ClearsTo : Machine → ℕ → Machine → Type 0
 ClearsTo old status new =
     ((status ≡ done) × (new ≡ record old { cached = [] })) ⊎ ((status ≡ memory) × (new ≡ old))

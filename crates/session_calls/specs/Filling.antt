@@ -2,7 +2,8 @@
 use Rattle.std.specs.Prelude.{◌≡◌, ◌<◌, ◌≤◌, ◌⊎◌, ◌++◌, ℕ, List, length, drop}
 use Rattle.session_calls.specs.Statuses.{done, too_small}
 
--- the buffer's first bytes are these, or it has too little room and stays as it was; how many there are is told either way
+-- the buffer's first bytes are these, or it has too little room and stays as it was; how many there
+-- are is told either way
 pub record Fills (bytes : List ℕ) (status : ℕ) (old new : List ℕ) (needed : ℕ) : Type 0 where
   pub needed_is : needed ≡ length bytes
   pub filled :

@@ -70,8 +70,8 @@ abbrev pub GroupsBy : Machine → List Edit → ℕ → List ℕ × GroupTold �
 GroupsBy old edits status told tells new =
     (answer : Result GroupReceipt GroupRefused) × AnswersGroup old edits answer new × TellsGroup answer status told tells
 
--- the edits that are asked for are made together, or refused; or one of them is no edit; or memory is refused before the
--- session is reached
+-- the edits that are asked for are made together, or refused; or one of them is no edit; or memory
+-- is refused before the session is reached
 abbrev pub GroupsAsked : Machine → List ℕ → List EditAsked → ℕ → List ℕ × GroupTold → List ℕ × GroupTold → Machine → Type 0
 GroupsAsked old texts asked status told tells new =
     ((edits : List Edit) × AreAsked texts asked edits × GroupsBy old edits status told tells new)

@@ -40,7 +40,8 @@ abbrev pub TakesTo : Machine → ℕ → JobTaken → JobTaken → Machine → T
 TakesTo old status told tells new =
     (answer : Result JobTaken ℕ) × TakesAs old answer new × Tells answer status told tells
 
--- a job is taken for the unit of the id, or it is said why none is; or memory is refused, and nothing changes
+-- a job is taken for the unit of the id, or it is said why none is; or memory is refused, and
+-- nothing changes
 abbrev pub TakesForAs : Machine → ℕ → Result JobTaken ℕ → Machine → Type 0
 TakesForAs old id told new =
     ((answer : Result (Option TakenJob) TakeRefused) × TakesJobFor old id answer new × (told ≡ told_take answer))

@@ -10,7 +10,8 @@ use Rattle.session_calls.specs.Filling.{Fills}
 use Rattle.session_calls.specs.Statuses.{no_such_place}
 use Rattle.session_calls.specs.Telling.{found_or}
 
--- an edit, as it is told: its kind, the id that it names, if it names one, and how many bytes its text has
+-- an edit, as it is told: its kind, the id that it names, if it names one, and how many bytes its
+-- text has
 abbrev pub told_journal : Edit → JournalEdit
 told_journal (Insert First text) = record { kind = 0; id = 0; bytes = length text }
 told_journal (Insert (After id) text) = record { kind = 1; id = id; bytes = length text }

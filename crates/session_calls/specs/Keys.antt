@@ -6,8 +6,9 @@ use Rattle.edit_engine.specs.Machines.{Machine, store_of}
 use Rattle.edit_engine.specs.Showing.{HasNumber}
 use Rattle.session_calls.specs.Statuses.{no_such_unit, not_valid}
 
--- what is known of the number of the key of the unit of the id: the number, and that units have equal numbers exactly where
--- they have equal keys; that the unit isn't valid, or that it isn't there
+-- what is known of the number of the key of the unit of the id: the number, and that units have
+-- equal numbers exactly where they have equal keys; that the unit isn't valid, or that it isn't
+-- there
 abbrev pub IsKeyOf : Machine → ℕ → Result ℕ ℕ → Type 0
 IsKeyOf machine id (Ok number) =
     HasNumber machine id (Some number) × AreOneToOne (store_of machine) (store_of machine)

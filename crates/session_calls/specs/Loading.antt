@@ -34,7 +34,8 @@ with_one told receipt = record {
   first = if told.units == 0 then receipt.id else told.first;
 }
 
--- the units are inserted after the last one, each by an edit, to the end or to the first edit that is refused
+-- the units are inserted after the last one, each by an edit, to the end or to the first edit that
+-- is refused
 abbrev pub InsertsAll : Machine → List (List (List ℕ)) → LoadTold → ℕ → LoadTold → Machine → Type 0
 InsertsAll old [] told status tells new = (status ≡ done) × (tells ≡ told) × (new ≡ old)
 InsertsAll old (part ∷ parts) told status tells new =
@@ -60,7 +61,8 @@ abbrev pub index_of : Refusal → ℕ
 index_of (Unit index refused) = index
 index_of refusal = 0
 
--- a text is loaded: its units are inserted; or it is refused; or memory is refused before the session is reached
+-- a text is loaded: its units are inserted; or it is refused; or memory is refused before the
+-- session is reached
 abbrev pub LoadsTo : Machine → List ℕ → ℕ → LoadTold → Machine → Type 0
 LoadsTo old text status tells new =
     ((parts : List (List (List ℕ))) × IsStream text parts × (length parts ≤ room_of old.register.stream)

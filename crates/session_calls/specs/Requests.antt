@@ -1,4 +1,5 @@
--- The requests of a unit, as the stream is now, and of a job, as they were when it was taken; and what is told of them.
+-- The requests of a unit, as the stream is now, and of a job, as they were when it was taken; and
+-- what is told of them.
 use Rattle.std.specs.Prelude.{◌≡◌, ℕ, List, length, is_some, Option, None, Some, Result, Ok, Err, slice_get}
 use Rattle.std.specs.Option.{option_map}
 use Rattle.unit_outcomes.specs.declared.outcome.Outcome.{Outcome}

@@ -29,7 +29,8 @@ cache_range = 102
 abbrev pub too_small : ℕ
 too_small = 103
 
--- no unit stands at the place, no edit in the journal has the index, or no reference of a job has it
+-- no unit stands at the place, no edit in the journal has the index, or no reference of a job has
+-- it
 abbrev pub no_such_place : ℕ
 no_such_place = 104
 

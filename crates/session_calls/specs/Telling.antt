@@ -2,7 +2,8 @@
 use Rattle.std.specs.Prelude.{◌≡◌, ℕ, Bool, true, false, Option, None, Some, Result, Ok, Err}
 use Rattle.session_calls.specs.Statuses.{done}
 
--- what is told where there is an answer; else the status says why there is none, and what was told before stays
+-- what is told where there is an answer; else the status says why there is none, and what was told
+-- before stays
 abbrev pub Tells : {A : Type 0} → Result A ℕ → ℕ → A → A → Type 0
 Tells (Ok value) status old new = (status ≡ done) × (new ≡ value)
 Tells (Err why) status old new = (status ≡ why) × (new ≡ old)

@@ -12,8 +12,9 @@ use edit_engine::{Edit, EditRefused, Place, Receipt, Runner, Session};
 use pictures::AuId;
 use std::alloc::Global;
 
-/// What an accepted edit is told: how many edits and groups were accepted, with this one; how many steps of the fold it
-/// made; how many bytes were hashed for it; and the id of the unit that was inserted, deleted or replaced.
+/// What an accepted edit is told: how many edits and groups were accepted, with this one; how many
+/// steps of the fold it made; how many bytes were hashed for it; and the id of the unit that was
+/// inserted, deleted or replaced.
 #[repr(C)]
 #[derive(Clone, Copy, Debug, PartialEq, Eq)]
 pub struct EditReceipt {
@@ -101,7 +102,8 @@ pub fn delete(alloc: Global, runner: &mut Runner, id: u32, receipt: &mut EditRec
     edit(alloc, runner, Edit::Delete(AuId::new(id)), receipt)
 }
 
-/// Puts another unit in the place of that of the id, given as the bytes of its text, which are copied.
+/// Puts another unit in the place of that of the id, given as the bytes of its text, which are
+/// copied.
 pub fn replace(
     alloc: Global,
     runner: &mut Runner,

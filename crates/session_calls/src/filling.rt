@@ -4,8 +4,8 @@ ghost use Rattle.session_calls.specs.Filling.{Fills};
 
 use crate::statuses::{DONE, TOO_SMALL};
 
-/// Writes the bytes at the start of the buffer, and tells how many there are; where the buffer has too little room, that
-/// alone is told.
+/// Writes the bytes at the start of the buffer, and tells how many there are; where the buffer has
+/// too little room, that alone is told.
 pub(crate) fn fill(bytes: &[u8], buffer: &mut [u8], needed: &mut usize) -> u32
     ensures { Fills bytes.now result buffer.old buffer.new needed.new }
 {

@@ -20,8 +20,8 @@ pub fn unit_at(session: &Session, position: usize, id: &mut u32) -> u32
     tell(id_at_position(session, position), id)
 }
 
-/// The id of the unit at a position. It is looked for a little before the place of the same number and after it, and then
-/// further before it.
+/// The id of the unit at a position. It is looked for a little before the place of the same number
+/// and after it, and then further before it.
 fn id_at_position(session: &Session, position: usize) -> Result<u32, u32>
     ensures { IsAtPosition session.now.register.stream position result }
 {

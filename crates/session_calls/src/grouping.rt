@@ -13,7 +13,8 @@ use edit_engine::{Edit, GroupReceipt, GroupRefused, Place, ReadGroup, Runner};
 use pictures::AuId;
 use std::alloc::{AllocError, AllocFailed, Global};
 
-/// An edit as a caller asks for it: its kind, the id that it names, and where its text lies among the bytes of all texts.
+/// An edit as a caller asks for it: its kind, the id that it names, and where its text lies among
+/// the bytes of all texts.
 #[repr(C)]
 #[derive(Clone, Copy, Debug, PartialEq, Eq)]
 pub struct EditAsked {

@@ -16,7 +16,8 @@ pub struct JobTaken {
     pub unit: u32,
 }
 
-/// Takes a job: the earliest picture of the stream that isn't held and isn't out, and whose references are all held.
+/// Takes a job: the earliest picture of the stream that isn't held and isn't out, and whose
+/// references are all held.
 pub fn take(runner: &mut Runner, taken: &mut JobTaken) -> u32
     ensures { TakesTo runner.old result taken.old taken.new runner.new }
 {

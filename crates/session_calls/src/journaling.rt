@@ -19,7 +19,8 @@ pub const KIND_DELETE: u32 = 2;
 /// The kind of an edit that puts another unit in the place of that of the id.
 pub const KIND_REPLACE: u32 = 3;
 
-/// An edit of the journal: its kind, the id that it names, 0 where it names none, and how many bytes its text has.
+/// An edit of the journal: its kind, the id that it names, 0 where it names none, and how many
+/// bytes its text has.
 #[repr(C)]
 #[derive(Clone, Copy, Debug, PartialEq, Eq)]
 pub struct JournalEdit {

@@ -11,8 +11,8 @@ use dep_keys::KeyId;
 use edit_engine::Session;
 use pictures::AuId;
 
-/// The number of the key of the unit of the id: units have equal numbers exactly where their pictures are made alike, and
-/// a number stays while some unit has its key.
+/// The number of the key of the unit of the id: units have equal numbers exactly where their
+/// pictures are made alike, and a number stays while some unit has its key.
 pub fn key(session: &Session, id: u32, key: &mut u64) -> u32
     ensures { (answer : Result ℕ ℕ) × IsKeyOf session.now id answer × Tells answer result key.old key.new }
 {
@@ -30,7 +30,8 @@ fn key_of(session: &Session, id: u32) -> Result<u64, u32>
     }
 }
 
-/// Whether a number is that of a key in use: of one that some unit of the stream has. 1 or 0 is told.
+/// Whether a number is that of a key in use: of one that some unit of the stream has. 1 or 0 is
+/// told.
 pub fn in_use(session: &Session, key: u64, in_use: &mut u32) -> u32
     ensures { (result ≡ done) × TellsUse session.now.numbers key in_use.new }
 {

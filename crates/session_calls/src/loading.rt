@@ -33,8 +33,8 @@ pub struct LoadTold {
     pub first: u32,
 }
 
-/// Inserts the access units of a text after the last one, each by an edit. A text that is refused inserts none; an edit
-/// that is refused ends it, and those before it stay.
+/// Inserts the access units of a text after the last one, each by an edit. A text that is refused
+/// inserts none; an edit that is refused ends it, and those before it stay.
 pub fn load(alloc: Global, runner: &mut Runner, text: &[u8], told: &mut LoadTold) -> u32
     ensures { LoadsTo runner.old text.now result told.new runner.new }
 {

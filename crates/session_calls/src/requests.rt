@@ -12,7 +12,8 @@ use linux_layouts::{DecodeParams, Pps, PredWeights, ScalingMatrix, SliceParams, 
 use pictures::AuId;
 use unit_outcomes::Outcome;
 
-/// The request of a slice: its controls but the weights, ready for the Request API, and what else a decoder is told.
+/// The request of a slice: its controls but the weights, ready for the Request API, and what else a
+/// decoder is told.
 #[repr(C)]
 #[derive(Clone, Copy)]
 pub struct SliceRequest {

@@ -14,7 +14,8 @@ pub const IS_OPEN: u32 = 101;
 pub const CACHE_RANGE: u32 = 102;
 /// What the caller gives has no room for what is asked.
 pub const TOO_SMALL: u32 = 103;
-/// No unit stands at the place, no edit of the journal has the index, or no reference of a job has it.
+/// No unit stands at the place, no edit of the journal has the index, or no reference of a job has
+/// it.
 pub const NO_SUCH_PLACE: u32 = 104;
 /// No job of the number is out.
 pub const NO_SUCH_JOB: u32 = 105;

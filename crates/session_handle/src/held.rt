@@ -16,7 +16,8 @@ pub struct Opaque {
     byte: u8,
 }
 
-/// A runner in a block of its own, or none; it is as large as a pointer. Clauses see the runner's state.
+/// A runner in a block of its own, or none; it is as large as a pointer. Clauses see the runner's
+/// state.
 #[repr(C)]
 pub struct Held {
     at: *mut Opaque,

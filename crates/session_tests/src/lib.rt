@@ -1,5 +1,5 @@
-//! Tests of sessions under edits, of damaged units and of runs of commands. They call public functions alone, so
-//! edit_engine is proved once.
+//! Tests of sessions under edits, of damaged units and of runs of commands. They call public
+//! functions alone, so edit_engine is proved once.
 #![tactic(auto)]
 
 #[cfg(test)]

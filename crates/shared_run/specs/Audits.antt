@@ -16,8 +16,8 @@ use Rattle.shared_run.specs.Verdicts.{IsVerdict, verdict_line}
 use Rattle.shared_run.specs.declared.verdict.Verdict.{Verdict}
 use Rattle.shared_run.specs.declared.verdict.Verdict.TheVariants.{Agreed, Disagrees}
 
--- a desk's only seat ran the script of this text, and this is what the audit of its book comes to; what answers its lines
--- went nowhere
+-- a desk's only seat ran the script of this text, and this is what the audit of its book comes to;
+-- what answers its lines went nowhere
 abbrev pub IsAudited : Files → List ℕ → Verdict → Type 0
 IsAudited files text verdict =
     (last : Seat) × WritesScriptTo files text false last None None × IsVerdict last verdict
@@ -40,22 +40,23 @@ WritesDisagrees files text old new =
 abbrev pub StopsAudit : Files → List ℕ → RunFault → Type 0
 StopsAudit files text fault = StopsText files text false fault ⊥ None None
 
--- the audit of a text ends by this fault: none comes of it and nothing was written, or the writer took a prefix of the
--- line and then refused
+-- the audit of a text ends by this fault: none comes of it and nothing was written, or the writer
+-- took a prefix of the line and then refused
 abbrev pub EndsAudit : Files → List ℕ → RunFault → Type 0 → Option (List ℕ) → Option (List ℕ) → Type 0
 EndsAudit files text fault refused old new =
     (StopsAudit files text fault × Keeps old new)
     ⊎ ((fault ≡ Unwritten) × refused × ((verdict : Verdict) × IsAudited files text verdict
     × AppendsFront old new (verdict_line verdict)))
 
--- the audit of the script of this name and text ends by this fault: it can't be read, or its text isn't audited
+-- the audit of the script of this name and text ends by this fault: it can't be read, or its text
+-- isn't audited
 abbrev pub EndsAuditBy : Files → List ℕ → List ℕ → RunFault → Type 0 → Option (List ℕ) → Option (List ℕ) → Type 0
 EndsAuditBy files name text fault refused old new =
     ((lent : Bor (List ℕ)) × (lent.now ≡ name) × (fault ≡ Unread lent) × Keeps old new)
     ⊎ EndsAudit files text fault refused old new
 
--- an audit failed, of a text that may be known: the line was written that a receipt doesn't agree, and nothing was told;
--- or it ended by a fault, which was told
+-- an audit failed, of a text that may be known: the line was written that a receipt doesn't agree,
+-- and nothing was told; or it ended by a fault, which was told
 abbrev pub FailsAudit : {T : Type 0} → Files → List ℕ → Option (List ℕ) → Result T PrintFault
     → Type 0 → Option (List ℕ) → Option (List ℕ) → Type 0 → Option (List ℕ) → Option (List ℕ) → Type 0
 FailsAudit files name known told refused old new mute had has =

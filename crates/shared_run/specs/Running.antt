@@ -1,5 +1,5 @@
--- The run of a script's commands by a seat of a desk, and what it writes (docs/OUTPUT.md). Each step is one of the seat's
--- calls, whose session no clause can name.
+-- The run of a script's commands by a seat of a desk, and what it writes (docs/OUTPUT.md). Each
+-- step is one of the seat's calls, whose session no clause can name.
 use Rattle.std.specs.Prelude.{◌≡◌, ℕ, ◌-◌, ◌≤◌, ◌++◌, Bool, List, [], ◌∷◌, length, Result, Ok, Err, Option, IfSome, ◌⊎◌}
 use Rattle.annexb.specs.ByteStream.{joined}
 use Rattle.access_unit.specs.Rooms.{IsStream, IsStreamRefused, most_units}
@@ -44,7 +44,8 @@ abbrev pub EditsGroup : Seat → List Edit → List ℕ → Seat → Type 0
 EditsGroup old edits line new =
     (answer : Result GroupReceipt GroupRefused) × EditsGroupOne old edits answer new × (line ≡ group_answer_line answer)
 
--- no unit was pending, or all that is wanted was done while the rest isn't decoded, and the line says so
+-- no unit was pending, or all that is wanted was done while the rest isn't decoded, and the line
+-- says so
 abbrev pub Settles : List ℕ → Type 0
 Settles line = (WaitsForOne settled.Done ⊎ WaitsForOne settled.Rested) × (line ≡ settled_line)
 
@@ -62,14 +63,15 @@ abbrev pub Drops : Seat → ℕ → List ℕ → Seat → Type 0
 Drops old number line new =
     (answer : Dropping) × DropsOne old (id_of number) (Ok answer) new × (line ≡ dropped_line number answer)
 
--- a unit is inserted after the last one by an edit of the seat; or there is no memory for its text, and nothing is done
+-- a unit is inserted after the last one by an edit of the seat; or there is no memory for its text,
+-- and nothing is done
 abbrev pub InsertsLast : Seat → List (List ℕ) → Result Receipt EditRefused → Seat → Type 0
 InsertsLast old part answer new =
     ((last : Last) × IsLastOfOne last × EditsOne old (Insert (place_after last.id) (joined part)) answer new)
     ⊎ ((answer ≡ Err refusals.Memory) × (new ≡ old))
 
--- the units that are left are inserted after the last one, each by an edit, of so many in all: to the end, or to the
--- first edit that is refused
+-- the units that are left are inserted after the last one, each by an edit, of so many in all: to
+-- the end, or to the first edit that is refused
 abbrev pub InsertsAll : ℕ → Seat → List (List (List ℕ)) → List ℕ → Seat → Type 0
 InsertsAll count old [] lines new = (lines ≡ loaded_line count) × (new ≡ old)
 InsertsAll count old (part ∷ parts) lines new =
@@ -109,8 +111,8 @@ Runs files hex from commands lines to = AreAnswered (Answers files hex) from com
 abbrev pub WritesRun : Files → Bool → Seat → List SeatCommand → Seat → Option (List ℕ) → Option (List ℕ) → Type 0
 WritesRun files hex from commands to old new = AreWritten (Answers files hex) from commands to old new
 
--- the text is a script of a seat, and what answers its commands was written: they were run by a desk's only seat, from
--- its first call on, and pictures have their digits or not
+-- the text is a script of a seat, and what answers its commands was written: they were run by a
+-- desk's only seat, from its first call on, and pictures have their digits or not
 pub record WritesScript (files : Files) (text : List ℕ) (hex : Bool) (old new : Option (List ℕ)) : Type 0 where
   pub commands : List SeatCommand
   pub first : Seat

@@ -13,7 +13,8 @@ use Rattle.script_run.specs.declared.run_fault.RunFault.{RunFault}
 use Rattle.script_run.specs.declared.run_fault.RunFault.TheVariants.{Unread, Script, Memory}
 use Rattle.shared_run.specs.Running.{Answers, IsNew}
 
--- why a command isn't answered; that no worker is left while pictures are due is told as lack of memory is
+-- why a command isn't answered; that no worker is left while pictures are due is told as lack of
+-- memory is
 abbrev pub IsCommandFault : SeatCommand → RunFault → Type 0
 IsCommandFault (seat.Edit edit) fault = fault ≡ Memory
 IsCommandFault (seat.Group edits) fault = fault ≡ Memory
@@ -31,13 +32,14 @@ abbrev pub StopsAt : Files → Bool → Seat → List SeatCommand → RunFault �
 StopsAt files hex from commands fault refused old new =
     StopsAmong (Answers files hex) IsCommandFault from commands fault refused old new
 
--- the commands aren't run to their end: a thread can't be started, which is told as lack of memory is, or they stop
+-- the commands aren't run to their end: a thread can't be started, which is told as lack of memory
+-- is, or they stop
 abbrev pub StopsRun : Files → Bool → Seat → List SeatCommand → RunFault → Type 0 → Option (List ℕ) → Option (List ℕ) → Type 0
 StopsRun files hex from commands fault refused old new =
     ((fault ≡ Memory) × Keeps old new) ⊎ StopsAt files hex from commands fault refused old new
 
--- a text isn't run to its end: there is no memory for its commands or no thread, this line is the first that is no
--- command of a seat, or its commands stop
+-- a text isn't run to its end: there is no memory for its commands or no thread, this line is the
+-- first that is no command of a seat, or its commands stop
 abbrev pub StopsText : Files → List ℕ → Bool → RunFault → Type 0 → Option (List ℕ) → Option (List ℕ) → Type 0
 StopsText files text hex fault refused old new =
     ((fault ≡ Memory) × Keeps old new)
@@ -45,7 +47,8 @@ StopsText files text hex fault refused old new =
     ⊎ ((commands : List SeatCommand) × (first : Seat) × IsSeatScript text commands × IsNew first
     × StopsAt files hex first commands fault refused old new)
 
--- the script of this name and text isn't run to its end by this fault: it can't be read, or its text isn't run
+-- the script of this name and text isn't run to its end by this fault: it can't be read, or its
+-- text isn't run
 abbrev pub StopsBy : Files → List ℕ → List ℕ → Bool → RunFault → Type 0 → Option (List ℕ) → Option (List ℕ) → Type 0
 StopsBy files name text hex fault refused old new =
     ((lent : Bor (List ℕ)) × (lent.now ≡ name) × (fault ≡ Unread lent) × Keeps old new)

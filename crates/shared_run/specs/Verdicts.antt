@@ -20,16 +20,16 @@ abbrev pub is_show : SeatReceipt → Bool
 is_show (receipts.Show id answer n) = true
 is_show receipt = false
 
--- a session's journal bears out the book of its desk's one seat, which has so many edits, a group counting as one, and so
--- many shows
+-- a session's journal bears out the book of its desk's one seat, which has so many edits, a group
+-- counting as one, and so many shows
 pub record IsAgreed (seat : Seat) (edits shows : ℕ) : Type 0 where
   pub journal : List (List Edit)
   pub finished : IsFinished 1 (seat ∷ []) journal
   pub edited : edits ≡ count_by is_edit seat.book.receipts.items
   pub shown : shows ≡ count_by is_show seat.book.receipts.items
 
--- the journal doesn't: a receipt is the first that doesn't agree with it; or all do, and one of its entries has none, of
--- which the receipt after the last is told
+-- the journal doesn't: a receipt is the first that doesn't agree with it; or all do, and one of its
+-- entries has none, of which the receipt after the last is told
 abbrev pub IsDisagreed : Seat → ℕ → ℕ → Type 0
 IsDisagreed seat of number = (journal : List (List Edit))
     × (HasFault 1 (seat ∷ []) journal of number

@@ -1,4 +1,5 @@
-//! `preview audit`: a script read and run by a seat while workers decode, and the seat's book held against the journal.
+//! `preview audit`: a script read and run by a seat while workers decode, and the seat's book held
+//! against the journal.
 
 ghost use Rattle.std.specs.Prelude.{◌≡◌, ◌≢◌, ◌≤◌, IfErr, IfOk, IfSome, length};
 ghost use Rattle.std.specs.Io.KnownBytes.{Keeps};
@@ -18,7 +19,8 @@ use std::io::Read;
 use std::sync::Wait;
 use std::thread::Threads;
 
-/// Audits the script that the reader gives as `audit_with` does, by so many workers with a device each.
+/// Audits the script that the reader gives as `audit_with` does, by so many workers with a device
+/// each.
 pub fn audit_with_workers<R: Threads + Wait + Sync, I: Read, S: Source + Drop, W: Sink, E: Sink>(
     rt: &R,
     alloc: Global,
@@ -46,9 +48,9 @@ pub fn audit_with_workers<R: Threads + Wait + Sync, I: Read, S: Source + Drop, W
     }
 }
 
-/// Runs the script that the reader gives as `script_with` does, but writes nothing of what answers its lines: at the end
-/// the desk is finished, and one line says whether the seat's book agrees with the journal. Where it doesn't, that is a
-/// failure too, of which nothing is told.
+/// Runs the script that the reader gives as `script_with` does, but writes nothing of what answers
+/// its lines: at the end the desk is finished, and one line says whether the seat's book agrees
+/// with the journal. Where it doesn't, that is a failure too, of which nothing is told.
 pub fn audit_with<R, D, I, S, W, E>(
     rt: &R,
     alloc: Global,

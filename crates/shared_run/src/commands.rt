@@ -20,8 +20,8 @@ use std::alloc::{AllocError, Global};
 use std::sync::Wait;
 use std::thread::Threads;
 
-/// Runs the commands one after the other, and writes what each one prints, pictures with digits where `hex` asks for
-/// them.
+/// Runs the commands one after the other, and writes what each one prints, pictures with digits
+/// where `hex` asks for them.
 pub(crate) fn run_commands<'a, R: Threads + Wait + Sync, S: Source, W: Sink>(
     rt: &R,
     alloc: Global,
@@ -107,9 +107,9 @@ fn group_desk<R: Wait>(
     }
 }
 
-/// Waits until no unit is pending, or until all that is wanted is done where the rest isn't decoded, and gives the line that
-/// says so. Where all workers have ended before, by a job that one couldn't decode or take, memory ran out or job numbers are
-/// spent.
+/// Waits until no unit is pending, or until all that is wanted is done where the rest isn't
+/// decoded, and gives the line that says so. Where all workers have ended before, by a job that one
+/// couldn't decode or take, memory ran out or job numbers are spent.
 fn settle<R: Wait>(rt: &R, alloc: Global, desk: &Desk, seat: &Seat) -> Result<String, AllocError>
     ensures { IfOk result (λ line. Settles (string_bytes line)) }
 {
@@ -119,7 +119,8 @@ fn settle<R: Wait>(rt: &R, alloc: Global, desk: &Desk, seat: &Seat) -> Result<St
     }
 }
 
-/// Waits until the unit of this number isn't pending, and gives the line that says so; likewise where all workers have ended.
+/// Waits until the unit of this number isn't pending, and gives the line that says so; likewise
+/// where all workers have ended.
 fn settle_for<R: Wait>(
     rt: &R,
     alloc: Global,
@@ -172,7 +173,8 @@ fn clear<R: Wait>(rt: &R, alloc: Global, desk: &Desk, seat: &Seat) -> Result<Str
     String::from_str(alloc, "cleared\n")
 }
 
-/// Wants the units of these ids first, and gives the line that says how many, or that they are too many.
+/// Wants the units of these ids first, and gives the line that says how many, or that they are too
+/// many.
 fn want<R: Wait>(
     rt: &R,
     alloc: Global,

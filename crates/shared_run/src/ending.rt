@@ -9,8 +9,9 @@ use decode_pool::{Desk, FinishFault, Seat, finish};
 use seat_books::{SeatBook, SeatReceipt};
 use std::alloc::{AllocError, Global};
 
-/// Ends the desk whose one seat this is, and says whether its book agrees with the journal. Where one of the journal's
-/// entries stands in no book, the receipt that disagrees is the one that is missing after the last.
+/// Ends the desk whose one seat this is, and says whether its book agrees with the journal. Where
+/// one of the journal's entries stands in no book, the receipt that disagrees is the one that is
+/// missing after the last.
 pub(crate) fn end(alloc: Global, desk: Desk, seat: Seat) -> Result<Verdict, AllocError>
     requires opened { desk.seats ≡ 1 }
     requires number { seat.number ≡ 1 }

@@ -17,8 +17,9 @@ use std::sync::Wait;
 use std::thread::Threads;
 use unit_lines::RefusalLine;
 
-/// Inserts the units of the file of this name after the last one, each by an edit of the seat, and gives the line that
-/// says how many; or why the file's stream is refused, or why an edit is, which ends the loading.
+/// Inserts the units of the file of this name after the last one, each by an edit of the seat, and
+/// gives the line that says how many; or why the file's stream is refused, or why an edit is, which
+/// ends the loading.
 pub(crate) fn load<'a, R: Threads + Wait + Sync, S: Source>(
     rt: &R,
     alloc: Global,
@@ -45,7 +46,8 @@ pub(crate) fn load<'a, R: Threads + Wait + Sync, S: Source>(
     }
 }
 
-/// Inserts the units after the last one, and gives the line that says how many, or why one is refused.
+/// Inserts the units after the last one, and gives the line that says how many, or why one is
+/// refused.
 fn insert_all<R: Wait>(
     rt: &R,
     alloc: Global,

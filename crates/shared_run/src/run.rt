@@ -1,4 +1,5 @@
-//! `preview run --workers`: a script read, run by a seat while workers decode, and answered line by line.
+//! `preview run --workers`: a script read, run by a seat while workers decode, and answered line by
+//! line.
 
 ghost use Rattle.std.specs.Prelude.{◌≡◌, ◌≢◌, ◌≤◌, ℕ, List, length, IfErr, IfOk, IfSome};
 ghost use Rattle.std.specs.Io.KnownBytes.{Keeps};
@@ -19,7 +20,8 @@ use std::io::Read;
 use std::sync::Wait;
 use std::thread::Threads;
 
-/// Runs the script that the reader gives as `script_with` does, by so many workers with a device each.
+/// Runs the script that the reader gives as `script_with` does, by so many workers with a device
+/// each.
 pub fn script_with_workers<R: Threads + Wait + Sync, I: Read, S: Source + Drop, W: Sink, E: Sink>(
     rt: &R,
     alloc: Global,
@@ -50,10 +52,11 @@ pub fn script_with_workers<R: Threads + Wait + Sync, I: Read, S: Source + Drop, 
     }
 }
 
-/// Runs the script that the reader gives, whose files the source gives, by the one seat of a desk of its own, while a
-/// worker for each gate decodes in a thread. Each line that is a command is answered by one write. Why the run ends before
-/// the script does is told to `errors`; a thread that can't be started, and workers that have all ended while pictures
-/// are due, are told as lack of memory is.
+/// Runs the script that the reader gives, whose files the source gives, by the one seat of a desk
+/// of its own, while a worker for each gate decodes in a thread. Each line that is a command is
+/// answered by one write. Why the run ends before the script does is told to `errors`; a thread
+/// that can't be started, and workers that have all ended while pictures are due, are told as lack
+/// of memory is.
 pub fn script_with<R, D, I, S, W, E>(
     rt: &R,
     alloc: Global,
@@ -100,8 +103,8 @@ where
     }
 }
 
-/// Runs the script of this text, and hands out the desk and its seat. Where a line is no command of a seat, nothing is
-/// run.
+/// Runs the script of this text, and hands out the desk and its seat. Where a line is no command of
+/// a seat, nothing is run.
 pub(crate) fn run_text<'a, R, D, S, W>(
     rt: &'a R,
     alloc: Global,

@@ -22,8 +22,9 @@ pub(crate) struct Ran<'a> {
     pub(crate) seat: Seat,
 }
 
-/// Runs the commands by the seat while a worker for each gate decodes, and hands desk and seat back. However the run ends,
-/// the desk is closed then, and the threads have ended. Where one can't be started, nothing is run.
+/// Runs the commands by the seat while a worker for each gate decodes, and hands desk and seat
+/// back. However the run ends, the desk is closed then, and the threads have ended. Where one can't
+/// be started, nothing is run.
 pub(crate) fn run_beside<'a, R, D, S, W>(
     rt: &'a R,
     alloc: Global,

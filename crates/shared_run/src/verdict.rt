@@ -9,9 +9,11 @@ use std::fmt::{Display, Formatter, Write};
 /// What the audit of a seat's book comes to, and the line that says so (docs/OUTPUT.md).
 #[derive(Clone, Copy, Debug, Drop)]
 pub(crate) enum Verdict {
-    /// Each receipt agrees with the journal: so many of edits, and so many of units that were shown.
+    /// Each receipt agrees with the journal: so many of edits, and so many of units that were
+    /// shown.
     Agreed { edits: usize, shows: usize },
-    /// The receipt of this number is the first that doesn't, in the book of this seat. Both are counted from 1.
+    /// The receipt of this number is the first that doesn't, in the book of this seat. Both are
+    /// counted from 1.
     Disagrees { seat: usize, number: usize },
 }
 

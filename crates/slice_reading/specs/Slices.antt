@@ -1,4 +1,5 @@
--- The slices of a unit, each with its header, or the fault that a header shows (ITU-T H.264, 7.3.3 and 7.4.1.2.1).
+-- The slices of a unit, each with its header, or the fault that a header shows (ITU-T H.264, 7.3.3
+-- and 7.4.1.2.1).
 use Rattle.std.specs.Prelude.{ℕ, List, Option, None, Some, Result, Ok, Err}
 use Rattle.set_types.specs.declared.sps.Sps.{Sps}
 use Rattle.set_types.specs.declared.pps.Pps.{Pps}

@@ -9,8 +9,9 @@ use crate::slices::Slice;
 use header_types::{DecRefPicMarking, MemoryManagementControlOperation};
 use validity_faults::ValidityFault;
 
-/// The first fault that the slices of a unit show by themselves: a redundant one, an order in which first_mb_in_slice
-/// doesn't rise from 0 on, or a difference in what the slices of a picture share (7.4.1.2.4).
+/// The first fault that the slices of a unit show by themselves: a redundant one, an order in which
+/// first_mb_in_slice doesn't rise from 0 on, or a difference in what the slices of a picture share
+/// (7.4.1.2.4).
 ///
 /// The first slice stands before the others.
 pub fn slice_fault(first: &Slice, others: &[Slice]) -> Option<ValidityFault>

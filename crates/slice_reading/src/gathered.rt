@@ -12,7 +12,8 @@ use std::alloc::{AllocError, Global};
 use std::marker::Model;
 use validity_faults::ValidityFault;
 
-/// What slices gave so far: an item each, or of those that showed a fault the fault of the lowest number.
+/// What slices gave so far: an item each, or of those that showed a fault the fault of the lowest
+/// number.
 #[derive(Debug, Drop)]
 pub struct Gathered<T> {
     items: Vec<T>,

@@ -1,8 +1,9 @@
 //! The slices of a unit, read over the parameter sets that the stream has sent.
 //!
-//! `tables_with` puts a unit's sets into the tables, `read_slices` reads its slices against them, and `slice_fault` tests
-//! whether they can be those of one picture. Of several slices' faults the one of the lowest number is given (`Gathered`).
-//! Below are the crates that read units and headers; above is request_core, which folds over units.
+//! `tables_with` puts a unit's sets into the tables, `read_slices` reads its slices against them,
+//! and `slice_fault` tests whether they can be those of one picture. Of several slices' faults the
+//! one of the lowest number is given (`Gathered`). Below are the crates that read units and
+//! headers; above is request_core, which folds over units.
 #![tactic(auto)]
 
 mod checks;

@@ -75,7 +75,8 @@ impl Place for SpsPlace {
     }
 }
 
-/// A picture parameter set, with the sets and controls that it was paired to when it came. No outcome depends on those.
+/// A picture parameter set, with the sets and controls that it was paired to when it came. No
+/// outcome depends on those.
 #[derive(Debug)]
 pub(crate) struct PpsPlace {
     set: Shared<Pps>,

@@ -1,4 +1,5 @@
-//! The parameter sets that a slice names, with the controls that they decide, which slices and pictures share.
+//! The parameter sets that a slice names, with the controls that they decide, which slices and
+//! pictures share.
 
 ghost use Rattle.std.specs.Prelude.{◌≡◌, ◌↔◌, IfOk, IsTrue};
 ghost use Rattle.set_controls.specs.SetControls.{set_controls};
@@ -53,8 +54,8 @@ impl Sets {
         })
     }
 
-    /// The sets, with what they decide. It's shared with the place of the picture parameter set, or with the last sets
-    /// that were used, where those are the same.
+    /// The sets, with what they decide. It's shared with the place of the picture parameter set, or
+    /// with the last sets that were used, where those are the same.
     pub(crate) fn of(
         alloc: Global,
         last: Option<&Sets>,

@@ -23,7 +23,8 @@ use std::alloc::{AllocError, Global};
 use std::marker::Model;
 use validity_faults::ValidityFault;
 
-/// A slice: its NAL unit, the parameter sets that it names, with the controls that these decide, and its header.
+/// A slice: its NAL unit, the parameter sets that it names, with the controls that these decide,
+/// and its header.
 #[derive(Debug)]
 pub struct Slice {
     nal: SharedNal,
@@ -80,9 +81,11 @@ impl Slice {
     }
 }
 
-/// The slices of these NAL units, each read against the tables, or the fault of the lowest number that any shows.
+/// The slices of these NAL units, each read against the tables, or the fault of the lowest number
+/// that any shows.
 ///
-/// A slice shares its sets and their controls with the tables, or with the slice before it, where those have the same.
+/// A slice shares its sets and their controls with the tables, or with the slice before it, where
+/// those have the same.
 pub fn read_slices(alloc: Global, tables: &Tables, nals: &[SharedNal]) -> Result<Vec<Slice>, Stop>
     ensures { AnswersAs (λ slices. slices.items) result
         (gathered (map (slice_at tables.now) nals.now)) }
@@ -95,8 +98,8 @@ pub fn read_slices(alloc: Global, tables: &Tables, nals: &[SharedNal]) -> Result
     slices.finish()
 }
 
-/// The slice of a NAL unit, or the fault that it shows. It shares the sets of the last slice that was read where those are
-/// the same. The front of the unit is unescaped once.
+/// The slice of a NAL unit, or the fault that it shows. It shares the sets of the last slice that
+/// was read where those are the same. The front of the unit is unescaped once.
 #[tactic(auto, unfolding(crate::specs::Slices::slice_at))]
 fn read_slice(
     alloc: Global,

@@ -17,8 +17,8 @@ const MOST_SPS: usize = 32;
 /// How many ids picture parameter sets have.
 const MOST_PPS: usize = 256;
 
-/// The set that was sent last under each id, with the controls that it decides: 32 sequence parameter sets and 256
-/// picture parameter sets, each of them shared.
+/// The set that was sent last under each id, with the controls that it decides: 32 sequence
+/// parameter sets and 256 picture parameter sets, each of them shared.
 #[derive(Debug)]
 pub struct Tables {
     sps: Vec<Option<Shared<SpsPlace>>>,
@@ -89,7 +89,8 @@ impl Tables {
         Ok(())
     }
 
-    /// Pairs a picture parameter set that was put to the sequence parameter set that it names, where that was sent.
+    /// Pairs a picture parameter set that was put to the sequence parameter set that it names,
+    /// where that was sent.
     pub(crate) fn pair(&mut self, alloc: Global, set: &ParameterSet) -> Result<(), AllocError>
         ensures { OnOk result (self.new ≡ self.old) }
     {
@@ -103,7 +104,8 @@ impl Tables {
         Ok(())
     }
 
-    /// The place of the picture parameter set under an id as it is to be, where its set has to be paired anew.
+    /// The place of the picture parameter set under an id as it is to be, where its set has to be
+    /// paired anew.
     fn pairing(&self, alloc: Global, id: u8) -> Result<Option<Shared<PpsPlace>>, AllocError>
         ensures { IfOk result (λ paired. IfSome paired (λ place. pps_under self.now id ≡ Some place)) }
     {

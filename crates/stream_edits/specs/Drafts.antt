@@ -13,7 +13,8 @@ use Rattle.stream_edits.specs.Streams.{ids_of}
 abbrev pub register_of : Draft → Register
 register_of draft = record { given = draft.given; stream = draft.units.items }
 
--- the edits were made on it, and between those units at its front and at its end that are as they were
+-- the edits were made on it, and between those units at its front and at its end that are as they
+-- were
 pub record IsDraft (old : Register) (edits : List Edit) (draft : Draft) : Type 0 where
   pub makes : MakesAll old edits draft.about.items (register_of draft)
   pub ids_are : draft.ids.items ≡ ids_of draft.units.items

@@ -6,8 +6,8 @@ use Rattle.stream_edits.specs.Edits.{Register}
 use Rattle.stream_edits.specs.Groups.{IsSized}
 use Rattle.stream_edits.specs.Refusals.{IsRefused}
 
--- those that are read are the first ones; where none is refused they are all, and else the next one is refused so whatever
--- the stream is
+-- those that are read are the first ones; where none is refused they are all, and else the next one
+-- is refused so whatever the stream is
 abbrev pub AreReadUpTo : List Edit → List Edit → Option EditRefused → Type 0
 AreReadUpTo edits read None = read ≡ edits
 AreReadUpTo edits read (Some refused) =

@@ -14,15 +14,17 @@ most_edits = 1024
 abbrev pub IsSized : List Edit → Type 0
 IsSized edits = (0 < length edits) × (length edits ≤ most_edits)
 
--- the edits, each accepted after those before it, are about these ids and lead from one to the other
+-- the edits, each accepted after those before it, are about these ids and lead from one to the
+-- other
 abbrev pub MakesAll : Register → List Edit → List ℕ → Register → Type 0
 MakesAll from [] [] to = from ≡ to
 MakesAll from (edit ∷ edits) (id ∷ ids) to = (next : Register) × Makes from edit id next × MakesAll next edits ids to
 MakesAll from [] (id ∷ ids) to = ⊥
 MakesAll from (edit ∷ edits) [] to = ⊥
 
--- the change is what the edits come to; it begins past the longest front that the streams before and after it have in common,
--- and takes in all up to the longest rest that they have in common behind that
+-- the change is what the edits come to; it begins past the longest front that the streams before
+-- and after it have in common, and takes in all up to the longest rest that they have in common
+-- behind that
 pub record IsForAll (old : Register) (edits : List Edit) (accepted : AcceptedGroup) : Type 0 where
   pub sized : IsSized edits
   pub inside : IsInside accepted.change old.stream

@@ -7,7 +7,8 @@ use Rattle.stream_edits.specs.Edits.{Register}
 abbrev pub units_with : Stream → ℕ → ℕ
 units_with stream id = count_by (has_id id) stream
 
--- each id is that of one unit at most, and was given: it is 1 or more, and not above the number of ids given
+-- each id is that of one unit at most, and was given: it is 1 or more, and not above the number of
+-- ids given
 pub record HasIds (register : Register) : Type 0 where
   pub once : (id : ℕ) → units_with register.stream id ≤ 1
   pub given : (id : ℕ) → 0 < units_with register.stream id → (0 < id) × (id ≤ register.given)

@@ -14,7 +14,8 @@ IsUnitOf (Delete id) None = ⊤
 IsUnitOf (Replace id text) (Some unit) = IsAccepted text unit
 IsUnitOf (Replace id text) None = ⊥
 
--- reading the text hashes so many bytes: each byte of the slices of its unit once, and so no more than the text has
+-- reading the text hashes so many bytes: each byte of the slices of its unit once, and so no more
+-- than the text has
 pub record IsHashedText (text : List ℕ) (hashed : ℕ) : Type 0 where
   pub unit : List (List ℕ)
   pub accepted : IsAccepted text unit

@@ -1,4 +1,5 @@
--- Why an edit of a stream is refused: the first reason that holds, or that memory was refused before one was found.
+-- Why an edit of a stream is refused: the first reason that holds, or that memory was refused
+-- before one was found.
 use Rattle.std.specs.Prelude.{◌≡◌, ℕ, ◌<◌, ◌≤◌, List, length, None, Some}
 use Rattle.annexb.specs.ByteStream.{HasUnits}
 use Rattle.access_unit.specs.declared.refused.Refused.{Refused}
@@ -38,9 +39,9 @@ IsInsertion stream (Replace id text) = ⊥
 abbrev pub IsSplittable : List ℕ → Type 0
 IsSplittable text = (length text ≤ most_bytes) × (units : List (List ℕ)) × HasUnits text units
 
--- the edit takes memory, so that it may be refused for want of it: a text that isn't too long and splits is read before
--- its NAL units and its place are looked at, so that it may, too, where they would refuse it; a deletion takes memory
--- once its unit is found
+-- the edit takes memory, so that it may be refused for want of it: a text that isn't too long and
+-- splits is read before its NAL units and its place are looked at, so that it may, too, where they
+-- would refuse it; a deletion takes memory once its unit is found
 abbrev pub TakesMemory : Stream → Edit → Type 0
 TakesMemory stream (Insert place text) = IsSplittable text
 TakesMemory stream (Delete id) = (at : ℕ) × (place_of stream id ≡ Some at)

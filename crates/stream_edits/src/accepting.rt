@@ -20,12 +20,14 @@ use hashed_units::HashedUnit;
 use pictures::AuId;
 use std::alloc::{AllocError, Global};
 
-/// What the edit comes to, of units with these ids and with so many ids given, or why it is refused.
+/// What the edit comes to, of units with these ids and with so many ids given, or why it is
+/// refused.
 ///
-/// The refusal is the first in the order of `EditRefused`, but for Memory, which may stand in for a later one: a
-/// text that isn't too long and splits into NAL units is read into memory before its units and the edit's place
-/// are looked at, so where that memory is refused, nothing is said of them. A text that is too long or doesn't
-/// split, and a deletion of a unit that isn't there, are never answered Memory.
+/// The refusal is the first in the order of `EditRefused`, but for Memory, which may stand in for a
+/// later one: a text that isn't too long and splits into NAL units is read into memory before its
+/// units and the edit's place are looked at, so where that memory is refused, nothing is said of
+/// them. A text that is too long or doesn't split, and a deletion of a unit that isn't there, are
+/// never answered Memory.
 pub fn change_of(
     alloc: Global,
     units: &[(AuId, Shared<HashedUnit>)],

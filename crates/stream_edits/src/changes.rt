@@ -9,8 +9,8 @@ use hashed_units::HashedUnit;
 use pictures::AuId;
 use vec_ranges::replace_range;
 
-/// A change of a stream in one stretch: these units stand in the place of those of the stretch, and all others stay. A
-/// place is that past so many units.
+/// A change of a stream in one stretch: these units stand in the place of those of the stretch, and
+/// all others stay. A place is that past so many units.
 #[derive(Debug)]
 pub struct Change {
     pub(crate) at: usize,

@@ -23,7 +23,8 @@ use pictures::AuId;
 use std::alloc::{AllocError, Global};
 use vec_ranges::replace_range;
 
-/// A stream beside the one that is kept, on which the edits of a group are made one after the other.
+/// A stream beside the one that is kept, on which the edits of a group are made one after the
+/// other.
 #[derive(Debug)]
 pub(crate) struct Draft {
     pub(crate) units: Vec<(AuId, Shared<HashedUnit>)>,
@@ -105,7 +106,8 @@ impl Draft {
         Ok(())
     }
 
-    /// The change from the stream as it was to this one, with how many bytes were hashed for its edits.
+    /// The change from the stream as it was to this one, with how many bytes were hashed for its
+    /// edits.
     pub(crate) fn into_change(
         self,
         units: &[(AuId, Shared<HashedUnit>)],

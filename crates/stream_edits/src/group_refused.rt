@@ -8,8 +8,8 @@ use crate::refusals::EditRefused;
 use std::alloc::{AllocError, AllocFailed};
 use thiserror::Error;
 
-/// Why a group of edits is refused, and with it each of them: the first of these that holds, in this order. Memory may
-/// also be answered where an edit is refused.
+/// Why a group of edits is refused, and with it each of them: the first of these that holds, in
+/// this order. Memory may also be answered where an edit is refused.
 #[derive(Clone, Copy, Debug, PartialEq, Eq, Hash, Error)]
 pub enum GroupRefused {
     /// It has no edit.
@@ -18,7 +18,8 @@ pub enum GroupRefused {
     /// It has more than 1,024 edits.
     #[error("the group has more than 1,024 edits")]
     TooLarge,
-    /// The first of its edits that is refused, counted from 0, and why, which isn't for lack of memory.
+    /// The first of its edits that is refused, counted from 0, and why, which isn't for lack of
+    /// memory.
     #[error("edit {index}: {refused}")]
     Edit { index: usize, refused: EditRefused },
     /// A growth was refused.

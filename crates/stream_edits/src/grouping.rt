@@ -18,10 +18,11 @@ use hashed_units::HashedUnit;
 use pictures::AuId;
 use std::alloc::Global;
 
-/// What the group comes to, of units with these ids and with so many ids given, or why it is refused.
+/// What the group comes to, of units with these ids and with so many ids given, or why it is
+/// refused.
 ///
-/// Each edit is made on the stream that those before it left, and may name an id that one of them gave. Where one is
-/// refused, the whole group is, and so are no ids given.
+/// Each edit is made on the stream that those before it left, and may name an id that one of them
+/// gave. Where one is refused, the whole group is, and so are no ids given.
 pub fn change_of_group(
     alloc: Global,
     units: &[(AuId, Shared<HashedUnit>)],
@@ -57,7 +58,8 @@ fn hashed_for(read: &[ReadEdit]) -> usize
     hashed
 }
 
-/// The stream under these edits, made on it one after the other, or the refusal of the first that is refused.
+/// The stream under these edits, made on it one after the other, or the refusal of the first that
+/// is refused.
 fn draft_of(
     alloc: Global,
     units: &[(AuId, Shared<HashedUnit>)],

@@ -25,7 +25,8 @@ pub(crate) fn common_front(
     most
 }
 
-/// How many units at the end of both are the same, behind so many at the front, where so many are known to be.
+/// How many units at the end of both are the same, behind so many at the front, where so many are
+/// known to be.
 pub(crate) fn common_rest(
     old: &[(AuId, Shared<HashedUnit>)],
     new: &[(AuId, Shared<HashedUnit>)],

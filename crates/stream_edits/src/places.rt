@@ -10,8 +10,9 @@ use pictures::AuId;
 /// How far from the place of its number an id is looked for first.
 const NEAR: usize = 64;
 
-/// The place of the id among ids that differ, if it is one of them. The last one is found at once, and so is one that stands
-/// near the place of its number, as in a stream that was loaded and edited little. Takes no memory.
+/// The place of the id among ids that differ, if it is one of them. The last one is found at once,
+/// and so is one that stands near the place of its number, as in a stream that was loaded and
+/// edited little. Takes no memory.
 pub fn place_of(ids: &[AuId], id: AuId) -> Option<usize>
     requires { AreDifferent ids.now }
     ensures value { result ≡ place_among ids.now id }

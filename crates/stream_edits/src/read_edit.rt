@@ -43,8 +43,8 @@ impl Model for ReadEdit {
 }
 
 impl ReadEdit {
-    /// The insertion of a unit, whose text is that of its NAL units joined. No byte of a lone one is copied, and nothing is
-    /// read.
+    /// The insertion of a unit, whose text is that of its NAL units joined. No byte of a lone one
+    /// is copied, and nothing is read.
     pub fn insertion(alloc: Global, place: Place, unit: HashedUnit) -> Result<ReadEdit, AllocError>
         ensures ok { IfOk result (λ read. read ≡ Insert place (joined unit)) }
         ensures accepted { IsAccepted (joined unit) unit }
@@ -83,8 +83,9 @@ impl ReadEdit {
 }
 
 impl Edit {
-    /// The edit with its text read, or why it is refused whatever the stream is, which is for its text. Memory may stand in
-    /// for another refusal, as `change_of` says. No byte is copied. An edit without a text is never refused.
+    /// The edit with its text read, or why it is refused whatever the stream is, which is for its
+    /// text. Memory may stand in for another refusal, as `change_of` says. No byte is copied. An
+    /// edit without a text is never refused.
     pub fn read(self, alloc: Global) -> Result<ReadEdit, EditRefused>
         ensures ok { IfOk result (λ read. read ≡ self) }
         ensures err { IfErr result (λ refused. (old : Register) → IsRefused old self refused) }

@@ -16,8 +16,8 @@ use std::marker::Model;
 /// How many edits a group has at most.
 pub const MOST_EDITS: usize = 1_024;
 
-/// A group of one edit at least and 1,024 at most, with the units that their texts are read as, up to the first text that
-/// is refused. Clauses see the edits.
+/// A group of one edit at least and 1,024 at most, with the units that their texts are read as, up
+/// to the first text that is refused. Clauses see the edits.
 #[derive(Debug)]
 pub struct ReadGroup {
     edits: Vec<Edit>,
@@ -50,9 +50,9 @@ impl Model for ReadGroup {
 }
 
 impl ReadGroup {
-    /// The group of these edits with their texts read, or why it is refused whatever the stream is: for its size, or for
-    /// lack of memory. A text that is refused is answered when the group is made, since an edit before it may be refused
-    /// for the stream. No byte is copied.
+    /// The group of these edits with their texts read, or why it is refused whatever the stream is:
+    /// for its size, or for lack of memory. A text that is refused is answered when the group is
+    /// made, since an edit before it may be refused for the stream. No byte is copied.
     pub fn read(alloc: Global, edits: Vec<Edit>) -> Result<ReadGroup, GroupRefused>
         ensures ok { IfOk result (λ group. (group ≡ edits.items) × IsSized group) }
         ensures err { IfErr result (λ refused. (old : Register)

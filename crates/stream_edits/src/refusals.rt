@@ -9,8 +9,9 @@ use access_unit::Refused;
 use std::alloc::{AllocError, AllocFailed};
 use thiserror::Error;
 
-/// Why an edit is refused: the first of these that holds, in this order. Memory may also be answered where another one
-/// holds, if it was refused before that one was looked for (`change_of`).
+/// Why an edit is refused: the first of these that holds, in this order. Memory may also be
+/// answered where another one holds, if it was refused before that one was looked for
+/// (`change_of`).
 #[derive(Clone, Copy, Debug, PartialEq, Eq, Hash, Error)]
 pub enum EditRefused {
     /// The bytes aren't the text of an access unit.

@@ -1,5 +1,6 @@
-//! Insertions into streams that no test can make by edits: they would fold some 2,000,000,000 units. So the units and
-//! how many ids were given are given. The tests of edits of a session stand in session_tests.
+//! Insertions into streams that no test can make by edits: they would fold some 2,000,000,000
+//! units. So the units and how many ids were given are given. The tests of edits of a session stand
+//! in session_tests.
 
 ghost use Rattle.std.specs.Prelude.{◌≡◌, ◌+◌, ◌<◌, ◌^◌, IfOk, OnOk};
 ghost use Rattle.stream_edits.specs.Ids.{AreDifferent, HasIds};
@@ -66,7 +67,8 @@ fn changed(alloc: Global, units: &Units, given: u32, edit: &Edit) -> Result<u32,
     )
 }
 
-/// How many units a stream has, how many ids were given, and the id of a unit that is inserted or why none is.
+/// How many units a stream has, how many ids were given, and the id of a unit that is inserted or
+/// why none is.
 const ROOMS: [(u32, u32, Result<u32, EditRefused>); 7] = [
     (0, 0, Ok(1)),
     (0, 4_294_967_294, Ok(4_294_967_295)),

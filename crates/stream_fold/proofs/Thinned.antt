@@ -154,7 +154,8 @@ apart_gap from (next ∷ places) end apart place other there at-other less = eli
   ]
 ]
 
--- places that were sparse: those up to one are kept, those from another on are moved, and new ones stand between
+-- places that were sparse: those up to one are kept, those from another on are moved, and new ones
+-- stand between
 module _ (olds made : List ℕ) (kept to new_to end : ℕ)
     (sparse : (first between last : ℕ) → Contains olds first → Contains olds between → Contains olds last
     → first < between → between < last → first + spacing < last)
@@ -220,7 +221,8 @@ module _ (olds made : List ℕ) (kept to new_to end : ℕ)
   moved_between first between last origin is (inr (inr moved)) past less more close =
       omega (arith, close, moved_far first between last origin is moved past less more)
 
-  -- three are near each other only about the place that is kept, or that from which on they are moved
+  -- three are near each other only about the place that is kept, or that from which on they are
+  -- moved
   pub crowded : (first between last : ℕ) → HasOrigin first → HasOrigin between → HasOrigin last → first < between → between < last
       → last ≤ first + spacing → (between ≡ kept) ⊎ (between ≡ new_to)
   crowded first between last origin (inl low) origin_too less more close = elim (cases_eq between kept) [

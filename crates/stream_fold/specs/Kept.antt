@@ -9,7 +9,8 @@ use Rattle.checkpoints.specs.Stored.{Stored, IsStoredAt}
 use Rattle.checkpoints.specs.Spacing.{HasNear}
 use Rattle.stream_fold.specs.Streams.{state_past}
 
--- the stream, the states that are stored along it, and for how many more units and outcomes there is room
+-- the stream, the states that are stored along it, and for how many more units and outcomes there
+-- is room
 pub record FoldedValue : Type 0 where
   pub stream : Stream
   pub stored : Stored FoldState

@@ -6,7 +6,8 @@ use Rattle.output_order.specs.Kept.{IsChange, changed}
 use Rattle.stream_fold.specs.declared.prepared_change.PreparedChange.{PreparedChange}
 use Rattle.stream_fold.specs.Ordered.{OrderedValue, AreOrdered}
 
--- the change of the fold is prepared, and that of the periods makes them those of the changed stream, and has room
+-- the change of the fold is prepared, and that of the periods makes them those of the changed
+-- stream, and has room
 pub record IsPrepared (ordered : OrderedValue) (prepared : PreparedChange) : Type 0 where
   pub refolded : folding.IsPrepared ordered.folded prepared.refolded
   pub can : IsChange prepared.splice ordered.order.periods

@@ -9,7 +9,8 @@ use Rattle.stream_edits.specs.Changes.{IsInside, stream_after, units_of}
 use Rattle.stream_fold.specs.Kept.{FoldedValue}
 use Rattle.stream_fold.specs.Refolding.{IsMadeAnew, end_of}
 
--- the change is one of this stream, what it changes is folded anew, and there is room for what is found
+-- the change is one of this stream, what it changes is folded anew, and there is room for what is
+-- found
 pub record IsPrepared (folded : FoldedValue) (prepared : Prepared) : Type 0 where
   pub inside : IsInside prepared.change folded.stream
   pub short : length folded.stream + length (units_of prepared.change) < 2 ^ 64
@@ -38,8 +39,8 @@ end_in prepared stream = end_of stream prepared.met
 abbrev pub outcomes_in : Prepared → List Outcome
 outcomes_in prepared = prepared.fold.outcomes.items
 
--- after the change the stream's outcomes are those that they were, but for one stretch, in whose place are new ones, a step
--- of the fold for each
+-- after the change the stream's outcomes are those that they were, but for one stretch, in whose
+-- place are new ones, a step of the fold for each
 pub record IsAnew (prepared : Prepared) (stream : Stream) : Type 0 where
   pub ordered : begin_in prepared ≤ end_in prepared stream
   pub within : end_in prepared stream ≤ length stream

@@ -30,7 +30,8 @@ pub record IsNew (front : Stream) (kept : ℕ) (e : ℕ × FoldState) : Type 0 w
   pub above : kept < e.0
   pub past : IsPast front e.0 e.1
 
--- the places rise, each by the spacing at least from the one before it, the first from this one, and none is past an end
+-- the places rise, each by the spacing at least from the one before it, the first from this one,
+-- and none is past an end
 abbrev pub AreApart : ℕ → List ℕ → ℕ → Type 0
 AreApart from [] end = from ≤ end
 AreApart from (place ∷ places) end = (from + spacing ≤ place) × AreApart place places end
@@ -64,7 +65,8 @@ pub record IsStart (at : ℕ) (stream : Stream) (states : List (ℕ × FoldState
   pub kept : (state : FoldState) × IsStoredAt states fold.kept state
   pub refolded : IsRefolded (take fold.from stream) fold
 
--- it has gone on over the units from a place up to another, and past none of them its state was the one stored there
+-- it has gone on over the units from a place up to another, and past none of them its state was the
+-- one stored there
 pub record CatchesUp (stream : Stream) (states : List (ℕ × FoldState)) (from at : ℕ) (old new : Refold) : Type 0 where
   pub on : GoesOn old (take (at - from) (drop from stream)) new
   pub none : (front : Stream) → IsRefolded front old → (place : ℕ) → from < place → place ≤ at
@@ -74,7 +76,8 @@ pub record CatchesUp (stream : Stream) (states : List (ℕ × FoldState)) (from 
 abbrev pub end_of : Stream → Option ℕ → ℕ
 end_of stream met = unwrap_or met (length stream)
 
--- it has gone on over the units from a place on, up to the first place past them whose stored state is its own
+-- it has gone on over the units from a place on, up to the first place past them whose stored state
+-- is its own
 pub record HasCaughtUp (stream : Stream) (states : List (ℕ × FoldState)) (from : ℕ) (old : Refold) (met : Option ℕ)
     (new : Refold) : Type 0 where
   pub on : GoesOn old (take (end_of stream met - from) (drop from stream)) new

@@ -19,7 +19,8 @@ put_all (e ∷ more) states = put_all more (insert_entry nat_cmp states e.0 e.1)
 abbrev pub stored_after : ℕ → ℕ → LengthChange → List (ℕ × FoldState) → List (ℕ × FoldState) → List (ℕ × FoldState)
 stored_after kept stays change made states = put_all made (shifted stays change (cut kept stays states))
 
--- the states without the one at a place, or with it where those before it and past it are too far from each other
+-- the states without the one at a place, or with it where those before it and past it are too far
+-- from each other
 pub record IsThinned (place : ℕ) (old new : List (ℕ × FoldState)) : Type 0 where
   pub only : (other : ℕ) (state : FoldState) → IsStoredAt new other state → IsStoredAt old other state
   pub near : (k : ℕ) → HasNear spacing (keys_of old) k → HasNear spacing (keys_of new) k

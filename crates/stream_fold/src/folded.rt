@@ -20,7 +20,8 @@ use std::marker::Model;
 use stream_edits::Change;
 use vec_ranges::replace_range;
 
-/// A stream of access units under their ids, with the outcome of each, and the states of the fold past some of its places.
+/// A stream of access units under their ids, with the outcome of each, and the states of the fold
+/// past some of its places.
 #[derive(Debug)]
 pub struct Folded {
     units: Vec<(AuId, Shared<HashedUnit>)>,
@@ -53,7 +54,8 @@ impl Model for Folded {
     ghost invariant = { λ f. IsFolded f.units.items f.outcomes.items f.stored.states f.end };
 }
 
-/// A change that is prepared: the outcomes of the units of one stretch, made anew. That of all others stays.
+/// A change that is prepared: the outcomes of the units of one stretch, made anew. That of all
+/// others stays.
 #[derive(Debug, Drop)]
 pub struct Prepared {
     change: Change,
@@ -86,8 +88,8 @@ impl Prepared {
         self.fold.from
     }
 
-    /// The place past the stretch in the stream as it was, which this is: that of the stored state to which the fold came,
-    /// or the end.
+    /// The place past the stretch in the stream as it was, which this is: that of the stored state
+    /// to which the fold came, or the end.
     pub fn end(&self, folded: &Folded) -> usize
         ensures { result ≡ end_in self.now folded.now.stream }
     {
@@ -132,8 +134,8 @@ impl Folded {
         self.outcomes.as_slice()
     }
 
-    /// The states of the fold that are stored, each past its place: one for each 32 units or less, and of three in a row the
-    /// last is more than 32 units past the first.
+    /// The states of the fold that are stored, each past its place: one for each 32 units or less,
+    /// and of three in a row the last is more than 32 units past the first.
     pub fn states(&self) -> &Checkpoints<State>
         ensures value { result.now ≡ self.now.stored }
         ensures past { ArePast self.now.stream result.now.states }
@@ -143,7 +145,8 @@ impl Folded {
         &self.stored
     }
 
-    /// Prepares a change: folds anew what it changes, and makes room. All answers stay as they were.
+    /// Prepares a change: folds anew what it changes, and makes room. All answers stay as they
+    /// were.
     pub fn prepare(&mut self, alloc: Global, change: Change) -> Result<Prepared, AllocError>
         requires inside { IsInside change self.old.stream }
         requires short { length self.old.stream + length (units_of change) < 2 ^ 64 }
@@ -190,7 +193,8 @@ impl Folded {
         change.make(&mut self.units);
     }
 
-    /// The fold over what a change changes, and the place at which it came to a stored state, if it did.
+    /// The fold over what a change changes, and the place at which it came to a stored state, if it
+    /// did.
     #[tactic(auto, using(crate::proofs::Changed::at_inside, crate::proofs::Changed::rest_inside, crate::proofs::Changed::at_rest))]
     fn refold(&self, alloc: Global, change: &Change) -> Result<(Refold, Option<usize>), AllocError>
         requires inside { IsInside change.now self.now.stream }
@@ -208,7 +212,8 @@ impl Folded {
         Ok((fold, met))
     }
 
-    /// A fold from the last place up to this one whose state is there: a stored one, or the end of the stream.
+    /// A fold from the last place up to this one whose state is there: a stored one, or the end of
+    /// the stream.
     fn start(&self, alloc: Global, at: usize) -> Result<Refold, AllocError>
         requires { at ≤ length self.now.stream }
         ensures { IfOk result (IsStart at self.now.stream self.now.stored.states) }
@@ -221,7 +226,8 @@ impl Folded {
         }
     }
 
-    /// Goes on over the units from a place on, until the fold has come to a stored state: at which place, if it has.
+    /// Goes on over the units from a place on, until the fold has come to a stored state: at which
+    /// place, if it has.
     fn catch_up(
         &self,
         alloc: Global,
@@ -241,7 +247,8 @@ impl Folded {
         Ok(None)
     }
 
-    /// Goes on over the unit at a place, and says whether the fold has come to the state that is stored past it.
+    /// Goes on over the unit at a place, and says whether the fold has come to the state that is
+    /// stored past it.
     fn go_on_at(&self, alloc: Global, at: usize, fold: &mut Refold) -> Result<bool, AllocError>
         requires inside { at < length self.now.stream }
         requires short { fold.old.place + 1 < 2 ^ 64 }

@@ -8,7 +8,8 @@ use pictures::AuId;
 use request_core::{State, Steps, step};
 use std::alloc::{AllocError, Global};
 
-/// One step of the fold, as `request_core::step` makes it: the unit's outcome keeps the digest of the unit's slices.
+/// One step of the fold, as `request_core::step` makes it: the unit's outcome keeps the digest of
+/// the unit's slices.
 pub(crate) fn hashed_step(
     alloc: Global,
     state: &State,

@@ -22,7 +22,8 @@ use request_core::State;
 use std::alloc::{AllocError, Global};
 use std::marker::Model;
 
-/// A stream of access units under their ids, with the outcome of each and its position in output order.
+/// A stream of access units under their ids, with the outcome of each and its position in output
+/// order.
 #[derive(Debug)]
 pub struct OrderedFold {
     folded: Folded,
@@ -82,8 +83,9 @@ impl OrderedFold {
         self.folded.states()
     }
 
-    /// The position in output order of the unit at a place: how many valid units are shown before it. `None` where it isn't
-    /// valid. Each pair of units that is compared is counted. Takes no memory.
+    /// The position in output order of the unit at a place: how many valid units are shown before
+    /// it. `None` where it isn't valid. Each pair of units that is compared is counted. Takes no
+    /// memory.
     pub fn position_in(&self, place: usize, comparisons: &mut Comparisons) -> Option<usize>
         requires within { place < length self.now.folded.stream }
         requires room { comparisons.old + length self.now.folded.stream < 2 ^ 64 }
@@ -106,8 +108,8 @@ impl OrderedFold {
         prepared.refolded.end(&self.folded)
     }
 
-    /// Prepares a change: folds anew what it changes, prepares what this changes in the periods, and makes room. All answers
-    /// stay as they were.
+    /// Prepares a change: folds anew what it changes, prepares what this changes in the periods,
+    /// and makes room. All answers stay as they were.
     pub fn prepare(&mut self, alloc: Global, change: Change) -> Result<PreparedChange, AllocError>
         requires inside { IsInside change self.old.folded.stream }
         requires short { length self.old.folded.stream + length (units_of change) < 2 ^ 64 }

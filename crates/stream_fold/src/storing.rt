@@ -9,8 +9,8 @@ use crate::refold::SPACING;
 use checkpoints::{Checkpoints, LengthChange};
 use request_core::State;
 
-/// Keeps the states up to one place and those from another place on, which move by the change, and stores these states
-/// between. There is room for them.
+/// Keeps the states up to one place and those from another place on, which move by the change, and
+/// stores these states between. There is room for them.
 pub(crate) fn store_anew(
     stored: &mut Checkpoints<State>,
     kept: usize,
@@ -39,7 +39,8 @@ fn put_all(stored: &mut Checkpoints<State>, mut states: Vec<(usize, State)>)
     }
 }
 
-/// Forgets the state that is stored at a place, where the stored ones before it and past it are near enough to each other.
+/// Forgets the state that is stored at a place, where the stored ones before it and past it are
+/// near enough to each other.
 pub(crate) fn thin(stored: &mut Checkpoints<State>, place: usize)
     ensures { IsThinned place stored.old.states stored.new.states }
 {
@@ -56,7 +57,8 @@ pub(crate) fn thin(stored: &mut Checkpoints<State>, place: usize)
     }
 }
 
-/// Keeps the state at the end of the stream where a stored state was met, and else puts this one there.
+/// Keeps the state at the end of the stream where a stored state was met, and else puts this one
+/// there.
 pub(crate) fn keep_end(end: &mut State, met: Option<usize>, state: State)
     ensures none { met ≡ None → end.new ≡ state }
     ensures some { (place : ℕ) → met ≡ Some place → end.new ≡ end.old }

@@ -1,4 +1,5 @@
--- A step from one state, with the same keys of its marked frames: the unit has the same key, and so have the frames after it.
+-- A step from one state, with the same keys of its marked frames: the unit has the same key, and so
+-- have the frames after it.
 use Rattle.std.proofs.Common.{◌≡◌, ℕ, List, [], ◌∷◌, map, filter, Option, Some, Result, Ok, Err, refl, subst}
 use Rattle.annexb.specs.NalUnit.{is_slice}
 use Rattle.pictures.specs.declared.counts.Counts.{Counts}

@@ -1,4 +1,5 @@
--- The slices of an IDR picture in an access unit that isn't refused are without lists (ITU-T H.264, 7.4.1.2.4).
+-- The slices of an IDR picture in an access unit that isn't refused are without lists (ITU-T H.264,
+-- 7.4.1.2.4).
 use Rattle.std.proofs.Common.{◌≡◌, ℕ, Bool, true, false, ◌&&◌, List, [], ◌∷◌, ◌++◌, All, Option, None, Some, Ok, refl, sym, ap, ◌∙◌}
 use Rattle.std.specs.Prelude.{◌==◌}
 use Rattle.std.specs.List.{AllByRecursion, filter}

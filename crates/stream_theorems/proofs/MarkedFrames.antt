@@ -1,4 +1,5 @@
--- The frames that are marked after a picture are frames that were marked before it, and its own (ITU-T H.264, 8.2.5).
+-- The frames that are marked after a picture are frames that were marked before it, and its own
+-- (ITU-T H.264, 8.2.5).
 use Rattle.std.proofs.Common.{ℕ, Bool, true, false, not, List, [], ◌∷◌, ◌++◌, All, filter, Option, None, Some, IfSome, Result, Ok, Err, IfOk, if◌then◌else◌}
 use Rattle.std.specs.Prelude.{ℤ, ◌==◌, nat_le, nat_lt, length, filter_map, option_map}
 use Rattle.std.specs.Int.{int_min}

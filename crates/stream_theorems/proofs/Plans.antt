@@ -1,4 +1,5 @@
--- The plan of a unit that isn't refused can be decoded, and the units of the frames after it are known.
+-- The plan of a unit that isn't refused can be decoded, and the units of the frames after it are
+-- known.
 use Rattle.std.proofs.Common.{◌≡◌, ℕ, Bool, true, List, [], ◌∷◌, map, filter, All, None, Some, Result, Ok, Err, IfOk, refl, sym, subst}
 use Rattle.std.proofs.lemmas.List.Elements.{All-filter, All-weaker}
 use Rattle.annexb.specs.NalUnit.{is_slice}

@@ -130,7 +130,8 @@ header_said ref_idc unit_type sps pps p x is =
     followed _ (reference_syntax front.slice_type sps pps) _ (λ references.
     followed _ (ending_syntax (not (ref_idc == 0)) (unit_type == 5) front.slice_type pps) _ (λ ending. says _ _ (refl, refl))))))))
 
--- the unit's type is that of its header, and the slice's type is the one that stands in its first fields
+-- the unit's type is that of its header, and the slice's type is the one that stands in its first
+-- fields
 pub header_type : (unit : List ℕ) (sps : Sps) (pps : Pps) (header : SliceHeader) → header_at unit sps pps ≡ Ok header
     → (header.nal_unit_type ≡ nal_unit_type unit) × (slice_type_at unit ≡ Some header.slice_type)
 unfolding header_at slice_type_at

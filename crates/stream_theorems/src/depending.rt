@@ -6,7 +6,8 @@ ghost use Rattle.request_core.specs.States.{marked_ids, no_units};
 ghost use Rattle.picture_keys.specs.Depending.{DependOn};
 ghost use Rattle.stream_theorems.specs.Agreement.{becoming};
 
-/// The keys of the units from a place on depend on those before it by the keys of the frames alone that are marked there.
+/// The keys of the units from a place on depend on those before it by the keys of the frames alone
+/// that are marked there.
 pub fn keys_depend_on_marked_frames()
     ensures { (stream : Stream) (place : ℕ)
         → DependOn (marked_ids (state_from no_units (take place stream)))

@@ -14,7 +14,8 @@ struct KernelControls {
 }
 
 impl KernelControls {
-    /// Those of a request. It is inlined nowhere, as a call through C isn't, so that all of them are filled.
+    /// Those of a request. It is inlined nowhere, as a call through C isn't, so that all of them
+    /// are filled.
     #[inline(never)]
     fn of(request: &Request) -> KernelControls {
         let controls = request.controls();

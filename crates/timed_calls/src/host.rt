@@ -45,7 +45,8 @@ impl<'a> Host<'a> {
         })
     }
 
-    /// Makes a call up to so many times, after all pictures but for jobs; how many were answered as they have to be.
+    /// Makes a call up to so many times, after all pictures but for jobs; how many were answered as
+    /// they have to be.
     pub(crate) fn make(&mut self, call: Call, turns: u64) -> Result<u64>
         ensures { IfOk result (λ count. count ≤ turns) }
     {
@@ -73,7 +74,8 @@ impl<'a> Host<'a> {
         Ok(most)
     }
 
-    /// Takes, decodes and lands the job that is due; whether there was one, and its picture is held.
+    /// Takes, decodes and lands the job that is due; whether there was one, and its picture is
+    /// held.
     fn job(&mut self) -> Result<bool> {
         let Some(job) = self.session.take()? else {
             return Ok(false);
@@ -99,7 +101,8 @@ impl<'a> Host<'a> {
         ready
     }
 
-    /// Fills the kernel's structs from the first request of one unit after the other; how often there is one.
+    /// Fills the kernel's structs from the first request of one unit after the other; how often
+    /// there is one.
     fn unit_requests(&self, turns: u64) -> u64
         ensures { result ≤ turns }
     {
@@ -128,7 +131,8 @@ impl<'a> Host<'a> {
         ids.get(at as usize).copied()
     }
 
-    /// Replaces the unit in the middle of a period so many times, each time by another; how often that is accepted.
+    /// Replaces the unit in the middle of a period so many times, each time by another; how often
+    /// that is accepted.
     fn edits(&mut self, turns: u64) -> Result<u64>
         ensures { IfOk result (λ count. count ≤ turns) }
     {
@@ -146,7 +150,8 @@ impl<'a> Host<'a> {
         Ok(accepted)
     }
 
-    /// Fills the kernel's structs so many times from the first request of a job that is out; how often there is one.
+    /// Fills the kernel's structs so many times from the first request of a job that is out; how
+    /// often there is one.
     fn job_requests(&mut self, turns: u64) -> Result<u64>
         ensures { IfOk result (λ count. count ≤ turns) }
     {
@@ -164,7 +169,8 @@ impl<'a> Host<'a> {
     }
 }
 
-/// The place of the unit that is replaced, of so many: in the middle of a period in the middle, or of all where there is none.
+/// The place of the unit that is replaced, of so many: in the middle of a period in the middle, or
+/// of all where there is none.
 fn edited_place(units: usize) -> usize
     ensures { 0 < units → result < units }
 {

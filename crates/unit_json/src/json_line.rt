@@ -33,8 +33,8 @@ pub enum JsonLine {
         unit: u64,
         none: bool,
     },
-    /// A stream that is refused: an object of number and name, before which stands the index of the access unit that is
-    /// refused, if it is one, as `unit`.
+    /// A stream that is refused: an object of number and name, before which stands the index of the
+    /// access unit that is refused, if it is one, as `unit`.
     Refused {
         #[serde(serialize_with = "write_refusal")]
         refused: Refusal,

@@ -28,7 +28,8 @@ pub(crate) fn put_number(text: &mut String, number: u64) -> Result<(), AllocErro
     put_digits(text, number)
 }
 
-/// Adds a number that may have several digits. It stands apart, so that what is inlined stays small.
+/// Adds a number that may have several digits. It stands apart, so that what is inlined stays
+/// small.
 #[inline(never)]
 fn put_digits(text: &mut String, number: u64) -> Result<(), AllocError>
     ensures { OnOk result (Grows (string_bytes text.old) (string_bytes text.new)

@@ -16,8 +16,9 @@ use pictures::AuId;
 use request_core::{Finding, Listed, Picture};
 use std::alloc::AllocError;
 
-/// Writes the lines of a unit after its place in output order over the text, which is of no use where memory runs out.
-/// They don't depend on the place, and are all of them where the unit has none.
+/// Writes the lines of a unit after its place in output order over the text, which is of no use
+/// where memory runs out. They don't depend on the place, and are all of them where the unit has
+/// none.
 pub fn write_tail(text: &mut String, id: AuId, finding: &Finding<'_>) -> Result<(), AllocError>
     ensures { OnOk result (string_bytes text.new ≡ outcome_tail id (outcome_in finding.now)) }
 {

@@ -1,7 +1,8 @@
-//! The outcome of a unit of a stream: the requests of its slices, the fault that keeps it from being decoded, or that it
-//! has no picture.
+//! The outcome of a unit of a stream: the requests of its slices, the fault that keeps it from
+//! being decoded, or that it has no picture.
 //!
-//! The fold of `request_core` makes outcomes; output order, keys and the lines that are printed are made of them.
+//! The fold of `request_core` makes outcomes; output order, keys and the lines that are printed are
+//! made of them.
 #![tactic(auto)]
 
 mod outcome;

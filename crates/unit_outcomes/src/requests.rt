@@ -6,7 +6,8 @@ use h264_controls::Request;
 use std::alloc::{AllocError, Global};
 use std::marker::Model;
 
-/// The requests of a unit, one for each slice, in order. One alone takes no memory of its own beside its work.
+/// The requests of a unit, one for each slice, in order. One alone takes no memory of its own
+/// beside its work.
 #[derive(Debug)]
 pub struct Requests {
     items: Items,

@@ -3,8 +3,9 @@
 ghost use Rattle.std.specs.Prelude.{◌≡◌, ◌+◌, ◌-◌, ◌≤◌, ◌++◌, take, drop, vec_len};
 ghost use Rattle.std.specs.Vec.{vec_capacity};
 
-/// Puts these items in place of those from `from` on and below `to`. There is room for them where those are gone. As many
-/// as these are written over them, and no other item moves. It takes no memory.
+/// Puts these items in place of those from `from` on and below `to`. There is room for them where
+/// those are gone. As many as these are written over them, and no other item moves. It takes no
+/// memory.
 pub fn replace_range<T: Drop>(items: &mut Vec<T>, from: usize, to: usize, made: Vec<T>)
     requires ordered { from ≤ to }
     requires inside { to ≤ vec_len items.old }

@@ -76,7 +76,8 @@ fn row_holds(rt: &impl Abort, row: usize, holds: bool) {
     assert!(rt; holds, "row {row}");
 }
 
-/// Whether what the reader gives is planned with this status, just these lines are printed, and just this is told.
+/// Whether what the reader gives is planned with this status, just these lines are printed, and
+/// just this is told.
 fn is_planned(
     alloc: Global,
     mut reader: impl Read + Drop,
@@ -121,7 +122,8 @@ type Plan = (&'static [&'static [u8]], Status, &'static str);
 
 const PLANS: [Plan; 12] = [
     (&[&A, &P1], Success, LINES_OF_BOTH),
-    // Zeros before a start code, after a unit and at the end, and a unit with an emulation prevention byte.
+    // Zeros before a start code, after a unit and at the end, and a unit with an emulation
+    // prevention byte.
     (
         &[
             &[0, 0],
@@ -243,7 +245,8 @@ const ACROSS: [(&[u8], Status, &str); 6] = [
         Success,
         LINES_OF_BOTH,
     ),
-    // A slice that isn't the first of a picture belongs to the unit before it, of which it isn't in the picture.
+    // A slice that isn't the first of a picture belongs to the unit before it, of which it isn't in
+    // the picture.
     (
         &[0, 0, 1, 0x65, 0x42, 0x21, 0x30],
         Success,

@@ -114,7 +114,8 @@ none_left : {X : Type 0} (xs : List X) → length xs ≡ 0 → xs ≡ []
 none_left [] is = refl
 none_left (x ∷ xs) is = absurd (omega arith)
 
--- the end of a wait for all that is wanted, by what becomes of the second list where the first is settled
+-- the end of a wait for all that is wanted, by what becomes of the second list where the first is
+-- settled
 pub rests : (machine : Machine) (wants : Wants) (numbers others : List ℕ) (b : Bool) → numbers ≡ wants.waited
     → others ≡ wants.listed → wants.rest ≡ false → length machine.out ≡ 0 → AreSettled machine numbers
     → MatchBool b (AreSettled machine others) (IsAnyPending machine others)

@@ -46,15 +46,17 @@ Keeps old (Ok (Some job)) kept new = (kept ≡ Ok true) × HasMore old job new
 Keeps old (Ok None) kept new = (kept ≡ Ok false) × IsSame old new
 Keeps old (Err refused) kept new = (kept ≡ Err refused) × IsSame old new
 
--- a worker asks a session for a job, and has the one that it is given in hand; or there is none, or the session refuses,
--- or there is no room in hand and the session isn't asked, and nothing changes in hand
+-- a worker asks a session for a job, and has the one that it is given in hand; or there is none, or
+-- the session refuses, or there is no room in hand and the session isn't asked, and nothing changes
+-- in hand
 abbrev pub TakesIn : Machine → Tally → Result Bool TakeRefused → Machine → Tally → Type 0
 TakesIn from old (Ok true) to new = (job : JobValue) × AnswersTake from (Ok (Some job)) to × HasMore old job new
 TakesIn from old (Ok false) to new = AnswersTake from (Ok None) to × IsSame old new
 TakesIn from old (Err refused) to new =
     (AnswersTake from (Err refused) to ⊎ ((refused ≡ refusals.Memory) × (to ≡ from))) × IsSame old new
 
--- the same of a worker that asks for a job for the first of these ids for which a needed unit is due
+-- the same of a worker that asks for a job for the first of these ids for which a needed unit is
+-- due
 abbrev pub TakesFirstIn : Machine → List ℕ → Tally → Result Bool TakeRefused → Machine → Tally → Type 0
 TakesFirstIn from ids old (Ok true) to new =
     (job : JobValue) × AnswersTakeFirst from ids (Ok (Some job)) to × HasMore old job new

@@ -1,8 +1,8 @@
 -- What is wanted of a stream.
 use Rattle.std.specs.Prelude.{◌≡◌, ◌⊎◌, ℕ, Bool, true, List, [], ◌++◌, Some, slice_get, remove}
 
--- the ids of the units that threads wait for, the one that has waited longest first; the ids of the list, in order of
--- urgency; and whether the rest of the stream is wanted too
+-- the ids of the units that threads wait for, the one that has waited longest first; the ids of the
+-- list, in order of urgency; and whether the rest of the stream is wanted too
 pub record Wants : Type 0 where
   pub waited : List ℕ
   pub listed : List ℕ

@@ -1,9 +1,10 @@
 //! The jobs of a worker: which it takes first, and those that it has in hand.
 //!
-//! A `Wanted` has the ids of units in order of urgency: those of a list, of at most 64, and before them those that threads
-//! wait for; `take_first` takes a job of a session for the first of them that needs one, and `is_at_rest` says whether all
-//! that is wanted is done. A `Tally` has the jobs that a worker took and the results that its `Gate` made of them, until each
-//! is brought back, and counts what became of them. Below is edit_engine, above decode_pool.
+//! A `Wanted` has the ids of units in order of urgency: those of a list, of at most 64, and before
+//! them those that threads wait for; `take_first` takes a job of a session for the first of them
+//! that needs one, and `is_at_rest` says whether all that is wanted is done. A `Tally` has the jobs
+//! that a worker took and the results that its `Gate` made of them, until each is brought back, and
+//! counts what became of them. Below is edit_engine, above decode_pool.
 #![tactic(auto)]
 
 mod gate;

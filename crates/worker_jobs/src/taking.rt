@@ -10,8 +10,8 @@ use edit_engine::{Job, Session, Shown, TakeRefused};
 use pictures::AuId;
 
 impl Wanted {
-    /// Takes a job of a session for the first wanted id for which a needed unit is due. None where there is none such,
-    /// whether the rest of the stream is wanted or not.
+    /// Takes a job of a session for the first wanted id for which a needed unit is due. None where
+    /// there is none such, whether the rest of the stream is wanted or not.
     pub fn take_first(&self, session: &mut Session) -> Result<Option<Job>, TakeRefused>
         ensures { AnswersTakeFirst session.old (urgent self.now) result session.new }
     {
@@ -23,7 +23,8 @@ impl Wanted {
         }
     }
 
-    /// Whether a session has nothing to do but the rest, which isn't wanted: no wanted unit is pending, and no job is out.
+    /// Whether a session has nothing to do but the rest, which isn't wanted: no wanted unit is
+    /// pending, and no job is out.
     pub fn is_at_rest(&self, session: &Session) -> bool
         ensures { MatchBool result (IsAtRest session.now self.now) (MayNotRest session.now self.now) }
     {

@@ -10,8 +10,8 @@ use stand_in_device::Undone;
 use std::alloc::{AllocError, Global};
 use std::collections::VecDeque;
 
-/// What became of the jobs that a worker took. Each of them is counted here once: there was none that was neither brought
-/// nor given back.
+/// What became of the jobs that a worker took. Each of them is counted here once: there was none
+/// that was neither brought nor given back.
 #[derive(Clone, Copy, Debug, PartialEq, Eq)]
 pub struct Worked {
     /// Results that landed, and whose pictures are held from then on.
@@ -44,9 +44,10 @@ pub struct Counts {
     returned: u64,
 }
 
-/// The jobs that a worker has in hand and the results that it has of others, both in the order in which it took them, and
-/// what became of those that it brought. Nothing gets out of it but into a session, and it isn't let go: it ends by
-/// `worked`, once nothing is in hand. So no job is lost on the way.
+/// The jobs that a worker has in hand and the results that it has of others, both in the order in
+/// which it took them, and what became of those that it brought. Nothing gets out of it but into a
+/// session, and it isn't let go: it ends by `worked`, once nothing is in hand. So no job is lost on
+/// the way.
 pub struct Tally {
     jobs: VecDeque<Job>,
     results: VecDeque<Finished>,
@@ -111,7 +112,8 @@ impl Tally {
         self.keep(answer)
     }
 
-    /// Takes a job of a session for the first wanted id for which a needed unit is due; whether there was one.
+    /// Takes a job of a session for the first wanted id for which a needed unit is due; whether
+    /// there was one.
     pub fn take_first_in(
         &mut self,
         wanted: &Wanted,
@@ -134,7 +136,8 @@ impl Tally {
         self.jobs.reserve(1)
     }
 
-    /// Has the job in hand that a session answered, for which there is room; whether it answered one.
+    /// Has the job in hand that a session answered, for which there is room; whether it answered
+    /// one.
     fn keep(&mut self, answer: Result<Option<Job>, TakeRefused>) -> Result<bool, TakeRefused>
         requires room { deque_len self.old.jobs < deque_capacity self.old.jobs }
         requires few { self.old.count < 2 ^ 63 }
@@ -151,8 +154,8 @@ impl Tally {
         }
     }
 
-    /// Decodes the jobs in hand by the gate, in their order; whether it gave a result for each. One that it hands back stays
-    /// in hand, and so do those behind it.
+    /// Decodes the jobs in hand by the gate, in their order; whether it gave a result for each. One
+    /// that it hands back stays in hand, and so do those behind it.
     pub fn decode<D: Gate>(&mut self, alloc: Global, gate: &mut D) -> bool
         ensures all { result ≡ true → self.new.jobs.items ≡ [] }
         ensures order { self.new.results.items ++ self.new.jobs.items

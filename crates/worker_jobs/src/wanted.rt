@@ -16,8 +16,9 @@ pub const MOST_WANTED: usize = 64;
 #[error("more than 64 ids are wanted")]
 pub struct TooManyWanted;
 
-/// The ids of the units that are wanted, in order of urgency: those that threads wait for, and behind them those of a list.
-/// And whether the rest of the stream is wanted too. An id may stand there more than once, and be of no unit.
+/// The ids of the units that are wanted, in order of urgency: those that threads wait for, and
+/// behind them those of a list. And whether the rest of the stream is wanted too. An id may stand
+/// there more than once, and be of no unit.
 #[derive(Debug)]
 pub struct Wanted {
     /// The numbers of the ids, from the thread on that has waited longest.
@@ -69,8 +70,8 @@ impl Wanted {
         }
     }
 
-    /// Makes these the list's ids, in order of urgency, in place of those that it had. It takes no memory. Where they are too
-    /// many, nothing changes.
+    /// Makes these the list's ids, in order of urgency, in place of those that it had. It takes no
+    /// memory. Where they are too many, nothing changes.
     pub fn list(&mut self, ids: &[AuId]) -> Result<(), TooManyWanted>
         ensures ok { OnOk result (self.new ≡ record self.old { listed = ids.now }) }
         ensures err { OnErr result (self.new ≡ self.old) }
@@ -111,7 +112,8 @@ impl Wanted {
         self.waited.is_full()
     }
 
-    /// A thread waits for the unit of the id, which is wanted behind those that others wait for; whether there was room.
+    /// A thread waits for the unit of the id, which is wanted behind those that others wait for;
+    /// whether there was room.
     pub fn wait_for(&mut self, id: AuId) -> bool
         ensures { MatchBool result
             (self.new ≡ record self.old { waited = self.old.waited ++ id ∷ [] })

@@ -13,13 +13,15 @@ const MOST_JOBS: u64 = 1 << 63;
 /// What a worker does next.
 #[derive(Clone, Copy, Debug, PartialEq, Eq)]
 pub(crate) enum Next {
-    /// It has as many jobs in hand as it may take at once, or one that is wanted first: more may be due.
+    /// It has as many jobs in hand as it may take at once, or one that is wanted first: more may be
+    /// due.
     Decodes,
     /// It has all jobs in hand that it could take.
     DecodesLast,
     /// No job is due for what is wanted first, and none of the rest either or that isn't wanted.
     Sleeps,
-    /// The desk is closed, a job is due and can't be taken or memory runs out, or 2^63 jobs were taken.
+    /// The desk is closed, a job is due and can't be taken or memory runs out, or 2^63 jobs were
+    /// taken.
     Ends,
 }
 
@@ -36,8 +38,9 @@ impl State {
         self.land_all(tally);
     }
 
-    /// A worker that has no job in hand takes its next one for what is wanted first. Where no job is due for that, it takes of
-    /// the rest, if that is wanted: one, where others of so many workers have none, else up to so many.
+    /// A worker that has no job in hand takes its next one for what is wanted first. Where no job
+    /// is due for that, it takes of the rest, if that is wanted: one, where others of so many
+    /// workers have none, else up to so many.
     pub(crate) fn take_next(&mut self, tally: &mut Tally, most: usize, workers: usize) -> Next
         requires none { tally.old.jobs.items ≡ [] }
         requires some { 0 < most }
@@ -54,8 +57,9 @@ impl State {
         next
     }
 
-    /// A worker that has no job in hand takes one for the first wanted id for which a needed unit is due, by a step of the
-    /// session. Where there is none such, it takes up to so many of the rest, if that is wanted.
+    /// A worker that has no job in hand takes one for the first wanted id for which a needed unit
+    /// is due, by a step of the session. Where there is none such, it takes up to so many of the
+    /// rest, if that is wanted.
     fn take_urgent(&mut self, tally: &mut Tally, most: usize) -> Next
         requires none { tally.old.jobs.items ≡ [] }
         requires some { 0 < most }
@@ -75,7 +79,8 @@ impl State {
         }
     }
 
-    /// A worker that has no job in hand takes so many, or as many as are due, each by a step of the session.
+    /// A worker that has no job in hand takes so many, or as many as are due, each by a step of the
+    /// session.
     pub(crate) fn take_some(&mut self, tally: &mut Tally, most: usize) -> Next
         requires none { tally.old.jobs.items ≡ [] }
         requires some { 0 < most }
@@ -97,8 +102,8 @@ impl State {
         Next::Decodes
     }
 
-    /// A worker brings all results that it has in hand, in the order in which it took their jobs, each by a step of the
-    /// session.
+    /// A worker brings all results that it has in hand, in the order in which it took their jobs,
+    /// each by a step of the session.
     pub(crate) fn land_all(&mut self, tally: &mut Tally)
         ensures landed { LandsAll self.old.session tally.old.results.items tally.old.counts self.new.session tally.new.counts }
         ensures results { tally.new.results.items ≡ [] }
@@ -110,7 +115,8 @@ impl State {
         }
     }
 
-    /// A worker gives all jobs back that it has in hand, in the order in which it took them, each by a step of the session.
+    /// A worker gives all jobs back that it has in hand, in the order in which it took them, each
+    /// by a step of the session.
     pub(crate) fn give_back_all(&mut self, tally: &mut Tally)
         ensures given { GivesBackAll self.old.session tally.old.jobs.items tally.old.counts self.new.session tally.new.counts }
         ensures jobs { tally.new.jobs.items ≡ [] }

@@ -12,17 +12,18 @@ use pictures::AuId;
 pub enum Settled {
     /// No unit is pending, or not the one that was waited for.
     Done,
-    /// A unit is pending, or the one that was waited for, and as many workers have ended as the desk was opened for.
+    /// A unit is pending, or the one that was waited for, and as many workers have ended as the
+    /// desk was opened for.
     Idle,
-    /// A unit is pending, but the rest of the stream isn't wanted, no wanted unit is pending and no job is out. A wait for one
-    /// unit doesn't end so.
+    /// A unit is pending, but the rest of the stream isn't wanted, no wanted unit is pending and no
+    /// job is out. A wait for one unit doesn't end so.
     Rested,
 }
 
 impl State {
-    /// How a wait ends that began to look at the units from a place on, or found none pending there: no unit is pending; or
-    /// one is, but all that is wanted is done; or as many workers have ended. Else the place of a pending unit, from which on
-    /// is looked next.
+    /// How a wait ends that began to look at the units from a place on, or found none pending
+    /// there: no unit is pending; or one is, but all that is wanted is done; or as many workers
+    /// have ended. Else the place of a pending unit, from which on is looked next.
     pub(crate) fn settled(&self, from: usize, workers: usize) -> Result<Settled, usize>
         ensures reached { IsReached self.now.session }
         ensures settled { IsSettledBy self.now.session self.now.status workers result }
@@ -40,7 +41,8 @@ impl State {
         }
     }
 
-    /// How a wait for the unit of an id ends: it isn't pending, or as many workers have ended. None while it goes on.
+    /// How a wait for the unit of an id ends: it isn't pending, or as many workers have ended. None
+    /// while it goes on.
     pub(crate) fn settled_for(&self, id: AuId, workers: usize) -> Option<Settled>
         ensures reached { IsReached self.now.session }
         ensures settled { IsSettledForBy self.now.session id self.now.status.ended workers result }

@@ -1,5 +1,6 @@
-//! The cache of the plain model. Keys that one edit puts into it are put in some order, which nothing promises: so which
-//! of them a full cache drops is known only when they come into use again.
+//! The cache of the plain model. Keys that one edit puts into it are put in some order, which
+//! nothing promises: so which of them a full cache drops is known only when they come into use
+//! again.
 
 use super::trees::{Key, Tree, key_with};
 use edit_engine::{Session, Shown};
@@ -82,7 +83,8 @@ impl Cached {
         })
     }
 
-    /// Puts keys that were held, in some order, and drops what there is no room for, those put last last.
+    /// Puts keys that were held, in some order, and drops what there is no room for, those put last
+    /// last.
     pub(super) fn put(&mut self, alloc: Global, gone: Vec<Tree>) -> Result<(), AllocError> {
         let groups = mem::replace(&mut self.groups, Vec::new(alloc));
         let kept = gone.len();

@@ -1,5 +1,6 @@
-//! Commands that are drawn. Few texts fit at most places, and pictures come back only where an earlier text does: so
-//! most insertions are of texts that may follow, and many edits undo an earlier one.
+//! Commands that are drawn. Few texts fit at most places, and pictures come back only where an
+//! earlier text does: so most insertions are of texts that may follow, and many edits undo an
+//! earlier one.
 
 use super::plain::Plain;
 use super::pool::{TEXTS, next_of};
@@ -36,7 +37,8 @@ fn draw_taking(draws: &mut Draws, plain: &Plain) -> Told {
     }
 }
 
-/// Draws a job's number, mostly one that is out, and the number of the job whose input is brought, mostly the same one.
+/// Draws a job's number, mostly one that is out, and the number of the job whose input is brought,
+/// mostly the same one.
 fn draw_job(draws: &mut Draws, plain: &Plain) -> (u64, u64) {
     let number = match draw_of(draws, &plain.out) {
         Some(number) if draws.below(12) > 0 => number,

@@ -119,8 +119,8 @@ impl Plain {
         Ok(Ok(id))
     }
 
-    /// Folds the stream anew. Held are then the keys in use that were held or cached; those leave the cache, and then the
-    /// keys that were held and went out of use are put into it.
+    /// Folds the stream anew. Held are then the keys in use that were held or cached; those leave
+    /// the cache, and then the keys that were held and went out of use are put into it.
     pub(super) fn fold(&mut self, alloc: Global, session: &Session) -> Result<(), AllocError> {
         self.outcomes = scratch(alloc, &self.units)?;
         self.positions = positions(alloc, &self.outcomes)?;

@@ -17,8 +17,8 @@ struct Before {
 }
 
 impl Plain {
-    /// Makes edits one after the other and folds the stream once, as the session did. Where one is refused, all is as it
-    /// was.
+    /// Makes edits one after the other and folds the stream once, as the session did. Where one is
+    /// refused, all is as it was.
     pub(super) fn edit_group(
         &mut self,
         alloc: Global,
@@ -39,7 +39,8 @@ impl Plain {
         }
     }
 
-    /// Makes the edits: their ids, or the index of the first that is refused, and the number of the refusal.
+    /// Makes the edits: their ids, or the index of the first that is refused, and the number of the
+    /// refusal.
     fn make_all(
         &mut self,
         alloc: Global,

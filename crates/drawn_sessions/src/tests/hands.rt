@@ -1,4 +1,5 @@
-//! A session that follows commands. What a job was given to decode may be brought again at any time.
+//! A session that follows commands. What a job was given to decode may be brought again at any
+//! time.
 
 use super::jobs::Given;
 use super::told::{Answer, MOST_TOGETHER, Told};

@@ -159,8 +159,8 @@ impl Plain {
         None
     }
 
-    /// The SHA-256 of the records of requests: of each the digest form of its controls, the number of its bytes, the
-    /// bytes, and the pictures of the units that it names, zeros for none.
+    /// The SHA-256 of the records of requests: of each the digest form of its controls, the number
+    /// of its bytes, the bytes, and the pictures of the units that it names, zeros for none.
     fn picture_of(&self, alloc: Global, requests: &[Request]) -> Result<Picture, AllocError> {
         let mut records = Sha256::new();
         for request in requests {
@@ -216,7 +216,8 @@ impl Plain {
         }
     }
 
-    /// Where a job of this number is out that was given the same as that one, it's out no more: its key.
+    /// Where a job of this number is out that was given the same as that one, it's out no more: its
+    /// key.
     fn leave(&mut self, number: u64, of: u64) -> Option<Tree> {
         let (job, brought) = (self.given(number)?, self.given(of)?);
         if !self.out.contains(&number) || !job.input.is_same(&brought.input) {

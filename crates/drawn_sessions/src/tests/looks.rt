@@ -16,8 +16,8 @@ pub(super) struct Names {
 }
 
 impl Names {
-    /// Whether valid units have numbers, equal ones exactly where their keys are equal, each key that was in use before
-    /// has its number still, and exactly those numbers are in use.
+    /// Whether valid units have numbers, equal ones exactly where their keys are equal, each key
+    /// that was in use before has its number still, and exactly those numbers are in use.
     pub(super) fn fit(
         &mut self,
         alloc: Global,
@@ -82,8 +82,8 @@ fn has_number(named: &[(Tree, KeyId)], number: KeyId) -> bool {
     false
 }
 
-/// Whether the session has the model's stream and as long a journal, and tells and shows of each id what the model does, also
-/// of 0 and of the next one.
+/// Whether the session has the model's stream and as long a journal, and tells and shows of each id
+/// what the model does, also of 0 and of the next one.
 pub(super) fn agree(session: &Session, plain: &Plain) -> bool {
     for number in 0..=plain.next_id() {
         let id = AuId::new(number);
@@ -123,7 +123,8 @@ fn has_key(session: &Session, id: AuId) -> Option<bool> {
     }
 }
 
-/// Whether outcomes are of one kind, with the same counts and as many requests, or with the same fault, or without a picture.
+/// Whether outcomes are of one kind, with the same counts and as many requests, or with the same
+/// fault, or without a picture.
 fn is_same(outcome: &Outcome, other: &Outcome) -> bool {
     match (outcome, other) {
         (Outcome::Plan(plan), Outcome::Plan(other)) => {

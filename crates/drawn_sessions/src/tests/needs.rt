@@ -8,7 +8,8 @@ use pictures::AuId;
 use std::alloc::{AllocError, Global};
 
 impl Plain {
-    /// Gives the job of the earliest due one of the units that the unit of an id needs, under the next number.
+    /// Gives the job of the earliest due one of the units that the unit of an id needs, under the
+    /// next number.
     pub(super) fn take_for(&mut self, alloc: Global, id: AuId) -> Result<Answer, AllocError> {
         let needed = self.needed(alloc, id)?;
         let due = self.first_due(alloc, &needed)?;
@@ -21,8 +22,8 @@ impl Plain {
         self.give(alloc, due)
     }
 
-    /// The keys of the needed units, in stream order: rounds over the stream add what those that are there name, until a
-    /// round adds nothing.
+    /// The keys of the needed units, in stream order: rounds over the stream add what those that
+    /// are there name, until a round adds nothing.
     fn needed(&self, alloc: Global, id: AuId) -> Result<Vec<Key>, AllocError> {
         let mut needed = self.waiting(alloc, &[Some(id)])?;
         for _ in &self.keys {

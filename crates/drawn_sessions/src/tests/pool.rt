@@ -63,7 +63,8 @@ const POOL: [(&[u8], usize, usize); 19] = [
 /// Texts that are no unit: one that doesn't split, and a unit of type 14.
 const REFUSED: [&[u8]; 2] = [&[0, 0, 1], &[0, 0, 1, 0x6E, 0x40]];
 
-/// How many texts there are: each of the pool's, the same with a byte more, and those that are no unit with that byte.
+/// How many texts there are: each of the pool's, the same with a byte more, and those that are no
+/// unit with that byte.
 pub(super) const TEXTS: usize = 2 * POOL.len() + 2 * REFUSED.len();
 
 /// The text at a place.

@@ -67,7 +67,8 @@ impl EditGroup {
     }
 }
 
-/// A command. What lands or is given back has a number, and is what was given to decode under a number, mostly the same.
+/// A command. What lands or is given back has a number, and is what was given to decode under a
+/// number, mostly the same.
 #[derive(Clone, Copy)]
 pub(super) enum Told {
     Edit(Change),
@@ -86,8 +87,8 @@ pub(super) enum Answer {
     /// The receipt's number and id, where it has no more steps than the stream has units.
     Accepted(u64, AuId),
     Refused(u8),
-    /// The number of a group's receipt and the ids of its edits, with zeros after them, where it has no more steps than the
-    /// stream has units.
+    /// The number of a group's receipt and the ids of its edits, with zeros after them, where it
+    /// has no more steps than the stream has units.
     Grouped(u64, [u32; MOST_TOGETHER]),
     /// The index of the edit that a group is refused for, and the refusal's number.
     GroupRefused(usize, u8),

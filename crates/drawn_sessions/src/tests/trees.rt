@@ -20,8 +20,9 @@ pub(super) struct Key {
     pub(super) tree: Tree,
 }
 
-/// The works and the trees that were seen, each once. A work's number is its place. A tree is written out whole: for each
-/// slice the number of its work, and for each entry of its lists a 0, or a 1 and the whole tree of the frame that is named.
+/// The works and the trees that were seen, each once. A work's number is its place. A tree is
+/// written out whole: for each slice the number of its work, and for each entry of its lists a 0,
+/// or a 1 and the whole tree of the frame that is named.
 #[derive(Drop)]
 pub(super) struct Seen {
     pub(super) works: Vec<Shared<Work>>,

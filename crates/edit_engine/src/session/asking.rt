@@ -58,8 +58,8 @@ impl Session {
         }
     }
 
-    /// The position in output order of the unit that has the id: how many valid units are shown before it. `None`
-    /// where it isn't valid.
+    /// The position in output order of the unit that has the id: how many valid units are shown
+    /// before it. `None` where it isn't valid.
     pub fn position(&self, id: AuId) -> Result<Option<usize>, NoSuchUnit>
         ensures { MatchResult result
             (λ position. position_in self.now.register.stream id ≡ Some position)
@@ -74,9 +74,9 @@ impl Session {
         }
     }
 
-    /// The number of the key of the unit that has the id: of what its picture is made of. `None` where it isn't valid.
-    /// Units have equal numbers exactly where they have equal keys, and while a key stays in use, its number stays. It
-    /// takes no memory.
+    /// The number of the key of the unit that has the id: of what its picture is made of. `None`
+    /// where it isn't valid. Units have equal numbers exactly where they have equal keys, and while
+    /// a key stays in use, its number stays. It takes no memory.
     pub fn key(&self, id: AuId) -> Result<Option<KeyId>, NoSuchUnit>
         ensures value { MatchResult result
             (λ number. HasNumber self.now id number)
@@ -89,7 +89,8 @@ impl Session {
         }
     }
 
-    /// Whether a number is that of a key in use: of one that some unit of the stream has. It takes no memory.
+    /// Whether a number is that of a key in use: of one that some unit of the stream has. It takes
+    /// no memory.
     pub fn in_use(&self, key: KeyId) -> bool
         ensures value { IsTrue result ↔ IsNumberInUse (store_of self.now) key }
         ensures listed { IsTrue result ↔ Contains self.now.numbers (Some key) }
@@ -112,7 +113,8 @@ impl Session {
         self.store.held_keys()
     }
 
-    /// How many keys there are whose pictures are cached after they went out of use. It takes no memory.
+    /// How many keys there are whose pictures are cached after they went out of use. It takes no
+    /// memory.
     pub fn cached_keys(&self) -> usize
         ensures { result ≡ length self.now.cached }
     {

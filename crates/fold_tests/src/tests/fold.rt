@@ -198,7 +198,8 @@ const SPS: &[u8] = &[0, 0, 1, 0x67, 0x42, 0x00, 0x0A, 0xDA, 0x79];
 
 const OTHER_SPS: &[u8] = &[0, 0, 1, 0x67, 0x42, 0x00, 0x0A, 0xDB, 0x79];
 
-/// Sets alone among pictures: P1 names the set that was sent last, and refers to A, whose set is the active one.
+/// Sets alone among pictures: P1 names the set that was sent last, and refers to A, whose set is
+/// the active one.
 const SETS_ALONE: [&[u8]; 5] = [&A, OTHER_SPS, &P1, SPS, &P1];
 
 /// The outcomes of these units: the second and the fourth have no picture.

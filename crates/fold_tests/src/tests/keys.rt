@@ -35,8 +35,8 @@ const P2: &[u8] = &[0, 0, 1, 0x41, 0x9A, 0x43];
 
 const P1X: &[u8] = &[0, 0, 1, 0x41, 0x9A, 0x23, 0x80];
 
-/// Sets and an IDR picture, of count type 0 and two reference frames; the same with other slice data; a P picture; and a B
-/// picture that is shown between them.
+/// Sets and an IDR picture, of count type 0 and two reference frames; the same with other slice
+/// data; a P picture; and a B picture that is shown between them.
 const IDR: &[u8] = &[
     0, 0, 1, 0x67, 0x4D, 0x00, 0x0A, 0xF6, 0xF2, 0, 0, 1, 0x68, 0xCE, 0x38, 0x80, 0, 0, 1, 0x65,
     0x88, 0x84, 0x0C,
@@ -54,8 +54,9 @@ const B: &[u8] = &[0, 0, 1, 0x01, 0x9E, 0x45, 0x18];
 /// A P picture with frame_num 1 that is no reference.
 const N1: &[u8] = &[0, 0, 1, 0x01, 0x9A, 0x27];
 
-/// Units under their ids, each with the class of its key, if it is valid: equal keys have equal classes, others have
-/// other ones. Ids, and pictures that aren't referred to, are no part of a key; parameter sets and references are.
+/// Units under their ids, each with the class of its key, if it is valid: equal keys have equal
+/// classes, others have other ones. Ids, and pictures that aren't referred to, are no part of a
+/// key; parameter sets and references are.
 type Row = &'static [(u32, &'static [u8], Option<usize>)];
 
 const ROWS: [Row; 10] = [

@@ -7,7 +7,8 @@ use std::alloc::{AllocError, Global};
 use std::test::Fail;
 use unit_outcomes::{Outcome, Plan, Requests, ValidityFault};
 
-/// A valid unit with this picture order count, which begins a period or not; a faulted one for `None`.
+/// A valid unit with this picture order count, which begins a period or not; a faulted one for
+/// `None`.
 fn outcome(alloc: Global, valid: Option<(i32, bool)>) -> Outcome {
     match valid {
         Some((order, begins_period)) => Outcome::Plan(Plan {

@@ -1,4 +1,5 @@
-//! What is said of refusals and faults: numbers and names as docs/OUTPUT.md has them, and a text for who reads.
+//! What is said of refusals and faults: numbers and names as docs/OUTPUT.md has them, and a text
+//! for who reads.
 
 use super::row_holds;
 use access_unit::{ReadFault, Refusal, Refused, StreamRefused};

@@ -11,7 +11,8 @@ use set_types::{PicOrderCntType, Pps, Sps};
 use std::alloc::{AllocError, Global};
 use std::test::Fail;
 
-/// Profile 66, level 10, log2_max_frame_num_minus4 0, count type 2, one reference frame, one macroblock.
+/// Profile 66, level 10, log2_max_frame_num_minus4 0, count type 2, one reference frame, one
+/// macroblock.
 const SPS: &[u8] = &[0x67, 0x42, 0x00, 0x0A, 0xDA, 0x79];
 /// Both ids 0, and all else 0 but for the two deltas of quantization, which are 0 too.
 const PPS: &[u8] = &[0x68, 0xCE, 0x38, 0x80];

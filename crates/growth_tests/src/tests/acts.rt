@@ -1,4 +1,5 @@
-//! Commands of a runner. Where memory runs out nothing is changed, and the command is followed again.
+//! Commands of a runner. Where memory runs out nothing is changed, and the command is followed
+//! again.
 
 use super::seen::seen;
 use super::streams::{
@@ -80,7 +81,8 @@ const REPAIR: Script = Script {
     ],
 };
 
-/// A picture refers to two others, its job is given back once, and it becomes one that can't be decoded.
+/// A picture refers to two others, its job is given back once, and it becomes one that can't be
+/// decoded.
 const B_PICTURES: Script = Script {
     acts: &[
         Act::Edit(First(IDR), 1, 1),
@@ -124,7 +126,8 @@ const TWO_SLICES: Script = Script {
     at_last: &[(1, Ready(PICTURE_OF_SLICES))],
 };
 
-/// A unit without a slice sends another set, then the first one's once more; and a picture becomes such a unit.
+/// A unit without a slice sends another set, then the first one's once more; and a picture becomes
+/// such a unit.
 const WITHOUT_A_SLICE: Script = Script {
     acts: &[
         Act::Edit(First(A), 1, 1),

@@ -1,5 +1,5 @@
-//! Steps of the fold over streams, and keys of their pictures. Where memory runs out, each call is made again, and has
-//! its answer then.
+//! Steps of the fold over streams, and keys of their pictures. Where memory runs out, each call is
+//! made again, and has its answer then.
 
 use super::row_holds;
 use super::streams::{Planned, STREAMS, Stream, planned};

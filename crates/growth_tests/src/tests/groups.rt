@@ -1,4 +1,5 @@
-//! Groups of edits. Where memory runs out nothing is changed and no id is spent, and the call is made again.
+//! Groups of edits. Where memory runs out nothing is changed and no id is spent, and the call is
+//! made again.
 
 use super::seen::seen;
 use super::{empty_session, row_holds};
@@ -23,7 +24,8 @@ const P1: &[u8] = &[0, 0, 1, 0x41, 0x9A, 0x23];
 
 const P2: &[u8] = &[0, 0, 1, 0x41, 0x9A, 0x43];
 
-/// Groups on one session, with the ids that each is answered, or the index of the edit that is refused.
+/// Groups on one session, with the ids that each is answered, or the index of the edit that is
+/// refused.
 const GROUPS: [(&[Told], Result<&[u32], usize>); 4] = [
     (&[First(A), After(1, P1), After(2, P2)], Ok(&[1, 2, 3])),
     (&[Delete(2), After(1, SPS), Delete(2)], Err(2)),

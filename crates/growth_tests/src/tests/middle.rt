@@ -10,7 +10,8 @@ use session_builders::Told;
 /// How many IDR pictures the stream has.
 const UNITS: u32 = 100;
 
-/// The edit was accepted after all insertions, and folded from the state at place 32 to that at 64, which stays.
+/// The edit was accepted after all insertions, and folded from the state at place 32 to that at 64,
+/// which stays.
 fn is_replacement(answer: &Result<Receipt, EditRefused>) -> bool {
     match answer {
         Ok(receipt) => (receipt.number, receipt.id.number()) == (101, 50) && receipt.steps == 32,

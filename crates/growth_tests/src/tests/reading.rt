@@ -1,4 +1,5 @@
-//! Texts that are split and read. Where memory runs out, each call is made again, and has its answer then.
+//! Texts that are split and read. Where memory runs out, each call is made again, and has its
+//! answer then.
 
 use super::row_holds;
 use super::streams::{STREAMS, Stream, text_of};

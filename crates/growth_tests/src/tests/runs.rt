@@ -1,5 +1,5 @@
-//! Runs of commands. An edit that runs out of memory is answered so, and is as if it weren't among the commands; any other
-//! lack of memory ends the run, and the run is made again.
+//! Runs of commands. An edit that runs out of memory is answered so, and is as if it weren't among
+//! the commands; any other lack of memory ends the run, and the run is made again.
 
 use super::acts::{Act, SCRIPTS, command_of, is_reply};
 use super::row_holds;
@@ -81,8 +81,8 @@ fn are_others(
     Ok(others_left.next().is_none())
 }
 
-/// The replies are those to the acts; where one says that memory ran out, the others are those of a run without its
-/// command.
+/// The replies are those to the acts; where one says that memory ran out, the others are those of a
+/// run without its command.
 fn answer(alloc: Global, acts: &[Act], replies: &[Reply]) -> Result<bool, Fail> {
     let Some(left) = place_of_memory(replies) else {
         return Ok(are_replies(replies, acts));

@@ -4,8 +4,8 @@ use super::streams::{Planned, planned};
 use edit_engine::{KeyId, Last, NoSuchUnit, Session, Shown};
 use pictures::AuId;
 
-/// What a session says of a unit: what is shown of it, its plan, its position and the number of its key, which stands for
-/// all that its picture is made of.
+/// What a session says of a unit: what is shown of it, its plan, its position and the number of its
+/// key, which stands for all that its picture is made of.
 type SeenUnit = (
     Shown,
     Option<Planned>,
@@ -13,7 +13,8 @@ type SeenUnit = (
     Result<Option<KeyId>, NoSuchUnit>,
 );
 
-/// What a session says of the end of its stream, how many edits its journal has, and what it says of four units.
+/// What a session says of the end of its stream, how many edits its journal has, and what it says
+/// of four units.
 pub(super) type Seen = (Last, usize, [SeenUnit; 4]);
 
 /// What the session says of the unit of the id.

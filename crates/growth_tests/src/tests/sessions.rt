@@ -1,4 +1,5 @@
-//! Edits, jobs and results of a session. Where memory runs out nothing is changed, and the call is made again.
+//! Edits, jobs and results of a session. Where memory runs out nothing is changed, and the call is
+//! made again.
 
 use super::seen::seen;
 use super::streams::{STREAMS, Stream};
@@ -128,8 +129,8 @@ pub(super) fn shown_at_last(picture: Option<Picture>) -> Shown {
     }
 }
 
-/// The job of this number is given back, taken again under the next one and landed, with this picture; nothing where the
-/// unit has none. How many numbers were given, if all is so.
+/// The job of this number is given back, taken again under the next one and landed, with this
+/// picture; nothing where the unit has none. How many numbers were given, if all is so.
 fn decodes(
     rt: &(impl Abort + AllocGlobal),
     session: &mut Session,
@@ -146,8 +147,8 @@ fn decodes(
     }
 }
 
-/// Each unit's job is given back, taken again and landed: the unit has this picture then. One without a picture has no
-/// job.
+/// Each unit's job is given back, taken again and landed: the unit has this picture then. One
+/// without a picture has no job.
 fn settles(
     rt: &(impl Abort + AllocGlobal),
     session: &mut Session,

@@ -1,5 +1,5 @@
-//! Calls for which there is no memory from some growth on: an edit and a `take` change nothing then, and a job that isn't
-//! decoded, and a result that lands, are answered as with memory.
+//! Calls for which there is no memory from some growth on: an edit and a `take` change nothing
+//! then, and a job that isn't decoded, and a result that lands, are answered as with memory.
 
 use super::seen::seen;
 use super::sessions::shown_at_last;
@@ -76,8 +76,8 @@ fn settle(rt: &(impl Abort + AllocGlobal), session: &mut Session) -> Result<(), 
     Ok(())
 }
 
-/// Inserts the units of a stream and decodes them, so far as there is memory; whether each has its picture, if it has one,
-/// or memory ran out.
+/// Inserts the units of a stream and decodes them, so far as there is memory; whether each has its
+/// picture, if it has one, or memory ran out.
 fn lives(rt: &(impl Abort + AllocGlobal), session: &mut Session, stream: &Stream) -> bool {
     if insert(rt, session, stream).is_err() || settle(rt, session).is_err() {
         return true;
@@ -101,7 +101,8 @@ fn starved_sessions(rt: HostRuntime) {
     }
 }
 
-/// Edits that are made while the job of the stream's one unit is out, each with how its result lands from then on.
+/// Edits that are made while the job of the stream's one unit is out, each with how its result
+/// lands from then on.
 const LATE: [&[(Told, Landing)]; 3] = [
     &[(Delete(1), Landing::Stale), (First(A), Landing::Taken)],
     &[
@@ -114,7 +115,8 @@ const LATE: [&[(Told, Landing)]; 3] = [
     ],
 ];
 
-/// Makes the edits, so far as there is memory; how the result lands after the last one that was made.
+/// Makes the edits, so far as there is memory; how the result lands after the last one that was
+/// made.
 fn landing_after(rt: &impl Abort, session: &mut Session, edits: &[(Told, Landing)]) -> Landing {
     let mut landing = Landing::Taken;
     for (told, after) in edits {

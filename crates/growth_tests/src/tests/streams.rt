@@ -1,5 +1,6 @@
-//! Streams, with what is read of them and the outcomes of their units, as the standard has it and a hand worked it out.
-//! The pictures are hashes that tools/model-script prints, which has nothing of the program.
+//! Streams, with what is read of them and the outcomes of their units, as the standard has it and a
+//! hand worked it out. The pictures are hashes that tools/model-script prints, which has nothing of
+//! the program.
 
 use edit_engine::Picture;
 use std::alloc::{AllocError, Global};
@@ -35,7 +36,8 @@ pub(super) fn planned(outcome: &Outcome) -> Option<Planned> {
     }
 }
 
-/// Sets and an IDR picture, of one macroblock, count type 2 and one reference frame; and the same with other slice data.
+/// Sets and an IDR picture, of one macroblock, count type 2 and one reference frame; and the same
+/// with other slice data.
 pub(super) const A: &[u8] = &[
     0, 0, 1, 0x67, 0x42, 0x00, 0x0A, 0xDA, 0x79, 0, 0, 1, 0x68, 0xCE, 0x38, 0x80, 0, 0, 1, 0x65,
     0x88, 0x84, 0x80,
@@ -56,8 +58,8 @@ pub(super) const P1: &[u8] = &[0, 0, 1, 0x41, 0x9A, 0x23];
 
 pub(super) const P2: &[u8] = &[0, 0, 1, 0x41, 0x9A, 0x43];
 
-/// Sets and an IDR picture, of one macroblock, count type 0 and two reference frames; a P picture; a B picture that is
-/// shown between them; and a B picture with the P picture's count.
+/// Sets and an IDR picture, of one macroblock, count type 0 and two reference frames; a P picture;
+/// a B picture that is shown between them; and a B picture with the P picture's count.
 pub(super) const IDR: &[u8] = &[
     0, 0, 1, 0x67, 0x4D, 0x00, 0x0A, 0xF6, 0xF2, 0, 0, 1, 0x68, 0xCE, 0x38, 0x80, 0, 0, 1, 0x65,
     0x88, 0x84, 0x0C,

@@ -34,7 +34,8 @@ struct Meeting {
 }
 
 impl Meeting {
-    /// Looks until so many are held, with 100 microseconds after each look. Whether they were, in a million looks.
+    /// Looks until so many are held, with 100 microseconds after each look. Whether they were, in a
+    /// million looks.
     fn is_met(&self, rt: &impl Clock) -> bool {
         for _turn in 0..MOST_TURNS {
             if self.held.load(Ordering::SeqCst) >= self.wanted {
@@ -73,7 +74,8 @@ fn gate_at<'a, R>(rt: &'a R, alloc: Global, meeting: &'a Meeting) -> Meets<'a, R
     }
 }
 
-/// The insertions of A and of so many of the other pictures, each before those that were inserted before it.
+/// The insertions of A and of so many of the other pictures, each before those that were inserted
+/// before it.
 fn insertions(alloc: Global, others: usize) -> Result<Vec<Edit>, AllocError> {
     let mut edits = Vec::new(alloc);
     edits.push(first(A))?;
@@ -83,8 +85,8 @@ fn insertions(alloc: Global, others: usize) -> Result<Vec<Edit>, AllocError> {
     Ok(edits)
 }
 
-/// The seat inserts them in one step, by which all are due at once, while so many workers sleep; all are held at once
-/// then, and decoded.
+/// The seat inserts them in one step, by which all are due at once, while so many workers sleep;
+/// all are held at once then, and decoded.
 fn are_held_at_once<R: AllocGlobal + Threads + Wait + Clock + Sync>(
     rt: &R,
     desk: &Desk,
@@ -130,7 +132,8 @@ fn meet(
     Ok(is_right && !meeting.gave_up.is_given() && is_ready(rt, &desk, &mut seat, 1))
 }
 
-/// One who takes a job wakes another for the next that is due, until each of those that sleep has one.
+/// One who takes a job wakes another for the next that is due, until each of those that sleep has
+/// one.
 #[test]
 fn as_many_jobs_are_out_as_workers_sleep(rt: HostRuntime) -> Result<(), Fail> {
     assert!(rt; meet(&rt, 2)?);

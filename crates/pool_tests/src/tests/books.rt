@@ -123,7 +123,8 @@ const ROWS: [Row; 26] = [
     (&[&[Shows(1, FAULT, 1)]], Some((1, 1))),
     (&[&[Shows(1, Shown::NoSuchUnit, 1)]], Some((1, 1))),
     (&[&[Shows(2, Shown::Pending, 1)]], Some((1, 1))),
-    // That a unit has no picture is shown of one without a slice, and of no other; and nothing else is of that one.
+    // That a unit has no picture is shown of one without a slice, and of no other; and nothing else
+    // is of that one.
     (&[&[Edits(5, 3, 5), Shows(3, Shown::Empty, 5)]], None),
     (&[&[Shows(3, Shown::Empty, 4)]], Some((1, 1))),
     (&[&[Shows(2, Shown::Empty, 5)]], Some((1, 1))),

@@ -15,7 +15,8 @@ use std::test::Fail;
 use std::thread;
 use std::thread::Threads;
 
-/// Books of the journal of books.rt: A, P1 after it, P1X in P1's place, P1 again, and a unit without a picture.
+/// Books of the journal of books.rt: A, P1 after it, P1X in P1's place, P1 again, and a unit
+/// without a picture.
 const ROWS: [Row; 24] = [
     // A drop between the two lets a picture wait that was shown.
     (
@@ -101,7 +102,8 @@ const ROWS: [Row; 24] = [
         ],
         Some((1, 2)),
     ),
-    // It does so too where it doesn't agree itself, but not where its length is above the journal's.
+    // It does so too where it doesn't agree itself, but not where its length is above the
+    // journal's.
     (
         &[
             &[Shows(1, READY, 1), Shows(1, Pending, 2)],

@@ -21,7 +21,8 @@ enum Handed {
 /// Why a desk isn't finished, and how long the journal is of which that is said.
 type Told = Option<(FinishFault, Option<usize>)>;
 
-/// How many seats a desk has, whether its first seat inserts a unit, the seats that are handed in, and what is told.
+/// How many seats a desk has, whether its first seat inserts a unit, the seats that are handed in,
+/// and what is told.
 type Row = (usize, bool, &'static [Handed], Told);
 
 const ROWS: [Row; 9] = [
@@ -48,7 +49,8 @@ const ROWS: [Row; 9] = [
         &[Foreign(2, true), Own],
         Some((FinishFault::SeatDisagrees { seat: 2, number: 1 }, Some(0))),
     ),
-    // An edit stands in no book, or in two; another desk's seat is known by its number and its book alone.
+    // An edit stands in no book, or in two; another desk's seat is known by its number and its book
+    // alone.
     (
         2,
         true,

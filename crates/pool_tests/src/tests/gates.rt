@@ -28,7 +28,8 @@ impl Gate for HandsBack {
     }
 }
 
-/// What a worker did is this: so many results taken, so many stale, so many jobs returned, and none foreign.
+/// What a worker did is this: so many results taken, so many stale, so many jobs returned, and none
+/// foreign.
 fn did(worked: Worked, taken: u64, stale: u64, returned: u64) -> bool {
     let counts = (worked.taken, worked.stale, worked.returned, worked.foreign);
     counts == (taken, stale, returned, 0) && worked.jobs() == taken + stale + returned
@@ -67,7 +68,8 @@ fn another_worker_does_what_one_hands_back(rt: HostRuntime) -> Result<(), Fail> 
     Ok(())
 }
 
-/// A worker decodes as a device does until no unit is pending; what it did, where the wait ended so.
+/// A worker decodes as a device does until no unit is pending; what it did, where the wait ended
+/// so.
 pub(super) fn settle_beside<R: AllocGlobal + Threads + Wait + Sync>(
     rt: &R,
     desk: &Desk,
@@ -150,8 +152,8 @@ fn holding<'a, R>(rt: &'a R, alloc: Global, signs: &'a Signs) -> HoldsSecond<'a,
     }
 }
 
-/// What becomes of unit 2 while its job is held: it is replaced by these texts in turn, and the desk is closed or not. And
-/// how many results were taken and stale at the end.
+/// What becomes of unit 2 while its job is held: it is replaced by these texts in turn, and the
+/// desk is closed or not. And how many results were taken and stale at the end.
 type Held = (&'static [&'static [u8]], bool, u64, u64);
 
 const HELD: [Held; 4] = [

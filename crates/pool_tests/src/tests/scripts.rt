@@ -1,4 +1,5 @@
-//! Scripts over memory, with two workers. Each row was worked out by hand from docs/OUTPUT.md and the standard.
+//! Scripts over memory, with two workers. Each row was worked out by hand from docs/OUTPUT.md and
+//! the standard.
 
 mod audits;
 mod gates;

@@ -1,4 +1,5 @@
-//! Two workers, of which one decodes for as long as it takes the other one and a seat to do what they have to do.
+//! Two workers, of which one decodes for as long as it takes the other one and a seat to do what
+//! they have to do.
 
 use super::{
     A, I1, P2, PICTURE_OF_A, Sign, after, are_both_given, edits, finished, first, is_ready,

@@ -1,4 +1,5 @@
-//! What is decoded first, on a stream of eight periods of twenty pictures, each of which refers to the one before it.
+//! What is decoded first, on a stream of eight periods of twenty pictures, each of which refers to
+//! the one before it.
 
 use super::gates::HandsBack;
 use super::{A, after, finished, first, is_pending, is_ready, opened, opened_for_one, row_holds};
@@ -25,7 +26,8 @@ const HEADS: [&[u8]; 8] = [
     &[0, 0, 1, 0x65, 0x88, 0x84, 0x87],
 ];
 
-/// P pictures with frame_num 0 to 15: the last bit of the fifth byte and the first three of the sixth.
+/// P pictures with frame_num 0 to 15: the last bit of the fifth byte and the first three of the
+/// sixth.
 const P: [&[u8]; 16] = [
     &[0, 0, 1, 0x41, 0x9A, 0x03],
     &[0, 0, 1, 0x41, 0x9A, 0x23],
@@ -154,7 +156,8 @@ fn does<R: Wait>(rt: &R, alloc: Global, desk: &Desk, seat: &mut Seat, step: Step
     }
 }
 
-/// What a seat does beside one worker; the units whose jobs that is given first, by ranges; and how many jobs in all.
+/// What a seat does beside one worker; the units whose jobs that is given first, by ranges; and how
+/// many jobs in all.
 type Row = (&'static [Step], &'static [(u64, u64)], usize);
 
 const ROWS: [Row; 9] = [

@@ -91,7 +91,8 @@ pub(super) fn run_with(
     })
 }
 
-/// The words after the program's name, the standard input, the status and what is written on both streams.
+/// The words after the program's name, the standard input, the status and what is written on both
+/// streams.
 type Ran = (
     &'static [&'static str],
     &'static [u8],
@@ -311,8 +312,8 @@ show 2\n\
 delete 1\n\
 show 2\n";
 
-/// Two IDR pictures with one that refers to each, of which a part is wanted. Then a picture is dropped, and made again where it
-/// is wanted.
+/// Two IDR pictures with one that refers to each, of which a part is wanted. Then a picture is
+/// dropped, and made again where it is wanted.
 const WANTED: &[u8] = b"rest off\n\
 insert first 000001 6742000ADA79 000001 68CE3880 000001 65888480\n\
 insert after 1 000001 419A23\n\
@@ -363,7 +364,8 @@ show 4\n";
 const ANSWERED: &str = "edit 1 id 1\nedit 2 id 2\nedit 3 id 3\nsettled\ngroup 4 ids 2 4\n\
 show 3 ready\nshow 4 ready\n";
 
-/// A script that shows the picture of A, and its lines without and with the hash, which is one of stand_in_device's tests.
+/// A script that shows the picture of A, and its lines without and with the hash, which is one of
+/// stand_in_device's tests.
 const SHOW_A: &[u8] = b"load a.264\nsettle\nshow 1\n";
 
 const SHOWN_A: &str = "loaded 1\nsettled\nshow 1 ready\n";
@@ -396,8 +398,8 @@ fn does_what_the_words_name(rt: HostRuntime) -> Result<(), Fail> {
     Ok(())
 }
 
-/// The words after the program's name, the status, and a part of the text: at success that of the output, else of
-/// standard error, where the other one is empty.
+/// The words after the program's name, the status, and a part of the text: at success that of the
+/// output, else of standard error, where the other one is empty.
 type Answer = (&'static [&'static str], Status, &'static str);
 
 const ANSWERS: [Answer; 38] = [
@@ -524,7 +526,8 @@ fn answers_command_lines(rt: HostRuntime) -> Result<(), Fail> {
     Ok(())
 }
 
-/// Words that can't be read for this: how it ended, and what standard error has got, where the output has nothing.
+/// Words that can't be read for this: how it ended, and what standard error has got, where the
+/// output has nothing.
 fn run_without_words(
     rt: &(impl Abort + AllocGlobal + Threads + Wait + Sync),
     kind: ErrorKind,
@@ -598,7 +601,8 @@ fn cuts_what_is_told(rt: HostRuntime) {
     }
 }
 
-/// Whether help or the version, which is this text, fails on an output that takes so many bytes, and nothing is told.
+/// Whether help or the version, which is this text, fails on an output that takes so many bytes,
+/// and nothing is told.
 fn fails_cut(
     rt: &(impl Abort + AllocGlobal + Threads + Wait + Sync),
     words: &[&str],

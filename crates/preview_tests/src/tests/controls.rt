@@ -1,4 +1,5 @@
-//! The controls of requests by their digest form, at places that were worked out from the Linux media documentation.
+//! The controls of requests by their digest form, at places that were worked out from the Linux
+//! media documentation.
 
 use super::{A, P1, joined, row_holds};
 use access_unit::read_stream;
@@ -14,12 +15,14 @@ use unit_outcomes::Outcome;
 /// A place in the form, and the bytes that stand there.
 type Row = (usize, &'static [u8]);
 
-/// The parts of a stream, how many bytes the form of its last picture's one slice has, and some of them.
+/// The parts of a stream, how many bytes the form of its last picture's one slice has, and some of
+/// them.
 type Form = (&'static [&'static [u8]], usize, &'static [Row]);
 
 const FORMS: [Form; 3] = [
-    // The sequence parameter set's first members and its flags; the scaling matrix, which is flat; no weights;
-    // header_bit_size, slice_type, nal_ref_idc, dec_ref_pic_marking_bit_size and the flag of an IDR picture.
+    // The sequence parameter set's first members and its flags; the scaling matrix, which is flat;
+    // no weights; header_bit_size, slice_type, nal_ref_idc, dec_ref_pic_marking_bit_size and the
+    // flag of an IDR picture.
     (
         &[&A],
         2040,
@@ -35,15 +38,15 @@ const FORMS: [Form; 3] = [
             (2036, &[1, 0, 0, 0]),
         ],
     ),
-    // The first entry of list 0 is a frame at index 0, fields and flags of the first entry of the decoded picture
-    // buffer.
+    // The first entry of list 0 is a frame at index 0, fields and flags of the first entry of the
+    // decoded picture buffer.
     (
         &[&A, &P1],
         2040,
         &[(1560, &[3, 0]), (1698, &[3]), (1707, &[3, 0, 0, 0])],
     ),
-    // A table of one luma weight and both chroma weights of 1, with denominators of 1: its flag, the denominators'
-    // powers of 0, and the first luma weight.
+    // A table of one luma weight and both chroma weights of 1, with denominators of 1: its flag,
+    // the denominators' powers of 0, and the first luma weight.
     (
         &[
             &[
@@ -94,7 +97,8 @@ fn last_has_form(alloc: Global, outcomes: &[Outcome], row: &Form) -> Result<bool
     }
 }
 
-/// The outcomes of the units of a stream of these parts; all have one id, of which the form says nothing.
+/// The outcomes of the units of a stream of these parts; all have one id, of which the form says
+/// nothing.
 fn outcomes_of(
     rt: &(impl Abort + AllocGlobal + Threads + Sync),
     parts: &[&[u8]],

@@ -1,5 +1,6 @@
-//! Drawings after edits, on files and a standard input over memory. What each row has to say was worked out by hand from
-//! docs/OUTPUT.md: a.264 is A alone, and the picture of a unit that edits bring or change has to be decoded.
+//! Drawings after edits, on files and a standard input over memory. What each row has to say was
+//! worked out by hand from docs/OUTPUT.md: a.264 is A alone, and the picture of a unit that edits
+//! bring or change has to be decoded.
 
 use super::command_lines::run_with;
 use super::row_holds;
@@ -10,7 +11,8 @@ use std::sync::Wait;
 use std::test::Fail;
 use std::thread::Threads;
 
-/// The words after the program's name, the standard input, the status, a part of the output, and all of standard error.
+/// The words after the program's name, the standard input, the status, a part of the output, and
+/// all of standard error.
 type Drawn = (
     &'static [&'static str],
     &'static [u8],

@@ -122,7 +122,8 @@ const PLANS: [Plan; 10] = [
         Success,
         &[LINES_OF_A, "unit 2 fault 18 TooManyReferences\n"],
     ),
-    // A sequence parameter set of profile 100 with scaling lists, of which a request prints nothing.
+    // A sequence parameter set of profile 100 with scaling lists, of which a request prints
+    // nothing.
     (
         &[
             &[

@@ -5,8 +5,8 @@ use super::scripts::{INSERT_A, INSERT_THREE, LINES_OF_3, Script, THREE, answers,
 use script_run::Options;
 use std::test::Fail;
 
-/// The insertion of the picture with frame_num 1 after A, and the replacement of it by a text that has a byte more, and
-/// by itself.
+/// The insertion of the picture with frame_num 1 after A, and the replacement of it by a text that
+/// has a byte more, and by itself.
 const INSERT_P1: &str = "insert after 1 00 00 01 41 9A 23\n";
 
 const LONGER: &str = "replace 2 00 00 01 41 9A 23 80\n";
@@ -14,7 +14,8 @@ const LONGER: &str = "replace 2 00 00 01 41 9A 23 80\n";
 const AS_BEFORE: &str = "replace 2 00 00 01 41 9A 23\n";
 
 const SCRIPTS: [Script; 8] = [
-    // A unit is deleted and the same comes back under another id: the pictures that it is part of are there again.
+    // A unit is deleted and the same comes back under another id: the pictures that it is part of
+    // are there again.
     (
         &[
             INSERT_THREE,
@@ -30,7 +31,8 @@ const SCRIPTS: [Script; 8] = [
             "show 3 ready\nshow 4 ready\nshow 2 none\n",
         ],
     ),
-    // A unit is replaced: its picture and those that refer to it are wanted anew, and the one before it stays.
+    // A unit is replaced: its picture and those that refer to it are wanted anew, and the one
+    // before it stays.
     (
         &[
             INSERT_THREE,
@@ -61,7 +63,8 @@ const SCRIPTS: [Script; 8] = [
             "edit 5 id 3\nshow 3 pending\nshow 1 ready\nshow 2 ready\nshow 4 ready\n",
         ],
     ),
-    // A result whose picture nobody wants is stale, and one whose picture is wanted again is late and taken.
+    // A result whose picture nobody wants is stale, and one whose picture is wanted again is late
+    // and taken.
     (
         &[
             INSERT_A,
@@ -105,7 +108,8 @@ const SCRIPTS: [Script; 8] = [
             "land 2 taken\nshow 1 ready\ngive 2 none\n",
         ],
     ),
-    // A job that is out stays out when the others are decoded, and what refers to its picture waits.
+    // A job that is out stays out when the others are decoded, and what refers to its picture
+    // waits.
     (
         &[
             INSERT_THREE,

@@ -71,7 +71,8 @@ fn refuses_more_units_than_65_536(rt: HostRuntime) -> Result<(), Fail> {
     Ok(())
 }
 
-/// A script of so many lines is answered line by line, and one of as many lines and a wrong one isn't run.
+/// A script of so many lines is answered line by line, and one of as many lines and a wrong one
+/// isn't run.
 fn runs_lines(
     rt: &(impl Abort + AllocGlobal + Threads + Sync),
     count: u32,

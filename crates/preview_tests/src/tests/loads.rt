@@ -10,7 +10,8 @@ use std::process::Abort;
 use std::test::Fail;
 use std::thread::Threads;
 
-/// Whether the script, where this text is in the file `stream` and A in the file `-`, ends so and writes these texts.
+/// Whether the script, where this text is in the file `stream` and A in the file `-`, ends so and
+/// writes these texts.
 fn loads(
     rt: &(impl Abort + AllocGlobal + Threads + Sync),
     script: &[u8],
@@ -139,7 +140,8 @@ fn settles_several_hundred_pictures(rt: HostRuntime) -> Result<(), Fail> {
     Ok(())
 }
 
-/// A unit far from both ends goes: those before it and after it stay, and positions after it are one less.
+/// A unit far from both ends goes: those before it and after it stay, and positions after it are
+/// one less.
 #[test]
 fn deletes_the_unit_at_place_2_000(rt: HostRuntime) -> Result<(), Fail> {
     let stream = with_pictures(rt.alloc(), 2_100)?;

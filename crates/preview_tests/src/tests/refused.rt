@@ -1,4 +1,5 @@
-//! Runs of which any growth of memory may be refused. What they write and read is in memory that isn't.
+//! Runs of which any growth of memory may be refused. What they write and read is in memory that
+//! isn't.
 
 use super::scripts::TestFiles;
 use super::{P1, SETS};

@@ -94,8 +94,8 @@ fn is_wrong(
     ends_as(rt, script, &[], Failure, b"", message.as_bytes())
 }
 
-/// Whether a script of the line alone is wrong there, and one that has it after right lines and before another wrong
-/// one.
+/// Whether a script of the line alone is wrong there, and one that has it after right lines and
+/// before another wrong one.
 fn is_first_wrong(
     rt: &(impl Abort + AllocGlobal + Threads + Sync),
     line: &[u8],

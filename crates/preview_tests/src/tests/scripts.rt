@@ -242,7 +242,8 @@ const SCRIPTS: [Script; 13] = [
             LINE_OF_2,
         ],
     ),
-    // A period more stands before the others, and then a picture leaves its period to go on with the one before.
+    // A period more stands before the others, and then a picture leaves its period to go on with
+    // the one before.
     (
         &[
             INSERT_A,
@@ -311,7 +312,8 @@ fn refuses_more_than_4_194_304_bytes(rt: HostRuntime) -> Result<(), Fail> {
     Ok(())
 }
 
-/// What a writer of this room gets, how the run ends, and how many files it asks for, where nothing is told.
+/// What a writer of this room gets, how the run ends, and how many files it asks for, where nothing
+/// is told.
 fn run_to(
     rt: &(impl Abort + AllocGlobal + Threads + Sync),
     script: &[u8],
@@ -342,7 +344,8 @@ fn run_to(
     errors.is_empty().then_some((ended, source.asked))
 }
 
-/// Whether a writer of this room gets just that many bytes, the run ends so, and so many files are asked for.
+/// Whether a writer of this room gets just that many bytes, the run ends so, and so many files are
+/// asked for.
 fn gets(
     rt: &(impl Abort + AllocGlobal + Threads + Sync),
     script: &[u8],
@@ -371,7 +374,8 @@ const LOADED_LAST: Script = (
     ],
 );
 
-/// A writer that fails after some bytes has just these, and no later line runs: the last one is of 9 bytes.
+/// A writer that fails after some bytes has just these, and no later line runs: the last one is of
+/// 9 bytes.
 #[test]
 fn ends_where_the_writer_fails(rt: HostRuntime) -> Result<(), Fail> {
     let (script, lines) = (

@@ -21,7 +21,8 @@ pub(super) enum End {
     IsInterrupted,
 }
 
-/// A writer that takes some bytes at a time, and a number of bytes in all. It declares that its last write took none.
+/// A writer that takes some bytes at a time, and a number of bytes in all. It declares that its
+/// last write took none.
 #[derive(Drop)]
 pub(super) struct ShortWriter {
     pub(super) got: Vec<u8>,

@@ -37,7 +37,8 @@ const ROWS: [Row; 12] = [
         &[Some((0, true))],
         &[Some(0), Some(1), Some(2), Some(3), Some(4)],
     ),
-    // In the place of the third IDR picture a P picture with the next count; the last unit gets a fault.
+    // In the place of the third IDR picture a P picture with the next count; the last unit gets a
+    // fault.
     (
         3,
         5,

@@ -81,7 +81,8 @@ const REPAIRED: [Step; 10] = [
     Unit(3, At(2)),
 ];
 
-/// A unit without a slice sends another set, and then the first one's once more; it has no position, and spends one id.
+/// A unit without a slice sends another set, and then the first one's once more; it has no
+/// position, and spends one id.
 const EMPTY: [Step; 11] = [
     Step::Edit(First(A), Ok((1, 1, 1))),
     Step::Edit(After(1, OTHER_SPS), Ok((2, 2, 1))),
@@ -142,7 +143,8 @@ fn deletes_and_repairs(rt: HostRuntime) {
     assert!(rt; ends_at(&session, 3, 3) && session.journal().len() == 5);
 }
 
-/// A P picture is replaced by one with the frame_num after it; and a picture is inserted before its sets.
+/// A P picture is replaced by one with the frame_num after it; and a picture is inserted before its
+/// sets.
 const REPLACED: [Step; 9] = [
     Step::Edit(First(A), Ok((1, 1, 1))),
     Step::Edit(After(1, P1), Ok((2, 2, 1))),

@@ -13,7 +13,8 @@ use std::test::Fail;
 /// A unit that is none: its parameter set is cut.
 const CUT: &[u8] = &[0, 0, 1, 0x67];
 
-/// A receipt's number, its ids and its steps. Or a refusal: the index of an edit, if it names one, and the number.
+/// A receipt's number, its ids and its steps. Or a refusal: the index of an edit, if it names one,
+/// and the number.
 type Answer = Result<(u64, &'static [u32], u64), (Option<usize>, u8)>;
 
 /// The index of the edit that a refusal names.
@@ -37,8 +38,9 @@ fn is_answer(answer: &Result<GroupReceipt, GroupRefused>, wanted: Answer) -> boo
     }
 }
 
-/// Groups on one session after the other, and what each is answered. The stream is short, so that a group at its end makes a
-/// step for each new unit, any other for each unit of the new stream, and one that changes nothing none.
+/// Groups on one session after the other, and what each is answered. The stream is short, so that a
+/// group at its end makes a step for each new unit, any other for each unit of the new stream, and
+/// one that changes nothing none.
 const GROUPS: [(&[Told], Answer); 14] = [
     (&[], Err((None, 20))),
     (&[First(A)], Ok((1, &[1], 1))),
@@ -121,7 +123,8 @@ fn is_ready(session: &Session, id: u32) -> bool {
 
 #[test]
 fn pictures_change_once_with_a_group(rt: HostRuntime) -> Result<(), Fail> {
-    // In the stream between the group's edits no P picture is valid; a cache of one picture has no room for both.
+    // In the stream between the group's edits no P picture is valid; a cache of one picture has no
+    // room for both.
     let mut runner = runner_of(&rt, 1);
     for told in [First(A), After(1, P1), After(2, P2)] {
         runner.step(Command::Edit(edit_of(told)))?;

@@ -310,7 +310,8 @@ fn is_shown(shown: Shown, act: Act) -> bool {
     }
 }
 
-/// Takes jobs by an act's command and lands them until none is due, at most a hundred; whether that came to its end.
+/// Takes jobs by an act's command and lands them until none is due, at most a hundred; whether that
+/// came to its end.
 fn settle(runner: &mut Runner, act: Act) -> Result<bool, AllocError> {
     for _ in 0..100 {
         let Some(number) = number_taken(&runner.step(command_of(act))?) else {

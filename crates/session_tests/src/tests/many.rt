@@ -15,7 +15,8 @@ const FIRST: &[u8] = &[
     0x88, 0x84, 0x0C,
 ];
 
-/// P pictures of two active entries, by their place modulo 16: frame_num is the place, pic_order_cnt_lsb twice the place.
+/// P pictures of two active entries, by their place modulo 16: frame_num is the place,
+/// pic_order_cnt_lsb twice the place.
 const TWO_ENTRIES: [&[u8]; 16] = [
     &[0, 0, 1, 0x41, 0x9A, 0x01, 0x46],
     &[0, 0, 1, 0x41, 0x9A, 0x25, 0x46],
@@ -92,7 +93,8 @@ fn is_replaced(alloc: Global, runner: &mut Runner, count: u32) -> Result<bool, A
     Ok(true)
 }
 
-/// Whether the number of the first unit's key is small: those of keys that aren't needed any more are given again.
+/// Whether the number of the first unit's key is small: those of keys that aren't needed any more
+/// are given again.
 fn has_small_number(runner: &Runner) -> bool {
     match runner.session().key(AuId::new(1)) {
         Ok(Some(key)) => key.number() < 200,

@@ -6,8 +6,8 @@ use edit_engine::{Dropping, Landing};
 use session_builders::Told;
 use std::test::Fail;
 
-/// Three pictures, each of which needs those before it: taken for the last one, they come one after the other. One that is
-/// dropped then is pending, but what was made of it is not.
+/// Three pictures, each of which needs those before it: taken for the last one, they come one after
+/// the other. One that is dropped then is pending, but what was made of it is not.
 const ONE_AFTER_THE_OTHER: &[Act] = &[
     Act::Edit(Told::First(A)),
     Act::Edit(Told::After(1, P1)),
@@ -120,7 +120,8 @@ const DROPS: &[Act] = &[
     Act::Drop(3, Dropping::NotHeld),
 ];
 
-/// A picture that is dropped isn't cached, and one that is cached isn't held again once the cache was cleared.
+/// A picture that is dropped isn't cached, and one that is cached isn't held again once the cache
+/// was cleared.
 const CACHED: &[Act] = &[
     Act::Edit(Told::First(A)),
     Act::Settle,

@@ -12,8 +12,9 @@ use std::test::Fail;
 use test_builders::Draws;
 use unit_outcomes::Outcome;
 
-/// Texts: an IDR picture with sets and one without, P pictures with frame_num 1, 2 and 3, one with adaptive marking, a
-/// picture that is no reference, the sequence parameter set alone, another one under its id, and a text that is no unit.
+/// Texts: an IDR picture with sets and one without, P pictures with frame_num 1, 2 and 3, one with
+/// adaptive marking, a picture that is no reference, the sequence parameter set alone, another one
+/// under its id, and a text that is no unit.
 static TEXTS: [&[u8]; 10] = [
     A,
     I,
@@ -64,8 +65,8 @@ fn draw(draws: &mut Draws, mirror: &[Kept], next: u32) -> (Told, bool) {
     }
 }
 
-/// Makes an edit whose text is a unit in the mirror, where the one that is inserted gets this id, and says whether it
-/// is accepted.
+/// Makes an edit whose text is a unit in the mirror, where the one that is inserted gets this id,
+/// and says whether it is accepted.
 fn make(mirror: &mut Vec<Kept>, told: Told, next: u32) -> Result<bool, AllocError> {
     match told {
         Told::First(text) => insert(mirror, 0, (next, text)),

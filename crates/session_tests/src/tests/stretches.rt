@@ -1,5 +1,6 @@
-//! How many steps of the fold an edit makes, by a hand: states are stored at every 32nd place, and an edit folds from the last
-//! one up to its place until it comes to the same state as one that is stored behind it, or to the end.
+//! How many steps of the fold an edit makes, by a hand: states are stored at every 32nd place, and
+//! an edit folds from the last one up to its place until it comes to the same state as one that is
+//! stored behind it, or to the end.
 
 use super::{A, I, P1, empty_session, is_answer, row_holds};
 use Told::{After, Delete, First, Replace};
@@ -72,8 +73,8 @@ const P: [[u8; 2]; 16] = [
     [0x9B, 0xE3],
 ];
 
-/// The text of the unit at a place of a thousand: the first has the sets, the 601st is an IDR picture, the others are P pictures
-/// with the next frame_num; `data` follows.
+/// The text of the unit at a place of a thousand: the first has the sets, the 601st is an IDR
+/// picture, the others are P pictures with the next frame_num; `data` follows.
 fn text_at(alloc: Global, place: u32, data: &[u8]) -> Result<Vec<u8>, AllocError> {
     let mut text = match place {
         0 => Vec::from_slice(alloc, A)?,
@@ -104,7 +105,8 @@ fn are_appended(alloc: Global, session: &mut Session) -> Result<bool, AllocError
     Ok(true)
 }
 
-/// Whether other slice data in the unit of an id is answered so many steps, by an edit of this number.
+/// Whether other slice data in the unit of an id is answered so many steps, by an edit of this
+/// number.
 fn is_replaced(
     alloc: Global,
     session: &mut Session,

@@ -1,5 +1,5 @@
-//! What is said of refused edits and of sessions that aren't made: numbers and names as docs/OUTPUT.md has them, and a
-//! text for who reads.
+//! What is said of refused edits and of sessions that aren't made: numbers and names as
+//! docs/OUTPUT.md has them, and a text for who reads.
 
 use super::row_holds;
 use access_unit::Refused;

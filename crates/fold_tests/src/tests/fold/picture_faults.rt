@@ -8,8 +8,8 @@ use unit_outcomes::ValidityFault::{
     OrderTie, SpsChange, TooManyReferences,
 };
 
-/// Each alone and beside the next one that the same picture can show; 15 is shown by no stream, since a valid reference
-/// picture leaves at least itself marked.
+/// Each alone and beside the next one that the same picture can show; 15 is shown by no stream,
+/// since a valid reference picture leaves at least itself marked.
 pub(super) const PICTURE_FAULTS: [Stream; 21] = [
     (&[&[SPS, PPS, Nal::Slice(P)]], NoIdr),
     // Beside 11, since an active set is wanted for 9, and an IDR picture for 10.

@@ -14,7 +14,8 @@ const ONE: Slice = Slice {
     ..P
 };
 
-/// Count type 1: a cycle of 2 and 4, -1 for a picture that is no reference, and 1 for the bottom field.
+/// Count type 1: a cycle of 2 and 4, -1 for a picture that is no reference, and 1 for the bottom
+/// field.
 const COUNTED: [&[Nal]; 6] = [
     &[
         Nal::Sps(0, One(0, 0), 4),

@@ -3,8 +3,8 @@
 use std::alloc::{AllocError, Global};
 use test_builders::BitWriter;
 
-/// pic_order_cnt_type, with what a header has of it: pic_order_cnt_lsb of four bits and delta_pic_order_cnt_bottom; both
-/// values of delta_pic_order_cnt; nothing.
+/// pic_order_cnt_type, with what a header has of it: pic_order_cnt_lsb of four bits and
+/// delta_pic_order_cnt_bottom; both values of delta_pic_order_cnt; nothing.
 #[derive(Clone, Copy, Debug)]
 pub(super) enum Order {
     Zero(u64, i32),
@@ -34,9 +34,9 @@ pub(super) struct Slice {
 /// A NAL unit.
 #[derive(Clone, Copy, Debug)]
 pub(super) enum Nal {
-    /// A sequence parameter set of this id for 16 macroblocks, frame numbers below 16, with this count type and
-    /// max_num_ref_frames. Count type 1 has the offsets 2 and 4, -1 for a picture that is no reference and 1 for the
-    /// bottom field.
+    /// A sequence parameter set of this id for 16 macroblocks, frame numbers below 16, with this
+    /// count type and max_num_ref_frames. Count type 1 has the offsets 2 and 4, -1 for a picture
+    /// that is no reference and 1 for the bottom field.
     Sps(u32, Order, u32),
     /// A picture parameter set of this id for a set of this id.
     Pps(u32, u32),

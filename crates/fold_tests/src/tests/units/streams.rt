@@ -44,7 +44,8 @@ fn reads_streams(rt: HostRuntime) -> Result<(), Fail> {
     Ok(())
 }
 
-/// NAL units that are no stream of access units, with the index and the refusal of the first that is none.
+/// NAL units that are no stream of access units, with the index and the refusal of the first that
+/// is none.
 const REFUSED: [(Nals, usize, Refused); 2] = [
     // Two refused units: the first one's index.
     (

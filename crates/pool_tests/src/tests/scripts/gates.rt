@@ -1,4 +1,5 @@
-//! Workers whose gates hand each job back: all of them end, and then a run that waits for pictures ends too.
+//! Workers whose gates hand each job back: all of them end, and then a run that waits for pictures
+//! ends too.
 
 ghost use Rattle.std.specs.Prelude.{◌≡◌, IfOk, length};
 

@@ -1,4 +1,5 @@
-//! Writers that take some bytes and then no more: what is written is the front that they take, and the run ends.
+//! Writers that take some bytes and then no more: what is written is the front that they take, and
+//! the run ends.
 
 use super::{OPTIONS, OneFile, REPAIRED, Row};
 use console_io::{Sink, Status};
@@ -49,7 +50,8 @@ impl Sink for ShortWriter {
     }
 }
 
-/// Whether a writer of this room gets just that front of the lines of a script, and the run fails by it without a word.
+/// Whether a writer of this room gets just that front of the lines of a script, and the run fails
+/// by it without a word.
 fn writes_front<R: Abort + AllocGlobal + Threads + Wait + Sync>(
     rt: &R,
     row: &Row,

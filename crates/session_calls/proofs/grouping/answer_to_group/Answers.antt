@@ -1,4 +1,5 @@
--- A group is refused for its size whatever the session is, and an accepted one has an id for each edit.
+-- A group is refused for its size whatever the session is, and an accepted one has an id for each
+-- edit.
 use Rattle.std.proofs.Common.{refl}
 use Rattle.std.proofs.lemmas.Result.{err_from_is_err_and}
 use Rattle.session_calls.proofs.Counted.{ids-of-group}

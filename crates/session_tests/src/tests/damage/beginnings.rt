@@ -59,8 +59,8 @@ fn reads(alloc: Global, text: &[u8], answer: Answer) -> bool {
     }
 }
 
-/// The session, whose stream is empty, takes the text as its first unit and says this of it, or refuses it with the
-/// number.
+/// The session, whose stream is empty, takes the text as its first unit and says this of it, or
+/// refuses it with the number.
 fn takes(session: &mut Session, text: &'static [u8], answer: Answer) -> bool {
     let edit = Edit::Insert(Place::First, Bytes::from_static(text));
     match (session.edit(edit), answer) {

@@ -1,5 +1,6 @@
-//! One bit of three units' texts is another: each text is read or refused, and the session says of each unit that is
-//! there what the plain fold says, and has the picture of each valid one once its jobs are done.
+//! One bit of three units' texts is another: each text is read or refused, and the session says of
+//! each unit that is there what the plain fold says, and has the picture of each valid one once its
+//! jobs are done.
 
 use crate::tests::{empty_session, row_holds};
 use access_unit::{Unit, read_unit};
@@ -45,7 +46,8 @@ fn damaged(alloc: Global, place: usize, text: &[u8], flip: Flip) -> Result<Vec<u
     Ok(bytes)
 }
 
-/// Inserts the text after the last unit, and among the units where it is one; says whether it was answered so.
+/// Inserts the text after the last unit, and among the units where it is one; says whether it was
+/// answered so.
 fn inserts(
     alloc: Global,
     session: &mut Session,
@@ -79,7 +81,8 @@ fn lands(alloc: Global, session: &mut Session, job: Job) -> Result<bool, AllocEr
     }
 }
 
-/// Takes the jobs that are due, at most one for each text; each result is taken, and then none is due.
+/// Takes the jobs that are due, at most one for each text; each result is taken, and then none is
+/// due.
 fn settles(alloc: Global, session: &mut Session) -> Result<bool, Fail> {
     for _ in 0..=TEXTS.len() {
         let Some(job) = session.take()? else {
@@ -112,7 +115,8 @@ fn shows_each(session: &Session) -> bool {
     session.ids().len() == session.outcomes().len()
 }
 
-/// An empty session takes the texts, of which one is damaged, as the plain reader and the plain fold say.
+/// An empty session takes the texts, of which one is damaged, as the plain reader and the plain
+/// fold say.
 fn survives(alloc: Global, session: &mut Session, flip: Flip) -> Result<bool, Fail> {
     let mut units = Vec::new(alloc);
     for (place, text) in TEXTS.iter().enumerate() {

@@ -7,3 +7,4 @@ pub mod Lengths
 pub mod Texts
 pub mod StreamParts
 pub mod Trailing
+mod PartsAlone

@@ -1,7 +1,10 @@
 //! Access units of H.264 (ITU-T H.264, 7.4.1.2.3).
 //!
-//! A text is read as one access unit, or as a stream of them, or refused by number. A unit owns its bytes once and
-//! shares them, and its parameter sets are read once. What its slices' headers say is left to the crates above.
+//! A text is read as one access unit, or as a stream of them, or refused by number. A unit owns its
+//! bytes once and shares them, and its parameter sets are read once. `read_units` reads a stream in
+//! threads; `read_alone` answers the same, gives each access unit a copy of its own text, and starts no
+//! thread: for a library whose calls may start none. What the slices' headers say is left to the crates
+//! above.
 #![tactic(auto)]
 
 mod checks;
@@ -12,6 +15,7 @@ mod laws;
 mod parameter_sets;
 mod parts;
 mod placed;
+mod reading;
 mod refused;
 mod room;
 mod shared_nal;
@@ -20,6 +24,7 @@ mod unit;
 
 pub use laws::one_answer;
 pub use parameter_sets::ParameterSet;
+pub use reading::read_alone;
 pub use refused::Refused;
 pub use room::{MOST_UNITS, ReadFault, Refusal, read_units};
 pub use shared_nal::SharedNal;

@@ -7,8 +7,8 @@ ghost use Rattle.access_unit.specs.Stored.{IsShown};
 use crate::refused::Refused;
 use annexb::{Nal, payload};
 use base_types::Shared;
+use param_set_types::{Pps, Sps};
 use param_sets::{SetFault, read_pps, read_sps};
-use set_types::{Pps, Sps};
 use std::alloc::Global;
 
 /// A parameter set of an access unit.

@@ -7,10 +7,10 @@ use Rattle.console_io.specs.Inputs.{Files}
 use Rattle.console_io.specs.Messages.{Tells, input_fault_text}
 use Rattle.console_io.specs.declared.chunks.PrintFault.{PrintFault}
 use Rattle.console_io.specs.declared.input.InputFault.{InputFault}
-use Rattle.cli_args.specs.CommandLine.{draw_edited}
+use Rattle.cli.specs.CommandLine.{draw_edited}
 use Rattle.cli.specs.Programs.{FailsAt, IsDone}
-use Rattle.draw_edits.specs.Drawings.{EndsBy, WritesEdited, edits_fault_text}
-use Rattle.draw_edits.specs.declared.fault.EditsFault.{EditsFault}
+use Rattle.draw_run.specs.EditedDrawings.{EndsBy, WritesEdited, edits_fault_text}
+use Rattle.draw_run.specs.declared.fault.EditsFault.{EditsFault}
 use Rattle.console_io.specs.Inputs.{text_named}
 
 -- what holds of two texts holds of what is known of them

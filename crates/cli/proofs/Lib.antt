@@ -1,2 +1,4 @@
+pub mod CommandFaults
+pub mod Matches
 pub mod Unopened
 mod Edited

@@ -13,8 +13,8 @@ use Rattle.script_run.specs.RunFaults.{fault_of_input}
 use Rattle.script_run.proofs.Told.{stops-unread}
 use Rattle.script_run.specs.Messages.{run_fault_text}
 use Rattle.shared_run.proofs.Told.{ends-unread, stops-unread as seat-stops-unread}
-use Rattle.cli_args.specs.CommandLine.{audit, draw, plan, run}
-use Rattle.plan_json.proofs.Ends.{ends-unread as ends-unread-json}
+use Rattle.cli.specs.CommandLine.{audit, draw, plan, run}
+use Rattle.unit_json.proofs.Ends.{ends-unread as ends-unread-json}
 use Rattle.cli.specs.Programs.{FailsAt, StopsScript, says_json}
 
 -- what holds of each holds of the one that is there

@@ -8,10 +8,10 @@ use Rattle.console_io.specs.Inputs.{Files, text_named}
 use Rattle.console_io.specs.Messages.{Tells, input_fault_text, out_of_memory}
 use Rattle.console_io.specs.declared.chunks.PrintFault.{PrintFault}
 use Rattle.console_io.specs.declared.input.InputFault.{InputFault}
-use Rattle.draw_edits.specs.Drawings.{EndsBy as EndsEdited, WritesEdited, edits_fault_text}
-use Rattle.draw_edits.specs.declared.fault.EditsFault.{EditsFault}
+use Rattle.draw_run.specs.EditedDrawings.{EndsBy as EndsEdited, WritesEdited, edits_fault_text}
+use Rattle.draw_run.specs.declared.fault.EditsFault.{EditsFault}
 use Rattle.draw_run.specs.Drawings.{EndsBy as EndsDrawing, WritesDrawing}
-use Rattle.plan_json.specs.Ends.{FailsJson, WritesJson}
+use Rattle.unit_json.specs.Ends.{FailsJson, WritesJson}
 use Rattle.plan_stream.specs.Faults.{plan_fault_text}
 use Rattle.plan_stream.specs.Plans.{EndsBy, WritesPlan}
 use Rattle.plan_stream.specs.declared.fault.PlanFault.{PlanFault}
@@ -23,7 +23,7 @@ use Rattle.script_run.specs.Running.{WritesScript}
 use Rattle.script_run.specs.Stops.{StopsBy}
 use Rattle.script_run.specs.declared.run_fault.RunFault.{RunFault}
 use Rattle.unit_json.specs.declared.json_line.JsonLine.{JsonLine}
-use Rattle.cli_args.specs.CommandLine.{HasOne, IsRequest, Wanted, audit, draw, draw_edited, faults_of, plan, run, serve, wanted_in}
+use Rattle.cli.specs.CommandLine.{HasOne, IsRequest, Wanted, audit, draw, draw_edited, faults_of, plan, run, serve, wanted_in}
 use Rattle.serve_run.specs.Ends.{end_text}
 use Rattle.serve_run.specs.declared.end.ServeEnd.{ServeEnd}
 

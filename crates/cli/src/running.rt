@@ -6,21 +6,19 @@ ghost use Rattle.std.specs.declared.io.ErrorKind.TheVariants.{OutOfMemory};
 ghost use Rattle.std.specs.Io.KnownBytes.{Appends, Keeps};
 ghost use Rattle.clap.specs.Words.{kind_of};
 ghost use Rattle.console_io.specs.Messages.{Tells, not_text};
-ghost use Rattle.cli_args.specs.CommandLine.{AreMistaken, IsMistake, IsRequest, audit, draw, draw_edited, plan, run as run_of};
+ghost use Rattle.cli.specs.CommandLine.{AreMistaken, IsMistake, IsRequest, audit, draw, draw_edited, plan, run as run_of};
 ghost use Rattle.cli.specs.Programs.{FailsAt, Fails, IsDone, Succeeds, WantsMemory, WritesPart};
 
 use crate::named_texts::named_texts;
 use crate::serving::serve_on;
+use crate::{Asked, Workers, parse};
 use clap::Error;
 use clap::error::ErrorKind;
-use cli_args::{Asked, Workers, parse};
 use console_io::{
     Directory, Ended, Files, Sink, Status, open_input, say_input_fault, say_not_text,
     say_out_of_memory, write_bytes,
 };
-use draw_edits::{EditedChoice, draw_edited};
-use draw_run::{Choice, draw_on};
-use plan_json::plan_json_on;
+use draw_run::{Choice, EditedChoice, draw_edited, draw_on};
 use plan_stream::plan_on;
 use script_run::{Options, script_on};
 use shared_run::{audit_with_workers, script_with_workers};
@@ -30,7 +28,7 @@ use std::io;
 use std::io::Read;
 use std::sync::Wait;
 use std::thread::Threads;
-use unit_json::Json;
+use unit_json::{Json, plan_json_on};
 
 /// Does what the process's words ask for, with these threads. Words that can't be read are a wrong
 /// command line.

@@ -1,10 +1,10 @@
 //! A server on the standard input.
 
 ghost use Rattle.std.specs.Prelude.{◌≡◌, ◌≢◌, option_map};
-ghost use Rattle.cli_args.specs.CommandLine.{serve};
+ghost use Rattle.cli.specs.CommandLine.{serve};
 ghost use Rattle.cli.specs.Programs.{FailsAt, IsDone};
 
-use cli_args::{Serving, Workers};
+use crate::{Serving, Workers};
 use console_io::{Directory, Ended, Files, Sink, Status};
 use serve_run::{ServeEnd, say_end, serve_alone, serve_with_workers};
 use std::alloc::Global;

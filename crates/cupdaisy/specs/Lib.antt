@@ -1,2 +1,3 @@
+pub mod Ownership
 pub mod Calls
 pub mod Opening

@@ -3,8 +3,8 @@
 ghost use Rattle.session_calls.specs.Dropping.{ClearsTo, DropsTo};
 ghost use Rattle.cupdaisy.specs.Calls.{Changes};
 
+use crate::Handle;
 use session_calls::NO_SESSION;
-use session_handle::Handle;
 use std::alloc::Global;
 
 /// Drops the picture of the unit of the id.

@@ -7,12 +7,12 @@ ghost use Rattle.session_calls.specs.Grouping.{GroupsTo};
 ghost use Rattle.session_calls.specs.Loading.{LoadsTo};
 ghost use Rattle.cupdaisy.specs.Calls.{Does, DoesTwo};
 
+use crate::Handle;
 use edit_engine::Place;
 use pictures::AuId;
 use session_calls::{
     EditAsked, EditReceipt, GroupTold, LoadTold, NO_SESSION, delete, insert, insert_last, replace,
 };
-use session_handle::Handle;
 use std::alloc::Global;
 
 /// Inserts a unit before all others.

@@ -6,8 +6,8 @@ ghost use Rattle.session_calls.specs.Telling.{Tells};
 ghost use Rattle.edit_engine.specs.Taken.{input_of};
 ghost use Rattle.cupdaisy.specs.Calls.{Asks, Changes, Does};
 
+use crate::Handle;
 use session_calls::{JobInput, JobReference, JobTaken, NO_SESSION};
-use session_handle::Handle;
 use std::alloc::Global;
 
 /// Takes a job.

@@ -7,8 +7,8 @@ ghost use Rattle.session_calls.specs.Statuses.{done};
 ghost use Rattle.session_calls.specs.Telling.{Tells};
 ghost use Rattle.cupdaisy.specs.Calls.{Asks, AsksTwo};
 
+use crate::Handle;
 use session_calls::{JournalEdit, NO_SESSION};
-use session_handle::Handle;
 use std::alloc::Global;
 
 /// How many entries the journal has.

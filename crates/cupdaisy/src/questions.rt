@@ -9,8 +9,8 @@ ghost use Rattle.session_calls.specs.Statuses.{done};
 ghost use Rattle.session_calls.specs.Telling.{Tells};
 ghost use Rattle.cupdaisy.specs.Calls.{Asks};
 
+use crate::Handle;
 use session_calls::{NO_SESSION, UnitOutcome};
-use session_handle::Handle;
 use std::alloc::Global;
 
 /// How many units the stream has.

@@ -4,9 +4,9 @@ ghost use Rattle.session_calls.specs.Requests.{FillsFrom, request_layout, reques
 ghost use Rattle.session_calls.specs.Telling.{Tells};
 ghost use Rattle.cupdaisy.specs.Calls.{Asks, AsksTwo};
 
+use crate::Handle;
 use linux_layouts::PredWeights;
 use session_calls::{NO_SESSION, SliceRequest};
-use session_handle::Handle;
 use std::alloc::Global;
 
 /// The request of a slice of the unit of the id, as the stream is now.

@@ -5,9 +5,9 @@ ghost use Rattle.edit_engine.specs.Machines.{empty};
 ghost use Rattle.session_calls.specs.Statuses.{cache_range, memory};
 ghost use Rattle.cupdaisy.specs.Opening.{Closes, IsRoom, Opens};
 
+use crate::Handle;
 use edit_engine::{Config, ConfigFault, Runner};
 use session_calls::{CACHE_RANGE, DONE, IS_OPEN, MEMORY, NO_SESSION};
-use session_handle::Handle;
 use std::alloc::Global;
 
 /// Opens a session with an empty stream, whose cache has room for so many pictures.

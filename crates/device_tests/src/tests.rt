@@ -1,4 +1,5 @@
 mod decoding;
+mod key;
 mod queues;
 
 use std::process::Abort;

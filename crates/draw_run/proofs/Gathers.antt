@@ -11,9 +11,9 @@ use Rattle.access_unit.specs.declared.refused.Refused.{Refused}
 use Rattle.access_unit.specs.declared.refused.Refused.TheVariants as refusals
 use Rattle.access_unit.specs.declared.room.Refusal.{Refusal}
 use Rattle.access_unit.specs.declared.room.Refusal.TheVariants.{Split, Unit, StreamFull}
-use Rattle.stream_window.specs.Fronts.{IsFront}
-use Rattle.stream_window.specs.Readings.{IsFrontRefused}
-use Rattle.stream_window.proofs.Texts.{no_units_in_front, read_all, read_more, read_none, read_nothing}
+use Rattle.plan_stream.specs.Fronts.{IsFront}
+use Rattle.plan_stream.specs.Readings.{IsFrontRefused}
+use Rattle.plan_stream.proofs.Texts.{no_units_in_front, read_all, read_more, read_none, read_nothing}
 use Rattle.draw_run.specs.declared.folded.Folded.{Folded}
 use Rattle.draw_run.specs.Folds.{IsFoldOf, IsFoldOfStream}
 use Rattle.draw_run.specs.Gathering.{AreTaken, ComesTo}

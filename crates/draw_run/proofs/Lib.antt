@@ -3,3 +3,8 @@ pub mod DrawnTitles
 pub mod FoldSteps
 pub mod Gathers
 pub mod Windows
+mod Ends
+mod Inserted
+mod Landed
+mod Opened
+mod Rows

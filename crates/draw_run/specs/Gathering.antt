@@ -5,7 +5,7 @@ use Rattle.access_unit.specs.Rooms.{most_units}
 use Rattle.access_unit.specs.Streams.{AreAccepted, IsFirstRefused}
 use Rattle.access_unit.specs.declared.room.Refusal.{Refusal}
 use Rattle.access_unit.specs.declared.room.Refusal.TheVariants.{Split, Unit, StreamFull}
-use Rattle.stream_window.specs.Readings.{IsReadTo}
+use Rattle.plan_stream.specs.Readings.{IsReadTo}
 use Rattle.draw_run.specs.declared.folded.Folded.{Folded}
 use Rattle.draw_run.specs.declared.gathered.Gathered.{Gathered}
 use Rattle.draw_run.specs.Folds.{IsFoldOf}

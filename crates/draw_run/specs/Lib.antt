@@ -3,3 +3,9 @@ pub mod Folds
 pub mod Gathering
 pub mod RefusalWith
 pub mod Drawings
+pub mod Choosing
+pub mod Marks
+pub mod Making
+pub mod Loading
+pub mod Columns
+pub mod EditedDrawings

@@ -17,8 +17,7 @@ use console_io::{Ended, Sink, Status, write_bytes};
 use plan_stream::{PlanFault, print_refusal, say_plan_fault};
 use std::alloc::{AllocError, Global};
 use std::io::Read;
-use stream_layout::lay_out;
-use stream_svg::document;
+use stream_svg::{document, lay_out};
 
 /// Draws the chosen units of the stream that the reader gives, or prints the stream's refusal.
 /// Where the reader fails or memory runs out, `errors` is told; the reader has this name there.

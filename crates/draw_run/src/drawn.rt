@@ -7,11 +7,10 @@ ghost use Rattle.draw_run.specs.Chosen.{kept_lines, position_in};
 
 use crate::folded::KeptUnit;
 use h264_controls::Request;
-use header_types::SliceType;
 use pictures::AuId;
+use slice_header_types::SliceType;
 use std::alloc::{AllocError, Global};
-use stream_layout::{DrawnUnit, EditMark, Kind, Picture, RefList, Reference, SliceTypes};
-use stream_svg::Caption;
+use stream_svg::{Caption, DrawnUnit, EditMark, Kind, Picture, RefList, Reference, SliceTypes};
 use unit_lines::UnitLines;
 use unit_outcomes::{Outcome, Plan};
 

@@ -4,8 +4,8 @@ ghost use Rattle.std.specs.Prelude.{◌≡◌, ◌≢◌, ◌<◌, ◌≤◌, �
 ghost use Rattle.annexb.specs.ByteStream.{HasUnits, joined};
 ghost use Rattle.access_unit.specs.Answers.{IsAccepted};
 ghost use Rattle.access_unit.specs.Rooms.{IsStream, IsStreamRefused, most_units};
-ghost use Rattle.stream_window.specs.Fronts.{IsFront};
-ghost use Rattle.stream_window.specs.Readings.{IsFrontRefused};
+ghost use Rattle.plan_stream.specs.Fronts.{IsFront};
+ghost use Rattle.plan_stream.specs.Readings.{IsFrontRefused};
 ghost use Rattle.draw_run.specs.Folds.{IsFoldOf, IsFoldOfStream};
 ghost use Rattle.draw_run.specs.Gathering.{ComesTo, IsGathered};
 ghost use Rattle.draw_run.specs.RefusalWith.{refusal_with};
@@ -14,9 +14,9 @@ use crate::choice::Choice;
 use crate::folded::Folded;
 use access_unit::{MOST_UNITS, Refusal, Refused, Unit};
 use console_io::InputFault;
+use plan_stream::{Window, read_front};
 use std::alloc::{AllocError, Global};
 use std::io::Read;
-use stream_window::{Window, read_front};
 
 /// What a stream comes to so far.
 #[derive(Drop)]

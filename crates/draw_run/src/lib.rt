@@ -1,18 +1,33 @@
-//! `preview draw`: a stream read, planned and drawn.
+//! `preview draw`: a stream read, planned and drawn, as it is or after the edits of a script.
 //!
-//! `draw_on` reads a byte stream to its end as plan_stream does, folds each access unit once, and
-//! keeps what is drawn alone; then it writes the document, or the line of the stream's refusal.
-//! What it reads and writes is generic. Below are stream_layout and stream_svg, stream_window and
-//! request_core; above are draw_edits, which draws a stream after edits, and cli.
+//! `draw_on` reads a byte stream to its end as plan_stream does, folds each access unit once, and keeps
+//! what is drawn alone; then it writes the document, or the line of the stream's refusal. `draw_edited`
+//! makes a session of the stream with all its pictures held, makes the script's edits on it, and writes
+//! the document of the stream that they leave: the mark of each unit says whether its outcome or its
+//! key differs from before, and whether its picture is held or pending. What is read and written is
+//! generic. Below are stream_svg, plan_stream and edit_engine; above is cli.
 #![tactic(auto)]
 
 mod choice;
+mod comparison;
+mod document;
 mod draw;
+mod draw_edited;
 mod drawn;
+mod edited_choice;
+mod edits;
+mod fault;
 mod folded;
 mod gathered;
+mod loading;
+mod same_outcome;
+mod settling;
+mod shown;
+mod snapshot;
 
 pub use choice::Choice;
 pub use draw::draw_on;
+pub use draw_edited::draw_edited;
 pub use drawn::drawn_unit;
-pub use stream_layout::MOST_UNITS as MOST_DRAWN;
+pub use edited_choice::EditedChoice;
+pub use stream_svg::MOST_UNITS as MOST_DRAWN;

@@ -5,7 +5,7 @@ use Rattle.std.proofs.lemmas.List.Elements.{All-nil}
 use Rattle.unit_outcomes.specs.declared.outcome.Outcome.{Outcome}
 use Rattle.request_core.specs.Fold.{outcomes_of}
 use Rattle.picture_keys.specs.Decodable.{AllCanDecode}
-use Rattle.stream_theorems.proofs.Decodable.{IsNotRefused, AllCanDecode-outcomes_of}
+use Rattle.stream_fold.proofs.Decodable.{IsNotRefused, AllCanDecode-outcomes_of}
 use Rattle.stream_edits.specs.declared.edits.Edit.{Edit}
 use Rattle.stream_edits.specs.Streams.{ids_of}
 use Rattle.stream_edits.specs.Edits.{Register, no_units, Replays}

@@ -5,8 +5,8 @@ use Rattle.request_core.specs.States.{FoldState, marked_ids}
 use Rattle.request_core.specs.Fold.{outcomes_of}
 use Rattle.picture_keys.specs.Decodable.{AllCanDecode}
 use Rattle.picture_keys.specs.Depending.{DependOn}
-use Rattle.stream_theorems.specs.Agreement.{becoming}
-use Rattle.stream_theorems.proofs.LaterUnits.{depend_on_marked}
+use Rattle.stream_fold.specs.Agreement.{becoming}
+use Rattle.stream_fold.proofs.LaterUnits.{depend_on_marked}
 use Rattle.picture_store.specs.Needs.{TellNeeds}
 use Rattle.picture_store.specs.Stores.{StoreValue}
 use Rattle.picture_store.specs.Changes.{Refits}

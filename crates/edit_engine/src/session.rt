@@ -21,7 +21,7 @@ use crate::preparing::prepare;
 use crate::showing::Dropping;
 use base_types::Shared;
 use dep_keys::KeyId;
-use hashed_units::HashedOutcome;
+use picture_keys::HashedOutcome;
 use picture_store::{JobAt, Landing, MOST_ROOM, PictureStore, Returning, TakeRefused};
 use pictures::AuId;
 use stand_in_device::{Finished, Job};

@@ -8,7 +8,7 @@ ghost use Rattle.stream_fold.specs.Prepared.{IsAnew, change_in};
 ghost use Rattle.edit_engine.specs.Stretches.{IsStretchOf, ids_anew};
 
 use base_types::Shared;
-use hashed_units::HashedUnit;
+use picture_keys::HashedUnit;
 use picture_store::Stretch;
 use pictures::AuId;
 use std::alloc::{AllocError, Global};

@@ -3,4 +3,11 @@ pub mod Windows
 pub mod ExpGolomb
 pub mod Signed
 pub mod MoreData
-pub mod Fixed
+pub mod FixedCodes
+pub mod Tables
+pub mod FieldLaws
+pub mod Loops
+pub mod Parts
+pub mod Extensions
+pub mod Lengths
+pub mod Structures

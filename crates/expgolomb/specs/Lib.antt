@@ -3,3 +3,10 @@ pub mod Codes
 pub mod Reading
 pub mod Window
 pub mod FaultNumbers
+pub mod Grammar
+pub mod Ranges
+pub mod TableReading
+pub mod Rows
+pub mod Structures
+pub mod Answer
+pub mod Payloads

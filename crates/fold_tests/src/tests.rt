@@ -1,5 +1,6 @@
 mod fold;
 mod keys;
+mod refold;
 mod shown_order;
 mod texts;
 mod units;

@@ -2,7 +2,7 @@
 use Rattle.std.proofs.Common.{◌≡◌, ℕ, ◌*◌, List, [], ◌∷◌, length, refl, arith, length-append, Option, None, Some}
 use Rattle.std.specs.List.{flat_map}
 use Rattle.h264_controls.specs.declared.v4l2_ctrl_h264_decode_params.V4l2H264DpbEntry.{V4l2H264DpbEntry}
-use Rattle.set_controls.specs.Words.{u16, u32, s32}
+use Rattle.param_set_controls.specs.Words.{u16, u32, s32}
 use Rattle.h264_controls.specs.SliceParamsForm.{reference_form}
 use Rattle.h264_controls.specs.DecodeParamsForm.{dpb_entry_form}
 

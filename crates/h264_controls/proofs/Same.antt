@@ -3,7 +3,7 @@ use Rattle.std.proofs.Common.{eqb, ◌≡◌, ◌&&◌, refl, ap, Bool, true, fa
 use Rattle.std.specs.Option.{option_eq}
 use Rattle.std.specs.Ordering.{int_eq}
 use lib.Pointwise.{pointwise}
-use Rattle.set_controls.proofs.Same.{flag_same, offsets_same}
+use Rattle.param_set_controls.proofs.Same.{flag_same, offsets_same}
 use Rattle.std.proofs.lemmas.Bool.Decides.{Decides-and, Decides-eqb, Decides-int_eq, Decides-like}
 use Rattle.std.proofs.lemmas.Slice.Eq.{slice_eq-Decides}
 use Rattle.h264_controls.specs.declared.v4l2_ctrl_h264_decode_params.V4l2H264DpbEntry.{V4l2H264DpbEntry}

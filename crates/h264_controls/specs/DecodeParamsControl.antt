@@ -2,10 +2,10 @@
 -- 8.2.4.1).
 use Rattle.std.specs.Prelude.{ℕ, Bool, true, false, List, [], map, ℤ, pos, if◌then◌else◌}
 use Rattle.std.specs.Int.{w32, cast_unsigned}
-use Rattle.set_types.specs.declared.sps.Sps.{Sps}
-use Rattle.header_types.specs.declared.slice_headers.SliceHeader.{SliceHeader}
+use Rattle.param_set_types.specs.declared.sps.Sps.{Sps}
+use Rattle.slice_header_types.specs.declared.slice_headers.SliceHeader.{SliceHeader}
 use Rattle.pictures.specs.declared.counts.Counts.{Counts}
-use Rattle.header_types.specs.Pictures.{is_idr}
+use Rattle.slice_header_types.specs.Pictures.{is_idr}
 use Rattle.pictures.specs.declared.frames.Frame.{Frame}
 use Rattle.pictures.specs.declared.frames.Term.{Term}
 use Rattle.pictures.specs.declared.frames.Term.TheVariants.{ShortTerm, LongTerm}

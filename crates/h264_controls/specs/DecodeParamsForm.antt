@@ -7,7 +7,7 @@ use Rattle.h264_controls.specs.declared.v4l2_ctrl_h264_decode_params.V4l2H264Fie
 use Rattle.h264_controls.specs.declared.v4l2_ctrl_h264_decode_params.V4l2H264FieldReference.TheVariants.{TopField, BottomField, Frame}
 use Rattle.h264_controls.specs.declared.v4l2_ctrl_h264_decode_params.DpbEntryFlags.{DpbEntryFlags}
 use Rattle.h264_controls.specs.declared.v4l2_ctrl_h264_decode_params.DecodeFlags.{DecodeFlags}
-use Rattle.set_controls.specs.Words.{u8, u16, u32, s32, flag, padded}
+use Rattle.param_set_controls.specs.Words.{u8, u16, u32, s32, flag, padded}
 
 -- enum v4l2_h264_field_reference
 abbrev pub field_reference_number : V4l2H264FieldReference → ℕ

@@ -2,10 +2,10 @@
 use Rattle.std.specs.Prelude.{ℕ, List, ◌++◌, Option, None, Some, is_some, if◌then◌else◌}
 use Rattle.h264_controls.specs.declared.controls.Controls.{Controls}
 use Rattle.h264_controls.specs.declared.v4l2_ctrl_h264_pred_weights.V4l2CtrlH264PredWeights.{V4l2CtrlH264PredWeights}
-use Rattle.set_controls.specs.Words.{u8}
-use Rattle.set_controls.specs.SpsForm.{sps_form}
-use Rattle.set_controls.specs.PpsForm.{pps_form}
-use Rattle.set_controls.specs.ScalingMatrixForm.{scaling_matrix_form}
+use Rattle.param_set_controls.specs.Words.{u8}
+use Rattle.param_set_controls.specs.SpsForm.{sps_form}
+use Rattle.param_set_controls.specs.PpsForm.{pps_form}
+use Rattle.param_set_controls.specs.ScalingMatrixForm.{scaling_matrix_form}
 use Rattle.h264_controls.specs.PredWeightsForm.{pred_weights_form}
 use Rattle.h264_controls.specs.SliceParamsForm.{slice_params_form}
 use Rattle.h264_controls.specs.DecodeParamsForm.{decode_params_form}

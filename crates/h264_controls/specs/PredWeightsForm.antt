@@ -3,7 +3,7 @@ use Rattle.std.specs.Prelude.{ℕ, ℤ, List, ◌++◌}
 use Rattle.std.specs.List.{flat_map}
 use Rattle.h264_controls.specs.declared.v4l2_ctrl_h264_pred_weights.V4l2CtrlH264PredWeights.{V4l2CtrlH264PredWeights}
 use Rattle.h264_controls.specs.declared.v4l2_ctrl_h264_pred_weights.V4l2H264WeightFactors.{V4l2H264WeightFactors}
-use Rattle.set_controls.specs.Words.{u16, s16}
+use Rattle.param_set_controls.specs.Words.{u16, s16}
 
 -- what Cb and Cr have for each entry
 abbrev pub pairs_form : List (List ℤ) → List ℕ

@@ -1,7 +1,7 @@
 -- The units that a picture may refer to, and their timestamps (struct v4l2_h264_dpb_entry, reference_ts).
 use Rattle.std.specs.Prelude.{ℕ, ◌*◌, List, [], map, if◌then◌else◌}
-use Rattle.header_types.specs.declared.slice_headers.SliceHeader.{SliceHeader}
-use Rattle.header_types.specs.Pictures.{is_idr}
+use Rattle.slice_header_types.specs.declared.slice_headers.SliceHeader.{SliceHeader}
+use Rattle.slice_header_types.specs.Pictures.{is_idr}
 use Rattle.pictures.specs.declared.frames.Frame.{Frame}
 
 -- the timestamp of a unit, in nanoseconds

@@ -6,7 +6,7 @@ use crate::v4l2_ctrl_h264_decode_params::V4l2CtrlH264DecodeParams;
 use crate::v4l2_ctrl_h264_pred_weights::V4l2CtrlH264PredWeights;
 use crate::v4l2_ctrl_h264_slice_params::V4l2CtrlH264SliceParams;
 use base_types::Shared;
-use set_controls::SetControls;
+use param_set_controls::SetControls;
 use std::alloc::AllocError;
 
 /// The six controls of a slice. All but slice_params is shared.

@@ -8,9 +8,9 @@ use crate::dpb::Dpb;
 use crate::v4l2_ctrl_h264_decode_params::{
     DecodeFlags, DpbEntryFlags, V4l2CtrlH264DecodeParams, V4l2H264DpbEntry, V4l2H264FieldReference,
 };
-use header_types::SliceHeader;
+use param_set_types::Sps;
 use pictures::{Counts, Frame, Marks, Term, frame_num_wrap};
-use set_types::Sps;
+use slice_header_types::SliceHeader;
 use std::alloc::{AllocError, Global};
 
 impl V4l2CtrlH264DecodeParams {

@@ -5,8 +5,8 @@ ghost use Rattle.std.specs.Vec.{vec_capacity};
 ghost use Rattle.h264_controls.specs.DigestForm.{digest_form, digest_size, slice_form, slice_size, weights_form, weights_size};
 
 use crate::controls::Controls;
-use set_controls::put_sets;
-use set_controls::words::put;
+use param_set_controls::put_sets;
+use param_set_controls::words::put;
 use std::alloc::AllocError;
 
 /// Appends the digest form of the controls: 2,040 bytes, or 2,812 where there are weights. Room is reserved once.
@@ -54,7 +54,7 @@ fn slice_size(controls: &Controls) -> usize
 }
 
 // The controls in order, into a form that has room for them.
-#[tactic(auto, unfolding(crate::specs::DigestForm::digest_form, set_controls::specs::SetsForm::sets_form, crate::specs::DigestForm::slice_form))]
+#[tactic(auto, unfolding(crate::specs::DigestForm::digest_form, param_set_controls::specs::SetsForm::sets_form, crate::specs::DigestForm::slice_form))]
 fn put_controls(controls: &Controls, form: &mut Vec<u8>)
     requires { vec_len form.old + digest_size controls.now ≤ vec_capacity form.old }
     ensures items { form.new.items ≡ form.old.items ++ digest_form controls.now }

@@ -2,7 +2,7 @@
 
 ghost use Rattle.std.specs.Prelude.{◌≡◌, ◌++◌};
 ghost use Rattle.h264_controls.specs.declared.controls.Controls.{Controls};
-ghost use Rattle.set_controls.specs.SetsForm.{sets_form};
+ghost use Rattle.param_set_controls.specs.SetsForm.{sets_form};
 ghost use Rattle.h264_controls.specs.DigestForm.{digest_form, slice_form};
 
 /// The digest form is that of what the parameter sets decide, and the rest after it.

@@ -26,13 +26,13 @@ pub use controls::Controls;
 pub use digest::{digest_form, slice_form};
 pub use dpb::Dpb;
 pub use laws::digest_in_two_parts;
-pub use ref_pic_list::RefPicList;
-pub use references::References;
-pub use request::Request;
-pub use set_controls::{
+pub use param_set_controls::{
     PpsFlags, SetControls, SpsFlags, V4l2CtrlH264Pps, V4l2CtrlH264ScalingMatrix, V4l2CtrlH264Sps,
     sets_form,
 };
+pub use ref_pic_list::RefPicList;
+pub use references::References;
+pub use request::Request;
 pub use v4l2_ctrl_h264_decode_params::{
     DecodeFlags, DpbEntryFlags, V4l2CtrlH264DecodeParams, V4l2H264DpbEntry, V4l2H264FieldReference,
 };

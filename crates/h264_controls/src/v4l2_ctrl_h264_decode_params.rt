@@ -6,7 +6,7 @@ ghost use Rattle.std.specs.List.{flat_map};
 ghost use Rattle.h264_controls.specs.DecodeParamsForm.{decode_flags, decode_params_form, dpb_entry_flags, dpb_entry_form, dpb_form, field_reference_number};
 
 use crate::dpb::Dpb;
-use set_controls::words::{flag, put, put_s32, put_u16, put_u32, put_zeros};
+use param_set_controls::words::{flag, put, put_s32, put_u16, put_u32, put_zeros};
 
 /// struct v4l2_ctrl_h264_decode_params: what the header says of the picture, and the decoded picture buffer.
 #[derive(Debug)]

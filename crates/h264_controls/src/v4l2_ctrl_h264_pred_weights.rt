@@ -5,7 +5,7 @@ ghost use Rattle.std.specs.Vec.{vec_capacity};
 ghost use Rattle.std.specs.List.{flat_map};
 ghost use Rattle.h264_controls.specs.PredWeightsForm.{pairs_form, weight_factors_form, pred_weights_form};
 
-use set_controls::words::{put_s16s, put_u16};
+use param_set_controls::words::{put_s16s, put_u16};
 
 /// struct v4l2_ctrl_h264_pred_weights: the weight table of the slice.
 #[derive(Debug, Drop)]

@@ -1,6 +1,6 @@
 -- struct v4l2_ctrl_h264_pps (linux/v4l2-controls.h).
-use Rattle.set_controls.specs.declared.v4l2_ctrl_h264_pps.V4l2CtrlH264Pps.{V4l2CtrlH264Pps}
-use Rattle.set_controls.specs.PpsForm.{pps_flags, weighted_bipred_number}
+use Rattle.param_set_controls.specs.declared.v4l2_ctrl_h264_pps.V4l2CtrlH264Pps.{V4l2CtrlH264Pps}
+use Rattle.param_set_controls.specs.PpsForm.{pps_flags, weighted_bipred_number}
 use Rattle.linux_layouts.specs.declared.pps.Pps.{Pps}
 
 -- each member is that of its name, as a number

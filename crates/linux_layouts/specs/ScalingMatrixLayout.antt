@@ -1,5 +1,5 @@
 -- struct v4l2_ctrl_h264_scaling_matrix (linux/v4l2-controls.h).
-use Rattle.set_controls.specs.declared.v4l2_ctrl_h264_scaling_matrix.V4l2CtrlH264ScalingMatrix.{V4l2CtrlH264ScalingMatrix}
+use Rattle.param_set_controls.specs.declared.v4l2_ctrl_h264_scaling_matrix.V4l2CtrlH264ScalingMatrix.{V4l2CtrlH264ScalingMatrix}
 use Rattle.linux_layouts.specs.declared.scaling_matrix.ScalingMatrix.{ScalingMatrix}
 
 -- each member is that of its name

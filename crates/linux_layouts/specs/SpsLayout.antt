@@ -1,6 +1,6 @@
 -- struct v4l2_ctrl_h264_sps (linux/v4l2-controls.h).
-use Rattle.set_controls.specs.declared.v4l2_ctrl_h264_sps.V4l2CtrlH264Sps.{V4l2CtrlH264Sps}
-use Rattle.set_controls.specs.SpsForm.{chroma_format_number, constraint_set_number, pic_order_cnt_type_number, sps_flags}
+use Rattle.param_set_controls.specs.declared.v4l2_ctrl_h264_sps.V4l2CtrlH264Sps.{V4l2CtrlH264Sps}
+use Rattle.param_set_controls.specs.SpsForm.{chroma_format_number, constraint_set_number, pic_order_cnt_type_number, sps_flags}
 use Rattle.linux_layouts.specs.declared.sps.Sps.{Sps}
 
 -- each member is that of its name, as a number

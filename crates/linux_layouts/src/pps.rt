@@ -1,13 +1,13 @@
 //! struct v4l2_ctrl_h264_pps.
 
 ghost use Rattle.std.specs.Prelude.{◌≡◌};
-ghost use Rattle.set_controls.specs.PpsForm.{weighted_bipred_number};
+ghost use Rattle.param_set_controls.specs.PpsForm.{weighted_bipred_number};
 ghost use Rattle.linux_layouts.specs.PpsLayout.{pps_layout};
 
 use crate::flag_names::FlagNames;
 use h264_controls::V4l2CtrlH264Pps;
+use param_set_types::WeightedBipred;
 use serde::{Serialize, Serializer};
-use set_types::WeightedBipred;
 use std::mem::size_of;
 
 /// struct v4l2_ctrl_h264_pps, of V4L2_CID_STATELESS_H264_PPS: 12 bytes.

@@ -6,8 +6,8 @@ ghost use Rattle.linux_layouts.specs.SliceParamsLayout.{reference_at, ref_pic_li
 
 use crate::flag_names::FlagNames;
 use h264_controls::V4l2CtrlH264SliceParams;
-use header_types::SliceType;
 use serde::{Serialize, Serializer};
+use slice_header_types::SliceType;
 use std::mem::size_of;
 
 /// struct v4l2_ctrl_h264_slice_params, of V4L2_CID_STATELESS_H264_SLICE_PARAMS: 152 bytes.

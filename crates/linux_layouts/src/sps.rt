@@ -1,14 +1,14 @@
 //! struct v4l2_ctrl_h264_sps.
 
 ghost use Rattle.std.specs.Prelude.{◌≡◌};
-ghost use Rattle.set_controls.specs.SpsForm.{chroma_format_number, constraint_set_number, pic_order_cnt_type_number};
+ghost use Rattle.param_set_controls.specs.SpsForm.{chroma_format_number, constraint_set_number, pic_order_cnt_type_number};
 ghost use Rattle.linux_layouts.specs.SpsLayout.{sps_layout};
 
 use crate::flag_names::FlagNames;
 use h264_controls::V4l2CtrlH264Sps;
+use param_set_controls::words::flag;
+use param_set_types::{ChromaFormat, PicOrderCntType};
 use serde::{Serialize, Serializer};
-use set_controls::words::flag;
-use set_types::{ChromaFormat, PicOrderCntType};
 use std::mem::size_of;
 
 /// struct v4l2_ctrl_h264_sps, of V4L2_CID_STATELESS_H264_SPS: 1,048 bytes.

@@ -1,10 +1,10 @@
 -- What the definition's answer says.
 use Rattle.std.proofs.Common.{◌≡◌, ◌^◌, ◌<◌, Bool, true, false, ◌&&◌, if◌then◌else◌, ◌≤◌, ℤ, pos, negsuc, ◌+ℤ◌, unsigned_abs, Result, Ok, Err, ◌⊎◌, inl, inr, refl, subst, ap, sym, arith}
 use Rattle.std.proofs.lemmas.Int.{ints}
-use Rattle.set_types.specs.declared.sps.Sps.{Sps}
-use Rattle.set_types.specs.declared.sps.PicOrderCntType.{PicOrderCntType}
-use Rattle.set_types.specs.declared.sps.PicOrderCntType.TheVariants.{Zero, One, Two}
-use Rattle.header_types.specs.declared.slice_headers.SliceHeader.{SliceHeader}
+use Rattle.param_set_types.specs.declared.sps.Sps.{Sps}
+use Rattle.param_set_types.specs.declared.sps.PicOrderCntType.{PicOrderCntType}
+use Rattle.param_set_types.specs.declared.sps.PicOrderCntType.TheVariants.{Zero, One, Two}
+use Rattle.slice_header_types.specs.declared.slice_headers.SliceHeader.{SliceHeader}
 use Rattle.order_count.specs.declared.anchors.Anchor.{Anchor}
 use Rattle.pictures.specs.declared.counts.Counts.{Counts}
 use Rattle.order_count.specs.declared.fault.OrderRange.{OrderRange}

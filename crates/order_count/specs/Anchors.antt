@@ -1,12 +1,12 @@
 -- What counting keeps of the pictures before (ITU-T H.264, 8.2.1.1 and 8.2.1.2). What the type doesn't read is 0.
 use Rattle.std.specs.Prelude.{pos, if◌then◌else◌}
-use Rattle.set_types.specs.declared.sps.Sps.{Sps}
-use Rattle.set_types.specs.declared.sps.PicOrderCntType.{PicOrderCntType}
-use Rattle.set_types.specs.declared.sps.PicOrderCntType.TheVariants.{Zero, One, Two}
-use Rattle.header_types.specs.declared.slice_headers.SliceHeader.{SliceHeader}
+use Rattle.param_set_types.specs.declared.sps.Sps.{Sps}
+use Rattle.param_set_types.specs.declared.sps.PicOrderCntType.{PicOrderCntType}
+use Rattle.param_set_types.specs.declared.sps.PicOrderCntType.TheVariants.{Zero, One, Two}
+use Rattle.slice_header_types.specs.declared.slice_headers.SliceHeader.{SliceHeader}
 use Rattle.order_count.specs.declared.anchors.Anchor.{Anchor}
 use Rattle.pictures.specs.declared.counts.Counts.{Counts}
-use Rattle.header_types.specs.Pictures.{is_reference}
+use Rattle.slice_header_types.specs.Pictures.{is_reference}
 use Rattle.order_count.specs.FrameNumbers.{frame_num_offset}
 use Rattle.order_count.specs.TypeZero.{pic_order_cnt_msb}
 use Rattle.pictures.specs.Resetting.{has_operation_five, counts_after_reset}

@@ -1,9 +1,9 @@
 -- The counts of a picture by its type of counting, where they have 32 bits (ITU-T H.264, 8.2.1).
 use Rattle.std.specs.Prelude.{◌^◌, Bool, true, ◌&&◌, nat_lt, Result, Ok, Err, if◌then◌else◌}
-use Rattle.set_types.specs.declared.sps.Sps.{Sps}
-use Rattle.set_types.specs.declared.sps.PicOrderCntType.{PicOrderCntType}
-use Rattle.set_types.specs.declared.sps.PicOrderCntType.TheVariants.{Zero, One, Two}
-use Rattle.header_types.specs.declared.slice_headers.SliceHeader.{SliceHeader}
+use Rattle.param_set_types.specs.declared.sps.Sps.{Sps}
+use Rattle.param_set_types.specs.declared.sps.PicOrderCntType.{PicOrderCntType}
+use Rattle.param_set_types.specs.declared.sps.PicOrderCntType.TheVariants.{Zero, One, Two}
+use Rattle.slice_header_types.specs.declared.slice_headers.SliceHeader.{SliceHeader}
 use Rattle.order_count.specs.declared.anchors.Anchor.{Anchor}
 use Rattle.pictures.specs.declared.counts.Counts.{Counts}
 use Rattle.order_count.specs.declared.fault.OrderRange.{OrderRange}

@@ -1,9 +1,9 @@
 -- Type 1: the counts are expected from frame_num by a cycle of offsets, and differences are sent (ITU-T H.264, 8.2.1.2).
 use Rattle.std.specs.Prelude.{ℕ, zero, suc, ◌+◌, ◌-◌, ◌/◌, ◌%◌, ◌==◌, List, length, take, fold, ℤ, pos, ◌+ℤ◌, ◌*ℤ◌, if◌then◌else◌}
-use Rattle.set_types.specs.declared.sps.Sps.{Sps}
-use Rattle.header_types.specs.declared.slice_headers.SliceHeader.{SliceHeader}
+use Rattle.param_set_types.specs.declared.sps.Sps.{Sps}
+use Rattle.slice_header_types.specs.declared.slice_headers.SliceHeader.{SliceHeader}
 use Rattle.pictures.specs.declared.counts.Counts.{Counts}
-use Rattle.header_types.specs.Pictures.{is_reference}
+use Rattle.slice_header_types.specs.Pictures.{is_reference}
 
 -- absFrameNum (8-7): 0 where the cycle is empty, and one less for a picture that is no reference
 abbrev pub abs_frame_num : (frame_num_offset : ℕ) → Sps → SliceHeader → ℕ

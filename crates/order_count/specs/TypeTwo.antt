@@ -1,8 +1,8 @@
 -- Type 2: pictures are shown in decoding order (ITU-T H.264, 8.2.1.3).
 use Rattle.std.specs.Prelude.{ℕ, ◌+◌, ◌*◌, ℤ, pos, ◌-ℤ◌, if◌then◌else◌}
-use Rattle.header_types.specs.declared.slice_headers.SliceHeader.{SliceHeader}
+use Rattle.slice_header_types.specs.declared.slice_headers.SliceHeader.{SliceHeader}
 use Rattle.pictures.specs.declared.counts.Counts.{Counts}
-use Rattle.header_types.specs.Pictures.{is_idr, is_reference}
+use Rattle.slice_header_types.specs.Pictures.{is_idr, is_reference}
 
 -- tempPicOrderCnt (8-12)
 abbrev pub temp_pic_order_cnt : (frame_num_offset : ℕ) → SliceHeader → ℤ

@@ -1,10 +1,10 @@
 -- Type 0: the counts are sent, without their high bits (ITU-T H.264, 8.2.1.1).
 use Rattle.std.specs.Prelude.{ℕ, ◌+◌, ◌/◌, ◌^◌, ◌&&◌, ℤ, pos, ◌+ℤ◌, ◌-ℤ◌, int_lt, int_le, if◌then◌else◌}
-use Rattle.set_types.specs.declared.sps.Sps.{Sps}
-use Rattle.header_types.specs.declared.slice_headers.SliceHeader.{SliceHeader}
+use Rattle.param_set_types.specs.declared.sps.Sps.{Sps}
+use Rattle.slice_header_types.specs.declared.slice_headers.SliceHeader.{SliceHeader}
 use Rattle.order_count.specs.declared.anchors.Anchor.{Anchor}
 use Rattle.pictures.specs.declared.counts.Counts.{Counts}
-use Rattle.header_types.specs.Pictures.{is_idr}
+use Rattle.slice_header_types.specs.Pictures.{is_idr}
 
 -- MaxPicOrderCntLsb (7-11)
 abbrev pub max_pic_order_cnt_lsb : Sps → ℕ

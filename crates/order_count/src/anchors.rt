@@ -7,9 +7,9 @@ ghost use Rattle.order_count.specs.Anchors.{no_pictures, of_reference_picture, o
 
 use crate::frame_numbers::frame_num_offset;
 use crate::type_zero::pic_order_cnt_msb;
-use header_types::SliceHeader;
+use param_set_types::{PicOrderCntType, Sps};
 use pictures::{Counts, after_reset, resets};
-use set_types::{PicOrderCntType, Sps};
+use slice_header_types::SliceHeader;
 
 /// What counting keeps of the pictures before. What the type of counting doesn't read is 0.
 #[derive(Clone, Copy, Debug, PartialEq, Eq)]

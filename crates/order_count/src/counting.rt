@@ -9,9 +9,9 @@ use crate::frame_numbers::small_offset;
 use crate::type_one::type_one;
 use crate::type_two::type_two;
 use crate::type_zero::type_zero;
-use header_types::SliceHeader;
+use param_set_types::{PicOrderCntType, Sps};
 use pictures::{Counts, resets};
-use set_types::{PicOrderCntType, Sps};
+use slice_header_types::SliceHeader;
 
 /// The counts of a picture, before operation 5 resets them.
 ///

@@ -4,8 +4,8 @@ ghost use Rattle.order_count.specs.FrameNumbers.{frame_num_offset};
 
 use crate::anchors::Anchor;
 use crate::fault::OrderRange;
-use header_types::SliceHeader;
-use set_types::Sps;
+use param_set_types::Sps;
+use slice_header_types::SliceHeader;
 
 /// FrameNumOffset of a picture of type 1 or 2 (8-6).
 pub(crate) fn frame_num_offset(anchor: &Anchor, sps: &Sps, header: &SliceHeader) -> u64

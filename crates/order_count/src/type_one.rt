@@ -4,8 +4,8 @@ ghost use Rattle.order_count.specs.Width.{plain};
 ghost use Rattle.order_count.specs.TypeOne.{type_one, abs_frame_num, total, expected, expected_pic_order_cnt};
 
 use crate::wide_counts::WideCounts;
-use header_types::SliceHeader;
-use set_types::Sps;
+use param_set_types::Sps;
+use slice_header_types::SliceHeader;
 
 /// The counts of a picture of type 1, by its FrameNumOffset.
 #[tactic(auto, unfolding(crate::specs::TypeOne::type_one))]

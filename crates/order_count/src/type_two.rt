@@ -4,7 +4,7 @@ ghost use Rattle.order_count.specs.Width.{plain};
 ghost use Rattle.order_count.specs.TypeTwo.{type_two, temp_pic_order_cnt};
 
 use crate::wide_counts::WideCounts;
-use header_types::SliceHeader;
+use slice_header_types::SliceHeader;
 
 /// The counts of a picture of type 2, by its FrameNumOffset.
 #[tactic(auto, unfolding(crate::specs::TypeTwo::type_two))]

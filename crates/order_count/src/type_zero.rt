@@ -5,8 +5,8 @@ ghost use Rattle.order_count.specs.TypeZero.{type_zero, pic_order_cnt_msb, max_p
 
 use crate::anchors::Anchor;
 use crate::wide_counts::WideCounts;
-use header_types::SliceHeader;
-use set_types::Sps;
+use param_set_types::Sps;
+use slice_header_types::SliceHeader;
 
 /// The counts of a picture of type 0.
 #[tactic(auto, unfolding(crate::specs::TypeZero::type_zero))]

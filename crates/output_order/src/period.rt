@@ -12,9 +12,9 @@ use crate::inside::Inside;
 use crate::order_key::{OrderKey, order_keys};
 use crate::ranking::rank;
 use crate::shown::Shown;
+use base_types::replace_range;
 use std::alloc::{AllocError, Global};
 use std::marker::Model;
-use vec_ranges::replace_range;
 
 /// The units of a period, with the keys of the valid ones in output order, and room for more.
 #[derive(Debug, Drop)]

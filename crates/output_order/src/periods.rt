@@ -19,9 +19,9 @@ use crate::period::Period;
 use crate::shown::Shown;
 use crate::splice::Splice;
 use crate::touching::{Touched, none_begins, units_after};
+use base_types::replace_range;
 use std::alloc::{AllocError, Global};
 use std::marker::Model;
-use vec_ranges::replace_range;
 
 /// The most units that are put inside a period one by one: the keys behind each of them move.
 const MOST_INSIDE: usize = 32;

@@ -1,16 +1,16 @@
 -- The rows of the types of counts: those of the other types are absent.
 use Rattle.std.proofs.Common.{◌≡◌, ◌++◌, [], List, ℤ, false, Result, Ok, Err, refl, ◌∙◌, ap}
 use Rattle.expgolomb.specs.Bits.{Place}
-use Rattle.syntax_tables.specs.Answer.{Reads}
+use Rattle.expgolomb.specs.Answer.{Reads}
 use Rattle.param_sets.specs.Answer.{Refuses, Stores}
-use Rattle.syntax_tables.specs.Reading.{rows_at}
+use Rattle.expgolomb.specs.TableReading.{rows_at}
 use Rattle.param_sets.specs.SpsSyntax.{take, type_zero_rows, type_one_rows, offset_row, offset_rows, typed_rows, with_offsets}
-use Rattle.set_types.specs.CountTypes.{is_type_zero, is_type_one}
+use Rattle.param_set_types.specs.CountTypes.{is_type_zero, is_type_one}
 use Rattle.param_sets.specs.declared.fault.SetFault.{SetFault}
-use Rattle.set_types.specs.declared.sps.Sps.{Sps}
-use Rattle.set_types.specs.declared.sps.PicOrderCntType.TheVariants.{Zero, One, Two}
-use Rattle.syntax_tables.proofs.Tables.{rows_absent}
-use Rattle.syntax_tables.proofs.Loops.{after_ok, after_err, repeat_absent}
+use Rattle.param_set_types.specs.declared.sps.Sps.{Sps}
+use Rattle.param_set_types.specs.declared.sps.PicOrderCntType.TheVariants.{Zero, One, Two}
+use Rattle.expgolomb.proofs.Tables.{rows_absent}
+use Rattle.expgolomb.proofs.Loops.{after_ok, after_err, repeat_absent}
 use Rattle.param_sets.proofs.Refusals.{refused, refused_by}
 
 -- outside type 1 its rows are absent

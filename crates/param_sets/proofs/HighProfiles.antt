@@ -3,15 +3,15 @@ use Rattle.std.proofs.Common.{◌≡◌, [], List, true, false, Ok, refl, ◌∙
 use Rattle.expgolomb.specs.Bits.{Place}
 use Rattle.param_sets.specs.declared.fault.SetFault.{SetFault}
 use Rattle.param_sets.specs.Answer.{Refuses}
-use Rattle.syntax_tables.specs.Reading.{rows_at}
-use Rattle.set_types.specs.ScaleSteps.{Deltas}
+use Rattle.expgolomb.specs.TableReading.{rows_at}
+use Rattle.param_set_types.specs.ScaleSteps.{Deltas}
 use Rattle.param_sets.specs.Scaling.{take_list, list_rows}
 use Rattle.param_sets.specs.SpsSyntax.{ScalingList, take, has_matrix, high_rows, high_fields, scaling_rows}
-use Rattle.set_types.specs.Profiles.{is_high}
-use Rattle.set_types.specs.declared.sps.Sps.{Sps}
-use Rattle.syntax_tables.proofs.Tables.{rows_absent}
-use Rattle.syntax_tables.proofs.Loops.{after_ok}
-use Rattle.syntax_tables.proofs.Parts.{mapped, part_absent, part_read}
+use Rattle.param_set_types.specs.Profiles.{is_high}
+use Rattle.param_set_types.specs.declared.sps.Sps.{Sps}
+use Rattle.expgolomb.proofs.Tables.{rows_absent}
+use Rattle.expgolomb.proofs.Loops.{after_ok}
+use Rattle.expgolomb.proofs.Parts.{mapped, part_absent, part_read}
 use Rattle.param_sets.proofs.Refusals.{refused_by}
 
 -- without the flag there are no lists

@@ -2,16 +2,16 @@
 use Rattle.std.proofs.Common.{◌≡◌, ℕ, Bool, List, [], Result, Ok, Err, refl, ◌∙◌, ap}
 use Rattle.expgolomb.specs.Bits.{Place}
 use Rattle.expgolomb.specs.Reading.{ue_at}
-use Rattle.syntax_tables.proofs.Loops.{rows_stop}
+use Rattle.expgolomb.proofs.Loops.{rows_stop}
 use Rattle.param_sets.specs.declared.fault.SetFault.{SetFault}
 use Rattle.param_sets.specs.declared.fault.SetFault.TheVariants.{Cut}
-use Rattle.set_types.specs.declared.pps.Pps.{Pps}
+use Rattle.param_set_types.specs.declared.pps.Pps.{Pps}
 use Rattle.param_sets.specs.Answer.{Stores}
-use Rattle.syntax_tables.specs.Reading.{rows_at, value_at}
-use Rattle.syntax_tables.specs.Payloads.{after_first}
+use Rattle.expgolomb.specs.TableReading.{rows_at, value_at}
+use Rattle.expgolomb.specs.Payloads.{after_first}
 use Rattle.param_sets.specs.Sets.{first_of, IsPps, PpsHasFault, pps_at, Answers}
 use Rattle.param_sets.specs.PpsSyntax.{PpsSoFar, so_far, take, no_pps, id_row, pps_rows}
-use Rattle.syntax_tables.proofs.Tables.{rows_found, rows_only, rows_fault, fault_rows}
+use Rattle.expgolomb.proofs.Tables.{rows_found, rows_only, rows_fault, fault_rows}
 use Rattle.param_sets.proofs.Refusals.{refused_by}
 use Rattle.param_sets.proofs.SetLaws.{first_ok, first_err}
 

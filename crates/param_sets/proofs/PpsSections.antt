@@ -4,14 +4,14 @@ use Rattle.expgolomb.specs.Bits.{Place}
 use Rattle.param_sets.specs.declared.fault.SetFault.{SetFault}
 use Rattle.param_sets.specs.Answer.{Refuses}
 use Rattle.base_types.specs.Chains.{◌>>=◌}
-use Rattle.syntax_tables.specs.Reading.{rows_at}
-use Rattle.set_types.specs.ScaleSteps.{Deltas}
+use Rattle.expgolomb.specs.TableReading.{rows_at}
+use Rattle.param_set_types.specs.ScaleSteps.{Deltas}
 use Rattle.param_sets.specs.Scaling.{take_list, list_rows}
 use Rattle.param_sets.specs.PpsSyntax.{ScalingList, PpsSoFar, so_far, take, has_matrix, has_large_lists, transform_rows, small_list_rows, large_list_rows, pic_list_rows, list_count, second_offset_rows, more_rows}
-use Rattle.set_types.specs.declared.pps.Pps.{Pps}
-use Rattle.syntax_tables.proofs.Tables.{rows_append}
-use Rattle.syntax_tables.proofs.Loops.{after_ok, rows_pass, rows_none}
-use Rattle.syntax_tables.proofs.Parts.{mapped, part_absent, part_read}
+use Rattle.param_set_types.specs.declared.pps.Pps.{Pps}
+use Rattle.expgolomb.proofs.Tables.{rows_append}
+use Rattle.expgolomb.proofs.Loops.{after_ok, rows_pass, rows_none}
+use Rattle.expgolomb.proofs.Parts.{mapped, part_absent, part_read}
 use Rattle.param_sets.proofs.Refusals.{refused_by}
 
 large_absent : (s : PpsSoFar) (p : Place) → has_large_lists s ≡ false → rows_at take large_list_rows s p ≡ Ok (s, p)

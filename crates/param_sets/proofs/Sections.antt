@@ -2,10 +2,10 @@
 use Rattle.std.proofs.Common.{◌≡◌, ◌++◌, List, Result, Ok, Err, ℤ, ◌∙◌}
 use Rattle.expgolomb.specs.Bits.{Place}
 use Rattle.param_sets.specs.Answer.{Refuses}
-use Rattle.syntax_tables.specs.Grammar.{Row}
-use Rattle.syntax_tables.specs.Reading.{rows_at}
+use Rattle.expgolomb.specs.Grammar.{Row}
+use Rattle.expgolomb.specs.TableReading.{rows_at}
 use Rattle.param_sets.specs.declared.fault.SetFault.{SetFault}
-use Rattle.syntax_tables.proofs.Loops.{after_ok, after_err}
+use Rattle.expgolomb.proofs.Loops.{after_ok, after_err}
 use Rattle.param_sets.proofs.Refusals.{refused, refused_by}
 
 -- a section was read, and the rest is left

@@ -4,14 +4,14 @@ use Rattle.expgolomb.specs.Bits.{Place}
 use Rattle.expgolomb.proofs.ExpGolomb.{fixed_short}
 use Rattle.param_sets.specs.declared.fault.SetFault.{SetFault}
 use Rattle.param_sets.specs.declared.fault.SetFault.TheVariants.{Cut}
-use Rattle.set_types.specs.declared.sps.Sps.{Sps}
+use Rattle.param_set_types.specs.declared.sps.Sps.{Sps}
 use Rattle.param_sets.specs.Answer.{Stores}
-use Rattle.syntax_tables.specs.Reading.{unsigned, checked, value_at, rows_at}
-use Rattle.syntax_tables.specs.Payloads.{after_first}
+use Rattle.expgolomb.specs.TableReading.{unsigned, checked, value_at, rows_at}
+use Rattle.expgolomb.specs.Payloads.{after_first}
 use Rattle.param_sets.specs.Sets.{first_of, IsSps, SpsHasFault, sps_at, Answers}
 use Rattle.param_sets.specs.SpsSyntax.{take, no_sps, profile_row, profile_range, sps_rows}
-use Rattle.syntax_tables.proofs.Tables.{rows_found, rows_only, rows_fault, fault_rows}
-use Rattle.syntax_tables.proofs.Loops.{rows_stop}
+use Rattle.expgolomb.proofs.Tables.{rows_found, rows_only, rows_fault, fault_rows}
+use Rattle.expgolomb.proofs.Loops.{rows_stop}
 use Rattle.param_sets.proofs.Refusals.{refused_by}
 use Rattle.param_sets.proofs.SetLaws.{first_ok, first_err}
 

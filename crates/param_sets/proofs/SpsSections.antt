@@ -2,11 +2,11 @@
 use Rattle.std.proofs.Common.{◌≡◌, ◌++◌, List, Ok, Err, ◌∙◌}
 use Rattle.expgolomb.specs.Bits.{Place}
 use Rattle.param_sets.specs.Answer.{Refuses}
-use Rattle.syntax_tables.specs.Reading.{rows_at}
+use Rattle.expgolomb.specs.TableReading.{rows_at}
 use Rattle.param_sets.specs.SpsSyntax.{take, no_sps, SpsRow, beginning_rows, high_rows, count_rows, typed_rows, frame_rows, size_rows, sps_rows}
 use Rattle.param_sets.specs.declared.fault.SetFault.{SetFault}
-use Rattle.set_types.specs.declared.sps.Sps.{Sps}
-use Rattle.syntax_tables.proofs.Loops.{after_ok, after_err}
+use Rattle.param_set_types.specs.declared.sps.Sps.{Sps}
+use Rattle.expgolomb.proofs.Loops.{after_ok, after_err}
 use Rattle.param_sets.proofs.Refusals.{refused, refused_by}
 
 -- the sections from the types of counts on

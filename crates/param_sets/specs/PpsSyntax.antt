@@ -3,13 +3,13 @@ use Rattle.std.specs.Prelude.{ℕ, ◌==◌, Bool, false, List, [], ◌∷◌, �
 use Rattle.param_sets.specs.declared.fault.SetFault.{SetFault}
 use Rattle.param_sets.specs.declared.fault.SetFault.TheVariants.{Cut, Range, SliceGroups}
 use Rattle.param_sets.specs.declared.fault.SetField.TheVariants as ranges
-use Rattle.set_types.specs.declared.pps.Pps.{Pps}
-use Rattle.set_types.specs.declared.pps.WeightedBipred.{WeightedBipred}
-use Rattle.set_types.specs.declared.pps.WeightedBipred.TheVariants.{Default, Explicit, Implicit}
-use Rattle.syntax_tables.specs.Grammar.{MoreData, Row}
+use Rattle.param_set_types.specs.declared.pps.Pps.{Pps}
+use Rattle.param_set_types.specs.declared.pps.WeightedBipred.{WeightedBipred}
+use Rattle.param_set_types.specs.declared.pps.WeightedBipred.TheVariants.{Default, Explicit, Implicit}
+use Rattle.expgolomb.specs.Grammar.{MoreData, Row}
 use Rattle.param_sets.specs.Rows.{u, u_of, ue, se}
-use Rattle.syntax_tables.specs.Rows.{within, always, flag_of}
-use Rattle.syntax_tables.specs.Ranges.{any, at_most}
+use Rattle.expgolomb.specs.Rows.{within, always, flag_of}
+use Rattle.expgolomb.specs.Ranges.{any, at_most}
 use Rattle.param_sets.specs.Scaling.{ListField, take_list, list_rows}
 
 -- the fields, in the standard's names; MoreRbspData is whether more_rbsp_data() holds, and has no bits

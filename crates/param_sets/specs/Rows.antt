@@ -2,8 +2,8 @@
 use Rattle.std.specs.Prelude.{ℕ, Bool, true, ℤ, Option, nat_abs, ◌==◌, ◌&&◌}
 use Rattle.param_sets.specs.declared.fault.SetFault.{SetFault}
 use Rattle.param_sets.specs.declared.fault.SetFault.TheVariants.{Cut}
-use Rattle.syntax_tables.specs.Grammar.{Fixed, Unsigned, Signed, Row}
-use Rattle.syntax_tables.specs.Ranges.{any, at_most, between}
+use Rattle.expgolomb.specs.Grammar.{Fixed, Unsigned, Signed, Row}
+use Rattle.expgolomb.specs.Ranges.{any, at_most, between}
 
 -- u(n), any value
 abbrev pub u : {F S : Type 0} → F → ℕ → (S → Bool) → Row F S SetFault

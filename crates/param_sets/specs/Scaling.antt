@@ -5,10 +5,10 @@ use Rattle.std.specs.List.{fold}
 use Rattle.param_sets.specs.declared.fault.SetFault.{SetFault}
 use Rattle.param_sets.specs.declared.fault.SetFault.TheVariants.{Range}
 use Rattle.param_sets.specs.declared.fault.SetField.TheVariants as ranges
-use Rattle.syntax_tables.specs.Grammar.{Row}
+use Rattle.expgolomb.specs.Grammar.{Row}
 use Rattle.param_sets.specs.Rows.{u, se}
-use Rattle.syntax_tables.specs.Rows.{always, flag_of}
-use Rattle.set_types.specs.ScaleSteps.{Deltas, next_scale, list_size}
+use Rattle.expgolomb.specs.Rows.{always, flag_of}
+use Rattle.param_set_types.specs.ScaleSteps.{Deltas, next_scale, list_size}
 
 -- the fields of a list, in the standard's names
 pub data ListField : Type 0 where

@@ -3,11 +3,11 @@ use Rattle.std.specs.Prelude.{◌≡◌, ℕ, List, Result, Ok, Err}
 use Rattle.expgolomb.specs.Bits.{Place, start, skip}
 use Rattle.param_sets.specs.declared.fault.SetFault.{SetFault}
 use Rattle.param_sets.specs.declared.fault.SetFault.TheVariants.{Memory}
-use Rattle.set_types.specs.declared.sps.Sps.{Sps}
-use Rattle.set_types.specs.declared.pps.Pps.{Pps}
-use Rattle.syntax_tables.specs.Grammar.{Header, values, HasRows, HasFault}
-use Rattle.syntax_tables.specs.Reading.{rows_at}
-use Rattle.syntax_tables.specs.Payloads.{after_first}
+use Rattle.param_set_types.specs.declared.sps.Sps.{Sps}
+use Rattle.param_set_types.specs.declared.pps.Pps.{Pps}
+use Rattle.expgolomb.specs.Grammar.{Header, values, HasRows, HasFault}
+use Rattle.expgolomb.specs.TableReading.{rows_at}
+use Rattle.expgolomb.specs.Payloads.{after_first}
 use Rattle.param_sets.specs.Answer.{Refuses}
 use Rattle.param_sets.specs.SpsSyntax as sps
 use Rattle.param_sets.specs.PpsSyntax as pps

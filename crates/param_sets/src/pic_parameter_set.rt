@@ -1,25 +1,24 @@
 //! The syntax of picture parameter sets, section by section of its table (7.3.2.2).
 
 ghost use Rattle.std.specs.Prelude.{◌≡◌, Bool, IfOk, IfErr, Ok, Err, true, false, []};
-ghost use Rattle.syntax_tables.specs.Reading.{rows_at};
-ghost use Rattle.syntax_tables.specs.Answer.{Reads};
+ghost use Rattle.expgolomb.specs.TableReading.{rows_at};
+ghost use Rattle.expgolomb.specs.Answer.{Reads};
 ghost use Rattle.param_sets.specs.Answer.{Stores};
 ghost use Rattle.param_sets.specs.Sets.{IsPps, PpsHasFault, pps_at, Answers, IsShown};
 ghost use Rattle.param_sets.specs.declared.fault.SetFault.{SetFault};
 ghost use Rattle.param_sets.specs.PpsSyntax.{PpsSoFar, take, no_pps, so_far, id_rows, coding_rows, prediction_rows, quantisation_rows, slice_rows, transform_rows, pic_list_rows, list_count, second_offset_rows, more_rows, pps_rows};
-ghost use Rattle.set_types.specs.declared.pps.Pps.{Pps};
+ghost use Rattle.param_set_types.specs.declared.pps.Pps.{Pps};
 
 use crate::fault::{SetFault, SetField};
 use crate::scaling_list::scaling_lists;
 use crate::set_fields::{after_header, bounded, more_data, small};
 use base_types::AtMost;
-use expgolomb::Bits;
-use set_types::{Pps, ScalingLists, WeightedBipred};
+use expgolomb::{Bits, fixed_at_most, flag, ue};
+use param_set_types::{Pps, ScalingLists, WeightedBipred};
 use std::alloc::Global;
-use syntax_tables::{fixed_at_most, flag, ue};
 
 // The beginning of a set: what isn't read yet has the value that is inferred where it stays absent.
-#[tactic(auto, unfolding(syntax_tables::specs::Reading::rows_at))]
+#[tactic(auto, unfolding(expgolomb::specs::Reading::rows_at))]
 fn beginning(alloc: Global, bits: &mut Bits<'_>) -> Result<Pps, SetFault>
     ensures exact { Reads (so_far false) result bits.new (rows_at take id_rows no_pps bits.old) }
     ensures none { IfOk result (λ pps. pps.scaling_lists ≡ []) }
@@ -56,7 +55,7 @@ fn beginning(alloc: Global, bits: &mut Bits<'_>) -> Result<Pps, SetFault>
     })
 }
 
-#[tactic(auto, unfolding(syntax_tables::specs::Reading::rows_at))]
+#[tactic(auto, unfolding(expgolomb::specs::Reading::rows_at))]
 fn coding(bits: &mut Bits<'_>, pps: &mut Pps) -> Result<(), SetFault>
     ensures exact { Reads (λ _. so_far false pps.new) result bits.new
         (rows_at take coding_rows (so_far false pps.old) bits.old) }
@@ -68,7 +67,7 @@ fn coding(bits: &mut Bits<'_>, pps: &mut Pps) -> Result<(), SetFault>
     Ok(())
 }
 
-#[tactic(auto, unfolding(syntax_tables::specs::Reading::rows_at))]
+#[tactic(auto, unfolding(expgolomb::specs::Reading::rows_at))]
 fn prediction(bits: &mut Bits<'_>, pps: &mut Pps) -> Result<(), SetFault>
     ensures exact { Reads (λ _. so_far false pps.new) result bits.new
         (rows_at take prediction_rows (so_far false pps.old) bits.old) }
@@ -91,7 +90,7 @@ fn prediction(bits: &mut Bits<'_>, pps: &mut Pps) -> Result<(), SetFault>
     Ok(())
 }
 
-#[tactic(auto, unfolding(syntax_tables::specs::Reading::rows_at))]
+#[tactic(auto, unfolding(expgolomb::specs::Reading::rows_at))]
 fn quantisation(bits: &mut Bits<'_>, pps: &mut Pps) -> Result<(), SetFault>
     ensures exact { Reads (λ _. so_far false pps.new) result bits.new
         (rows_at take quantisation_rows (so_far false pps.old) bits.old) }
@@ -113,7 +112,7 @@ fn quantisation(bits: &mut Bits<'_>, pps: &mut Pps) -> Result<(), SetFault>
     Ok(())
 }
 
-#[tactic(auto, unfolding(syntax_tables::specs::Reading::rows_at))]
+#[tactic(auto, unfolding(expgolomb::specs::Reading::rows_at))]
 fn slices(bits: &mut Bits<'_>, pps: &mut Pps) -> Result<(), SetFault>
     ensures exact { Reads (λ _. so_far false pps.new) result bits.new
         (rows_at take slice_rows (so_far false pps.old) bits.old) }
@@ -126,7 +125,7 @@ fn slices(bits: &mut Bits<'_>, pps: &mut Pps) -> Result<(), SetFault>
 }
 
 // Whether there is more data, and what it has before the scaling lists.
-#[tactic(auto, unfolding(syntax_tables::specs::Reading::rows_at))]
+#[tactic(auto, unfolding(expgolomb::specs::Reading::rows_at))]
 fn transform(bits: &mut Bits<'_>, pps: &mut Pps) -> Result<bool, SetFault>
     ensures exact { Reads (λ more. so_far more pps.new) result bits.new
         (rows_at take transform_rows (so_far false pps.old) bits.old) }
@@ -140,7 +139,7 @@ fn transform(bits: &mut Bits<'_>, pps: &mut Pps) -> Result<bool, SetFault>
     Ok(true)
 }
 
-#[tactic(auto, unfolding(syntax_tables::specs::Reading::rows_at))]
+#[tactic(auto, unfolding(expgolomb::specs::Reading::rows_at))]
 fn second_offset(bits: &mut Bits<'_>, pps: &mut Pps) -> Result<(), SetFault>
     ensures { Reads (λ _. so_far true pps.new) result bits.new
         (rows_at take second_offset_rows (so_far true pps.old) bits.old) }

@@ -1,17 +1,16 @@
 //! The syntax of scaling lists (7.3.2.1.1.1).
 
 ghost use Rattle.std.specs.Prelude.{◌≡◌, ◌≤◌, List, [], ◌∷◌, ◌++◌, replicate, length, Some};
-ghost use Rattle.syntax_tables.specs.Reading.{rows_at};
+ghost use Rattle.expgolomb.specs.TableReading.{rows_at};
 ghost use Rattle.param_sets.specs.Answer.{Stores};
-ghost use Rattle.set_types.specs.ScaleSteps.{Deltas, list_size};
+ghost use Rattle.param_set_types.specs.ScaleSteps.{Deltas, list_size};
 ghost use Rattle.param_sets.specs.Scaling.{take_list, present_row, delta_row, list_rows};
 
 use crate::fault::{SetFault, SetField};
 use crate::set_fields::small;
-use expgolomb::Bits;
-use set_types::{ScalingList, ScalingLists, scale_after};
+use expgolomb::{Bits, flag};
+use param_set_types::{ScalingList, ScalingLists, scale_after};
 use std::alloc::Global;
-use syntax_tables::flag;
 
 /// Reads so many scaling lists.
 pub fn scaling_lists(

@@ -1,27 +1,26 @@
 //! The syntax of sequence parameter sets, section by section of its table (7.3.2.1.1).
 
 ghost use Rattle.std.specs.Prelude.{◌≡◌, ◌⊎◌, IfOk, IfErr, Ok, Err, pos, [], true, false};
-ghost use Rattle.syntax_tables.specs.Grammar.{Fixed, Unsigned};
-ghost use Rattle.syntax_tables.specs.Reading.{rows_at, value_at};
-ghost use Rattle.syntax_tables.specs.Answer.{Reads, flag_value};
+ghost use Rattle.expgolomb.specs.Grammar.{Fixed, Unsigned};
+ghost use Rattle.expgolomb.specs.TableReading.{rows_at, value_at};
+ghost use Rattle.expgolomb.specs.Answer.{Reads, flag_value};
 ghost use Rattle.param_sets.specs.Answer.{Stores};
 ghost use Rattle.param_sets.specs.Sets.{IsSps, SpsHasFault, sps_at, Answers, IsShown};
 ghost use Rattle.param_sets.specs.declared.fault.SetFault.{SetFault};
 ghost use Rattle.param_sets.specs.SpsSyntax.{take, no_sps, profile_range, chroma_range, high_fields, high_rows, scaling_rows, frames_only, beginning_rows, constraint_rows, level_rows, count_rows, type_zero_rows, type_one_rows, with_offsets, IsCycleOf, offset_rows, typed_rows, frame_rows, size_rows, sps_rows};
-ghost use Rattle.set_types.specs.Profiles.{is_high};
-ghost use Rattle.set_types.specs.declared.sps.Sps.{Sps};
+ghost use Rattle.param_set_types.specs.Profiles.{is_high};
+ghost use Rattle.param_set_types.specs.declared.sps.Sps.{Sps};
 
 use crate::fault::{SetFault, SetField};
 use crate::scaling_list::scaling_lists;
 use crate::set_fields::{after_header, bounded};
 use base_types::AtMost;
-use expgolomb::Bits;
-use set_types::{ChromaFormat, Offsets, PicOrderCntType, ScalingLists, Sps};
+use expgolomb::{Bits, fixed, flag, se_any, ue, ue_any};
+use param_set_types::{ChromaFormat, Offsets, PicOrderCntType, ScalingLists, Sps};
 use std::alloc::Global;
-use syntax_tables::{fixed, flag, se_any, ue, ue_any};
 
 // profile_idc.
-#[tactic(auto, using(syntax_tables::proofs::FieldLaws::narrow_ok, syntax_tables::proofs::FieldLaws::narrow_err))]
+#[tactic(auto, using(expgolomb::proofs::FieldLaws::narrow_ok, expgolomb::proofs::FieldLaws::narrow_err))]
 fn profile_idc(bits: &mut Bits<'_>) -> Result<u8, SetFault>
     ensures { Reads pos result bits.new (value_at
         (Fixed 8) SetFault.Cut SetFault.Cut profile_range bits.old) }
@@ -47,7 +46,7 @@ fn constraint_set_flags(bits: &mut Bits<'_>) -> Result<[bool; 6], SetFault>
 }
 
 // Two bits that aren't tested, level_idc and seq_parameter_set_id.
-#[tactic(auto, unfolding(syntax_tables::specs::Reading::rows_at))]
+#[tactic(auto, unfolding(expgolomb::specs::Reading::rows_at))]
 fn level_and_id(bits: &mut Bits<'_>) -> Result<(u8, AtMost<31>), SetFault>
     ensures { (s : Sps)
         → Reads (λ x. record s { level_idc = x.0; seq_parameter_set_id = x.1 }) result bits.new
@@ -115,7 +114,7 @@ fn chroma_format_idc(bits: &mut Bits<'_>) -> Result<u32, SetFault>
 }
 
 // What the high profiles have before their lists.
-#[tactic(auto, unfolding(syntax_tables::specs::Reading::rows_at))]
+#[tactic(auto, unfolding(expgolomb::specs::Reading::rows_at))]
 fn chroma_and_depths(bits: &mut Bits<'_>, sps: &mut Sps) -> Result<(), SetFault>
     requires { is_high sps.old ≡ true }
     ensures exact { Reads (λ _. sps.new) result bits.new
@@ -167,7 +166,7 @@ fn high(alloc: Global, bits: &mut Bits<'_>, sps: &mut Sps) -> Result<(), SetFaul
     Ok(())
 }
 
-#[tactic(auto, unfolding(syntax_tables::specs::Reading::rows_at))]
+#[tactic(auto, unfolding(expgolomb::specs::Reading::rows_at))]
 fn frame_num_and_count_type(bits: &mut Bits<'_>, sps: &mut Sps) -> Result<(), SetFault>
     ensures exact { Reads (λ _. sps.new) result bits.new
         (rows_at take count_rows sps.old bits.old) }
@@ -191,7 +190,7 @@ fn frame_num_and_count_type(bits: &mut Bits<'_>, sps: &mut Sps) -> Result<(), Se
 }
 
 // What count type 0 has.
-#[tactic(auto, unfolding(syntax_tables::specs::Reading::rows_at))]
+#[tactic(auto, unfolding(expgolomb::specs::Reading::rows_at))]
 fn type_zero(bits: &mut Bits<'_>, sps: &mut Sps) -> Result<(), SetFault>
     requires { sps.old.pic_order_cnt_type ≡ PicOrderCntType.Zero }
     ensures exact { Reads (λ _. sps.new) result bits.new
@@ -206,7 +205,7 @@ fn type_zero(bits: &mut Bits<'_>, sps: &mut Sps) -> Result<(), SetFault>
 }
 
 // What count type 1 has before its cycle.
-#[tactic(auto, unfolding(syntax_tables::specs::Reading::rows_at))]
+#[tactic(auto, unfolding(expgolomb::specs::Reading::rows_at))]
 fn type_one(bits: &mut Bits<'_>, sps: &mut Sps) -> Result<(), SetFault>
     requires { sps.old.pic_order_cnt_type ≡ PicOrderCntType.One }
     ensures exact { Reads (λ _. sps.new) result bits.new
@@ -264,7 +263,7 @@ fn counts(alloc: Global, bits: &mut Bits<'_>, sps: &mut Sps) -> Result<(), SetFa
     }
 }
 
-#[tactic(auto, unfolding(syntax_tables::specs::Reading::rows_at))]
+#[tactic(auto, unfolding(expgolomb::specs::Reading::rows_at))]
 fn frames(bits: &mut Bits<'_>, sps: &mut Sps) -> Result<(), SetFault>
     ensures { Reads (λ _. sps.new) result bits.new (rows_at take frame_rows sps.old bits.old) }
 {
@@ -273,7 +272,7 @@ fn frames(bits: &mut Bits<'_>, sps: &mut Sps) -> Result<(), SetFault>
     Ok(())
 }
 
-#[tactic(auto, unfolding(syntax_tables::specs::Reading::rows_at))]
+#[tactic(auto, unfolding(expgolomb::specs::Reading::rows_at))]
 fn size(bits: &mut Bits<'_>, sps: &mut Sps) -> Result<(), SetFault>
     ensures { Reads (λ _. sps.new) result bits.new (rows_at take size_rows sps.old bits.old) }
 {
@@ -291,7 +290,7 @@ fn size(bits: &mut Bits<'_>, sps: &mut Sps) -> Result<(), SetFault>
 }
 
 // frame_mbs_only_flag, which is 1.
-#[tactic(auto, using(syntax_tables::proofs::FieldLaws::narrow_ok, syntax_tables::proofs::FieldLaws::narrow_err))]
+#[tactic(auto, using(expgolomb::proofs::FieldLaws::narrow_ok, expgolomb::proofs::FieldLaws::narrow_err))]
 fn frame_mbs_only_flag(bits: &mut Bits<'_>) -> Result<bool, SetFault>
     ensures { Reads flag_value result bits.new
         (value_at (Fixed 1) SetFault.Cut SetFault.Cut frames_only bits.old) }

@@ -1,16 +1,15 @@
 //! The fields of parameter sets, whose faults are named.
 
 ghost use Rattle.std.specs.Prelude.{◌≡◌, pos, [], Ok, IfOk, IfErr};
-ghost use Rattle.syntax_tables.specs.Grammar.{Unsigned, Signed, MoreData};
-ghost use Rattle.syntax_tables.specs.Reading.{value_at};
-ghost use Rattle.syntax_tables.specs.Ranges.{any, at_most, between};
-ghost use Rattle.syntax_tables.specs.Payloads.{after_first};
-ghost use Rattle.syntax_tables.specs.Answer.{Reads, flag_value};
+ghost use Rattle.expgolomb.specs.Grammar.{Unsigned, Signed, MoreData};
+ghost use Rattle.expgolomb.specs.TableReading.{value_at};
+ghost use Rattle.expgolomb.specs.Ranges.{any, at_most, between};
+ghost use Rattle.expgolomb.specs.Payloads.{after_first};
+ghost use Rattle.expgolomb.specs.Answer.{Reads, flag_value};
 
 use crate::fault::SetFault;
 use base_types::AtMost;
-use expgolomb::Bits;
-use syntax_tables::{se, ue};
+use expgolomb::{Bits, se, ue};
 
 /// A reader of a payload after its first byte, the unit's header.
 pub fn after_header(payload: &[u8]) -> Result<Bits<'_>, SetFault>

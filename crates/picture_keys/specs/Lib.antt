@@ -1,3 +1,5 @@
+pub mod SliceBytes
+pub mod Digests
 pub mod Keys
 pub mod Known
 pub mod Depending

@@ -1,9 +1,9 @@
 -- The bytes that stand for the works of a unit where keys are looked for.
 use Rattle.std.specs.Prelude.{ℕ, List, ◌++◌, map}
 use Rattle.std.specs.List.{flat_map}
-use Rattle.set_controls.specs.Words.{s32}
+use Rattle.param_set_controls.specs.Words.{s32}
 use Rattle.h264_controls.specs.declared.work.Work.{Work}
-use Rattle.hashed_units.specs.SliceBytes.{slices_digest}
+use Rattle.picture_keys.specs.SliceBytes.{slices_digest}
 
 -- those of a slice's order: its TopFieldOrderCnt
 abbrev pub order_bytes : Work → List ℕ

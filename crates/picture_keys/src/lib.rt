@@ -2,20 +2,34 @@
 //!
 //! The key of a valid unit is the tree of its slices' works with, at each entry of their reference
 //! lists, the key of the picture that the entry names; timestamps are no part of it. dep_keys keeps
-//! such trees under numbers: here are the works that stand in its nodes, the node of a unit, and
-//! the law that the picture of a unit is the one of its key.
+//! such trees under numbers: here are the works that stand in its nodes, the node of a unit, and the
+//! law that the picture of a unit is the one of its key.
+//!
+//! A unit's bytes are hashed once, when the unit is read: `HashedUnit` keeps the digest and how many
+//! bytes were hashed beside the unit, and `HashedOutcome` the digest beside its outcome, so that keys
+//! are looked for without the bytes. Clauses see the unit and the outcome.
 #![tactic(auto)]
 
+mod digest;
+mod hashed_bytes;
+mod hashed_outcome;
+mod hashed_unit;
 mod laws;
 mod named;
 mod nodes;
 mod numbers;
 mod unit_keys;
+mod units;
 mod works;
 
+pub use digest::SlicesDigest;
+pub use hashed_bytes::HashedBytes;
+pub use hashed_outcome::HashedOutcome;
+pub use hashed_unit::HashedUnit;
 pub use laws::{node_is_that_of_its_key, picture_is_that_of_its_key};
 pub use named::units_named;
 pub use nodes::node_of;
 pub use numbers::KeyNumbers;
 pub use unit_keys::UnitKeys;
+pub use units::hash_units;
 pub use works::Works;

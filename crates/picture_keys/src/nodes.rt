@@ -1,17 +1,17 @@
 //! The node of a unit's key.
 
 ghost use Rattle.std.specs.Prelude.{◌≡◌, IfOk};
-ghost use Rattle.hashed_units.specs.Digests.{bytes_of};
-ghost use Rattle.hashed_units.specs.SliceBytes.{slices_digest};
+ghost use Rattle.picture_keys.specs.Digests.{bytes_of};
+ghost use Rattle.picture_keys.specs.SliceBytes.{slices_digest};
 ghost use Rattle.picture_keys.specs.Keys.{works_of};
 ghost use Rattle.picture_keys.specs.Numbered.{number_named, numbers_named};
 
+use crate::SlicesDigest;
 use crate::named::units_named;
 use crate::numbers::KeyNumbers;
 use crate::works::Works;
 use dep_keys::{KeyId, Node};
 use h264_controls::Request;
-use hashed_units::SlicesDigest;
 use pictures::AuId;
 use std::alloc::{AllocError, Global};
 use unit_outcomes::Requests;

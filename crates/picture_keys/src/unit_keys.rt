@@ -4,8 +4,8 @@ ghost use Rattle.std.specs.Prelude.{◌≡◌, ℕ, ◌==◌, List, [], ◌∷�
 ghost use Rattle.h264_controls.specs.declared.work.Work.{Work};
 ghost use Rattle.unit_outcomes.specs.declared.outcome.Outcome.{Outcome as Becomes};
 ghost use Rattle.dep_keys.specs.KeyMaps.{AreLive, Extends, IsKeyMap, KeyMap, tree_at, tree_of};
-ghost use Rattle.hashed_units.specs.Digests.{bytes_of};
-ghost use Rattle.hashed_units.specs.SliceBytes.{slices_digest};
+ghost use Rattle.picture_keys.specs.Digests.{bytes_of};
+ghost use Rattle.picture_keys.specs.SliceBytes.{slices_digest};
 ghost use Rattle.picture_keys.specs.Known.{Known};
 ghost use Rattle.picture_keys.specs.Numbered.{AreNumbered, number_at, numbers_named};
 ghost use Rattle.picture_keys.specs.Following.{AreNumberedSome, Follow, HasNumber};
@@ -14,8 +14,8 @@ ghost use Rattle.picture_keys.specs.Adding.{AddsAtMost, AddsAtMostKey, node_over
 use crate::nodes::node_of;
 use crate::numbers::KeyNumbers;
 use crate::works::Works;
+use crate::{HashedOutcome, SlicesDigest};
 use dep_keys::{Fingerprint, KeyId, Keys};
-use hashed_units::{HashedOutcome, SlicesDigest};
 use pictures::AuId;
 use std::alloc::{AllocError, Global};
 use std::marker::Model;

@@ -3,17 +3,17 @@
 ghost use Rattle.std.specs.Prelude.{◌≡◌, ◌++◌, ℕ, List, IfOk};
 ghost use Rattle.std.specs.Bool.{Decides};
 ghost use Rattle.sha2.specs.Hashers.{Holds256};
-ghost use Rattle.set_controls.specs.Words.{s32};
+ghost use Rattle.param_set_controls.specs.Words.{s32};
 ghost use Rattle.picture_keys.specs.Keys.{works_of};
 ghost use Rattle.std.specs.List.{flat_map};
-ghost use Rattle.hashed_units.specs.Digests.{bytes_of};
-ghost use Rattle.hashed_units.specs.SliceBytes.{slices_digest};
+ghost use Rattle.picture_keys.specs.Digests.{bytes_of};
+ghost use Rattle.picture_keys.specs.SliceBytes.{slices_digest};
 ghost use Rattle.picture_keys.specs.Messages.{order_bytes, works_bytes};
 
+use crate::SlicesDigest;
 use base_types::Shared;
 use dep_keys::Work as KeyWork;
 use h264_controls::Work;
-use hashed_units::SlicesDigest;
 use sha2::{Digest, Sha256};
 use std::alloc::{AllocError, Global};
 use std::marker::Model;
@@ -36,7 +36,7 @@ impl Model for Works {
     ghost view = { λ works. works.slices.items };
 
     ghost use Rattle.std.specs.Prelude.{◌≡◌, map};
-    ghost use Rattle.hashed_units.specs.SliceBytes.{slices_digest};
+    ghost use Rattle.picture_keys.specs.SliceBytes.{slices_digest};
 
     ghost invariant = { λ works. works.digest.bytes ≡ slices_digest (map (λ work. work.bytes) works.slices.items) };
 }
@@ -93,7 +93,7 @@ fn feed_orders(hasher: &mut Sha256, works: &[Shared<Work>])
 }
 
 /// Adds a picture order count to a hasher.
-#[tactic(auto, unfolding(set_controls::specs::Words::s32, set_controls::specs::Words::u32))]
+#[tactic(auto, unfolding(param_set_controls::specs::Words::s32, param_set_controls::specs::Words::u32))]
 fn feed_order(hasher: &mut Sha256, order: i32)
     ensures { (message : List ℕ) → Holds256 hasher.old message
         → Holds256 hasher.new (message ++ s32 order) }

@@ -7,8 +7,8 @@ use Rattle.unit_outcomes.specs.declared.outcome.Outcome.{Outcome}
 use Rattle.dep_keys.specs.KeyMaps.{tree_at}
 use Rattle.stand_in_device.specs.declared.picture.Picture.{Picture}
 use Rattle.picture_keys.specs.Keys.{Key}
-use Rattle.key_places.specs.Places.{place_at, numbers_held}
-use Rattle.key_places.proofs.Held.{held_found, found_held}
+use Rattle.key_slots.specs.Places.{place_at, numbers_held}
+use Rattle.key_slots.proofs.Held.{held_found, found_held}
 use Rattle.picture_store.specs.declared.job_out.JobOut.{JobOut}
 use Rattle.picture_store.specs.Places.{PlacesValue}
 use Rattle.picture_store.specs.Due.{IsHeld}

@@ -18,7 +18,7 @@ use Rattle.picture_store.specs.Places.{PlacesValue}
 use Rattle.picture_store.specs.Kept.{Trees, AreRight}
 use Rattle.picture_store.specs.Due.{IsHeld, AreHeld}
 use Rattle.picture_store.specs.Naming.{picture_in, IsNamed, AreCovered, AreShown}
-use Rattle.needed_units.proofs.Entries.{keys_known, entry_same}
+use Rattle.key_slots.proofs.Entries.{keys_known, entry_same}
 use Rattle.picture_store.proofs.Tables.{none_not_some}
 
 -- the unit that is named, if one is, has a key that is known

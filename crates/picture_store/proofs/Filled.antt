@@ -13,7 +13,7 @@ use Rattle.picture_store.specs.declared.answers.Landing.TheVariants.{Taken, Stal
 use Rattle.picture_store.specs.declared.job_out.JobOut.{JobOut}
 use Rattle.picture_store.specs.Stores.{StoreValue}
 use Rattle.picture_store.specs.Jobs.{AnswersLand}
-use Rattle.key_places.specs.Places.{place_at, numbers_held}
+use Rattle.key_slots.specs.Places.{place_at, numbers_held}
 use Rattle.picture_store.specs.Places.{PlacesValue}
 use Rattle.picture_store.specs.Filling.{IsFilled}
 use Rattle.picture_store.specs.Kept.{Trees, key_for, keys_for, IsRight, IsJobRight, IsKept}

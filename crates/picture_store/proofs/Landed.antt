@@ -18,10 +18,10 @@ use Rattle.picture_store.specs.declared.job_out.JobOut.{JobOut}
 use Rattle.picture_store.specs.Stores.{OutValue}
 use Rattle.picture_store.specs.Showing.{IsPictureAt}
 use Rattle.picture_store.specs.Jobs.{IsOf, IsOut, without}
-use Rattle.key_places.specs.Places.{place_at, numbers_held}
+use Rattle.key_slots.specs.Places.{place_at, numbers_held}
 use Rattle.picture_store.specs.Places.{PlacesValue}
 use Rattle.picture_store.specs.Kept.{Trees, key_for, keys_for, jobs_for, IsRight, IsJobRight, IsKept}
-use Rattle.key_places.proofs.Held.{held_found, found_held}
+use Rattle.key_slots.proofs.Held.{held_found, found_held}
 use Rattle.picture_store.proofs.Lifting.{for_contains, contains_for}
 use Rattle.picture_store.proofs.Tables.{none_not_some}
 use Rattle.picture_store.proofs.Viewed.{seen, viewed}

@@ -6,9 +6,9 @@ use Rattle.std.proofs.lemmas.List.{take-map}
 use Rattle.dep_keys.specs.KeyMaps.{tree_at, IsOneToOne}
 use Rattle.dep_keys.specs.Trees.Tree.{Bare}
 use Rattle.picture_keys.specs.Keys.{Key}
-use Rattle.key_places.specs.Left.{IsLeft, IsPut, ArePut}
+use Rattle.key_slots.specs.Left.{IsLeft, IsPut, ArePut}
 use Rattle.picture_store.specs.Kept.{Trees, key_for, keys_for}
-use Rattle.key_places.proofs.Members.{here, there, first_or_among, among_map, among_source, left_among, among_take}
+use Rattle.key_slots.proofs.Members.{here, there, first_or_among, among_map, among_source, left_among, among_take}
 
 pub for_contains : (keys : Trees) (numbers : List ℕ) (key : Key) → Contains (keys_for keys numbers) key
     → (number : ℕ) × Contains numbers number × (key_for keys number ≡ key)

@@ -8,12 +8,12 @@ use Rattle.dep_keys.specs.KeyMaps.{tree_at}
 use Rattle.stand_in_device.specs.declared.picture.Picture.{Picture}
 use Rattle.picture_keys.specs.Keys.{Key}
 use Rattle.picture_keys.specs.Known.{keys_of}
-use Rattle.key_places.specs.Places.{place_at}
-use Rattle.key_places.proofs.Members.{here, there, nowhere, first_or_among}
-use Rattle.needed_units.specs.Held.{IsWaiting}
-use Rattle.needed_units.specs.Needed.{IsNeeded}
-use Rattle.needed_units.proofs.Closing.{needed_more}
-use Rattle.needed_units.proofs.Standing.{stands_at, number_there, tree_there, number_of_key, key_of_number}
+use Rattle.key_slots.specs.Places.{place_at}
+use Rattle.key_slots.proofs.Members.{here, there, nowhere, first_or_among}
+use Rattle.key_slots.specs.Held.{IsWaiting}
+use Rattle.key_slots.specs.Needed.{IsNeeded}
+use Rattle.key_slots.proofs.Closing.{needed_more}
+use Rattle.key_slots.proofs.Standing.{stands_at, number_there, tree_there, number_of_key, key_of_number}
 use Rattle.picture_store.specs.declared.job_out.JobOut.{JobOut}
 use Rattle.picture_store.specs.Stores.{OutValue, StoreValue, IsReady}
 use Rattle.picture_store.specs.Showing.{HasKey}

@@ -13,7 +13,7 @@ use Rattle.stand_in_device.specs.Inputs.{InputValue}
 use Rattle.picture_keys.specs.Keys.{Key, works_of, named_by_all}
 use Rattle.picture_keys.specs.Known.{Known, key_of, key_of_outcome}
 use Rattle.picture_keys.specs.Decodable.{CanDecode, OutcomeCanDecode}
-use Rattle.key_places.specs.Places.{numbers_held}
+use Rattle.key_slots.specs.Places.{numbers_held}
 use Rattle.picture_store.specs.Places.{PlacesValue}
 use Rattle.picture_store.specs.Stores.{IsReady}
 use Rattle.picture_store.specs.Kept.{Trees, AreRight, keys_for}
@@ -21,7 +21,7 @@ use Rattle.picture_store.specs.Due.{AreHeld}
 use Rattle.picture_store.specs.Naming.{AreCovered, AreShown, AreThere, IsShown}
 use Rattle.picture_store.specs.Inputs.{HasKnown, IsInputOf}
 use Rattle.picture_store.proofs.Ready.{are_held}
-use Rattle.needed_units.proofs.Entries.{entries_many}
+use Rattle.key_slots.proofs.Entries.{entries_many}
 use Rattle.picture_store.proofs.Entries.{IsKnown, all_known, covered, shown, shown_of}
 use Rattle.picture_store.proofs.Shown.{all_there, shows_known, whole}
 

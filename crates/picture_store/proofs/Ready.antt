@@ -5,12 +5,12 @@ use Rattle.h264_controls.specs.declared.work.Work.{Work}
 use Rattle.dep_keys.specs.KeyMaps.{tree_at, tree_from, entered, AreLive}
 use Rattle.dep_keys.specs.Trees.Tree.{Bare}
 use Rattle.picture_keys.specs.Keys.{Key}
-use Rattle.key_places.specs.Places.{place_at, numbers_held}
+use Rattle.key_slots.specs.Places.{place_at, numbers_held}
 use Rattle.picture_store.specs.Places.{PlacesValue}
 use Rattle.picture_store.specs.Stores.{IsReady}
 use Rattle.picture_store.specs.Kept.{Trees, AreRight, key_for, keys_for}
 use Rattle.picture_store.specs.Due.{IsHeld, AreHeld}
-use Rattle.key_places.proofs.Held.{held_found, found_held}
+use Rattle.key_slots.proofs.Held.{held_found, found_held}
 use Rattle.picture_store.proofs.Loops.{first_in, later_in, in_cases}
 
 -- what is there of an element is there of the list

@@ -15,14 +15,14 @@ use Rattle.picture_keys.specs.Known.{keys_of}
 use Rattle.picture_keys.specs.Numbered.{AllStandFor}
 use Rattle.picture_keys.specs.Decodable.{AllCanDecode}
 use Rattle.picture_store.specs.declared.job_out.JobOut.{JobOut}
-use Rattle.key_places.specs.Left.{IsLeft, ArePut}
+use Rattle.key_slots.specs.Left.{IsLeft, ArePut}
 use Rattle.picture_store.specs.Changes.{Refits}
-use Rattle.key_places.specs.Places.{place_at, numbers_held}
+use Rattle.key_slots.specs.Places.{place_at, numbers_held}
 use Rattle.picture_store.specs.Places.{PlacesValue, carried, held_or, ArePlaced}
 use Rattle.picture_store.specs.Kept.{Trees, key_for, keys_for, IsRight, IsKept}
-use Rattle.key_places.proofs.Members.{among_map, among_source, left_among, All-from_contains}
+use Rattle.key_slots.proofs.Members.{among_map, among_source, left_among, All-from_contains}
 use Rattle.picture_store.proofs.Tables.{none_not_some}
-use Rattle.key_places.proofs.Held.{held_found, found_held}
+use Rattle.key_slots.proofs.Held.{held_found, found_held}
 use Rattle.picture_store.proofs.Lifting.{for_contains, contains_for, left_for, put_for}
 use Rattle.picture_store.proofs.Viewed.{viewed}
 use Rattle.picture_store.proofs.Numbered.{one_to_one}

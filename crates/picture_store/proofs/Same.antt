@@ -4,7 +4,7 @@ use Rattle.std.proofs.Common.{◌≡◌, sym, ap, subst, ◌∙◌, ℕ, ◌<◌
 use Rattle.unit_outcomes.specs.declared.outcome.Outcome.{Outcome}
 use Rattle.dep_keys.specs.KeyMaps.{IsKeyMap}
 use Rattle.stand_in_device.specs.declared.picture.Picture.{Picture}
-use Rattle.key_places.specs.Places.{AreSame, place_of, place_at}
+use Rattle.key_slots.specs.Places.{AreSame, place_of, place_at}
 use Rattle.picture_store.specs.declared.job_out.JobOut.{JobOut}
 use Rattle.picture_store.specs.declared.schedule.Schedule.{Schedule}
 use Rattle.picture_store.specs.Places.{PlacesValue}

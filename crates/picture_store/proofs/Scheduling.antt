@@ -14,14 +14,14 @@ use Rattle.dep_keys.specs.Trees.Tree.{Bare, Gap, With}
 use Rattle.stand_in_device.specs.declared.picture.Picture.{Picture}
 use Rattle.picture_keys.specs.Keys.{Key, named_by_all, tree_with, works_of}
 use Rattle.picture_keys.specs.Known.{key_at}
-use Rattle.key_places.specs.Places.{place_at, numbers_held}
-use Rattle.key_places.proofs.Held.{held_found, found_held}
-use Rattle.key_places.proofs.Members.{nowhere, first_or_among, among_map}
-use Rattle.needed_units.specs.Held.{IsHeld, IsWaiting}
-use Rattle.needed_units.specs.Needed.{Names}
-use Rattle.needed_units.specs.Needed.IsNeeded.{itself, named}
-use Rattle.needed_units.proofs.Closing.{needed_more, needed_waits}
-use Rattle.needed_units.proofs.Standing.{known_there, named_key, own_key}
+use Rattle.key_slots.specs.Places.{place_at, numbers_held}
+use Rattle.key_slots.proofs.Held.{held_found, found_held}
+use Rattle.key_slots.proofs.Members.{nowhere, first_or_among, among_map}
+use Rattle.key_slots.specs.Held.{IsHeld, IsWaiting}
+use Rattle.key_slots.specs.Needed.{Names}
+use Rattle.key_slots.specs.Needed.IsNeeded.{itself, named}
+use Rattle.key_slots.proofs.Closing.{needed_more, needed_waits}
+use Rattle.key_slots.proofs.Standing.{known_there, named_key, own_key}
 use Rattle.picture_store.specs.declared.answers.Landing.{Landing}
 use Rattle.picture_store.specs.declared.answers.Landing.TheVariants.{Taken, Stale, Foreign}
 use Rattle.picture_store.specs.declared.job_out.JobOut.{JobOut}

@@ -10,13 +10,13 @@ use Rattle.stand_in_device.specs.declared.picture.Picture.{Picture}
 use Rattle.picture_store.specs.declared.answers.Landing.{Landing}
 use Rattle.picture_store.specs.declared.answers.Landing.TheVariants.{Taken, Stale, Foreign}
 use Rattle.picture_store.specs.declared.job_out.JobOut.{JobOut}
-use Rattle.key_places.specs.Places.{place_at}
+use Rattle.key_slots.specs.Places.{place_at}
 use Rattle.picture_store.specs.Places.{PlacesValue, ArePlaced, held_or}
 use Rattle.picture_store.specs.Filling.{IsFilled}
 use Rattle.picture_store.specs.Kept.{Trees, numbers_out, IsKept}
 use Rattle.picture_store.specs.Due.{IsHeld, IsNotDue}
 use Rattle.picture_store.specs.Settled.{NeedsNone, AreSettled}
-use Rattle.key_places.proofs.Members.{here, there, nowhere, first_or_among}
+use Rattle.key_slots.proofs.Members.{here, there, nowhere, first_or_among}
 
 two_places : (o : Option (Option Picture)) (picture : Picture) → o ≡ Some (Some picture) → o ≡ Some None → ⊥
 two_places o picture held awaited = cc

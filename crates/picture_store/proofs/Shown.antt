@@ -17,7 +17,7 @@ use Rattle.picture_keys.specs.Known.{Known, key_at}
 use Rattle.picture_keys.specs.KeyPictures.{picture_of_key}
 use Rattle.picture_keys.specs.Decodable.{NamesKnown, RequestNamesKnown, CanDecode}
 use Rattle.picture_store.specs.Naming.{AreThere, IsShown}
-use Rattle.key_places.proofs.Members.{here, there, map_same}
+use Rattle.key_slots.proofs.Members.{here, there, map_same}
 use Rattle.picture_store.proofs.Entries.{shown_of}
 
 -- no two units have one timestamp

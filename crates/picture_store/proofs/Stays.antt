@@ -15,11 +15,11 @@ use Rattle.picture_keys.specs.Keys.{Key}
 use Rattle.picture_keys.specs.Known.{keys_of}
 use Rattle.picture_keys.specs.Numbered.{StandsFor, AllStandFor}
 use Rattle.picture_store.specs.declared.job_out.JobOut.{JobOut}
-use Rattle.key_places.specs.Places.{place_at, numbers_held}
+use Rattle.key_slots.specs.Places.{place_at, numbers_held}
 use Rattle.picture_store.specs.Places.{PlacesValue}
 use Rattle.picture_store.specs.Kept.{Trees, key_for, keys_for, jobs_for, IsRight, IsJobRight, IsKept, IsStored, KeepsStored}
-use Rattle.key_places.proofs.Members.{here, there, nowhere, first_or_among, among_map, among_source, map_same, All-from_contains}
-use Rattle.key_places.proofs.Held.{held_found}
+use Rattle.key_slots.proofs.Members.{here, there, nowhere, first_or_among, among_map, among_source, map_same, All-from_contains}
+use Rattle.key_slots.proofs.Held.{held_found}
 use Rattle.picture_store.proofs.Viewed.{viewed}
 
 -- the key of a number

@@ -6,9 +6,9 @@ use Rattle.std.specs.declared.alloc.AllocError.{AllocError}
 use Rattle.dep_keys.specs.KeyMaps.{tree_at}
 use Rattle.dep_keys.specs.Sweeping.{IsSwept, IsNeeded}
 use Rattle.picture_keys.specs.Keys.{Key}
-use Rattle.key_places.specs.Counting.{once_if, times, times_in}
-use Rattle.key_places.proofs.Counts.{counted_in, some_counted}
-use Rattle.key_places.proofs.Members.{here, there}
+use Rattle.key_slots.specs.Counting.{once_if, times, times_in}
+use Rattle.key_slots.proofs.Counts.{counted_in, some_counted}
+use Rattle.key_slots.proofs.Members.{here, there}
 use Rattle.stand_in_device.specs.declared.picture.Picture.{Picture}
 use Rattle.picture_store.specs.declared.job_out.JobOut.{JobOut}
 use Rattle.picture_store.specs.Kept.{AreSwept, IsStored, Trees}

@@ -19,17 +19,17 @@ use Rattle.picture_keys.proofs.Pictured.{shows_its_key}
 use Rattle.picture_store.specs.declared.job_out.JobOut.{JobOut}
 use Rattle.picture_store.specs.Stores.{OutValue, StoreValue, IsReady}
 use Rattle.picture_store.specs.Jobs.{IsDue, IsAnyDue, Gives, Takes}
-use Rattle.key_places.specs.Places.{place_at, numbers_held}
+use Rattle.key_slots.specs.Places.{place_at, numbers_held}
 use Rattle.picture_store.specs.Places.{PlacesValue}
 use Rattle.picture_store.specs.Due.{IsDueNumber, IsNotDue}
 use Rattle.picture_store.specs.Inputs.{HasKnown, IsInputOf}
 use Rattle.picture_store.specs.Kept.{Trees, key_for, keys_for, jobs_for, numbers_out, IsRight, IsJobRight, IsKept}
-use Rattle.key_places.proofs.Members.{among_map, among_source, All-from_contains}
+use Rattle.key_slots.proofs.Members.{among_map, among_source, All-from_contains}
 use Rattle.picture_store.proofs.Viewed.{seen, viewed}
 use Rattle.picture_store.proofs.Stays.{key_is, stand_live, stand_number}
 use Rattle.picture_store.proofs.Tables.{none_not_some}
 use Rattle.picture_store.proofs.Landed.{awaited_for, held_for, found_length, keyed, length-zip_same}
-use Rattle.needed_units.proofs.UnitAt.{IsAt, unit_at, second_at, stand_take}
+use Rattle.key_slots.proofs.UnitAt.{IsAt, unit_at, second_at, stand_take}
 
 -- the first of two lists
 take_front : {X : Type 0} (xs ys : List X) → take (length xs) (xs ++ ys) ≡ xs

@@ -8,15 +8,15 @@ use Rattle.std.proofs.lemmas.List.Sums.{sum_by-append}
 use Rattle.std.proofs.lemmas.List.Elements.{Contains-append_left, Contains-append_right}
 use Rattle.std.proofs.lemmas.Map.Views.{exact_unsigned_eq, Contains-from_lookup}
 use Rattle.stand_in_device.specs.declared.picture.Picture.{Picture}
-use Rattle.key_places.specs.Left.{IsLeft, ArePut}
-use Rattle.key_places.specs.Counting.{once_at, times, times_in}
-use Rattle.key_places.specs.Places.{AreSame, IsTakenUp, slot_at, place_of, place_at, uses_at, numbers_held, kept_or}
-use Rattle.key_places.specs.Going.{IsHeldBefore}
-use Rattle.key_places.proofs.Members.{among_map, among_source}
-use Rattle.key_places.proofs.Slots.{place_used, place_unused, used_some}
-use Rattle.key_places.proofs.Going.{left_among_same, left_stays}
-use Rattle.key_places.proofs.Held.{held_found, found_held, held_rising}
-use Rattle.key_places.proofs.Counts.{counted_some, some_counted, counted_in}
+use Rattle.key_slots.specs.Left.{IsLeft, ArePut}
+use Rattle.key_slots.specs.Counting.{once_at, times, times_in}
+use Rattle.key_slots.specs.Places.{AreSame, IsTakenUp, slot_at, place_of, place_at, uses_at, numbers_held, kept_or}
+use Rattle.key_slots.specs.Going.{IsHeldBefore}
+use Rattle.key_slots.proofs.Members.{among_map, among_source}
+use Rattle.key_slots.proofs.Slots.{place_used, place_unused, used_some}
+use Rattle.key_slots.proofs.Going.{left_among_same, left_stays}
+use Rattle.key_slots.proofs.Held.{held_found, found_held, held_rising}
+use Rattle.key_slots.proofs.Counts.{counted_some, some_counted, counted_in}
 use Rattle.picture_store.specs.Places.{PlacesValue, carried, held_or}
 use Rattle.picture_store.specs.Recounts.{IsCountable, IsRecounted}
 

@@ -8,12 +8,12 @@ use Rattle.unit_outcomes.specs.declared.outcome.Plan.{Plan}
 use Rattle.dep_keys.specs.KeyMaps.{entered}
 use Rattle.picture_keys.specs.Keys.{Key, named_by_all, tree_with, works_of}
 use Rattle.picture_keys.specs.Known.{Known, key_at, known_after}
-use Rattle.key_places.proofs.Members.{here, there}
-use Rattle.needed_units.specs.Needed.{Lists, Names}
-use Rattle.needed_units.specs.Needed.IsNeeded.{itself, named}
-use Rattle.needed_units.proofs.Closing.{needed_waits}
-use Rattle.needed_units.proofs.Lookups.{IsLastOf, known_of}
-use Rattle.needed_units.proofs.Standing.{valid_there}
+use Rattle.key_slots.proofs.Members.{here, there}
+use Rattle.key_slots.specs.Needed.{Lists, Names}
+use Rattle.key_slots.specs.Needed.IsNeeded.{itself, named}
+use Rattle.key_slots.proofs.Closing.{needed_waits}
+use Rattle.key_slots.proofs.Lookups.{IsLastOf, known_of}
+use Rattle.key_slots.proofs.Standing.{valid_there}
 use Rattle.picture_store.specs.Stores.{StoreValue, units_of, unit_keys, IsInUse, IsReady}
 use Rattle.picture_store.specs.Showing.{HasKey}
 use Rattle.picture_store.specs.Pending.{IsPending, IsNeededBy, IsStuck}

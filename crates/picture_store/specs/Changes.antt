@@ -2,7 +2,7 @@
 use Rattle.std.specs.Prelude.{◌≡◌, ℕ, List, ◌⊎◌, ◌↔◌, Contains}
 use Rattle.unit_outcomes.specs.declared.outcome.Outcome.{Outcome}
 use Rattle.picture_keys.specs.Keys.{Key}
-use Rattle.key_places.specs.Left.{IsLeft, ArePut}
+use Rattle.key_slots.specs.Left.{IsLeft, ArePut}
 use Rattle.picture_store.specs.Stores.{StoreValue, AreOneToOne, IsInUse}
 
 -- a store takes the units of a changed stream: the keys in use that were held or cached are held,

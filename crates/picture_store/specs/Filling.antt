@@ -3,7 +3,7 @@ use Rattle.std.specs.Prelude.{◌≡◌, ℕ, ◌==◌, None, Some, if◌then◌
 use Rattle.stand_in_device.specs.declared.picture.Picture.{Picture}
 use Rattle.picture_store.specs.declared.answers.Landing.{Landing}
 use Rattle.picture_store.specs.declared.answers.Landing.TheVariants.{Taken, Stale, Foreign}
-use Rattle.key_places.specs.Places.{place_at}
+use Rattle.key_slots.specs.Places.{place_at}
 use Rattle.picture_store.specs.Places.{PlacesValue}
 
 -- a place that waits for a picture has it afterwards; any other stays

@@ -17,7 +17,7 @@ use Rattle.picture_keys.specs.Decodable.{AllCanDecode}
 use Rattle.picture_keys.specs.KeyPictures.{picture_of_key}
 use Rattle.picture_store.specs.declared.job_out.JobOut.{JobOut}
 use Rattle.picture_store.specs.Stores.{OutValue}
-use Rattle.key_places.specs.Places.{place_at}
+use Rattle.key_slots.specs.Places.{place_at}
 use Rattle.picture_store.specs.Places.{PlacesValue}
 
 -- the keys that are stored, under their numbers

@@ -5,7 +5,7 @@ use Rattle.h264_controls.specs.References.{timestamp}
 use Rattle.stand_in_device.specs.declared.picture.Picture.{Picture}
 use Rattle.stand_in_device.specs.declared.input.Reference.{Reference}
 use Rattle.stand_in_device.specs.Inputs.{picture_at}
-use Rattle.key_places.specs.Places.{place_at}
+use Rattle.key_slots.specs.Places.{place_at}
 use Rattle.picture_store.specs.Places.{PlacesValue}
 
 -- at some entry this unit is named, and this stands there of its key

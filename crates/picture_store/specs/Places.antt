@@ -1,8 +1,8 @@
 -- Places for pictures, one for each key in use.
 use Rattle.std.specs.Prelude.{◌≡◌, ℕ, ◌==◌, List, ◌⊎◌, Contains, Option, None, Some}
 use Rattle.std.specs.Map.{lookup}
-use Rattle.key_places.specs.declared.places.Slot.{Slot}
-use Rattle.key_places.specs.Places.{place_at}
+use Rattle.key_slots.specs.declared.places.Slot.{Slot}
+use Rattle.key_slots.specs.Places.{place_at}
 use Rattle.stand_in_device.specs.declared.picture.Picture.{Picture}
 
 -- keys in use under their numbers, each with its picture where that is held

@@ -7,8 +7,8 @@ use Rattle.std.specs.declared.cmp.Reverse.{Reverse}
 use Rattle.unit_outcomes.specs.declared.outcome.Outcome.{Outcome}
 use Rattle.dep_keys.specs.KeyMaps.{tree_at}
 use Rattle.dep_keys.specs.Trees.Tree.{Bare, Gap, With}
-use Rattle.needed_units.specs.Held.{IsHeld, IsWaiting}
-use Rattle.needed_units.specs.Needed.{IsNeeded}
+use Rattle.key_slots.specs.Held.{IsHeld, IsWaiting}
+use Rattle.key_slots.specs.Needed.{IsNeeded}
 use Rattle.picture_keys.specs.Keys.{Key}
 use Rattle.picture_store.specs.declared.answers.Landing.{Landing}
 use Rattle.picture_store.specs.declared.answers.Landing.TheVariants.{Taken, Stale, Foreign}

@@ -3,14 +3,13 @@
 
 ghost use Rattle.std.specs.Prelude.{◌≡◌, ◌<◌, ◌↔◌, ℕ, Option, Some, None, length, take, All, Contains, IfSome, IsSome, IsTrue, MatchOption, slice_get, slice_index_or};
 ghost use Rattle.picture_store.specs.Kept.{AreRight};
-ghost use Rattle.key_places.specs.Places.{place_at};
+ghost use Rattle.key_slots.specs.Places.{place_at};
 ghost use Rattle.picture_store.specs.Due.{AreHeld, IsDueNumber, IsNotDue, IsReadyNumber};
 ghost use Rattle.picture_store.specs.Settled.{AreSettled, NeedsNone};
 
 use crate::job_out::{JobOut, is_out};
 use dep_keys::{Fingerprint, KeyId, Keys};
-use key_places::Places;
-use needed_units::is_held;
+use key_slots::{Places, is_held};
 use picture_keys::Works;
 use stand_in_device::Picture;
 

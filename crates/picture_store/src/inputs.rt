@@ -5,14 +5,14 @@ ghost use Rattle.dep_keys.specs.KeyMaps.{tree_at};
 ghost use Rattle.picture_keys.specs.Keys.{Key};
 ghost use Rattle.picture_keys.specs.Known.{Known};
 ghost use Rattle.picture_store.specs.Stores.{IsReady};
-ghost use Rattle.key_places.specs.Places.{numbers_held};
+ghost use Rattle.key_slots.specs.Places.{numbers_held};
 ghost use Rattle.picture_store.specs.Kept.{keys_for, AreRight};
 ghost use Rattle.picture_store.specs.Inputs.{HasKnown, IsInputOf};
 
 use crate::naming::references_of;
 use dep_keys::{Fingerprint, KeyId, Keys};
 use h264_controls::Request;
-use key_places::Places;
+use key_slots::Places;
 use picture_keys::{Works, units_named};
 use stand_in_device::{Input, Picture};
 use std::alloc::{AllocError, Global};

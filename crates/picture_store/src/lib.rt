@@ -6,7 +6,7 @@
 //! changed with it: a picture whose key stays in use stays held. `take` gives the job of the
 //! earliest picture that can be decoded, `take_for` that of the earliest which a unit needs, `land`
 //! takes its result, late or twice, `give_back` the job undone, `picture` shows what is held, and
-//! `drop_picture` lets it go. Below are needed_units, picture_keys, which gives keys their numbers,
+//! `drop_picture` lets it go. Below are key_slots, picture_keys, which gives keys their numbers,
 //! and picture_cache; above is the session.
 #![tactic(auto)]
 

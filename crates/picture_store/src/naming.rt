@@ -7,7 +7,7 @@ ghost use Rattle.stand_in_device.specs.Inputs.{picture_at};
 ghost use Rattle.picture_store.specs.Naming.{AddsAtMostEntry, AreCovered, AreOnce, AreShown, AreThere, IsShown, picture_in};
 
 use dep_keys::KeyId;
-use key_places::Places;
+use key_slots::Places;
 use pictures::AuId;
 use stand_in_device::{Picture, Reference};
 use std::alloc::{AllocError, Global};

@@ -3,13 +3,13 @@
 ghost use Rattle.std.specs.Prelude.{◌≡◌, ◌+◌, ◌-◌, ◌^◌, ◌<◌, ◌≤◌, ◌++◌, ℕ, List, Option, Contains, Some, IfOk, OnOk, drop, length, take, vec_len};
 ghost use Rattle.std.specs.Vec.{vec_capacity};
 ghost use Rattle.std.specs.List.Sorted.{IsNonDecreasing};
-ghost use Rattle.key_places.specs.Counting.{times, times_in};
-ghost use Rattle.key_places.specs.Places.{AreSame, uses_at};
+ghost use Rattle.key_slots.specs.Counting.{times, times_in};
+ghost use Rattle.key_slots.specs.Places.{AreSame, uses_at};
 ghost use Rattle.picture_store.specs.Recounts.{IsCountable, IsRecounted};
 
 use crate::refitting::add_found;
 use dep_keys::KeyId;
-use key_places::{Places, let_go_all, make_places, take_out, take_up_all};
+use key_slots::{Places, let_go_all, make_places, take_out, take_up_all};
 use picture_cache::PictureCache;
 use stand_in_device::Picture;
 use std::alloc::{AllocError, Global};

@@ -12,7 +12,7 @@ use crate::due::is_ready;
 use crate::job_out::JobOut;
 use crate::schedule::{Dependent, Schedule, enqueue_due};
 use dep_keys::{Fingerprint, KeyId, Keys};
-use key_places::Places;
+use key_slots::Places;
 use picture_keys::Works;
 use stand_in_device::Picture;
 use std::alloc::AllocError;

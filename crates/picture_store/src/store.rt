@@ -7,7 +7,7 @@ ghost use Rattle.picture_keys.specs.Decodable.{AllCanDecode};
 ghost use Rattle.picture_store.specs.Stores.{empty, AreNumbered, AreOneToOne, IsNumberInUse};
 ghost use Rattle.picture_store.specs.Changes.{Refits};
 ghost use Rattle.picture_store.specs.Jobs.{AnswersGiveBack, AnswersLand, TellsTake};
-ghost use Rattle.key_places.specs.Places.{uses_at};
+ghost use Rattle.key_slots.specs.Places.{uses_at};
 ghost use Rattle.picture_store.specs.Filling.{IsFilled};
 ghost use Rattle.picture_store.specs.Showing.{IsNumberAt, IsPictureAt};
 ghost use Rattle.picture_store.specs.Needs.{TellNeeds};
@@ -27,20 +27,17 @@ use crate::refusals::TakeRefused;
 use crate::rescheduling::{after_landing, if_ready};
 use crate::schedule::{Schedule, earliest_due, schedule_for};
 use crate::stretch::Stretch;
-use base_types::Shared;
+use base_types::{Shared, replace_range};
 use checkpoints::Checkpoints;
 use dep_keys::{KeyId, Keys, Sha256Fingerprint};
-use hashed_units::HashedOutcome;
-use key_places::Places;
-use needed_units::{Units, is_held};
+use key_slots::{Places, Units, is_held};
 use picture_cache::PictureCache;
-use picture_keys::Works;
+use picture_keys::{HashedOutcome, Works};
 use pictures::AuId;
 use request_core::State;
 use stand_in_device::{Finished, Job, Picture};
 use std::alloc::{AllocError, Global};
 use std::marker::Model;
-use vec_ranges::replace_range;
 
 /// The pictures of a stream's units. Clauses see the units, each with its id and its outcome; the keys whose
 /// pictures are held, and those whose pictures are cached after they went out of use; and the jobs that are out.
@@ -94,7 +91,7 @@ impl Model for PictureStore {
 
     ghost coded = { Prim.hlevel (codes, tree_code works.the_row.coded) };
 
-    ghost use Rattle.key_places.specs.Places.{numbers_held};
+    ghost use Rattle.key_slots.specs.Places.{numbers_held};
     ghost use Rattle.picture_store.specs.Kept.{keys_for, jobs_for};
     ghost use Rattle.picture_store.specs.Settled.{IsStored};
 

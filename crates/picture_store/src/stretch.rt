@@ -1,7 +1,7 @@
 //! A stretch of units in the place of another.
 
 use base_types::Shared;
-use hashed_units::HashedOutcome;
+use picture_keys::HashedOutcome;
 use pictures::AuId;
 
 /// Units that stand in the place of those from one place of a stream on and below another: their

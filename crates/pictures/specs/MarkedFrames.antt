@@ -1,6 +1,6 @@
 -- The frames that are marked as used for reference (ITU-T H.264, 8.2.5.1).
 use Rattle.std.specs.Prelude.{ℕ, Bool, false, max, not, ◌==◌, List, [], filter, Option, None, pos}
-use Rattle.set_types.specs.declared.sps.Sps.{Sps}
+use Rattle.param_set_types.specs.declared.sps.Sps.{Sps}
 use Rattle.pictures.specs.declared.frames.Frame.{Frame}
 use Rattle.pictures.specs.declared.frames.Term.{Term}
 use Rattle.pictures.specs.declared.frames.Term.TheVariants.{ShortTerm, LongTerm}

@@ -1,7 +1,7 @@
 -- The numbers of marked frames, for a picture of this frame_num (ITU-T H.264, 8.2.4.1).
 use Rattle.std.specs.Prelude.{ℕ, ℤ, pos, ◌-ℤ◌, nat_lt, if◌then◌else◌, Option, Some, None}
-use Rattle.set_types.specs.declared.sps.Sps.{Sps}
-use Rattle.set_types.specs.FrameNumbers.{max_frame_num}
+use Rattle.param_set_types.specs.declared.sps.Sps.{Sps}
+use Rattle.param_set_types.specs.FrameNumbers.{max_frame_num}
 use Rattle.pictures.specs.declared.frames.Frame.{Frame}
 use Rattle.pictures.specs.declared.frames.Term.{Term}
 use Rattle.pictures.specs.declared.frames.Term.TheVariants.{ShortTerm, LongTerm}

@@ -5,7 +5,7 @@ ghost use Rattle.std.specs.Prelude.{◌≡◌};
 use crate::au_id::AuId;
 use crate::counts::Counts;
 use crate::pic_nums::frame_num_wrap;
-use set_types::Sps;
+use param_set_types::Sps;
 
 /// Whether a frame is used for short-term or for long-term reference.
 #[derive(Clone, Copy, Debug, PartialEq, Eq, Drop)]

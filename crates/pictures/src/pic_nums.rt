@@ -3,7 +3,7 @@
 ghost use Rattle.std.specs.Prelude.{◌≡◌, ◌≤ℤ◌, pos, negsuc};
 ghost use Rattle.pictures.specs.PicNums.{frame_num_wrap};
 
-use set_types::Sps;
+use param_set_types::Sps;
 
 /// FrameNumWrap of a FrameNum, for a picture with this frame_num (8-27): PicNum of the short-term frame that has it.
 pub fn frame_num_wrap(sps: &Sps, frame_num: u16, number: u16) -> i64

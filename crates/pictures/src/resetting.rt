@@ -4,7 +4,7 @@ ghost use Rattle.pictures.specs.PicOrderCnt.{are_in_range};
 ghost use Rattle.pictures.specs.Resetting.{has_operation_five, counts_after_reset};
 
 use crate::counts::Counts;
-use header_types::{DecRefPicMarking, MemoryManagementControlOperation, SliceHeader};
+use slice_header_types::{DecRefPicMarking, MemoryManagementControlOperation, SliceHeader};
 
 /// Whether the picture has memory_management_control_operation 5.
 #[tactic(auto, unfolding(crate::specs::Resetting::has_operation_five))]

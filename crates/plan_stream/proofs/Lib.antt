@@ -1,3 +1,9 @@
+pub mod Lengths
+pub mod Needles
+pub mod Cuts
+pub mod Ranges
+pub mod Texts
+pub mod FrontTexts
 pub mod Streams
 pub mod UnitTexts
 pub mod FoldSteps

@@ -1,9 +1,9 @@
 -- What a stream comes to, with what its window and its reader have left.
 use Rattle.std.proofs.Common.{◌≡◌, ◌<◌, ℕ, Bool, true, false, ltb, List, [], ◌∷◌, length, Option, Some, None, IfSome, refl, sym, ◌∙◌, arith}
 use Rattle.std.proofs.lemmas.Bool.{false≢true, ltb-true, ltb-false}
-use Rattle.stream_window.specs.declared.window.Window.{Window}
-use Rattle.stream_window.specs.Fronts.{IsFront}
-use Rattle.stream_window.specs.Windows.{HasLeft, Shows, front_of, held_by}
+use Rattle.plan_stream.specs.declared.window.Window.{Window}
+use Rattle.plan_stream.specs.Fronts.{IsFront}
+use Rattle.plan_stream.specs.Windows.{HasLeft, Shows, front_of, held_by}
 use Rattle.plan_stream.specs.declared.gathered.Gathered.{Gathered}
 use Rattle.plan_stream.specs.Gathering.{IsGathered}
 

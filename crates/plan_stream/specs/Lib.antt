@@ -1,3 +1,7 @@
+pub mod Seen
+pub mod Fronts
+pub mod Windows
+pub mod Readings
 pub mod Faults
 pub mod StreamText
 pub mod Plans

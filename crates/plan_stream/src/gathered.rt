@@ -4,18 +4,18 @@ ghost use Rattle.std.specs.Prelude.{◌≡◌, ◌≢◌, ◌<◌, ◌≤◌, �
 ghost use Rattle.annexb.specs.ByteStream.{HasUnits, joined};
 ghost use Rattle.access_unit.specs.Answers.{IsAccepted};
 ghost use Rattle.access_unit.specs.Rooms.{IsStream, IsStreamRefused, most_units};
-ghost use Rattle.stream_window.specs.Fronts.{IsFront};
-ghost use Rattle.stream_window.specs.Readings.{IsFrontRefused};
+ghost use Rattle.plan_stream.specs.Fronts.{IsFront};
+ghost use Rattle.plan_stream.specs.Readings.{IsFrontRefused};
 ghost use Rattle.plan_stream.specs.Folds.{IsFoldOf, IsFoldOfStream};
 ghost use Rattle.plan_stream.specs.Gathering.{ComesTo, IsGathered};
 ghost use Rattle.plan_stream.specs.RefusalWith.{refusal_with};
 
 use crate::folded::Folded;
+use crate::{Window, read_front};
 use access_unit::{MOST_UNITS, Refusal, Refused, Unit};
 use console_io::InputFault;
 use std::alloc::{AllocError, Global};
 use std::io::Read;
-use stream_window::{Window, read_front};
 
 /// What a stream comes to so far.
 #[derive(Drop)]

@@ -1,19 +1,28 @@
-//! `preview plan`: a stream read, planned and printed.
+//! `preview plan`: a stream read through a window, planned and printed.
 //!
-//! `plan_on` reads a byte stream to its end, access unit after access unit, has each folded by
-//! request_core and keeps of it what its lines need; then it writes the lines, or the line of the
-//! stream's refusal. What it reads and writes is generic; below are stream_window, console_io and
-//! unit_lines, above is preview.
+//! `Window::next` shows the text of the next access unit of what a reader gives, and forgets the one
+//! before it, so that its memory is used again; `read_front` reads such a text. `plan_on` reads a byte
+//! stream to its end in this way, has each access unit folded by request_core and keeps of it what its
+//! lines need; then it writes the lines, or the line of the stream's refusal. What it reads and writes
+//! is generic; below are console_io and unit_lines, and access_unit, whose definitions say which access
+//! units a stream has.
 #![tactic(auto)]
 
 mod fault;
 mod folded;
+mod front;
 mod gathered;
+mod laws;
 mod plan;
 mod printing;
+mod reading;
 mod shown;
 mod tails;
+mod window;
 
 pub use fault::{PlanFault, say_plan_fault};
+pub use laws::fronts;
 pub use plan::{plan_on, print_refusal};
+pub use reading::read_front;
 pub use shown::shown_of;
+pub use window::Window;

@@ -8,6 +8,7 @@ mod ends;
 mod gates;
 mod groups;
 mod scripts;
+mod serve;
 mod three_seats;
 mod two_workers;
 mod wanted;

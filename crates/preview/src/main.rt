@@ -3,18 +3,18 @@
 //!
 //! `preview plan FILE` plans a byte stream and prints a block of lines for each access unit, or why
 //! the stream is refused (plan_stream); `preview draw FILE` draws one as SVG (draw_run), also after
-//! edits (draw_edits); `preview run SCRIPT` edits a stream in a session, and prints what each edit
+//! edits (draw_run); `preview run SCRIPT` edits a stream in a session, and prints what each edit
 //! and each question is answered, in one thread (script_run) or beside workers that decode
 //! (shared_run); `preview audit SCRIPT` says whether the book of such a run agrees with its journal
 //! (shared_run). docs/OUTPUT.md has the lines and the statuses. What the words ask for is read by
-//! cli_args and done by cli; this crate hands them the process's own words, files and streams.
+//! cli and done by cli; this crate hands them the process's own words, files and streams.
 #![tactic(auto)]
 
 use std::process::ExitCode;
 
 fn main(rt: HostRuntime) -> ExitCode {
     let (mut output, mut errors) = (rt.stdout(), rt.stderr());
-    let words = cli_args::words(&rt);
+    let words = cli::words(&rt);
     let ended = cli::run(
         &rt,
         rt.alloc(),

@@ -3,11 +3,11 @@ use Rattle.std.proofs.Common.{◌≡◌, ℕ, ◌+◌, ◌<◌, ◌∷◌, Bool,
 use Rattle.std.specs.List.{list_any}
 use Rattle.std.specs.Ordering.{int_eq}
 use Rattle.std.proofs.lemmas.List.{drop_more}
-use Rattle.set_types.specs.declared.sps.Sps.{Sps}
-use Rattle.header_types.specs.declared.slice_headers.SliceHeader.{SliceHeader}
-use Rattle.header_types.specs.declared.slice_types.SliceType.{SliceType}
-use Rattle.header_types.specs.declared.slice_types.SliceType.TheVariants.{P, B, I, Sp, Si}
-use Rattle.header_types.specs.declared.ref_pic_list_modification.RefPicListModification.{RefPicListModification}
+use Rattle.param_set_types.specs.declared.sps.Sps.{Sps}
+use Rattle.slice_header_types.specs.declared.slice_headers.SliceHeader.{SliceHeader}
+use Rattle.slice_header_types.specs.declared.slice_types.SliceType.{SliceType}
+use Rattle.slice_header_types.specs.declared.slice_types.SliceType.TheVariants.{P, B, I, Sp, Si}
+use Rattle.slice_header_types.specs.declared.ref_pic_list_modification.RefPicListModification.{RefPicListModification}
 use Rattle.pictures.specs.PicOrderCnt.{pic_order_cnt}
 use Rattle.pictures.specs.declared.counts.Counts.{Counts}
 use Rattle.pictures.specs.MarkedFrames.{Marked}

@@ -2,10 +2,10 @@
 use Rattle.std.specs.Prelude.{ℕ, suc, ◌+◌, Bool, not, nat_eq, List, [], ◌∷◌, ◌++◌, length, take, drop, filter, position, ◌||◌, false, Option, Some, None, is_none, ℤ, pos, ◌+ℤ◌, ◌-ℤ◌, int_lt, if◌then◌else◌}
 use Rattle.std.specs.Option.{option_eq}
 use Rattle.std.specs.Ordering.{int_eq}
-use Rattle.set_types.specs.declared.sps.Sps.{Sps}
-use Rattle.header_types.specs.declared.ref_pic_list_modification.RefPicListModification.{RefPicListModification}
-use Rattle.header_types.specs.declared.ref_pic_list_modification.RefPicListModification.TheVariants.{Subtract, Add, LongTerm}
-use Rattle.set_types.specs.FrameNumbers.{max_frame_num}
+use Rattle.param_set_types.specs.declared.sps.Sps.{Sps}
+use Rattle.slice_header_types.specs.declared.ref_pic_list_modification.RefPicListModification.{RefPicListModification}
+use Rattle.slice_header_types.specs.declared.ref_pic_list_modification.RefPicListModification.TheVariants.{Subtract, Add, LongTerm}
+use Rattle.param_set_types.specs.FrameNumbers.{max_frame_num}
 use Rattle.pictures.specs.declared.frames.Frame.{Frame}
 use Rattle.pictures.specs.PicNums.{pic_num, long_term_pic_num, curr_pic_num}
 use Rattle.ref_lists.specs.InitialLists.{Entries}

@@ -15,9 +15,9 @@ use crate::modification::modified;
 use crate::reference_list::cut;
 use arrayvec::ArrayVec;
 use base_types::AtMost;
-use header_types::{RefPicListModifications, SliceHeader, SliceType};
+use param_set_types::Sps;
 use pictures::{Counts, Frame, List, Marks};
-use set_types::Sps;
+use slice_header_types::{RefPicListModifications, SliceHeader, SliceType};
 
 /// List 0 and list 1 of a slice, from the frames marked before its picture and the picture's counts before resetting.
 ///

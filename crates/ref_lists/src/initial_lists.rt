@@ -6,8 +6,8 @@ ghost use Rattle.std.specs.List.{range_with_len};
 ghost use Rattle.ref_lists.specs.InitialLists.{rising, falling, standing, short_term_standing, standing_at, compare, initial_list, exchanged};
 
 use arrayvec::ArrayVec;
+use param_set_types::Sps;
 use pictures::{Frame, frame_num_wrap};
-use set_types::Sps;
 
 /// How the short-term frames of a list are ordered.
 #[derive(Clone, Copy)]

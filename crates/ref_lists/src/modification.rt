@@ -6,9 +6,9 @@ ghost use Rattle.ref_lists.specs.Modification.{no_wrap, named, has_number, is_en
 
 use crate::fault::ListFault;
 use crate::reference_list::put;
-use header_types::RefPicListModification;
+use param_set_types::Sps;
 use pictures::{Frame, List};
-use set_types::Sps;
+use slice_header_types::RefPicListModification;
 
 /// The number by which a command names a frame.
 #[derive(Clone, Copy)]

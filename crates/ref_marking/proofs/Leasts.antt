@@ -6,7 +6,7 @@ use Rattle.std.specs.List.{reduce, cons_option}
 use Rattle.std.proofs.lemmas.Int.{ints, fold-int_min_bounds, fold-int_min_reached}
 use Rattle.std.proofs.lemmas.List.Elements.{All-nil, All-cons, All-head, All-tail, All-contains, All-contains_itself, All-weaker, Contains-append_cases, Contains-append_left, Contains-append_right, Contains-push, Contains-push_cases}
 use Rattle.std.proofs.lemmas.Option.{same_Some}
-use Rattle.set_types.specs.declared.sps.Sps.{Sps}
+use Rattle.param_set_types.specs.declared.sps.Sps.{Sps}
 use Rattle.pictures.specs.declared.frames.Frame.{Frame}
 use Rattle.pictures.specs.PicNums.{pic_num}
 use Rattle.ref_marking.specs.SlidingWindow.{HasLeastFrameNumWrap}

@@ -2,7 +2,7 @@
 use Rattle.std.proofs.Common.{◌≡◌, ℕ, ℤ, length, eq-eqb, filter_map, position, Option, Some, Result, refl, sym, ◌∙◌, ap}
 use Rattle.std.specs.Int.{int_min}
 use Rattle.std.specs.List.{reduce}
-use Rattle.set_types.specs.declared.sps.Sps.{Sps}
+use Rattle.param_set_types.specs.declared.sps.Sps.{Sps}
 use Rattle.ref_marking.specs.declared.fault.MarkFault.{MarkFault}
 use Rattle.ref_marking.specs.declared.fault.MarkFault.TheVariants.{NoShortTerm}
 use Rattle.pictures.specs.MarkedFrames.{Marked, most_frames}

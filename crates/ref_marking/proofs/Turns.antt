@@ -1,8 +1,8 @@
 -- Operations one after the other, by how many are done.
 use Rattle.std.proofs.Common.{◌≡◌, ℕ, ◌+◌, ◌<◌, ◌≤◌, List, length, drop, get_or, Ok, Err, refl, ◌∙◌, ap, add-one, drop-cons, drop_of_length-le}
-use Rattle.set_types.specs.declared.sps.Sps.{Sps}
+use Rattle.param_set_types.specs.declared.sps.Sps.{Sps}
 use Rattle.base_types.specs.Chains.{◌>>=◌}
-use Rattle.header_types.specs.declared.dec_ref_pic_marking.MemoryManagementControlOperation.{MemoryManagementControlOperation}
+use Rattle.slice_header_types.specs.declared.dec_ref_pic_marking.MemoryManagementControlOperation.{MemoryManagementControlOperation}
 use Rattle.ref_marking.specs.declared.fault.MarkFault.{MarkFault}
 use Rattle.pictures.specs.MarkedFrames.{Marked}
 use Rattle.ref_marking.specs.MarksAfter.{operated, all_operated}

@@ -1,14 +1,14 @@
 -- Decoded reference picture marking process (ITU-T H.264, 8.2.5.1): the set of marked frames after a picture.
 use Rattle.std.specs.Prelude.{◌≡◌, ◌<◌, ◌≤◌, ◌++◌, ◌∷◌, ◌&&◌, ◌||◌, ℕ, Bool, true, false, nat_lt, List, [], length, count_by, Option, Some, None, Ok, Err, MatchBool, if◌then◌else◌}
 use Rattle.std.specs.List.{list_any}
-use Rattle.set_types.specs.declared.sps.Sps.{Sps}
-use Rattle.header_types.specs.declared.slice_headers.SliceHeader.{SliceHeader}
-use Rattle.header_types.specs.declared.dec_ref_pic_marking.DecRefPicMarking.{DecRefPicMarking}
-use Rattle.header_types.specs.declared.dec_ref_pic_marking.DecRefPicMarking.TheVariants.{Idr, SlidingWindow, Adaptive}
-use Rattle.header_types.specs.declared.dec_ref_pic_marking.MemoryManagementControlOperation.{MemoryManagementControlOperation}
-use Rattle.header_types.specs.declared.dec_ref_pic_marking.MemoryManagementControlOperation.TheVariants.{FreeShortTerm, FreeLongTerm, AssignLongTerm, LimitLongTerm, CurrentLongTerm}
+use Rattle.param_set_types.specs.declared.sps.Sps.{Sps}
+use Rattle.slice_header_types.specs.declared.slice_headers.SliceHeader.{SliceHeader}
+use Rattle.slice_header_types.specs.declared.dec_ref_pic_marking.DecRefPicMarking.{DecRefPicMarking}
+use Rattle.slice_header_types.specs.declared.dec_ref_pic_marking.DecRefPicMarking.TheVariants.{Idr, SlidingWindow, Adaptive}
+use Rattle.slice_header_types.specs.declared.dec_ref_pic_marking.MemoryManagementControlOperation.{MemoryManagementControlOperation}
+use Rattle.slice_header_types.specs.declared.dec_ref_pic_marking.MemoryManagementControlOperation.TheVariants.{FreeShortTerm, FreeLongTerm, AssignLongTerm, LimitLongTerm, CurrentLongTerm}
 use Rattle.pictures.specs.declared.counts.Counts.{Counts}
-use Rattle.header_types.specs.Pictures.{is_reference}
+use Rattle.slice_header_types.specs.Pictures.{is_reference}
 use Rattle.pictures.specs.Resetting.{is_five, has_operation_five, counts_after_reset}
 use Rattle.ref_marking.specs.declared.fault.MarkFault.TheVariants.{BadMarking, TooManyReferences}
 use Rattle.pictures.specs.declared.frames.Frame.{Frame}

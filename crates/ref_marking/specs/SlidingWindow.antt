@@ -1,6 +1,6 @@
 -- Sliding window decoded reference picture marking process (ITU-T H.264, 8.2.5.3).
 use Rattle.std.specs.Prelude.{◌≡◌, ℕ, ℤ, ◌≤ℤ◌, ◌==◌, List, length, All, Some, IfSome, MatchBool}
-use Rattle.set_types.specs.declared.sps.Sps.{Sps}
+use Rattle.param_set_types.specs.declared.sps.Sps.{Sps}
 use Rattle.ref_marking.specs.declared.fault.MarkFault.TheVariants.{NoShortTerm}
 use Rattle.pictures.specs.declared.frames.Frame.{Frame}
 use Rattle.pictures.specs.MarkedFrames.{most_frames}

@@ -5,7 +5,7 @@ ghost use Rattle.std.specs.List.{list_any};
 ghost use Rattle.pictures.specs.Resetting.{is_five};
 ghost use Rattle.ref_marking.specs.Marking.{repeats, is_four, is_six, names_frame, contradict, current_idx};
 
-use header_types::MemoryManagementControlOperation as Operation;
+use slice_header_types::MemoryManagementControlOperation as Operation;
 
 // Whether 4, 5 or 6 stands twice, or 5 stands with 1, 2 or 3.
 pub(crate) fn contradict(operations: &[Operation]) -> bool

@@ -5,8 +5,8 @@ ghost use Rattle.pictures.specs.MarkedFrames.{without_idx};
 ghost use Rattle.ref_marking.specs.MarksAfter.{has_pic_num, has_long_term_pic_num, without_at};
 
 use crate::fault::MarkFault;
+use param_set_types::Sps;
 use pictures::Marks;
-use set_types::Sps;
 
 // The place of the first short-term frame with this PicNum.
 pub(crate) fn short_term_place(

@@ -14,9 +14,11 @@ use crate::fault::MarkFault;
 use crate::freeing::without_long_term;
 use crate::operations::{allowed, operate_all};
 use crate::sliding_window::{most_frames, slide_window};
-use header_types::{DecRefPicMarking, MemoryManagementControlOperation as Operation, SliceHeader};
+use param_set_types::Sps;
 use pictures::{AuId, Counts, Frame, Marks, Term, after_reset, resets};
-use set_types::Sps;
+use slice_header_types::{
+    DecRefPicMarking, MemoryManagementControlOperation as Operation, SliceHeader,
+};
 
 /// The frames that are marked after a picture: the set before it, its access unit's id, its sequence parameter set,
 /// its slice header, and its counts before resetting.

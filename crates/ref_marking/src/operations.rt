@@ -10,9 +10,9 @@ ghost use Rattle.ref_marking.specs.MarksAfter.{allows_idx, short_term_freed, lon
 use crate::fault::MarkFault;
 use crate::freeing::{long_term_place, short_term_place, without, without_long_term};
 use crate::numbers::pic_num_x;
-use header_types::MemoryManagementControlOperation as Operation;
+use param_set_types::Sps;
 use pictures::{Marks, Term};
-use set_types::Sps;
+use slice_header_types::MemoryManagementControlOperation as Operation;
 
 // 1: a short-term frame is freed (8.2.5.4.1).
 fn free_short_term(

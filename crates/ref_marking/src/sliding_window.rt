@@ -10,8 +10,8 @@ ghost use Rattle.ref_marking.specs.MarksAfter.{window_slid};
 
 use crate::fault::MarkFault;
 use crate::freeing::{short_term_place, without};
+use param_set_types::Sps;
 use pictures::Marks;
-use set_types::Sps;
 
 // How many frames may be marked.
 pub(crate) fn most_frames(sps: &Sps) -> usize

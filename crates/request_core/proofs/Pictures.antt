@@ -6,7 +6,7 @@ use Rattle.pictures.specs.declared.counts.Counts.{Counts}
 use Rattle.order_count.specs.Counting.{counts_of}
 use Rattle.pictures.specs.MarkedFrames.{Marked}
 use Rattle.ref_marking.specs.MarksAfter.{marks_after}
-use Rattle.validity_faults.specs.declared.validity_fault.ValidityFault.{ValidityFault}
+use Rattle.unit_outcomes.specs.declared.validity_fault.ValidityFault.{ValidityFault}
 use Rattle.unit_outcomes.specs.declared.outcome.Outcome.TheVariants.{Plan}
 use Rattle.slice_reading.specs.declared.stop.Stop.{Stop}
 use Rattle.slice_reading.specs.declared.stop.Stop.TheVariants.{Fault, Memory}

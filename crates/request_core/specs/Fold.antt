@@ -7,7 +7,7 @@ use Rattle.pictures.specs.declared.counts.Counts.{Counts}
 use Rattle.order_count.specs.declared.fault.OrderRange as counting
 use Rattle.order_count.specs.Anchors.{anchor_after_of}
 use Rattle.order_count.specs.Counting.{counts_of}
-use Rattle.header_types.specs.Pictures.{is_idr, is_reference}
+use Rattle.slice_header_types.specs.Pictures.{is_idr, is_reference}
 use Rattle.pictures.specs.PicOrderCnt.{pic_order_cnt}
 use Rattle.pictures.specs.Resetting.{has_operation_five, counts_after_reset}
 use Rattle.ref_marking.specs.declared.fault.MarkFault.{MarkFault}
@@ -17,8 +17,8 @@ use Rattle.ref_marking.specs.MarksAfter.{marks_after}
 use Rattle.ref_lists.specs.declared.fault.ListFault.{ListFault}
 use Rattle.ref_lists.specs.declared.fault.ListFault.TheVariants as listing
 use Rattle.ref_lists.specs.ReferenceLists.{lists_of}
-use Rattle.validity_faults.specs.declared.validity_fault.ValidityFault.{ValidityFault}
-use Rattle.validity_faults.specs.declared.validity_fault.ValidityFault.TheVariants.{OrderRange, OrderTie, NoReference, BadModification, BadMarking, TooManyReferences}
+use Rattle.unit_outcomes.specs.declared.validity_fault.ValidityFault.{ValidityFault}
+use Rattle.unit_outcomes.specs.declared.validity_fault.ValidityFault.TheVariants.{OrderRange, OrderTie, NoReference, BadModification, BadMarking, TooManyReferences}
 use Rattle.unit_outcomes.specs.declared.outcome.Plan.{Plan}
 use Rattle.unit_outcomes.specs.declared.outcome.Outcome.{Outcome}
 use Rattle.unit_outcomes.specs.declared.outcome.Outcome.TheVariants as outcomes

@@ -3,7 +3,7 @@ use Rattle.std.specs.Prelude.{ℕ, List, filter, map, Result}
 use Rattle.annexb.specs.NalUnit.{is_slice}
 use Rattle.base_types.specs.Chains.{◌>>=◌}
 use Rattle.unit_outcomes.specs.declared.outcome.Outcome.{Outcome}
-use Rattle.validity_faults.specs.declared.validity_fault.ValidityFault.{ValidityFault}
+use Rattle.unit_outcomes.specs.declared.validity_fault.ValidityFault.{ValidityFault}
 use Rattle.slice_reading.specs.Numbers.{gathered}
 use Rattle.slice_reading.specs.Slices.{SliceRead, slice_at}
 use Rattle.request_core.specs.States.{FoldState}

@@ -7,7 +7,7 @@ use Rattle.pictures.specs.declared.frames.Frame.{Frame}
 use Rattle.h264_controls.specs.declared.controls.Controls.{Controls}
 use Rattle.h264_controls.specs.declared.request.Request.{Request}
 use Rattle.h264_controls.specs.declared.work.Work.{Work}
-use Rattle.set_controls.specs.SetControls.{set_controls}
+use Rattle.param_set_controls.specs.SetControls.{set_controls}
 use Rattle.h264_controls.specs.PredWeightsControl.{pred_weights_control}
 use Rattle.h264_controls.specs.SliceParamsControl.{slice_params_control}
 use Rattle.h264_controls.specs.DecodeParamsControl.{decode_params_control}

@@ -2,15 +2,15 @@
 
 ghost use Rattle.std.specs.Prelude.{◌≡◌, ◌==◌, ◌∷◌, ◌&&◌, Bool, not, IsTrue, ◌↔◌, map};
 ghost use Rattle.std.specs.List.{list_any};
-ghost use Rattle.set_types.specs.FrameNumbers.{max_frame_num};
-ghost use Rattle.set_types.specs.SameSets.{same_sps};
+ghost use Rattle.param_set_types.specs.FrameNumbers.{max_frame_num};
+ghost use Rattle.param_set_types.specs.SameSets.{same_sps};
 ghost use Rattle.slice_reading.specs.Faults.{first_shown};
 ghost use Rattle.request_core.specs.Faults.{is_active, is_none, is_short_term, follows, repeats, picture_rows};
 
 use crate::state::State;
-use header_types::SliceHeader;
+use param_set_types::Sps;
 use pictures::{Frame, Term};
-use set_types::Sps;
+use slice_header_types::SliceHeader;
 use unit_outcomes::ValidityFault;
 
 /// The first fault that the picture shows after those before it.

@@ -1,7 +1,7 @@
 //! A unit as it is read over the state before it, and what it leads to.
 
 ghost use Rattle.std.specs.Prelude.{◌≡◌, ◌∷◌, ◌++◌, ℕ, List, Result, Ok, Some, None, IfOk};
-ghost use Rattle.validity_faults.specs.declared.validity_fault.ValidityFault.{ValidityFault};
+ghost use Rattle.unit_outcomes.specs.declared.validity_fault.ValidityFault.{ValidityFault};
 ghost use Rattle.slice_reading.specs.Answers.{AnswersAs};
 ghost use Rattle.slice_reading.specs.Slices.{SliceRead};
 ghost use Rattle.request_core.specs.States.{FoldState};

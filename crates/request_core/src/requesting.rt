@@ -10,9 +10,9 @@ use h264_controls::{
     Controls, References, Request, V4l2CtrlH264DecodeParams, V4l2CtrlH264PredWeights,
     V4l2CtrlH264SliceParams, Work,
 };
-use header_types::SliceHeader;
+use param_set_types::Sps;
 use pictures::{AuId, Counts, Marks};
-use set_types::Sps;
+use slice_header_types::SliceHeader;
 use std::alloc::{AllocError, Global};
 use unit_outcomes::Requests;
 

@@ -5,8 +5,8 @@ ghost use Rattle.request_core.specs.States.{no_units};
 
 use base_types::Shared;
 use order_count::Anchor;
+use param_set_types::Sps;
 use pictures::{Frame, Marks};
-use set_types::Sps;
 use slice_reading::Tables;
 use std::alloc::{AllocError, Global};
 use std::marker::Model;

@@ -2,7 +2,7 @@
 
 ghost use Rattle.std.specs.Prelude.{◌≡◌, ◌<◌, ◌∷◌, ◌++◌, ◌+◌, ◌^◌, Ok, Some, IsTrue, IfOk, OnOk, OnErr, if◌then◌else◌};
 ghost use Rattle.order_count.specs.Counting.{counts_of};
-ghost use Rattle.header_types.specs.Pictures.{is_idr};
+ghost use Rattle.slice_header_types.specs.Pictures.{is_idr};
 ghost use Rattle.pictures.specs.PicOrderCnt.{are_in_range};
 ghost use Rattle.pictures.specs.Resetting.{counts_after_reset};
 ghost use Rattle.slice_reading.specs.Faults.{first_shown};
@@ -21,8 +21,8 @@ use crate::steps::Steps;
 use access_unit::Unit;
 use base_types::Shared;
 use order_count::anchor_after;
+use param_set_types::Sps;
 use pictures::{AuId, Counts, Marks, after_reset, resets};
-use set_types::Sps;
 use slice_reading::{Slice, Stop, slice_fault};
 use std::alloc::{AllocError, Global};
 use unit_outcomes::{Outcome, ValidityFault};

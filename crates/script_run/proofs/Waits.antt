@@ -10,9 +10,9 @@ use Rattle.std.proofs.lemmas.Option.{slice_get-get_or}
 use Rattle.stand_in_device.specs.Jobs.{JobValue}
 use Rattle.picture_keys.specs.Keys.{Key}
 use Rattle.picture_keys.specs.Known.{keys_of}
-use Rattle.needed_units.specs.Needed.{IsNeeded}
-use Rattle.needed_units.proofs.Closing.{needed_more}
-use Rattle.key_places.proofs.Members.{among_map, among_source, first_or_among, nowhere, there, here}
+use Rattle.key_slots.specs.Needed.{IsNeeded}
+use Rattle.key_slots.proofs.Closing.{needed_more}
+use Rattle.key_slots.proofs.Members.{among_map, among_source, first_or_among, nowhere, there, here}
 use Rattle.picture_store.proofs.Waiting.{never_stuck}
 use Rattle.picture_store.specs.declared.answers.Landing.{Landing}
 use Rattle.picture_store.specs.declared.answers.Landing.TheVariants as landing

@@ -1,9 +1,9 @@
 -- The lines of what is shown of a unit (docs/OUTPUT.md).
 use Rattle.std.specs.Prelude.{ℕ, ◌++◌, Bool, true, false, List, codes, decimal}
 use Rattle.hex.specs.Hex.{encode_lower}
-use Rattle.validity_faults.specs.declared.validity_fault.ValidityFault.{ValidityFault}
-use Rattle.validity_faults.specs.Names.{name_of}
-use Rattle.validity_faults.specs.Numbers.{number_of}
+use Rattle.unit_outcomes.specs.declared.validity_fault.ValidityFault.{ValidityFault}
+use Rattle.unit_outcomes.specs.Names.{name_of}
+use Rattle.unit_outcomes.specs.Numbers.{number_of}
 use Rattle.stand_in_device.specs.declared.picture.Picture.{Picture}
 use Rattle.edit_engine.specs.declared.showing.Shown.{Shown}
 use Rattle.edit_engine.specs.declared.showing.Shown.TheVariants.{Ready, Pending, Fault, Empty, NoSuchUnit}

@@ -15,7 +15,7 @@ use access_unit::{MOST_UNITS, ReadFault, read_units};
 use bytes::Bytes;
 use console_io::Source;
 use edit_engine::{EditRefused, Place, ReadEdit, Receipt, Runner, Session};
-use hashed_units::{HashedUnit, hash_units};
+use picture_keys::{HashedUnit, hash_units};
 use std::alloc::{AllocError, Global};
 use std::thread::Threads;
 use unit_lines::RefusalLine;

@@ -8,7 +8,7 @@ use Rattle.stand_in_device.specs.declared.picture.Picture.{Picture}
 use Rattle.picture_keys.specs.Keys.{Key}
 use Rattle.picture_keys.specs.KeyPictures.{picture_of_key}
 use Rattle.picture_store.specs.Stores.{AreNumbered, AreOneToOne, IsNumberOf}
-use Rattle.key_places.proofs.Members.{nowhere}
+use Rattle.key_slots.proofs.Members.{nowhere}
 use Rattle.stream_edits.specs.declared.edits.Edit.{Edit}
 use Rattle.edit_engine.specs.declared.showing.Shown.{Shown}
 use Rattle.edit_engine.specs.declared.showing.Shown.TheVariants as shown

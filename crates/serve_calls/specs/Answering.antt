@@ -7,13 +7,13 @@ use Rattle.edit_engine.specs.Machines.{Machine}
 use Rattle.edit_engine.specs.Showing.{Shows}
 use Rattle.edit_engine.specs.Streams.{outcome_in, position_in}
 use Rattle.serve_messages.specs.declared.failure.Failure.{Failure}
-use Rattle.serve_answers.specs.declared.answer.Answer.{Answer}
-use Rattle.serve_answers.specs.declared.answer.Answer.TheVariants as answer
-use Rattle.serve_answers.specs.declared.answer.Found.{Found}
-use Rattle.serve_answers.specs.declared.answer.Stats.{Stats}
-use Rattle.serve_answers.specs.declared.unit_answers.UnitAnswer.{UnitAnswer}
-use Rattle.serve_answers.specs.Replies.{show_answer}
-use Rattle.serve_answers.specs.UnitAnswers.{unit_answer}
+use Rattle.serve_messages.specs.declared.answer.Answer.{Answer}
+use Rattle.serve_messages.specs.declared.answer.Answer.TheVariants as answer
+use Rattle.serve_messages.specs.declared.answer.Found.{Found}
+use Rattle.serve_messages.specs.declared.answer.Stats.{Stats}
+use Rattle.serve_messages.specs.declared.unit_answers.UnitAnswer.{UnitAnswer}
+use Rattle.serve_messages.specs.Replies.{show_answer}
+use Rattle.serve_messages.specs.UnitAnswers.{unit_answer}
 use Rattle.serve_calls.specs.declared.sums.Sums.{Sums}
 use Rattle.serve_calls.specs.Failing.{IsUnlessMemory}
 use Rattle.serve_calls.specs.Sessions.{Asks}

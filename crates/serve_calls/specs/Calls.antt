@@ -6,8 +6,8 @@ use Rattle.serve_messages.specs.declared.call.Call.{Call}
 use Rattle.serve_messages.specs.declared.call.Call.TheVariants as call
 use Rattle.serve_messages.specs.declared.failure.Failure.{Failure}
 use Rattle.serve_messages.specs.declared.failure.Failure.TheVariants.{NoMethod}
-use Rattle.serve_answers.specs.declared.answer.Answer.{Answer}
-use Rattle.serve_answers.specs.declared.answer.Answer.TheVariants.{Nothing}
+use Rattle.serve_messages.specs.declared.answer.Answer.{Answer}
+use Rattle.serve_messages.specs.declared.answer.Answer.TheVariants.{Nothing}
 use Rattle.serve_calls.specs.declared.server.Server.{Server}
 use Rattle.serve_calls.specs.declared.wanted_units.WantedUnit.{WantedUnit}
 use Rattle.serve_calls.specs.Answering.{TellsFound, TellsShown, TellsStats, TellsUnits}

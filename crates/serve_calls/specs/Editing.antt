@@ -14,10 +14,10 @@ use Rattle.edit_engine.specs.Grouping.{AnswersGroup}
 use Rattle.edit_engine.specs.Machines.{Machine, AnswersEdit}
 use Rattle.edit_engine.specs.Needing.{AnswersDrop}
 use Rattle.serve_messages.specs.declared.failure.Failure.{Failure}
-use Rattle.serve_answers.specs.declared.answer.Answer.{Answer}
-use Rattle.serve_answers.specs.declared.answer.Answer.TheVariants.{Word}
-use Rattle.serve_answers.specs.declared.words.Word.TheVariants as word
-use Rattle.serve_answers.specs.Replies.{drop_answer, edit_answer, group_answer}
+use Rattle.serve_messages.specs.declared.answer.Answer.{Answer}
+use Rattle.serve_messages.specs.declared.answer.Answer.TheVariants.{Word}
+use Rattle.serve_messages.specs.declared.words.Word.TheVariants as word
+use Rattle.serve_messages.specs.Replies.{drop_answer, edit_answer, group_answer}
 use Rattle.serve_calls.specs.declared.server.Server.{Server}
 use Rattle.serve_calls.specs.declared.sums.Sums.{Sums}
 use Rattle.serve_calls.specs.Sessions.{Clears, Steps}

@@ -13,10 +13,10 @@ use Rattle.edit_engine.specs.Taken.{input_of}
 use Rattle.serve_messages.specs.declared.failure.Failure.{Failure}
 use Rattle.serve_messages.specs.declared.failure.Failure.TheVariants.{Refused}
 use Rattle.serve_messages.specs.declared.failure.Refusal.TheVariants as refusal
-use Rattle.serve_answers.specs.declared.answer.Answer.{Answer}
-use Rattle.serve_answers.specs.declared.answer.Answer.TheVariants.{Job}
-use Rattle.serve_answers.specs.JobAnswers.{job_answer}
-use Rattle.serve_answers.specs.Replies.{give_back_answer, land_answer}
+use Rattle.serve_messages.specs.declared.answer.Answer.{Answer}
+use Rattle.serve_messages.specs.declared.answer.Answer.TheVariants.{Job}
+use Rattle.serve_messages.specs.JobAnswers.{job_answer}
+use Rattle.serve_messages.specs.Replies.{give_back_answer, land_answer}
 use Rattle.serve_calls.specs.Failing.{out_of_memory}
 
 -- an answer to one who asks for a job: for the unit of an id, or for any

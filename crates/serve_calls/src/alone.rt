@@ -5,7 +5,7 @@ ghost use Rattle.picture_cache.specs.Bounded.{most_room};
 ghost use Rattle.stand_in_device.specs.Inputs.{InputValue};
 ghost use Rattle.edit_engine.specs.Machines.{empty};
 ghost use Rattle.edit_engine.specs.Taken.{input_of};
-ghost use Rattle.serve_answers.specs.JobAnswers.{job_answer};
+ghost use Rattle.serve_messages.specs.JobAnswers.{job_answer};
 ghost use Rattle.serve_calls.specs.Failing.{out_of_memory};
 ghost use Rattle.serve_calls.specs.Jobs.{TellsJob};
 ghost use Rattle.serve_calls.specs.Taking.{TakesReply, taken_in, taken_of};
@@ -17,8 +17,7 @@ use edit_engine::{
     ReadGroup, Receipt, Reply, Runner, Session, TakeRefused, TakenJob,
 };
 use pictures::AuId;
-use serve_answers::{Answer, JobAnswer, of_give_back, of_land};
-use serve_messages::{Failure, Refusal};
+use serve_messages::{Answer, Failure, JobAnswer, Refusal, of_give_back, of_land};
 use std::alloc::{AllocError, Global};
 
 /// A session alone.

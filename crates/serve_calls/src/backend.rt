@@ -12,8 +12,7 @@ use edit_engine::{
     Dropping, EditRefused, GroupReceipt, GroupRefused, ReadEdit, ReadGroup, Receipt, Session,
 };
 use pictures::AuId;
-use serve_answers::Answer;
-use serve_messages::Failure;
+use serve_messages::{Answer, Failure};
 use std::alloc::Global;
 
 /// One who lends a session to be asked.

@@ -11,8 +11,7 @@ use crate::wanted_units::WantedUnit;
 use console_io::Source;
 use edit_script::id_of_number;
 use pictures::AuId;
-use serve_answers::Answer;
-use serve_messages::{Call, Failure};
+use serve_messages::{Answer, Call, Failure};
 use std::thread::Threads;
 
 impl<B: Backend, S: Source> Server<B, S> {

@@ -3,7 +3,7 @@
 //! A `Server` keeps a session by a `Backend`, of its own (`Alone`) or at a desk (serve_run).
 //! `Server::serve` takes a message: its answer is made of what the session answers to the call that
 //! the message asks for, and one that is refused changes nothing. Below are serve_messages, which
-//! reads requests, and serve_answers, which makes results; above is serve_run, which reads and
+//! reads requests, and serve_messages, which makes results; above is serve_run, which reads and
 //! writes lines.
 #![tactic(auto)]
 

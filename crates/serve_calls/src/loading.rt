@@ -11,10 +11,9 @@ use access_unit::{MOST_UNITS, ReadFault, read_units};
 use bytes::Bytes;
 use console_io::{InputFault, Source};
 use edit_engine::{EditRefused, Last, Place, ReadEdit, Receipt};
-use hashed_units::{HashedUnit, hash_units};
+use picture_keys::{HashedUnit, hash_units};
 use pictures::AuId;
-use serve_answers::Answer;
-use serve_messages::{Failure, Loaded, Refusal};
+use serve_messages::{Answer, Failure, Loaded, Refusal};
 use std::alloc::Global;
 use std::thread::Threads;
 

@@ -11,8 +11,7 @@ use crate::sums::Sums;
 use edit_engine::{NoSuchUnit, Session};
 use edit_script::id_of_number;
 use pictures::AuId;
-use serve_answers::{Answer, Found, Stats, UnitAnswer, of_show};
-use serve_messages::{Failure, Listed};
+use serve_messages::{Answer, Failure, Found, Listed, Stats, UnitAnswer, of_show};
 use std::alloc::{AllocError, Global};
 
 /// How far a unit may stand before the place of its position, where it is looked for first.

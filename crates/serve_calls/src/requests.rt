@@ -9,8 +9,7 @@ use crate::server::Server;
 use crate::wanted_units::WantedUnit;
 use console_io::Source;
 use serde_json::Value;
-use serve_answers::Answer;
-use serve_messages::{Call, Failure, Message, Request};
+use serve_messages::{Answer, Call, Failure, Message, Request};
 use std::thread::Threads;
 
 /// What became of a message.

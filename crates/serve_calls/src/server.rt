@@ -8,8 +8,7 @@ use crate::backend::Backend;
 use crate::sums::{Sums, bytes_of, bytes_of_edit};
 use edit_engine::{EditRefused, GroupReceipt, GroupRefused, ReadEdit, ReadGroup, Receipt};
 use edit_script::id_of_number;
-use serve_answers::{Answer, Word, of_drop, of_edit, of_group};
-use serve_messages::{Failure, Listed};
+use serve_messages::{Answer, Failure, Listed, Word, of_drop, of_edit, of_group};
 use std::alloc::Global;
 use stream_edits::Edit;
 

@@ -5,3 +5,6 @@ pub mod Messages
 pub mod Methods
 pub mod Parameters
 pub mod Requests
+pub mod JobAnswers
+pub mod Replies
+pub mod UnitAnswers

@@ -10,9 +10,8 @@ use edit_engine::{
     Session,
 };
 use pictures::AuId;
-use serve_answers::Answer;
 use serve_calls::{Asked, Backend};
-use serve_messages::Failure;
+use serve_messages::{Answer, Failure};
 use std::alloc::{AllocError, Global};
 use std::io::Write;
 use std::sync::{Mutex, Wait};

@@ -2,9 +2,8 @@
 
 use edit_script::id_of_number;
 use serde_json::Value;
-use serve_answers::Answer;
 use serve_calls::{Asked, WantedUnit, picked};
-use serve_messages::{Failure, failure_line, notification_line, result_line};
+use serve_messages::{Answer, Failure, failure_line, notification_line, result_line};
 use std::alloc::{AllocError, Global};
 use std::io::Write;
 

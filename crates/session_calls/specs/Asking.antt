@@ -3,7 +3,7 @@ use Rattle.std.specs.Prelude.{ℕ, pos, length, Option, None, Some, Result, Ok, 
 use Rattle.std.specs.Option.{option_map}
 use Rattle.unit_outcomes.specs.declared.outcome.Outcome.{Outcome}
 use Rattle.unit_outcomes.specs.declared.outcome.Outcome.TheVariants as outcomes
-use Rattle.validity_faults.specs.Numbers.{number_of}
+use Rattle.unit_outcomes.specs.Numbers.{number_of}
 use Rattle.stream_edits.specs.Streams.{Stream, ids_of, place_of}
 use Rattle.edit_engine.specs.Streams.{outcome_in, position_in}
 use Rattle.session_calls.specs.declared.asking.UnitOutcome.{UnitOutcome}

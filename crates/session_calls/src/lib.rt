@@ -1,9 +1,9 @@
 //! What the calls of a program in another language do with a session: they edit it, ask of it, and
 //! take, land and give back jobs, and answer each by a number.
 //!
-//! A call has a runner, which the handle of session_handle lends it, and tells what it is asked by
+//! A call has a runner, which the handle of cupdaisy lends it, and tells what it is asked by
 //! writing where its caller says; where it can't, its status says why, and nothing is written.
-//! Below are edit_engine and session_handle; above is cupdaisy, the library whose exports these
+//! Below are edit_engine and cupdaisy; above is cupdaisy, the library whose exports these
 //! are.
 #![tactic(auto)]
 

@@ -9,11 +9,10 @@ ghost use Rattle.session_calls.specs.Loading.{InsertsAll, LoadsTo, index_of, non
 
 use crate::editing::end_of;
 use crate::statuses::{DONE, MEMORY};
-use access_unit::{MOST_UNITS, ReadFault, Refusal, Unit};
+use access_unit::{MOST_UNITS, ReadFault, Refusal, Unit, read_alone};
 use edit_engine::{EditRefused, ReadEdit, Receipt, Runner};
-use hashed_units::HashedUnit;
+use picture_keys::HashedUnit;
 use std::alloc::Global;
-use stream_reading::read_alone;
 
 /// What is told of a stream that is loaded. Its units have the ids from the first one's on.
 #[repr(C)]

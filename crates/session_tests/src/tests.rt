@@ -5,6 +5,7 @@ mod damage;
 mod edits;
 mod foreign;
 mod groups;
+mod growth;
 mod jobs;
 mod limits;
 mod many;

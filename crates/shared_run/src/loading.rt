@@ -10,7 +10,7 @@ use access_unit::{MOST_UNITS, ReadFault, read_units};
 use console_io::Source;
 use decode_pool::{Desk, Seat};
 use edit_engine::{EditRefused, Last, Place, ReadEdit, Receipt};
-use hashed_units::{HashedUnit, hash_units};
+use picture_keys::{HashedUnit, hash_units};
 use script_run::{LoadedLine, RefusedLine, RunFault, shared_file};
 use std::alloc::{AllocError, Global};
 use std::sync::Wait;

@@ -4,27 +4,27 @@ use Rattle.std.specs.List.{AllByRecursion}
 use Rattle.std.proofs.lemmas.Bool.{cases_lt}
 use Rattle.std.proofs.lemmas.List.{take_all}
 use Rattle.expgolomb.specs.Bits.{Place, bits_of}
-use Rattle.set_types.specs.declared.sps.Sps.{Sps}
-use Rattle.set_types.specs.declared.pps.Pps.{Pps}
-use Rattle.syntax_tables.specs.Payloads.{after_first}
-use Rattle.slice_front.specs.declared.fault.HeaderFault.{HeaderFault}
-use Rattle.slice_front.specs.declared.fault.HeaderFault.TheVariants.{Cut, Value, Memory}
-use Rattle.header_types.specs.declared.slice_types.SliceType.{SliceType}
+use Rattle.param_set_types.specs.declared.sps.Sps.{Sps}
+use Rattle.param_set_types.specs.declared.pps.Pps.{Pps}
+use Rattle.expgolomb.specs.Payloads.{after_first}
+use Rattle.slice_header.specs.declared.fault.HeaderFault.{HeaderFault}
+use Rattle.slice_header.specs.declared.fault.HeaderFault.TheVariants.{Cut, Value, Memory}
+use Rattle.slice_header_types.specs.declared.slice_types.SliceType.{SliceType}
 use Rattle.slice_header.specs.declared.marking_syntax.MarkingFlags.{MarkingFlags}
 use Rattle.slice_header.specs.declared.weight_syntax.Denominators.{Denominators}
-use Rattle.header_types.specs.declared.pred_weight_table.PredWeightTable.{PredWeightTable}
-use Rattle.header_types.specs.declared.slice_headers.SliceHeader.{SliceHeader}
+use Rattle.slice_header_types.specs.declared.pred_weight_table.PredWeightTable.{PredWeightTable}
+use Rattle.slice_header_types.specs.declared.slice_headers.SliceHeader.{SliceHeader}
 use Rattle.slice_header.specs.SliceHeaders.{IsSliceHeader, HeaderHasFault, Answers, header_at, syntax_of}
-use Rattle.slice_front.specs.Fronts.{read_value, unit_bits}
+use Rattle.slice_header.specs.Fronts.{read_value, unit_bits}
 use Rattle.slice_header.specs.SliceHeaderSyntax.{header_syntax, picture_syntax, reference_syntax, ending_syntax, number_table, order_table, prediction_table, active_table, weights_of, coding_table, deblocking_table}
 use Rattle.slice_header.specs.RefPicListModificationSyntax.{flag_table, command_table, commands_if, modification_syntax}
 use Rattle.slice_header.specs.PredWeightTableSyntax.{denominator_table, luma_table, chroma_rows, chroma_table, entry_syntax, entries_syntax, weight_syntax, weights_if}
 use Rattle.slice_header.specs.DecRefPicMarkingSyntax.{marking_table, operation_table, operations_syntax, operations_if, marking_after, marking_syntax}
-use Rattle.syntax_tables.specs.Structures.{Syntax, followed_by, syntax_at}
-use Rattle.syntax_tables.proofs.Extensions.{CutIs, AllCutsAre, followed_by_cuts, counted_cuts, ended_cuts, after_extended, syntax_extended}
-use Rattle.slice_front.proofs.FrontLaws.{with_place, fault_is}
-use Rattle.slice_front.proofs.Fronts.{front_missing, after_first-front}
-use Rattle.syntax_tables.proofs.Structures.{syntax_found, syntax_only, syntax_fault, fault_syntax}
+use Rattle.expgolomb.specs.Structures.{Syntax, followed_by, syntax_at}
+use Rattle.expgolomb.proofs.Extensions.{CutIs, AllCutsAre, followed_by_cuts, counted_cuts, ended_cuts, after_extended, syntax_extended}
+use Rattle.slice_header.proofs.FrontLaws.{with_place, fault_is}
+use Rattle.slice_header.proofs.Fronts.{front_missing, after_first-front}
+use Rattle.expgolomb.proofs.Structures.{syntax_found, syntax_only, syntax_fault, fault_syntax}
 
 -- an empty payload has no header
 pub header_missing : (nal_ref_idc nal_unit_type : ℕ) (sps : Sps) (pps : Pps) → syntax_at (header_syntax nal_ref_idc nal_unit_type sps pps) (after_first []) ≡ Err Cut

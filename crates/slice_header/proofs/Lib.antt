@@ -1,2 +1,4 @@
+pub mod Fronts
+pub mod FrontLaws
 pub mod Refusals
 pub mod HeaderLaws

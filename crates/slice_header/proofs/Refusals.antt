@@ -1,7 +1,7 @@
 -- Faults that are read or that memory shows.
 use Rattle.std.proofs.Common.{◌≡◌, Result, Err}
-use Rattle.slice_front.specs.declared.fault.HeaderFault.{HeaderFault}
-use Rattle.slice_front.specs.declared.fault.HeaderFault.TheVariants.{Cut, Value, Memory}
+use Rattle.slice_header.specs.declared.fault.HeaderFault.{HeaderFault}
+use Rattle.slice_header.specs.declared.fault.HeaderFault.TheVariants.{Cut, Value, Memory}
 use Rattle.slice_header.specs.HeaderAnswer.{Refuses}
 
 -- a fault after structures that were read

@@ -1,16 +1,16 @@
 -- dec_ref_pic_marking() (ITU-T H.264, 7.3.3.3, 7.4.3.3).
 use Rattle.std.specs.Prelude.{ℕ, ◌==◌, nat_le, Bool, true, false, not, ◌&&◌, if◌then◌else◌, List, [], ◌∷◌, Option, Some, None, ℤ, nat_abs}
-use Rattle.slice_front.specs.declared.fault.HeaderFault.{HeaderFault}
-use Rattle.slice_front.specs.declared.fault.HeaderFault.TheVariants.{Value}
-use Rattle.header_types.specs.declared.dec_ref_pic_marking.DecRefPicMarking.{DecRefPicMarking}
-use Rattle.header_types.specs.declared.dec_ref_pic_marking.DecRefPicMarking.TheVariants.{Idr, SlidingWindow, Adaptive}
-use Rattle.header_types.specs.declared.dec_ref_pic_marking.MemoryManagementControlOperation.{MemoryManagementControlOperation}
-use Rattle.header_types.specs.declared.dec_ref_pic_marking.MemoryManagementControlOperation.TheVariants.{FreeShortTerm, FreeLongTerm, AssignLongTerm, LimitLongTerm, FreeAll, CurrentLongTerm}
-use Rattle.header_types.specs.Operations.{most_operations}
+use Rattle.slice_header.specs.declared.fault.HeaderFault.{HeaderFault}
+use Rattle.slice_header.specs.declared.fault.HeaderFault.TheVariants.{Value}
+use Rattle.slice_header_types.specs.declared.dec_ref_pic_marking.DecRefPicMarking.{DecRefPicMarking}
+use Rattle.slice_header_types.specs.declared.dec_ref_pic_marking.DecRefPicMarking.TheVariants.{Idr, SlidingWindow, Adaptive}
+use Rattle.slice_header_types.specs.declared.dec_ref_pic_marking.MemoryManagementControlOperation.{MemoryManagementControlOperation}
+use Rattle.slice_header_types.specs.declared.dec_ref_pic_marking.MemoryManagementControlOperation.TheVariants.{FreeShortTerm, FreeLongTerm, AssignLongTerm, LimitLongTerm, FreeAll, CurrentLongTerm}
+use Rattle.slice_header_types.specs.Operations.{most_operations}
 use Rattle.slice_header.specs.declared.marking_syntax.MarkingFlags.{MarkingFlags}
-use Rattle.syntax_tables.specs.Rows.{always, flag_of}
-use Rattle.slice_front.specs.HeaderRows.{u, ue_of, ue_any}
-use Rattle.syntax_tables.specs.Structures.{Table, Syntax, Says, Structure, followed_by, ended}
+use Rattle.expgolomb.specs.Rows.{always, flag_of}
+use Rattle.slice_header.specs.HeaderRows.{u, ue_of, ue_any}
+use Rattle.expgolomb.specs.Structures.{Table, Syntax, Says, Structure, followed_by, ended}
 
 -- the flags
 pub data MarkingField : Type 0 where

@@ -1,8 +1,8 @@
 -- What a function that may need memory answers, by what reading gives.
 use Rattle.std.specs.Prelude.{◌≡◌, Result, Ok, Err}
 use Rattle.expgolomb.specs.Bits.{Place}
-use Rattle.slice_front.specs.declared.fault.HeaderFault.{HeaderFault}
-use Rattle.slice_front.specs.declared.fault.HeaderFault.TheVariants.{Memory}
+use Rattle.slice_header.specs.declared.fault.HeaderFault.{HeaderFault}
+use Rattle.slice_header.specs.declared.fault.HeaderFault.TheVariants.{Memory}
 
 -- the fault is the one that was read, unless memory ran out
 abbrev pub Refuses : {A : Type 0} → HeaderFault → Result A HeaderFault → Type 0

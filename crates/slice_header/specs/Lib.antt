@@ -1,3 +1,9 @@
+pub mod CodeFaults
+pub mod HeaderRows
+pub mod FrontSyntax
+pub mod Fronts
+pub mod FaultNumbers
+pub mod Starts
 pub mod HeaderAnswer
 pub mod RefPicListModificationSyntax
 pub mod PredWeightTableSyntax

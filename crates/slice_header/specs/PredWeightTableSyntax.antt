@@ -1,15 +1,15 @@
 -- pred_weight_table() (ITU-T H.264, 7.3.3.2, 7.4.3.2).
 use Rattle.std.specs.Prelude.{ℕ, ◌^◌, Bool, true, false, List, [], ◌∷◌, Option, Some, None, ℤ, pos, negsuc, nat_abs}
-use Rattle.slice_front.specs.declared.fault.HeaderFault.{HeaderFault}
-use Rattle.header_types.specs.declared.pred_weight_table.PredWeight.{PredWeight}
-use Rattle.header_types.specs.declared.pred_weight_table.PredWeightTable.{PredWeightTable}
+use Rattle.slice_header.specs.declared.fault.HeaderFault.{HeaderFault}
+use Rattle.slice_header_types.specs.declared.pred_weight_table.PredWeight.{PredWeight}
+use Rattle.slice_header_types.specs.declared.pred_weight_table.PredWeightTable.{PredWeightTable}
 use Rattle.slice_header.specs.declared.weight_syntax.Denominators.{Denominators}
 use Rattle.slice_header.specs.declared.weight_syntax.LumaWeight.{LumaWeight}
 use Rattle.slice_header.specs.declared.weight_syntax.ChromaWeight.{ChromaWeight}
-use Rattle.syntax_tables.specs.Grammar.{Row}
-use Rattle.syntax_tables.specs.Rows.{always, flag_of}
-use Rattle.slice_front.specs.HeaderRows.{u, ue, se}
-use Rattle.syntax_tables.specs.Structures.{Table, Syntax, Says, Structure, followed_by, counted}
+use Rattle.expgolomb.specs.Grammar.{Row}
+use Rattle.expgolomb.specs.Rows.{always, flag_of}
+use Rattle.slice_header.specs.HeaderRows.{u, ue, se}
+use Rattle.expgolomb.specs.Structures.{Table, Syntax, Says, Structure, followed_by, counted}
 
 -- the denominators
 pub data DenominatorField : Type 0 where

@@ -1,12 +1,12 @@
 -- ref_pic_list_modification() of one list (ITU-T H.264, 7.3.3.1, 7.4.3.1).
 use Rattle.std.specs.Prelude.{ℕ, ◌+◌, ◌-◌, ◌==◌, nat_le, Bool, true, false, ◌&&◌, if◌then◌else◌, List, [], ◌∷◌, Option, Some, None, ℤ, nat_abs}
-use Rattle.slice_front.specs.declared.fault.HeaderFault.{HeaderFault}
-use Rattle.slice_front.specs.declared.fault.HeaderFault.TheVariants.{Value}
-use Rattle.header_types.specs.declared.ref_pic_list_modification.RefPicListModification.{RefPicListModification}
-use Rattle.header_types.specs.declared.ref_pic_list_modification.RefPicListModification.TheVariants.{Subtract, Add, LongTerm}
-use Rattle.syntax_tables.specs.Rows.{always, flag_of}
-use Rattle.slice_front.specs.HeaderRows.{u, ue_of, ue, ue_any}
-use Rattle.syntax_tables.specs.Structures.{Table, Syntax, Says, Structure, ended}
+use Rattle.slice_header.specs.declared.fault.HeaderFault.{HeaderFault}
+use Rattle.slice_header.specs.declared.fault.HeaderFault.TheVariants.{Value}
+use Rattle.slice_header_types.specs.declared.ref_pic_list_modification.RefPicListModification.{RefPicListModification}
+use Rattle.slice_header_types.specs.declared.ref_pic_list_modification.RefPicListModification.TheVariants.{Subtract, Add, LongTerm}
+use Rattle.expgolomb.specs.Rows.{always, flag_of}
+use Rattle.slice_header.specs.HeaderRows.{u, ue_of, ue, ue_any}
+use Rattle.expgolomb.specs.Structures.{Table, Syntax, Says, Structure, ended}
 
 -- whether there are commands
 pub data ModificationFlag : Type 0 where

@@ -2,14 +2,14 @@
 use Rattle.std.specs.Prelude.{◌≡◌, ℕ, List, Result, Ok, Err}
 use Rattle.expgolomb.specs.Bits.{Place}
 use Rattle.annexb.specs.NalUnit.{nal_ref_idc, nal_unit_type}
-use Rattle.set_types.specs.declared.sps.Sps.{Sps}
-use Rattle.set_types.specs.declared.pps.Pps.{Pps}
-use Rattle.slice_front.specs.declared.fault.HeaderFault.{HeaderFault}
-use Rattle.header_types.specs.declared.slice_headers.SliceHeader.{SliceHeader}
+use Rattle.param_set_types.specs.declared.sps.Sps.{Sps}
+use Rattle.param_set_types.specs.declared.pps.Pps.{Pps}
+use Rattle.slice_header.specs.declared.fault.HeaderFault.{HeaderFault}
+use Rattle.slice_header_types.specs.declared.slice_headers.SliceHeader.{SliceHeader}
 use Rattle.slice_header.specs.HeaderAnswer.{Refuses}
-use Rattle.slice_front.specs.Fronts.{unit_bits, read_value}
+use Rattle.slice_header.specs.Fronts.{unit_bits, read_value}
 use Rattle.slice_header.specs.SliceHeaderSyntax.{header_syntax}
-use Rattle.syntax_tables.specs.Structures.{Syntax, HasSyntax, SyntaxHasFault, syntax_at}
+use Rattle.expgolomb.specs.Structures.{Syntax, HasSyntax, SyntaxHasFault, syntax_at}
 
 -- the syntax of the unit's header
 abbrev pub syntax_of : List ℕ → Sps → Pps → Syntax SliceHeader HeaderFault

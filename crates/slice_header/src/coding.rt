@@ -1,15 +1,15 @@
 //! The fields after the marking: entropy coding, quantisation and deblocking.
 
 ghost use Rattle.std.specs.Prelude.{◌≡◌, ◌≤◌, ◌+◌};
-ghost use Rattle.syntax_tables.specs.Answer.{Reads};
+ghost use Rattle.expgolomb.specs.Answer.{Reads};
 ghost use Rattle.slice_header.specs.SliceHeaderSyntax.{coding_table, deblocking_table};
-ghost use Rattle.syntax_tables.specs.Structures.{table_at};
+ghost use Rattle.expgolomb.specs.Structures.{table_at};
 
+use crate::HeaderFault;
+use crate::fields::{se, ue};
 use expgolomb::Bits;
-use header_types::SliceType;
-use set_types::Pps;
-use slice_front::HeaderFault;
-use slice_front::fields::{se, ue};
+use param_set_types::Pps;
+use slice_header_types::SliceType;
 
 /// cabac_init_idc and slice_qp_delta.
 #[derive(Clone, Copy)]
@@ -18,7 +18,7 @@ pub struct Coding {
     pub slice_qp_delta: i8,
 }
 
-#[tactic(auto, unfolding(crate::specs::SliceHeaderSyntax::coding_table, syntax_tables::specs::Structures::table_at, syntax_tables::specs::Reading::rows_at))]
+#[tactic(auto, unfolding(crate::specs::SliceHeaderSyntax::coding_table, expgolomb::specs::Structures::table_at, expgolomb::specs::Reading::rows_at))]
 pub fn coding_fields(
     bits: &mut Bits<'_>,
     slice_type: SliceType,
@@ -48,7 +48,7 @@ pub struct Deblocking {
     pub slice_beta_offset_div2: i8,
 }
 
-#[tactic(auto, unfolding(crate::specs::SliceHeaderSyntax::deblocking_table, syntax_tables::specs::Structures::table_at, syntax_tables::specs::Reading::rows_at))]
+#[tactic(auto, unfolding(crate::specs::SliceHeaderSyntax::deblocking_table, expgolomb::specs::Structures::table_at, expgolomb::specs::Reading::rows_at))]
 pub fn deblocking_fields(bits: &mut Bits<'_>, pps: &Pps) -> Result<Deblocking, HeaderFault>
     ensures exact { Reads (λ deblocking. deblocking) result bits.new
         (table_at (deblocking_table pps.now) bits.old) }

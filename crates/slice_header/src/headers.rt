@@ -5,9 +5,9 @@ ghost use Rattle.annexb.specs.NalUnit.{nal_ref_idc, nal_unit_type};
 ghost use Rattle.slice_header.specs.HeaderAnswer.{Stores};
 ghost use Rattle.slice_header.specs.SliceHeaders.{syntax_of};
 ghost use Rattle.slice_header.specs.SliceHeaderSyntax.{weights_of, is_weighted, is_monochrome, header_from, picture_syntax, reference_syntax, ending_syntax};
-ghost use Rattle.header_types.specs.SliceTypes.{has_list, is_b};
-ghost use Rattle.syntax_tables.specs.Answer.{Reads};
-ghost use Rattle.syntax_tables.specs.Structures.{syntax_at};
+ghost use Rattle.slice_header_types.specs.SliceTypes.{has_list, is_b};
+ghost use Rattle.expgolomb.specs.Answer.{Reads};
+ghost use Rattle.expgolomb.specs.Structures.{syntax_at};
 
 use crate::coding::{Coding, Deblocking, coding_fields, deblocking_fields};
 use crate::marking_syntax::dec_ref_pic_marking;
@@ -15,13 +15,13 @@ use crate::modification_syntax::ref_pic_list_modification;
 use crate::picture_fields::{Numbers, OrderCounts, order_counts, picture_numbers};
 use crate::prediction::{ActiveCounts, Prediction, active_counts, prediction_fields};
 use crate::weight_syntax::pred_weight_table;
+use crate::{HeaderFault, HeaderFront, header_front};
 use annexb::Nal;
 use expgolomb::Bits;
-use header_types::{
+use param_set_types::{ChromaFormat, Pps, Sps, WeightedBipred};
+use slice_header_types::{
     DecRefPicMarking, PredWeightTable, RefPicListModifications, SliceHeader, SliceType,
 };
-use set_types::{ChromaFormat, Pps, Sps, WeightedBipred};
-use slice_front::{HeaderFault, HeaderFront, header_front};
 use std::alloc::Global;
 
 /// Which picture the slice is of, and the bits that its picture order count takes.
@@ -87,7 +87,7 @@ pub fn header_fields(
     })
 }
 
-#[tactic(auto, unfolding(crate::specs::SliceHeaderSyntax::picture_syntax, syntax_tables::specs::Structures::syntax_at))]
+#[tactic(auto, unfolding(crate::specs::SliceHeaderSyntax::picture_syntax, expgolomb::specs::Structures::syntax_at))]
 fn picture_part(
     bits: &mut Bits<'_>,
     is_idr: bool,
@@ -112,7 +112,7 @@ fn picture_part(
     })
 }
 
-#[tactic(auto, unfolding(crate::specs::SliceHeaderSyntax::reference_syntax, syntax_tables::specs::Structures::syntax_at))]
+#[tactic(auto, unfolding(crate::specs::SliceHeaderSyntax::reference_syntax, expgolomb::specs::Structures::syntax_at))]
 fn reference_part(
     alloc: Global,
     bits: &mut Bits<'_>,
@@ -141,7 +141,7 @@ fn reference_part(
     })
 }
 
-#[tactic(auto, unfolding(crate::specs::SliceHeaderSyntax::ending_syntax, syntax_tables::specs::Structures::syntax_at))]
+#[tactic(auto, unfolding(crate::specs::SliceHeaderSyntax::ending_syntax, expgolomb::specs::Structures::syntax_at))]
 fn ending_part(
     alloc: Global,
     bits: &mut Bits<'_>,

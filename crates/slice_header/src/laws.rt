@@ -1,10 +1,10 @@
 //! Laws of the definitions, each the contract of a function that does nothing.
 
 ghost use Rattle.std.specs.Prelude.{◌≡◌, ◌↔◌, ℕ, List, Ok, Err};
-ghost use Rattle.header_types.specs.declared.slice_headers.SliceHeader.{SliceHeader};
-ghost use Rattle.set_types.specs.declared.pps.Pps.{Pps};
-ghost use Rattle.set_types.specs.declared.sps.Sps.{Sps};
-ghost use Rattle.slice_front.specs.declared.fault.HeaderFault.{HeaderFault};
+ghost use Rattle.slice_header_types.specs.declared.slice_headers.SliceHeader.{SliceHeader};
+ghost use Rattle.param_set_types.specs.declared.pps.Pps.{Pps};
+ghost use Rattle.param_set_types.specs.declared.sps.Sps.{Sps};
+ghost use Rattle.slice_header.specs.declared.fault.HeaderFault.{HeaderFault};
 ghost use Rattle.slice_header.specs.SliceHeaders.{HeaderHasFault, IsSliceHeader, header_at};
 
 /// A unit has a slice header over two parameter sets exactly where reading its syntax in order gives that header, and

@@ -1,20 +1,20 @@
 //! Reads the marking of a picture (7.3.3.3).
 
 ghost use Rattle.std.specs.Prelude.{◌≡◌, ◌≤◌, ◌+◌, pos, true};
-ghost use Rattle.syntax_tables.specs.Answer.{Reads};
-ghost use Rattle.syntax_tables.specs.Grammar.{Unsigned};
-ghost use Rattle.syntax_tables.specs.Reading.{value_at};
+ghost use Rattle.expgolomb.specs.Answer.{Reads};
+ghost use Rattle.expgolomb.specs.Grammar.{Unsigned};
+ghost use Rattle.expgolomb.specs.TableReading.{value_at};
 ghost use Rattle.slice_header.specs.HeaderAnswer.{Stores};
 ghost use Rattle.slice_header.specs.DecRefPicMarkingSyntax.{marking_table, operation_table, operation_range, operations_syntax, marking_syntax};
-ghost use Rattle.syntax_tables.specs.Structures.{table_at, syntax_at};
+ghost use Rattle.expgolomb.specs.Structures.{table_at, syntax_at};
 
+use crate::HeaderFault;
+use crate::fields::{flag, ue_any};
 use expgolomb::Bits;
-use header_types::{
+use slice_header_types::{
     DecRefPicMarking, MOST_OPERATIONS, MemoryManagementControlOperation,
     MemoryManagementControlOperations,
 };
-use slice_front::HeaderFault;
-use slice_front::fields::{flag, ue_any};
 use std::alloc::Global;
 
 /// The flags of dec_ref_pic_marking().
@@ -50,7 +50,7 @@ pub fn dec_ref_pic_marking(
     }
 }
 
-#[tactic(auto, unfolding(crate::specs::DecRefPicMarkingSyntax::marking_table, syntax_tables::specs::Structures::table_at, syntax_tables::specs::Reading::rows_at))]
+#[tactic(auto, unfolding(crate::specs::DecRefPicMarkingSyntax::marking_table, expgolomb::specs::Structures::table_at, expgolomb::specs::Reading::rows_at))]
 fn marking_flags(
     bits: &mut Bits<'_>,
     is_reference: bool,
@@ -97,7 +97,7 @@ fn operations(
 }
 
 // An operation, or nothing at the end, which alone may stand where there is no room.
-#[tactic(auto, unfolding(crate::specs::DecRefPicMarkingSyntax::operation_table, syntax_tables::specs::Structures::table_at, syntax_tables::specs::Reading::rows_at))]
+#[tactic(auto, unfolding(crate::specs::DecRefPicMarkingSyntax::operation_table, expgolomb::specs::Structures::table_at, expgolomb::specs::Reading::rows_at))]
 fn operation(
     bits: &mut Bits<'_>,
     has_room: bool,
@@ -129,7 +129,7 @@ fn operation(
 }
 
 // memory_management_control_operation.
-#[tactic(auto, unfolding(syntax_tables::specs::Reading::value_at))]
+#[tactic(auto, unfolding(expgolomb::specs::Reading::value_at))]
 fn operation_code(bits: &mut Bits<'_>, has_room: bool) -> Result<u32, HeaderFault>
     ensures exact { Reads pos result bits.new (value_at Unsigned HeaderFault.Cut HeaderFault.Value
         (operation_range has_room) bits.old) }

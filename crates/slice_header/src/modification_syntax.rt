@@ -1,17 +1,17 @@
 //! Reads the modifications of a list (7.3.3.1).
 
 ghost use Rattle.std.specs.Prelude.{◌≡◌, ◌≤◌, ◌+◌, ◌*◌, [], true, false, pos};
-ghost use Rattle.syntax_tables.specs.Answer.{Reads};
-ghost use Rattle.syntax_tables.specs.Grammar.{Unsigned};
-ghost use Rattle.syntax_tables.specs.Reading.{value_at};
+ghost use Rattle.expgolomb.specs.Answer.{Reads};
+ghost use Rattle.expgolomb.specs.Grammar.{Unsigned};
+ghost use Rattle.expgolomb.specs.TableReading.{value_at};
 ghost use Rattle.slice_header.specs.HeaderAnswer.{Stores};
 ghost use Rattle.slice_header.specs.RefPicListModificationSyntax.{flag_table, command_table, idc_range, modification_syntax};
-ghost use Rattle.syntax_tables.specs.Structures.{table_at, syntax_at, ended};
+ghost use Rattle.expgolomb.specs.Structures.{table_at, syntax_at, ended};
 
+use crate::HeaderFault;
+use crate::fields::{flag, ue, ue_any};
 use expgolomb::Bits;
-use header_types::{RefPicListModification, RefPicListModifications};
-use slice_front::HeaderFault;
-use slice_front::fields::{flag, ue, ue_any};
+use slice_header_types::{RefPicListModification, RefPicListModifications};
 use std::alloc::Global;
 
 /// Reads the commands of a list of so many active entries less 1, where the slice has it.
@@ -35,7 +35,7 @@ pub fn ref_pic_list_modification(
     }
 }
 
-#[tactic(auto, unfolding(crate::specs::RefPicListModificationSyntax::flag_table, syntax_tables::specs::Structures::table_at, syntax_tables::specs::Reading::rows_at))]
+#[tactic(auto, unfolding(crate::specs::RefPicListModificationSyntax::flag_table, expgolomb::specs::Structures::table_at, expgolomb::specs::Reading::rows_at))]
 fn modification_flag(bits: &mut Bits<'_>, is_there: bool) -> Result<bool, HeaderFault>
     ensures exact { Reads (λ flag. flag) result bits.new (table_at (flag_table is_there) bits.old) }
     ensures near { bits.new.before ≤ bits.old.before + 63 }
@@ -68,7 +68,7 @@ fn commands(
 }
 
 // A command, or nothing at the end, which alone may stand where there is no room.
-#[tactic(auto, unfolding(crate::specs::RefPicListModificationSyntax::command_table, syntax_tables::specs::Structures::table_at, syntax_tables::specs::Reading::rows_at))]
+#[tactic(auto, unfolding(crate::specs::RefPicListModificationSyntax::command_table, expgolomb::specs::Structures::table_at, expgolomb::specs::Reading::rows_at))]
 fn command(
     bits: &mut Bits<'_>,
     has_room: bool,
@@ -94,7 +94,7 @@ fn command(
 }
 
 // modification_of_pic_nums_idc.
-#[tactic(auto, unfolding(syntax_tables::specs::Reading::value_at))]
+#[tactic(auto, unfolding(expgolomb::specs::Reading::value_at))]
 fn command_idc(bits: &mut Bits<'_>, has_room: bool) -> Result<u32, HeaderFault>
     ensures exact { Reads pos result bits.new (value_at Unsigned HeaderFault.Cut HeaderFault.Value
         (idc_range has_room) bits.old) }

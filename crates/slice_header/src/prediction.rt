@@ -1,17 +1,17 @@
 //! What a slice says of redundant pictures, direct prediction and the lengths of its lists.
 
 ghost use Rattle.std.specs.Prelude.{◌≡◌, ◌≤◌, ◌+◌, true};
-ghost use Rattle.syntax_tables.specs.Answer.{Reads};
+ghost use Rattle.expgolomb.specs.Answer.{Reads};
 ghost use Rattle.slice_header.specs.SliceHeaderSyntax.{prediction_table, active_table};
-ghost use Rattle.header_types.specs.SliceTypes.{is_b};
-ghost use Rattle.syntax_tables.specs.Structures.{table_at};
+ghost use Rattle.slice_header_types.specs.SliceTypes.{is_b};
+ghost use Rattle.expgolomb.specs.Structures.{table_at};
 
+use crate::HeaderFault;
+use crate::fields::{flag, ue};
 use base_types::AtMost;
 use expgolomb::Bits;
-use header_types::SliceType;
-use set_types::Pps;
-use slice_front::HeaderFault;
-use slice_front::fields::{flag, ue};
+use param_set_types::Pps;
+use slice_header_types::SliceType;
 
 /// redundant_pic_cnt and direct_spatial_mv_pred_flag.
 #[derive(Clone, Copy)]
@@ -20,7 +20,7 @@ pub struct Prediction {
     pub direct_spatial_mv_pred_flag: bool,
 }
 
-#[tactic(auto, unfolding(crate::specs::SliceHeaderSyntax::prediction_table, syntax_tables::specs::Structures::table_at, syntax_tables::specs::Reading::rows_at))]
+#[tactic(auto, unfolding(crate::specs::SliceHeaderSyntax::prediction_table, expgolomb::specs::Structures::table_at, expgolomb::specs::Reading::rows_at))]
 pub fn prediction_fields(
     bits: &mut Bits<'_>,
     slice_type: SliceType,
@@ -54,7 +54,7 @@ pub struct ActiveCounts {
     pub num_ref_idx_l1_active_minus1: AtMost<31>,
 }
 
-#[tactic(auto, unfolding(crate::specs::SliceHeaderSyntax::active_table, syntax_tables::specs::Structures::table_at, syntax_tables::specs::Reading::rows_at))]
+#[tactic(auto, unfolding(crate::specs::SliceHeaderSyntax::active_table, expgolomb::specs::Structures::table_at, expgolomb::specs::Reading::rows_at))]
 pub fn active_counts(
     bits: &mut Bits<'_>,
     slice_type: SliceType,

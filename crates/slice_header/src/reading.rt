@@ -1,20 +1,20 @@
 //! Reads the header of a unit.
 
 ghost use Rattle.std.specs.Prelude.{◌≡◌, ◌⊎◌, IfOk, IfErr, Ok, Err, IsTrue, ◌↔◌, length};
-ghost use Rattle.syntax_tables.specs.Payloads.{after_first};
+ghost use Rattle.expgolomb.specs.Payloads.{after_first};
 ghost use Rattle.slice_header.specs.SliceHeaders.{IsSliceHeader, HeaderHasFault, Answers, header_at, syntax_of};
-ghost use Rattle.slice_front.specs.Fronts.{read_value};
-ghost use Rattle.slice_front.specs.Starts.{start_of};
-ghost use Rattle.syntax_tables.specs.Structures.{syntax_at};
-ghost use Rattle.slice_front.specs.declared.fault.HeaderFault.{HeaderFault};
-ghost use Rattle.header_types.specs.declared.slice_headers.SliceHeader.{SliceHeader};
+ghost use Rattle.slice_header.specs.Fronts.{read_value};
+ghost use Rattle.slice_header.specs.Starts.{start_of};
+ghost use Rattle.expgolomb.specs.Structures.{syntax_at};
+ghost use Rattle.slice_header.specs.declared.fault.HeaderFault.{HeaderFault};
+ghost use Rattle.slice_header_types.specs.declared.slice_headers.SliceHeader.{SliceHeader};
 
+use crate::fields::after_first;
 use crate::headers::{header_fields, header_from};
+use crate::{HeaderFault, Start};
 use annexb::{Nal, payload};
-use header_types::SliceHeader;
-use set_types::{Pps, Sps};
-use slice_front::fields::after_first;
-use slice_front::{HeaderFault, Start};
+use param_set_types::{Pps, Sps};
+use slice_header_types::SliceHeader;
 use std::alloc::Global;
 
 /// Reads the header of a slice with the parameter sets that it names: the first field that can't be read is what is

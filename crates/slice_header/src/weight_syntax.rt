@@ -1,18 +1,18 @@
 //! Reads the table of weights (7.3.3.2).
 
 ghost use Rattle.std.specs.Prelude.{◌≡◌, ◌≤◌, ◌+◌, ◌^◌, pos, negsuc, IfOk};
-ghost use Rattle.syntax_tables.specs.Answer.{Reads};
-ghost use Rattle.syntax_tables.specs.Grammar.{Signed};
-ghost use Rattle.syntax_tables.specs.Ranges.{between};
-ghost use Rattle.syntax_tables.specs.Reading.{rows_at, value_at};
+ghost use Rattle.expgolomb.specs.Answer.{Reads};
+ghost use Rattle.expgolomb.specs.Grammar.{Signed};
+ghost use Rattle.expgolomb.specs.Ranges.{between};
+ghost use Rattle.expgolomb.specs.TableReading.{rows_at, value_at};
 ghost use Rattle.slice_header.specs.HeaderAnswer.{Stores};
 ghost use Rattle.slice_header.specs.PredWeightTableSyntax.{denominator_table, luma_table, chroma_table, chroma_rows, inferred_chroma, take_chroma, entry_syntax, entries_syntax, weight_syntax};
-ghost use Rattle.syntax_tables.specs.Structures.{table_at, syntax_at};
+ghost use Rattle.expgolomb.specs.Structures.{table_at, syntax_at};
 
+use crate::HeaderFault;
+use crate::fields::{flag, se, ue};
 use expgolomb::Bits;
-use header_types::{PredWeight, PredWeightTable, PredWeights};
-use slice_front::HeaderFault;
-use slice_front::fields::{flag, se, ue};
+use slice_header_types::{PredWeight, PredWeightTable, PredWeights};
 use std::alloc::Global;
 
 /// The denominators, as powers of 2.
@@ -65,7 +65,7 @@ pub fn pred_weight_table(
     })
 }
 
-#[tactic(auto, unfolding(crate::specs::PredWeightTableSyntax::denominator_table, syntax_tables::specs::Structures::table_at, syntax_tables::specs::Reading::rows_at))]
+#[tactic(auto, unfolding(crate::specs::PredWeightTableSyntax::denominator_table, expgolomb::specs::Structures::table_at, expgolomb::specs::Reading::rows_at))]
 fn read_denominators(bits: &mut Bits<'_>, has_chroma: bool) -> Result<Denominators, HeaderFault>
     ensures exact { Reads (λ denominators. denominators) result bits.new
         (table_at (denominator_table has_chroma) bits.old) }
@@ -105,7 +105,7 @@ fn weights(
 }
 
 // The weights of an entry.
-#[tactic(auto, unfolding(crate::specs::PredWeightTableSyntax::entry_syntax, syntax_tables::specs::Structures::syntax_at))]
+#[tactic(auto, unfolding(crate::specs::PredWeightTableSyntax::entry_syntax, expgolomb::specs::Structures::syntax_at))]
 fn pred_weight(
     bits: &mut Bits<'_>,
     has_chroma: bool,
@@ -129,7 +129,7 @@ fn pred_weight(
     })
 }
 
-#[tactic(auto, unfolding(crate::specs::PredWeightTableSyntax::luma_table, syntax_tables::specs::Structures::table_at, syntax_tables::specs::Reading::rows_at))]
+#[tactic(auto, unfolding(crate::specs::PredWeightTableSyntax::luma_table, expgolomb::specs::Structures::table_at, expgolomb::specs::Reading::rows_at))]
 fn read_luma(bits: &mut Bits<'_>, log2_denom: u8) -> Result<LumaWeight, HeaderFault>
     requires { log2_denom ≤ 7 }
     ensures exact { Reads (λ weight. weight) result bits.new
@@ -151,7 +151,7 @@ fn read_luma(bits: &mut Bits<'_>, log2_denom: u8) -> Result<LumaWeight, HeaderFa
     }
 }
 
-#[tactic(auto, unfolding(crate::specs::PredWeightTableSyntax::chroma_table, syntax_tables::specs::Structures::table_at, syntax_tables::specs::Reading::rows_at))]
+#[tactic(auto, unfolding(crate::specs::PredWeightTableSyntax::chroma_table, expgolomb::specs::Structures::table_at, expgolomb::specs::Reading::rows_at))]
 fn read_chroma(
     bits: &mut Bits<'_>,
     has_chroma: bool,
@@ -167,7 +167,7 @@ fn read_chroma(
 }
 
 // What follows the flag.
-#[tactic(auto, unfolding(crate::specs::PredWeightTableSyntax::chroma_rows, syntax_tables::specs::Reading::rows_at))]
+#[tactic(auto, unfolding(crate::specs::PredWeightTableSyntax::chroma_rows, expgolomb::specs::Reading::rows_at))]
 fn chroma_weight(
     bits: &mut Bits<'_>,
     is_sent: bool,

@@ -1,9 +1,9 @@
 -- What planning answers, by what the fold says.
 use Rattle.std.specs.Prelude.{◌≡◌, ⊤, Result, Ok, Err}
-use Rattle.slice_front.specs.declared.fault.HeaderFault.{HeaderFault}
-use Rattle.slice_front.specs.declared.fault.HeaderFault.TheVariants as headers
+use Rattle.slice_header.specs.declared.fault.HeaderFault.{HeaderFault}
+use Rattle.slice_header.specs.declared.fault.HeaderFault.TheVariants as headers
 use Rattle.slice_reading.specs.Slices.{header_fault}
-use Rattle.validity_faults.specs.declared.validity_fault.ValidityFault.{ValidityFault}
+use Rattle.unit_outcomes.specs.declared.validity_fault.ValidityFault.{ValidityFault}
 use Rattle.slice_reading.specs.declared.stop.Stop.{Stop}
 use Rattle.slice_reading.specs.declared.stop.Stop.TheVariants.{Fault, Memory}
 

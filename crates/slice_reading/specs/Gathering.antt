@@ -1,6 +1,6 @@
 -- What slices give, one after the other.
 use Rattle.std.specs.Prelude.{List, [], ◌∷◌, ◌++◌, Option, None, Some, Result, Ok, Err}
-use Rattle.validity_faults.specs.declared.validity_fault.ValidityFault.{ValidityFault}
+use Rattle.unit_outcomes.specs.declared.validity_fault.ValidityFault.{ValidityFault}
 use Rattle.slice_reading.specs.Numbers.{lower}
 
 -- what was found: the items, unless there was a fault

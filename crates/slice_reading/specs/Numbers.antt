@@ -1,7 +1,7 @@
 -- Of several faults the one of the lowest number.
 use Rattle.std.specs.Prelude.{List, [], ◌∷◌, Result, Ok, Err, nat_le, if◌then◌else◌}
-use Rattle.validity_faults.specs.declared.validity_fault.ValidityFault.{ValidityFault}
-use Rattle.validity_faults.specs.Numbers.{number_of}
+use Rattle.unit_outcomes.specs.declared.validity_fault.ValidityFault.{ValidityFault}
+use Rattle.unit_outcomes.specs.Numbers.{number_of}
 
 -- of two faults the one of the lower number
 abbrev pub lower : ValidityFault → ValidityFault → ValidityFault

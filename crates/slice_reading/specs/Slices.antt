@@ -1,16 +1,16 @@
 -- The slices of a unit, each with its header, or the fault that a header shows (ITU-T H.264, 7.3.3
 -- and 7.4.1.2.1).
 use Rattle.std.specs.Prelude.{ℕ, List, Option, None, Some, Result, Ok, Err}
-use Rattle.set_types.specs.declared.sps.Sps.{Sps}
-use Rattle.set_types.specs.declared.pps.Pps.{Pps}
-use Rattle.slice_front.specs.declared.fault.HeaderFault.{HeaderFault}
-use Rattle.slice_front.specs.declared.fault.HeaderFault.TheVariants as headers
-use Rattle.slice_front.specs.declared.front.HeaderFront.{HeaderFront}
-use Rattle.header_types.specs.declared.slice_headers.SliceHeader.{SliceHeader}
-use Rattle.slice_front.specs.Fronts.{front_at}
+use Rattle.param_set_types.specs.declared.sps.Sps.{Sps}
+use Rattle.param_set_types.specs.declared.pps.Pps.{Pps}
+use Rattle.slice_header.specs.declared.fault.HeaderFault.{HeaderFault}
+use Rattle.slice_header.specs.declared.fault.HeaderFault.TheVariants as headers
+use Rattle.slice_header.specs.declared.front.HeaderFront.{HeaderFront}
+use Rattle.slice_header_types.specs.declared.slice_headers.SliceHeader.{SliceHeader}
+use Rattle.slice_header.specs.Fronts.{front_at}
 use Rattle.slice_header.specs.SliceHeaders.{header_at}
-use Rattle.validity_faults.specs.declared.validity_fault.ValidityFault.{ValidityFault}
-use Rattle.validity_faults.specs.declared.validity_fault.ValidityFault.TheVariants as faults
+use Rattle.unit_outcomes.specs.declared.validity_fault.ValidityFault.{ValidityFault}
+use Rattle.unit_outcomes.specs.declared.validity_fault.ValidityFault.TheVariants as faults
 use Rattle.slice_reading.specs.ParameterSets.{ParameterSets, sps_under, pps_under}
 
 -- the parameter sets that a slice names

@@ -6,8 +6,8 @@ ghost use lib.Pointwise.{pointwise};
 ghost use Rattle.slice_reading.specs.Faults.{first_shown, is_redundant, rises_from, same_operation, same_marking, same_picture, slice_rows};
 
 use crate::slices::Slice;
-use header_types::{DecRefPicMarking, MemoryManagementControlOperation};
-use validity_faults::ValidityFault;
+use slice_header_types::{DecRefPicMarking, MemoryManagementControlOperation};
+use unit_outcomes::ValidityFault;
 
 /// The first fault that the slices of a unit show by themselves: a redundant one, an order in which
 /// first_mb_in_slice doesn't rise from 0 on, or a difference in what the slices of a picture share

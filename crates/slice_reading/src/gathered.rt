@@ -1,8 +1,8 @@
 //! What the slices of a unit give: all that they have, or the least of their faults.
 
 ghost use Rattle.std.specs.Prelude.{◌≡◌, [], OnOk, OnErr, IfOk, Ok, Result, List, length, ◌-◌, option_copied, slice_get};
-ghost use Rattle.validity_faults.specs.declared.validity_fault.ValidityFault.{ValidityFault};
-ghost use Rattle.validity_faults.specs.Numbers.{number_of};
+ghost use Rattle.unit_outcomes.specs.declared.validity_fault.ValidityFault.{ValidityFault};
+ghost use Rattle.unit_outcomes.specs.Numbers.{number_of};
 ghost use Rattle.slice_reading.specs.Numbers.{lower, gathered};
 ghost use Rattle.slice_reading.specs.Answers.{Answers, AnswersAs};
 ghost use Rattle.slice_reading.specs.Gathering.{gathered_after, lower_after};
@@ -10,7 +10,7 @@ ghost use Rattle.slice_reading.specs.Gathering.{gathered_after, lower_after};
 use crate::stop::Stop;
 use std::alloc::{AllocError, Global};
 use std::marker::Model;
-use validity_faults::ValidityFault;
+use unit_outcomes::ValidityFault;
 
 /// What slices gave so far: an item each, or of those that showed a fault the fault of the lowest
 /// number.
@@ -22,7 +22,7 @@ pub struct Gathered<T> {
 
 impl<T> Model for Gathered<T> {
     ghost use Rattle.std.specs.Prelude.{Result, List};
-    ghost use Rattle.validity_faults.specs.declared.validity_fault.ValidityFault.{ValidityFault};
+    ghost use Rattle.unit_outcomes.specs.declared.validity_fault.ValidityFault.{ValidityFault};
     ghost use Rattle.slice_reading.specs.Gathering.{found};
 
     ghost Value = { Result (List T) ValidityFault };

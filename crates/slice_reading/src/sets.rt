@@ -2,12 +2,12 @@
 //! pictures share.
 
 ghost use Rattle.std.specs.Prelude.{◌≡◌, ◌↔◌, IfOk, IsTrue};
-ghost use Rattle.set_controls.specs.SetControls.{set_controls};
+ghost use Rattle.param_set_controls.specs.SetControls.{set_controls};
 
 use crate::places::{PpsPlace, SpsPlace};
 use base_types::Shared;
-use set_controls::SetControls;
-use set_types::{Pps, Sps};
+use param_set_controls::SetControls;
+use param_set_types::{Pps, Sps};
 use std::alloc::{AllocError, Global};
 use std::marker::Model;
 
@@ -32,7 +32,7 @@ impl Drop for Sets {
 
 impl Model for Sets {
     ghost use Rattle.std.specs.Prelude.{◌≡◌};
-    ghost use Rattle.set_controls.specs.SetControls.{set_controls};
+    ghost use Rattle.param_set_controls.specs.SetControls.{set_controls};
     ghost use Rattle.slice_reading.specs.Slices.{NamedSets};
 
     ghost Value = { NamedSets };

@@ -2,7 +2,7 @@
 
 ghost use Rattle.std.specs.Prelude.{◌≡◌, ◌∷◌, ◌++◌, map, Ok, Err, IfOk, option_map};
 ghost use Rattle.annexb.specs.ByteStream.{start_code};
-ghost use Rattle.set_controls.specs.SetControls.{set_controls};
+ghost use Rattle.param_set_controls.specs.SetControls.{set_controls};
 ghost use Rattle.slice_reading.specs.Numbers.{joined, gathered, lower};
 ghost use Rattle.slice_reading.specs.Slices.{slice_at, header_fault};
 ghost use Rattle.slice_reading.specs.Answers.{Answers, AnswersAs, StopsAt};
@@ -14,14 +14,13 @@ use crate::tables::Tables;
 use access_unit::SharedNal;
 use base_types::Shared;
 use bytes::Bytes;
-use header_types::SliceHeader;
-use set_controls::SetControls;
-use set_types::Sps;
-use slice_front::{HeaderFault, Start, peek_start};
-use slice_header::read_from;
+use param_set_controls::SetControls;
+use param_set_types::Sps;
+use slice_header::{HeaderFault, Start, peek_start, read_from};
+use slice_header_types::SliceHeader;
 use std::alloc::{AllocError, Global};
 use std::marker::Model;
-use validity_faults::ValidityFault;
+use unit_outcomes::ValidityFault;
 
 /// A slice: its NAL unit, the parameter sets that it names, with the controls that these decide,
 /// and its header.

@@ -4,7 +4,7 @@ ghost use Rattle.std.specs.Prelude.{◌≡◌};
 ghost use Rattle.slice_reading.specs.declared.stop.Stop.TheVariants.{Memory};
 
 use std::alloc::{AllocError, AllocFailed};
-use validity_faults::ValidityFault;
+use unit_outcomes::ValidityFault;
 
 /// What ends the planning of a unit.
 #[derive(Clone, Copy, Debug, PartialEq, Eq, Drop)]

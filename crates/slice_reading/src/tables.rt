@@ -7,7 +7,7 @@ use crate::places::{Place, PpsPlace, SpsPlace};
 use crate::sets::Sets;
 use access_unit::ParameterSet;
 use base_types::Shared;
-use set_types::{Pps, Sps};
+use param_set_types::{Pps, Sps};
 use std::alloc::{AllocError, Global};
 use std::marker::Model;
 

@@ -2,7 +2,7 @@
 
 ghost use Rattle.std.specs.Prelude.{◌≡◌, ◌↔◌, ◌++◌, IfOk, IsTrue, OnOk};
 ghost use Rattle.sha2.specs.Hashers.{Holds256};
-ghost use Rattle.set_controls.specs.SetsForm.{sets_form};
+ghost use Rattle.param_set_controls.specs.SetsForm.{sets_form};
 
 use base_types::Shared;
 use h264_controls::{SetControls, sets_form};
@@ -19,7 +19,7 @@ pub(crate) struct SetsDigest {
 }
 
 impl Model for SetsDigest {
-    ghost use Rattle.set_controls.specs.declared.set_controls.SetControls.{SetControls};
+    ghost use Rattle.param_set_controls.specs.declared.set_controls.SetControls.{SetControls};
     ghost use Rattle.stand_in_device.specs.Fronts.{IsFront};
 
     ghost Value = { SetControls };

@@ -8,7 +8,7 @@ ghost use Rattle.std.specs.Prelude.{◌≡◌, ◌++◌, ℕ, List, [], IfOk, On
 ghost use Rattle.std.specs.List.{flat_map};
 ghost use Rattle.sha2.specs.Hashers.{Holds256};
 ghost use Rattle.sha2.specs.Sha256.{sha256};
-ghost use Rattle.set_controls.specs.SetsForm.{sets_form};
+ghost use Rattle.param_set_controls.specs.SetsForm.{sets_form};
 ghost use Rattle.stand_in_device.specs.Inputs.{entries_of};
 ghost use Rattle.stand_in_device.specs.Pictures.{entry_bytes, size_bytes, slice_record};
 ghost use Rattle.stand_in_device.specs.SliceWorks.{Adds};

@@ -3,8 +3,8 @@ use Rattle.std.proofs.Common.{◌≡◌, ◌∙◌, ℕ, ◌+◌, ◌*◌, ◌�
 use Rattle.std.specs.Prelude.{None, Some}
 use Rattle.access_unit.specs.Answers.{IsAccepted}
 use Rattle.access_unit.proofs.Lengths.{length_joined}
-use Rattle.hashed_units.specs.Digests.{slice_bytes}
-use Rattle.hashed_units.proofs.Slices.{slice_bytes-within}
+use Rattle.picture_keys.specs.Digests.{slice_bytes}
+use Rattle.picture_keys.proofs.Slices.{slice_bytes-within}
 use Rattle.stream_edits.specs.declared.edits.Edit.{Edit}
 use Rattle.stream_edits.specs.declared.edits.Edit.TheVariants.{Insert, Delete, Replace}
 use Rattle.stream_edits.specs.Reading.{AreHashedFor, IsHashedFor, IsHashedText, IsUnitOf}

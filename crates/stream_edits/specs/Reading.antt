@@ -1,7 +1,7 @@
 -- What the text of an edit is read as, and how many bytes reading it hashes.
 use Rattle.std.specs.Prelude.{◌≡◌, ℕ, ◌+◌, ◌≤◌, List, [], ◌∷◌, length, Option, None, Some, ⊤}
 use Rattle.access_unit.specs.Answers.{IsAccepted}
-use Rattle.hashed_units.specs.Digests.{slice_bytes}
+use Rattle.picture_keys.specs.Digests.{slice_bytes}
 use Rattle.stream_edits.specs.declared.edits.Edit.{Edit}
 use Rattle.stream_edits.specs.declared.edits.Edit.TheVariants.{Insert, Delete, Replace}
 

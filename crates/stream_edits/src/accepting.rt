@@ -16,7 +16,7 @@ use crate::read_edit::ReadEdit;
 use crate::refusals::EditRefused;
 use access_unit::MOST_UNITS;
 use base_types::Shared;
-use hashed_units::HashedUnit;
+use picture_keys::HashedUnit;
 use pictures::AuId;
 use std::alloc::{AllocError, Global};
 

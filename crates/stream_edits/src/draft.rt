@@ -17,11 +17,10 @@ use crate::changes::Change;
 use crate::narrowing::{common_front, common_rest};
 use crate::read_edit::ReadEdit;
 use crate::refusals::EditRefused;
-use base_types::Shared;
-use hashed_units::HashedUnit;
+use base_types::{Shared, replace_range};
+use picture_keys::HashedUnit;
 use pictures::AuId;
 use std::alloc::{AllocError, Global};
-use vec_ranges::replace_range;
 
 /// A stream beside the one that is kept, on which the edits of a group are made one after the
 /// other.

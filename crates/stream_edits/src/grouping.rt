@@ -14,7 +14,7 @@ use crate::group_refused::GroupRefused;
 use crate::read_edit::ReadEdit;
 use crate::read_group::ReadGroup;
 use base_types::Shared;
-use hashed_units::HashedUnit;
+use picture_keys::HashedUnit;
 use pictures::AuId;
 use std::alloc::Global;
 

@@ -4,7 +4,7 @@ ghost use Rattle.std.specs.Prelude.{◌≡◌, ◌↔◌, ◌≤◌, length, IsT
 ghost use Rattle.stream_edits.specs.Common.{IsFront, IsLongestFront, IsLongestRest, IsRest};
 
 use base_types::Shared;
-use hashed_units::HashedUnit;
+use picture_keys::HashedUnit;
 use pictures::AuId;
 
 /// How many units at the start of both are the same, where so many are known to be.

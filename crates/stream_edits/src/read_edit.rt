@@ -13,7 +13,7 @@ use crate::refusals::EditRefused;
 use access_unit::read_shared;
 use base_types::Shared;
 use bytes::Bytes;
-use hashed_units::HashedUnit;
+use picture_keys::HashedUnit;
 use std::alloc::{AllocError, Global};
 use std::marker::Model;
 

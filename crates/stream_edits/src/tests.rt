@@ -10,7 +10,7 @@ use crate::{Edit, EditRefused, Place, change_of};
 use access_unit::read_shared;
 use base_types::Shared;
 use bytes::Bytes;
-use hashed_units::HashedUnit;
+use picture_keys::HashedUnit;
 use pictures::AuId;
 use std::alloc::{AllocError, Global};
 use std::process::Abort;

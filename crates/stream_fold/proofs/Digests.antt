@@ -1,13 +1,13 @@
 -- The bytes of a plan's requests are those of its unit's slices.
 use Rattle.std.proofs.Common.{◌≡◌, ℕ, Bool, true, false, List, [], ◌∷◌, map, filter, Option, None, Some, Result, Ok, Err, refl, sym, ap, ◌∙◌, subst}
 use Rattle.base_types.specs.Chains.{◌>>=◌}
-use Rattle.set_types.specs.declared.sps.Sps.{Sps}
-use Rattle.set_types.specs.declared.pps.Pps.{Pps}
+use Rattle.param_set_types.specs.declared.sps.Sps.{Sps}
+use Rattle.param_set_types.specs.declared.pps.Pps.{Pps}
 use Rattle.annexb.specs.NalUnit.{is_slice}
-use Rattle.header_types.specs.declared.slice_headers.SliceHeader.{SliceHeader}
-use Rattle.slice_front.specs.declared.fault.HeaderFault.{HeaderFault}
-use Rattle.slice_front.specs.declared.front.HeaderFront.{HeaderFront}
-use Rattle.slice_front.specs.Fronts.{front_at}
+use Rattle.slice_header_types.specs.declared.slice_headers.SliceHeader.{SliceHeader}
+use Rattle.slice_header.specs.declared.fault.HeaderFault.{HeaderFault}
+use Rattle.slice_header.specs.declared.front.HeaderFront.{HeaderFront}
+use Rattle.slice_header.specs.Fronts.{front_at}
 use Rattle.slice_header.specs.SliceHeaders.{header_at}
 use Rattle.pictures.specs.declared.counts.Counts.{Counts}
 use Rattle.pictures.specs.declared.frames.Frame.{Frame}
@@ -16,7 +16,7 @@ use Rattle.order_count.specs.Counting.{counts_of}
 use Rattle.ref_marking.specs.MarksAfter.{marks_after}
 use Rattle.ref_lists.specs.declared.fault.ListFault.{ListFault}
 use Rattle.ref_lists.specs.ReferenceLists.{lists_of}
-use Rattle.validity_faults.specs.declared.validity_fault.ValidityFault.{ValidityFault}
+use Rattle.unit_outcomes.specs.declared.validity_fault.ValidityFault.{ValidityFault}
 use Rattle.unit_outcomes.specs.declared.outcome.Outcome.{Outcome}
 use Rattle.unit_outcomes.specs.declared.outcome.Outcome.TheVariants as outcomes
 use Rattle.slice_reading.specs.ParameterSets.{ParameterSets, sps_under, pps_under}
@@ -27,8 +27,8 @@ use Rattle.request_core.specs.States.{FoldState}
 use Rattle.request_core.specs.Faults.{picture_rows}
 use Rattle.request_core.specs.Requests.{ListedSlice, requests_of}
 use Rattle.request_core.specs.Fold.{passes, counted, with_lists, listed, marked, state_after, plan_of, picture_after, picture_of, with_sets, planned, outcome_of, fold_step}
-use Rattle.hashed_units.specs.SliceBytes.{coded, slices_digest}
-use Rattle.hashed_units.specs.Digests.{bytes_of, unit_digest, IsDigestOf}
+use Rattle.picture_keys.specs.SliceBytes.{coded, slices_digest}
+use Rattle.picture_keys.specs.Digests.{bytes_of, unit_digest, IsDigestOf}
 
 -- there is a value before it
 then_ok : {A B E : Type 0} (first : Result A E) (next : A → Result B E) (last : B) → (first >>= next) ≡ Ok last

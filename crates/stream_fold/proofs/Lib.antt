@@ -1,3 +1,18 @@
+pub mod Chains
+pub mod MarkedFrames
+pub mod SliceHeaders
+pub mod IntraSlices
+pub mod ReadSlices
+pub mod Gathered
+pub mod Requests
+pub mod KnownUnits
+pub mod NamedUnits
+pub mod Plans
+pub mod Decodable
+pub mod AlikeKeys
+pub mod AlikeSteps
+pub mod Agreement
+pub mod LaterUnits
 mod Fronts
 pub mod Changed
 pub mod Folds

@@ -1,3 +1,4 @@
+pub mod Agreement
 pub mod Streams
 pub mod Changes
 pub mod Meeting

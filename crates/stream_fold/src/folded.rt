@@ -10,15 +10,14 @@ ghost use Rattle.stream_fold.specs.Meeting.{IsCounted, IsMeeting};
 use crate::changes::length_change;
 use crate::refold::Refold;
 use crate::storing::{keep_end, store_anew, thin};
-use base_types::Shared;
+use base_types::{Shared, replace_range};
 use checkpoints::Checkpoints;
-use hashed_units::{HashedOutcome, HashedUnit};
+use picture_keys::{HashedOutcome, HashedUnit};
 use pictures::AuId;
 use request_core::State;
 use std::alloc::{AllocError, Global};
 use std::marker::Model;
 use stream_edits::Change;
-use vec_ranges::replace_range;
 
 /// A stream of access units under their ids, with the outcome of each, and the states of the fold
 /// past some of its places.

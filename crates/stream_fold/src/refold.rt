@@ -6,7 +6,7 @@ ghost use Rattle.request_core.specs.Agreement.{Stream};
 use crate::hashed_step::hashed_step;
 use crate::shares::shares_of;
 use base_types::Shared;
-use hashed_units::{HashedOutcome, HashedUnit};
+use picture_keys::{HashedOutcome, HashedUnit};
 use pictures::AuId;
 use request_core::{State, Steps};
 use std::alloc::{AllocError, Global};

@@ -3,7 +3,7 @@
 ghost use Rattle.std.specs.Prelude.{◌≡◌, IfOk};
 
 use base_types::Shared;
-use hashed_units::HashedOutcome;
+use picture_keys::HashedOutcome;
 use std::alloc::{AllocError, Global};
 
 /// The outcomes, with one owner more of each.

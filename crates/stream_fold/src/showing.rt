@@ -4,8 +4,8 @@ ghost use Rattle.std.specs.Prelude.{◌≡◌, map, IfOk};
 ghost use Rattle.output_order.specs.Shown.{shown_of};
 
 use base_types::Shared;
-use hashed_units::HashedOutcome;
 use output_order::Shown;
+use picture_keys::HashedOutcome;
 use std::alloc::{AllocError, Global};
 
 /// What is shown of units with these outcomes.

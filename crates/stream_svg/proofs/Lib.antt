@@ -1,2 +1,4 @@
+pub mod Products
+pub mod ShownUnits
 pub mod Marks
 pub mod Titles

@@ -2,8 +2,8 @@
 use Rattle.std.proofs.Common.{◌≡◌, ◌∙◌, ◌<◌, ℕ, zero, suc, ◌+◌, ◌++◌, List, [], ◌∷◌, Option, None, length, map, take, get_or, codes, refl, sym, ap, subst, arith}
 use Rattle.std.proofs.lemmas.List.{append_assoc, append-nil}
 use Rattle.std.proofs.lemmas.List.Elements.{All-head, All-tail}
-use Rattle.stream_layout.specs.declared.unit.DrawnUnit.{DrawnUnit}
-use Rattle.stream_layout.specs.declared.unit.EditMark.{EditMark}
+use Rattle.stream_svg.specs.declared.unit.DrawnUnit.{DrawnUnit}
+use Rattle.stream_svg.specs.declared.unit.EditMark.{EditMark}
 use Rattle.stream_svg.specs.declared.caption.Caption.{Caption}
 use Rattle.stream_svg.specs.Captions.{lines_of}
 use Rattle.stream_svg.specs.Documents.{AreUnmarked, HasParts, classes_of, opening_of, openings_of}

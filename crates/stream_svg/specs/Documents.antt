@@ -1,10 +1,10 @@
 -- What a document says of the units that it draws.
 use Rattle.std.specs.Prelude.{◌≡◌, ℕ, ◌++◌, Bool, true, false, List, [], ◌∷◌, Option, None, Some, codes, map, ⊤}
 use Rattle.std.specs.List.{All}
-use Rattle.stream_layout.specs.declared.unit.DrawnUnit.{DrawnUnit}
-use Rattle.stream_layout.specs.declared.unit.EditMark.{EditMark}
-use Rattle.stream_layout.specs.declared.unit.PictureState.{PictureState}
-use Rattle.stream_layout.specs.declared.unit.PictureState.TheVariants.{Stayed, Pending}
+use Rattle.stream_svg.specs.declared.unit.DrawnUnit.{DrawnUnit}
+use Rattle.stream_svg.specs.declared.unit.EditMark.{EditMark}
+use Rattle.stream_svg.specs.declared.unit.PictureState.{PictureState}
+use Rattle.stream_svg.specs.declared.unit.PictureState.TheVariants.{Stayed, Pending}
 use Rattle.stream_svg.specs.declared.caption.Caption.{Caption}
 use Rattle.stream_svg.specs.Captions.{lines_of}
 use Rattle.stream_svg.specs.Escapes.{escaped}

@@ -1,12 +1,12 @@
 //! The boxes of units, with their letters and numbers.
 
 ghost use Rattle.std.specs.Prelude.{◌<◌, ◌^◌};
-ghost use Rattle.stream_layout.specs.Boxes.{IsSmall};
+ghost use Rattle.stream_svg.specs.Boxes.{IsSmall};
 
 use crate::letters::{Letter, letters_of};
 use crate::page::Page;
+use crate::{Kind, Rect};
 use std::alloc::AllocError;
-use stream_layout::{Kind, Rect};
 
 /// Writes the box of a unit: its slice types side by side.
 pub(crate) fn write_fills(page: &mut Page, area: Rect, kind: Kind) -> Result<(), AllocError>

@@ -1,12 +1,12 @@
 //! The marks of edits on units.
 
 ghost use Rattle.std.specs.Prelude.{◌≡◌};
-ghost use Rattle.stream_layout.specs.Boxes.{IsSmall};
+ghost use Rattle.stream_svg.specs.Boxes.{IsSmall};
 ghost use Rattle.stream_svg.specs.Documents.{classes_of};
 
 use crate::page::Page;
+use crate::{EditMark, PictureState, Rect};
 use std::alloc::AllocError;
-use stream_layout::{EditMark, PictureState, Rect};
 
 /// The classes of a unit's shapes, by which the style sheet shows what edits did to it.
 pub(crate) fn classes_of(mark: Option<EditMark>) -> &'static str

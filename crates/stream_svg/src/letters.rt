@@ -1,6 +1,6 @@
 //! The letters of slice types.
 
-use stream_layout::{Kind, SliceTypes};
+use crate::{Kind, SliceTypes};
 
 /// A slice type, or what stands in its place: its class in the style sheet, and its letter.
 #[derive(Clone, Copy, Debug)]

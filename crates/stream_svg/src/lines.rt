@@ -1,11 +1,11 @@
 //! The lines of a drawing: arcs, ways between the rows, and where periods begin.
 
 ghost use Rattle.std.specs.Prelude.{◌<◌};
-ghost use Rattle.stream_layout.specs.Boxes.{IsSmall};
+ghost use Rattle.stream_svg.specs.Boxes.{IsSmall};
 
 use crate::page::Page;
+use crate::{Arc, Rect, RefList};
 use std::alloc::AllocError;
-use stream_layout::{Arc, Rect, RefList};
 
 /// Writes an arc.
 pub(crate) fn write_arc(page: &mut Page, arc: &Arc) -> Result<(), AllocError> {

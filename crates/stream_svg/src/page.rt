@@ -3,11 +3,11 @@
 ghost use Rattle.std.specs.Prelude.{◌≡◌, ◌++◌, ℕ, List, OnOk};
 ghost use Rattle.stream_svg.specs.Documents.{opening_of};
 
+use crate::EditMark;
 use crate::edit_marks::classes_of;
 use crate::escape::push_escaped;
 use std::alloc::{AllocError, Global};
 use std::fmt::Display;
-use stream_layout::EditMark;
 
 /// The bytes of a document so far.
 #[derive(Drop)]

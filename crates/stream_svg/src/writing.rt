@@ -10,8 +10,8 @@ use crate::edit_marks::{classes_of, write_hatch, write_picture};
 use crate::lines::{write_arc, write_begin, write_way};
 use crate::page::Page;
 use crate::style::{EDITS_LEGEND, LEGEND, LEGEND_END, STYLE};
+use crate::{DrawnUnit, Grid, Kind, Layout, Shown, arc_of};
 use std::alloc::{AllocError, Global};
-use stream_layout::{DrawnUnit, Grid, Kind, Layout, Shown, arc_of};
 
 /// The document of these units, laid out so, each with what is said of it, of a stream of so many units; with the legend of
 /// edits where some were made.

@@ -1,5 +1,6 @@
-//! Tests of the syntax: the byte stream, codes of bits, parameter sets and slice headers, field by field. They call public
-//! functions alone, so the crates that read are proved once.
+//! Tests of the syntax, field by field: the byte stream, codes of bits, parameter sets and slice
+//! headers; and of what follows from a picture's headers: counts, marking, lists and controls. They
+//! call public functions alone, so the crates that they test are proved once.
 #![tactic(auto)]
 
 #[cfg(test)]

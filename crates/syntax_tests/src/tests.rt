@@ -1,6 +1,7 @@
 mod byte_stream;
 mod codes;
 mod headers;
+mod picture;
 mod sets;
 
 use std::process::Abort;

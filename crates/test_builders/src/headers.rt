@@ -3,7 +3,7 @@
 ghost use Rattle.std.specs.Prelude.{◌≡◌};
 
 use base_types::AtMost;
-use header_types::{DecRefPicMarking, RefPicListModifications, SliceHeader, SliceType};
+use slice_header_types::{DecRefPicMarking, RefPicListModifications, SliceHeader, SliceType};
 use std::alloc::Global;
 
 /// The header of a P slice of this frame_num, of a reference picture with the sliding window: each other field has the

@@ -3,7 +3,9 @@
 ghost use Rattle.std.specs.Prelude.{◌≡◌, [], false};
 
 use base_types::AtMost;
-use set_types::{ChromaFormat, Offsets, PicOrderCntType, Pps, ScalingLists, Sps, WeightedBipred};
+use param_set_types::{
+    ChromaFormat, Offsets, PicOrderCntType, Pps, ScalingLists, Sps, WeightedBipred,
+};
 use std::alloc::Global;
 
 /// The sequence parameter set 67 42 00 0A DA 79: one macroblock, MaxFrameNum 16, count type 2, one reference frame.

@@ -1,0 +1,3 @@
+mod FoldSteps
+mod SaidLines
+pub mod Ends

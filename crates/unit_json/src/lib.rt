@@ -1,17 +1,22 @@
-//! A unit's outcome as a JSON object (docs/OUTPUT.md).
+//! A unit's outcome as a JSON object, and `preview plan --json` (docs/OUTPUT.md).
 //!
-//! A `JsonLine` is made of what the fold says of a unit, of a unit that isn't there, or of a
-//! stream's refusal, and has just the members that are printed; the six controls of a request are
-//! the kernel's structs of linux_layouts. `serde` and `serde_json` write it, by the encoder `Json`;
-//! what prints lines is generic over the `Encoder`. Below is unit_outcomes; above are plan_json and
-//! script_run.
+//! A `JsonLine` is made of what the fold says of a unit, of a unit that isn't there, or of a stream's
+//! refusal, and has just the members that are printed; the six controls of a request are the kernel's
+//! structs of linux_layouts. `serde` and `serde_json` write it, by the encoder `Json`; what prints
+//! lines is generic over the `Encoder`. `plan_json_on` reads a whole input, has its access units read
+//! in threads and folded by request_core, and writes the line of each, or that of the stream's refusal.
+//! Above are script_run, serve_messages and cli.
 #![tactic(auto)]
 
 mod encoding;
+mod folding;
 mod json_line;
 mod numbered;
+mod plan_json;
+mod printing;
 mod request_json;
 
 pub use encoding::{Encoder, Json};
 pub use json_line::{CountsJson, JsonLine, PlanJson};
+pub use plan_json::plan_json_on;
 pub use request_json::{RequestJson, RequestsJson};

@@ -3,7 +3,7 @@ use Rattle.std.proofs.Common.{◌≡◌, ℕ, List, [], ◌∷◌, ◌++◌, fla
 use Rattle.std.specs.List.{zip}
 use Rattle.h264_controls.specs.DecodeParamsControl.{dpb_entry}
 use Rattle.pictures.specs.declared.frames.Frame.{Frame}
-use Rattle.set_types.specs.declared.sps.Sps.{Sps}
+use Rattle.param_set_types.specs.declared.sps.Sps.{Sps}
 use Rattle.unit_lines.specs.Frames.{frame_text, next_frame_text}
 use Rattle.unit_lines.specs.Lines.{entry_text, list_text, next_text}
 

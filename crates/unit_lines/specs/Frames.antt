@@ -2,7 +2,7 @@
 use Rattle.std.specs.Prelude.{ℕ, ◌++◌, List, codes}
 use Rattle.h264_controls.specs.DecodeParamsControl.{dpb_entry}
 use Rattle.pictures.specs.declared.frames.Frame.{Frame}
-use Rattle.set_types.specs.declared.sps.Sps.{Sps}
+use Rattle.param_set_types.specs.declared.sps.Sps.{Sps}
 use Rattle.unit_lines.specs.Lines.{entry_text}
 
 -- a marked frame, as a picture of this frame_num sees it

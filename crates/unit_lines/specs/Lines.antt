@@ -4,7 +4,7 @@ use Rattle.std.specs.Fmt.{signed_decimal}
 use Rattle.std.specs.List.{join_by, zip}
 use Rattle.std.specs.Int.{w32, cast_signed}
 use Rattle.h264_controls.specs.declared.request.Request.{Request}
-use Rattle.header_types.specs.declared.slice_types.SliceType.{SliceType}
+use Rattle.slice_header_types.specs.declared.slice_types.SliceType.{SliceType}
 use Rattle.h264_controls.specs.declared.v4l2_ctrl_h264_decode_params.DpbEntryFlags.{DpbEntryFlags}
 use Rattle.h264_controls.specs.declared.v4l2_ctrl_h264_decode_params.V4l2H264DpbEntry.{V4l2H264DpbEntry}
 use Rattle.h264_controls.specs.References.{timestamp}

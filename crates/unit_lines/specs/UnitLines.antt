@@ -1,11 +1,11 @@
 -- The lines of a unit (docs/OUTPUT.md).
 use Rattle.std.specs.Prelude.{ℕ, ◌++◌, List, [], Option, codes, decimal}
 use Rattle.std.specs.Option.{unwrap_or}
-use Rattle.validity_faults.specs.declared.validity_fault.ValidityFault.{ValidityFault}
+use Rattle.unit_outcomes.specs.declared.validity_fault.ValidityFault.{ValidityFault}
 use Rattle.unit_outcomes.specs.declared.outcome.Outcome.{Outcome}
 use Rattle.unit_outcomes.specs.declared.outcome.Outcome.TheVariants.{Plan, Fault, Empty}
-use Rattle.validity_faults.specs.Names.{name_of}
-use Rattle.validity_faults.specs.Numbers.{number_of}
+use Rattle.unit_outcomes.specs.Names.{name_of}
+use Rattle.unit_outcomes.specs.Numbers.{number_of}
 use Rattle.unit_lines.specs.declared.lines.UnitHead.{UnitHead}
 use Rattle.unit_lines.specs.declared.lines.UnitLines.{UnitLines}
 use Rattle.unit_lines.specs.Lines.{plan_head, plan_tail}

@@ -12,9 +12,9 @@ ghost use Rattle.unit_lines.specs.Lines.{entry_text, list_text};
 use crate::numbers::put_text;
 use crate::references::put_entry;
 use h264_controls::DpbEntryFlags;
-use header_types::SliceHeader;
+use param_set_types::Sps;
 use pictures::{Frame, Term, frame_num_wrap};
-use set_types::Sps;
+use slice_header_types::SliceHeader;
 use std::alloc::AllocError;
 
 /// Adds the decoded picture buffer of a slice with this header, before the marking of its picture.

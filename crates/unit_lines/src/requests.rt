@@ -8,8 +8,8 @@ ghost use Rattle.unit_lines.specs.Lines.{hold_text, lists_text, request_text, sl
 use crate::numbers::{put_field, put_text};
 use crate::references::{put_dpb, put_list};
 use h264_controls::Request;
-use header_types::SliceType;
 use pictures::AuId;
+use slice_header_types::SliceType;
 use std::alloc::AllocError;
 
 /// Adds the line of the request of the slice at a place of its unit, from 0.

@@ -2,10 +2,10 @@
 
 ghost use Rattle.std.specs.Prelude.{◌≡◌, IfOk};
 
+use crate::ValidityFault;
 use crate::requests::Requests;
 use pictures::Counts;
 use std::alloc::{AllocError, Global};
-use validity_faults::ValidityFault;
 
 /// The plan of a valid unit.
 #[derive(Debug)]

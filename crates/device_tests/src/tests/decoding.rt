@@ -3,10 +3,10 @@
 use super::queues::Recorder;
 use super::row_holds;
 use h264_controls::{Dpb, Request};
-use header_types::SliceType;
 use m2m_queues::{BufferState, QueueFault, Queues, RequestId, RequestState};
 use pictures::{AuId, List};
 use sha2::{Digest, Sha256};
+use slice_header_types::SliceType;
 use stand_in_device::{Device, Finished, Input, Job, Picture, Reference, Undone};
 use std::alloc::{AllocError, Global};
 use std::test::Fail;

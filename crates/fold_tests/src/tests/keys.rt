@@ -4,8 +4,7 @@ ghost use Rattle.std.specs.Prelude.{replicate};
 
 use access_unit::Unit;
 use dep_keys::{Fingerprint, KeyId, Keys, Node, Sha256Fingerprint};
-use hashed_units::SlicesDigest;
-use picture_keys::{KeyNumbers, Works, node_of};
+use picture_keys::{KeyNumbers, SlicesDigest, Works, node_of};
 use pictures::AuId;
 use request_core::scratch;
 use std::alloc::{AllocError, AllocGlobal};

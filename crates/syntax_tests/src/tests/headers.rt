@@ -7,13 +7,12 @@ mod writer;
 use super::row_holds;
 use SliceType::{B, I, P};
 use annexb::{Nal, SplitFault, split};
-use header_types::{
+use param_set_types::{PicOrderCntType, Pps, Sps};
+use slice_header::{HeaderFault, HeaderFront, peek, read, slice_type};
+use slice_header_types::{
     DecRefPicMarking, MemoryManagementControlOperation, PredWeight, RefPicListModification,
     SliceHeader, SliceType,
 };
-use set_types::{PicOrderCntType, Pps, Sps};
-use slice_front::{HeaderFault, HeaderFront, peek, slice_type};
-use slice_header::read;
 use std::alloc::Global;
 use std::process::Abort;
 use std::test::Fail;

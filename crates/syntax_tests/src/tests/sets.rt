@@ -6,8 +6,8 @@ mod sps;
 mod writer;
 
 use super::row_holds;
+use param_set_types::{ChromaFormat, PicOrderCntType, Pps, ScalingLists, Sps, WeightedBipred};
 use param_sets::{SetFault, SetField, read_pps, read_sps, resolve_matrix};
-use set_types::{ChromaFormat, PicOrderCntType, Pps, ScalingLists, Sps, WeightedBipred};
 use std::alloc::{AllocError, AllocGlobal, Global};
 use std::process::Abort;
 use std::test::Fail;

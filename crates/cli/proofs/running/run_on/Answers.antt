@@ -1,6 +1,6 @@
 use Rattle.std.proofs.Common.{inl, inr, map, refl}
-use Rattle.cli_args.specs.CommandLine.{IsMistake, IsRequest, faults_of}
-use Rattle.cli_args.proofs.CommandFaults.{kind-among, request-among}
+use Rattle.cli.specs.CommandLine.{IsMistake, IsRequest, faults_of}
+use Rattle.cli.proofs.CommandFaults.{kind-among, request-among}
 use Rattle.cli.proofs.running.run_on.Goals as goal
 
 pub returns-in-Err-clause-wrong : goal.returns-in-Err-clause-wrong

@@ -1,5 +1,5 @@
 use Rattle.std.proofs.Common.{append_assoc}
-use Rattle.set_controls.specs.SetsForm.{sets_form}
+use Rattle.param_set_controls.specs.SetsForm.{sets_form}
 use Rattle.h264_controls.specs.DigestForm.{digest_form, slice_form}
 use Rattle.h264_controls.proofs.laws.digest_in_two_parts.Goals as goal
 

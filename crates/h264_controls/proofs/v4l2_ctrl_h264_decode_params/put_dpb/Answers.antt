@@ -1,6 +1,6 @@
 -- The entries have nineteen bytes each.
 use Rattle.std.proofs.Common.{append_assoc}
-use Rattle.set_controls.specs.Words.{padded}
+use Rattle.param_set_controls.specs.Words.{padded}
 use Rattle.h264_controls.specs.DecodeParamsForm.{dpb_form}
 use Rattle.h264_controls.proofs.Padding.{length-dpb}
 use Rattle.h264_controls.proofs.v4l2_ctrl_h264_decode_params.put_dpb.Goals as goal

@@ -1,8 +1,8 @@
 use Rattle.std.proofs.Common.{◌++◌, ◌∙◌, true, false}
 use Rattle.std.proofs.lemmas.Result.{err_from_is_err_and}
-use Rattle.syntax_tables.specs.Reading.{rows_at}
+use Rattle.expgolomb.specs.TableReading.{rows_at}
 use Rattle.param_sets.specs.PpsSyntax.{take, so_far, transform_rows, pic_list_rows, second_offset_rows, more_rows}
-use Rattle.syntax_tables.proofs.Loops.{after_err}
+use Rattle.expgolomb.proofs.Loops.{after_err}
 use Rattle.param_sets.proofs.PpsSections.{more_none, more_some}
 use Rattle.param_sets.proofs.Refusals.{refused}
 use Rattle.param_sets.proofs.Sections.{further, stopped}

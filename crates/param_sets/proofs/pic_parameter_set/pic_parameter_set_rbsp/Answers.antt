@@ -1,8 +1,8 @@
 use Rattle.std.proofs.Common.{◌++◌, ◌∙◌, false, refl}
 use Rattle.std.proofs.lemmas.Result.{err_from_is_err_and}
-use Rattle.syntax_tables.specs.Reading.{rows_at}
+use Rattle.expgolomb.specs.TableReading.{rows_at}
 use Rattle.param_sets.specs.PpsSyntax.{take, no_pps, so_far, id_rows, coding_rows, prediction_rows, quantisation_rows, slice_rows, more_rows, pps_rows}
-use Rattle.syntax_tables.proofs.Loops.{after_ok}
+use Rattle.expgolomb.proofs.Loops.{after_ok}
 use Rattle.param_sets.proofs.Sections.{further, stopped_at, stopped_last}
 use Rattle.param_sets.proofs.pic_parameter_set.pic_parameter_set_rbsp.Goals as goal
 

@@ -3,7 +3,7 @@ use Rattle.std.proofs.lemmas.Int.{to_z-of_z}
 use Rattle.std.proofs.lemmas.Result.{err_from_is_err_and}
 use mir.Val.{SFits}
 use mir.Syntax.{w8}
-use Rattle.syntax_tables.specs.Reading.{rows_at}
+use Rattle.expgolomb.specs.TableReading.{rows_at}
 use Rattle.param_sets.specs.Scaling.{take_list, delta_row}
 use Rattle.param_sets.proofs.ListRows.{delta_more, delta_none, delta_end, delta_all, scale_more}
 use Rattle.param_sets.proofs.Refusals.{refused}

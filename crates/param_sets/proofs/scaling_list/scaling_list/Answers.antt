@@ -1,6 +1,6 @@
 use Rattle.std.proofs.Common.{◌∙◌, ◌++◌, ◌∷◌, [], Some, replicate, length}
 use Rattle.std.proofs.lemmas.Result.{err_from_is_err_and}
-use Rattle.syntax_tables.specs.Reading.{rows_at}
+use Rattle.expgolomb.specs.TableReading.{rows_at}
 use Rattle.param_sets.specs.Scaling.{take_list, present_row, delta_row}
 use Rattle.param_sets.proofs.ListRows.{list_there, list_absent, list_stop}
 use Rattle.param_sets.proofs.Refusals.{refused, refused_by}

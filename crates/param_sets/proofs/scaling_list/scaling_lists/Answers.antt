@@ -1,6 +1,6 @@
 use Rattle.std.proofs.Common.{◌+◌, ◌-◌, ◌∙◌, ◌∷◌, [], length, length-append, ap, arith}
 use Rattle.std.proofs.lemmas.Result.{err_from_is_err_and}
-use Rattle.syntax_tables.specs.Reading.{rows_at}
+use Rattle.expgolomb.specs.TableReading.{rows_at}
 use Rattle.param_sets.specs.Scaling.{take_list, list_rows}
 use Rattle.param_sets.proofs.ListRows.{lists_further, lists_stop, lists_done}
 use Rattle.param_sets.proofs.Refusals.{refused_by}

@@ -1,5 +1,5 @@
 use Rattle.std.proofs.Common.{◌≡◌, ◌-◌, [], length}
-use Rattle.syntax_tables.specs.Reading.{rows_at}
+use Rattle.expgolomb.specs.TableReading.{rows_at}
 use Rattle.param_sets.specs.Scaling.{take_list, list_rows}
 use Rattle.param_sets.proofs.scaling_list.scaling_lists.Given as goal
 

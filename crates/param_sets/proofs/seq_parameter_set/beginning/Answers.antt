@@ -1,10 +1,10 @@
 use Rattle.std.proofs.Common.{◌≡◌, ◌∙◌, ◌++◌, ℕ, pos, List, Bool, Ok, refl}
 use Rattle.std.proofs.lemmas.Result.{err_from_is_err_and}
 use Rattle.expgolomb.specs.Bits.{Place}
-use Rattle.syntax_tables.specs.Reading.{field_at, rows_at}
+use Rattle.expgolomb.specs.TableReading.{field_at, rows_at}
 use Rattle.param_sets.specs.SpsSyntax.{take, no_sps, profile_row, beginning_rows, constraint_rows, level_rows}
-use Rattle.set_types.specs.declared.sps.Sps.{Sps}
-use Rattle.syntax_tables.proofs.Loops.{rows_step, rows_stop, after_ok, after_err}
+use Rattle.param_set_types.specs.declared.sps.Sps.{Sps}
+use Rattle.expgolomb.proofs.Loops.{rows_step, rows_stop, after_ok, after_err}
 use Rattle.param_sets.proofs.seq_parameter_set.beginning.Goals as goal
 
 -- a set of which the profile is read, and then the flags

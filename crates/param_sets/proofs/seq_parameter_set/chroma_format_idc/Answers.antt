@@ -4,12 +4,12 @@ use Rattle.expgolomb.specs.Bits.{Place}
 use Rattle.std.proofs.lemmas.Result.{err_from_is_err_and}
 use Rattle.param_sets.specs.declared.fault.SetFault.TheVariants.{Cut, Range, Chroma444}
 use Rattle.param_sets.specs.declared.fault.SetFault.{SetFault}
-use Rattle.syntax_tables.specs.Ranges.{any}
-use Rattle.syntax_tables.specs.Reading.{value_at, in_range}
+use Rattle.expgolomb.specs.Ranges.{any}
+use Rattle.expgolomb.specs.TableReading.{value_at, in_range}
 use Rattle.param_sets.specs.declared.fault.SetField.TheVariants.{ChromaFormat}
-use Rattle.syntax_tables.specs.Grammar.{Unsigned}
+use Rattle.expgolomb.specs.Grammar.{Unsigned}
 use Rattle.param_sets.specs.SpsSyntax.{chroma_range}
-use Rattle.syntax_tables.proofs.FieldLaws.{narrow_ok, narrow_err}
+use Rattle.expgolomb.proofs.FieldLaws.{narrow_ok, narrow_err}
 use Rattle.param_sets.proofs.seq_parameter_set.chroma_format_idc.Goals as goal
 
 pub returns-in_err-idc : goal.returns-in_err-idc

@@ -3,12 +3,12 @@ use Rattle.std.proofs.Common.{take as front, set}
 use Rattle.std.proofs.lemmas.Result.{err_from_is_err_and}
 use Rattle.std.proofs.lemmas.List.{take_more_set, take_all}
 use Rattle.expgolomb.specs.Bits.{Place}
-use Rattle.syntax_tables.specs.Answer.{flag_value}
-use Rattle.syntax_tables.specs.Reading.{field_at, rows_at}
-use Rattle.syntax_tables.specs.Rows.{flag_of}
+use Rattle.expgolomb.specs.Answer.{flag_value}
+use Rattle.expgolomb.specs.TableReading.{field_at, rows_at}
+use Rattle.expgolomb.specs.Rows.{flag_of}
 use Rattle.param_sets.specs.SpsSyntax.{take, flag_row, constraint_rows}
-use Rattle.set_types.specs.declared.sps.Sps.{Sps}
-use Rattle.syntax_tables.proofs.Loops.{repeat_step, repeat_stop, rows_none}
+use Rattle.param_set_types.specs.declared.sps.Sps.{Sps}
+use Rattle.expgolomb.proofs.Loops.{repeat_step, repeat_stop, rows_none}
 use Rattle.param_sets.proofs.seq_parameter_set.constraint_set_flags.Goals as goal
 
 -- a set with these flags

@@ -1,8 +1,8 @@
 use Rattle.std.proofs.Common.{◌≡◌, ◌-◌, [], replicate, length}
 use Rattle.std.proofs.Common.{take as front}
-use Rattle.syntax_tables.specs.Reading.{rows_at}
+use Rattle.expgolomb.specs.TableReading.{rows_at}
 use Rattle.param_sets.specs.SpsSyntax.{take, flag_row}
-use Rattle.set_types.specs.declared.sps.Sps.{Sps}
+use Rattle.param_set_types.specs.declared.sps.Sps.{Sps}
 use Rattle.param_sets.proofs.seq_parameter_set.constraint_set_flags.Given as goal
 
 -- the flags so far, then the rest of the rows, are what all rows give

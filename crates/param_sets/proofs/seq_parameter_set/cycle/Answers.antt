@@ -5,11 +5,11 @@ use mir.Val.{SFits}
 use mir.Syntax.{w32}
 use Rattle.std.proofs.lemmas.Result.{err_from_is_err_and}
 use Rattle.expgolomb.specs.Bits.{Place}
-use Rattle.syntax_tables.specs.Reading.{field_at, rows_at}
+use Rattle.expgolomb.specs.TableReading.{field_at, rows_at}
 use Rattle.param_sets.specs.SpsSyntax.{take, has_offset, with_offsets, IsCycleOf, offset_row, offset_rows}
 use Rattle.param_sets.specs.declared.fault.SetFault.{SetFault}
-use Rattle.set_types.specs.declared.sps.Sps.{Sps}
-use Rattle.syntax_tables.proofs.Loops.{repeat_step, repeat_stop, repeat_absent}
+use Rattle.param_set_types.specs.declared.sps.Sps.{Sps}
+use Rattle.expgolomb.proofs.Loops.{repeat_step, repeat_stop, repeat_absent}
 use Rattle.param_sets.proofs.Refusals.{refused}
 use Rattle.param_sets.proofs.seq_parameter_set.cycle.Goals as goal
 

@@ -1,12 +1,12 @@
 use Rattle.std.proofs.Common.{◌≡◌, Ok, Bool, true, false}
 use Rattle.expgolomb.specs.Bits.{Place}
 use Rattle.param_sets.specs.declared.fault.SetFault.TheVariants.{Cut}
-use Rattle.syntax_tables.specs.Answer.{flag_value}
-use Rattle.syntax_tables.specs.Grammar.{Fixed}
-use Rattle.syntax_tables.specs.Ranges.{any}
-use Rattle.syntax_tables.specs.Reading.{value_at, in_range}
+use Rattle.expgolomb.specs.Answer.{flag_value}
+use Rattle.expgolomb.specs.Grammar.{Fixed}
+use Rattle.expgolomb.specs.Ranges.{any}
+use Rattle.expgolomb.specs.TableReading.{value_at, in_range}
 use Rattle.param_sets.specs.SpsSyntax.{frames_only}
-use Rattle.syntax_tables.proofs.FieldLaws.{narrow_ok}
+use Rattle.expgolomb.proofs.FieldLaws.{narrow_ok}
 use Rattle.param_sets.proofs.seq_parameter_set.frame_mbs_only_flag.Goals as goal
 
 -- what a flag of this value is worth

@@ -1,9 +1,9 @@
 use Rattle.std.proofs.Common.{◌∙◌, sym}
 use Rattle.std.proofs.lemmas.Result.{err_from_is_err_and}
-use Rattle.syntax_tables.specs.Reading.{rows_at}
+use Rattle.expgolomb.specs.TableReading.{rows_at}
 use Rattle.param_sets.specs.SpsSyntax.{take, high_rows, high_fields, scaling_rows}
 use Rattle.param_sets.proofs.HighProfiles.{high_absent}
-use Rattle.syntax_tables.proofs.Loops.{after_ok, after_err}
+use Rattle.expgolomb.proofs.Loops.{after_ok, after_err}
 use Rattle.param_sets.proofs.Refusals.{refused, refused_by}
 use Rattle.param_sets.proofs.seq_parameter_set.high.Goals as goal
 

@@ -1,9 +1,9 @@
 use Rattle.std.proofs.Common.{◌∙◌, pos, arith}
 use Rattle.std.proofs.lemmas.Bool.Decides.{nat_tests}
 use Rattle.param_sets.specs.declared.fault.SetFault.TheVariants.{Cut}
-use Rattle.syntax_tables.specs.Grammar.{Fixed}
+use Rattle.expgolomb.specs.Grammar.{Fixed}
 use Rattle.param_sets.specs.SpsSyntax.{profile_range}
-use Rattle.syntax_tables.proofs.FieldLaws.{narrow_ok}
+use Rattle.expgolomb.proofs.FieldLaws.{narrow_ok}
 use Rattle.param_sets.proofs.seq_parameter_set.profile_idc.Goals as goal
 
 pub returns-in-66 : goal.returns-in-66

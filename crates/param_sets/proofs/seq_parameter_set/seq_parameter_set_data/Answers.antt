@@ -1,6 +1,6 @@
 use Rattle.std.proofs.Common.{◌++◌, ◌∙◌}
 use Rattle.std.proofs.lemmas.Result.{err_from_is_err_and}
-use Rattle.syntax_tables.specs.Reading.{rows_at}
+use Rattle.expgolomb.specs.TableReading.{rows_at}
 use Rattle.param_sets.specs.SpsSyntax.{take, high_rows, count_rows, typed_rows, frame_rows, size_rows}
 use Rattle.param_sets.proofs.Refusals.{refused}
 use Rattle.param_sets.proofs.SpsSections.{from_types, from_counts, begun, not_begun, further, stopped, stopped_last}

@@ -3,11 +3,11 @@ use Rattle.std.proofs.lemmas.Bool.{false≢true}
 use Rattle.expgolomb.specs.Bits.{Place}
 use Rattle.expgolomb.specs.Codes.{HasMoreData}
 use Rattle.param_sets.specs.declared.fault.SetFault.TheVariants.{Cut}
-use Rattle.syntax_tables.specs.Answer.{flag_value}
-use Rattle.syntax_tables.specs.Grammar.{MoreData}
-use Rattle.syntax_tables.specs.Ranges.{any}
-use Rattle.syntax_tables.specs.Reading.{checked, value_at}
-use Rattle.syntax_tables.proofs.Tables.{code_only}
+use Rattle.expgolomb.specs.Answer.{flag_value}
+use Rattle.expgolomb.specs.Grammar.{MoreData}
+use Rattle.expgolomb.specs.Ranges.{any}
+use Rattle.expgolomb.specs.TableReading.{checked, value_at}
+use Rattle.expgolomb.proofs.Tables.{code_only}
 use Rattle.param_sets.proofs.set_fields.more_data.Goals as goal
 
 -- the answer as a value

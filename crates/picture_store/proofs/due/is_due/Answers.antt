@@ -2,7 +2,7 @@ use Rattle.std.proofs.Common.{◌≡◌, sym, subst, ◌∙◌, Bool, true, fals
 use Rattle.std.proofs.lemmas.Option.{same_Some}
 use Rattle.dep_keys.specs.KeyMaps.{tree_of}
 use Rattle.picture_store.specs.Kept.{numbers_out, keys_for}
-use Rattle.key_places.specs.Places.{place_at, numbers_held}
+use Rattle.key_slots.specs.Places.{place_at, numbers_held}
 use Rattle.picture_store.specs.Stores.{IsReady}
 use Rattle.picture_store.specs.Due.{AreHeld}
 use Rattle.picture_store.proofs.Ready.{is_ready, are_held}

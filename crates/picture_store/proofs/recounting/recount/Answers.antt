@@ -1,5 +1,5 @@
 use Rattle.std.proofs.Common.{arith}
-use Rattle.key_places.specs.Places.{numbers_held}
+use Rattle.key_slots.specs.Places.{numbers_held}
 use Rattle.picture_store.proofs.Using.{held_before, recounted}
 use Rattle.picture_store.proofs.recounting.recount.Goals as goal
 

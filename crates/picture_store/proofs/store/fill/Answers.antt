@@ -1,6 +1,6 @@
 use Rattle.std.proofs.Common.{ap}
 use Rattle.std.specs.Option.{is_some}
-use Rattle.key_places.proofs.Slots.{used_some}
+use Rattle.key_slots.proofs.Slots.{used_some}
 use Rattle.picture_store.proofs.store.fill.Goals as goal
 
 pub returns-clause-filled : goal.returns-clause-filled

@@ -1,7 +1,7 @@
 use Rattle.std.proofs.Common.{rules, ◌≡◌, ◌<◌, ◌∙◌, length, take, get_or, arith, refl, sym, to_z, SFits, w64}
 use Rattle.std.proofs.lemmas.Int.{to_z-of_z}
 use Rattle.std.proofs.lemmas.List.{take_min, get_or_default, length-take}
-use Rattle.header_types.specs.declared.ref_pic_list_modification.RefPicListModification.TheVariants.{Subtract}
+use Rattle.slice_header_types.specs.declared.ref_pic_list_modification.RefPicListModification.TheVariants.{Subtract}
 use Rattle.ref_lists.proofs.Modifications.{outcome_from-None, IsModifiedTo-more}
 use Rattle.ref_lists.proofs.modification.modified.Goals as goal
 

@@ -5,9 +5,9 @@ use Rattle.std.proofs.lemmas.Result.{err_from_is_err_and}
 use Rattle.annexb.specs.NalUnit.{nal_ref_idc, nal_unit_type}
 use Rattle.slice_header.specs.SliceHeaders.{syntax_of}
 use Rattle.slice_header.specs.SliceHeaderSyntax.{header_syntax, reference_syntax, ending_syntax}
-use Rattle.syntax_tables.specs.Structures.{syntax_at}
+use Rattle.expgolomb.specs.Structures.{syntax_at}
 use Rattle.slice_header.proofs.Refusals.{refuses_is, refuses_all}
-use Rattle.syntax_tables.proofs.Structures.{followed_by_at}
+use Rattle.expgolomb.proofs.Structures.{followed_by_at}
 use Rattle.slice_header.proofs.headers.header_fields.Goals as goal
 
 pub returns-in_err-picture : goal.returns-in_err-picture

@@ -1,7 +1,7 @@
 use Rattle.std.proofs.Common.{refl}
 use Rattle.std.proofs.lemmas.Result.{err_from_is_err_and}
 use Rattle.slice_header.specs.SliceHeaderSyntax.{picture_syntax}
-use Rattle.syntax_tables.specs.Structures.{syntax_at}
+use Rattle.expgolomb.specs.Structures.{syntax_at}
 use Rattle.slice_header.proofs.headers.picture_part.Goals as goal
 
 pub returns-in_err-front-clause-exact : goal.returns-in_err-front-clause-exact

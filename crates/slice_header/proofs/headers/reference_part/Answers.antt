@@ -1,12 +1,12 @@
 use Rattle.std.proofs.Common.{refl}
 use Rattle.std.proofs.lemmas.Result.{err_from_is_err_and}
-use Rattle.header_types.specs.SliceTypes.{has_list, is_b}
-use Rattle.set_types.specs.FrameNumbers.{max_frame_num}
+use Rattle.slice_header_types.specs.SliceTypes.{has_list, is_b}
+use Rattle.param_set_types.specs.FrameNumbers.{max_frame_num}
 use Rattle.slice_header.specs.SliceHeaderSyntax.{reference_syntax, weights_of}
 use Rattle.slice_header.specs.RefPicListModificationSyntax.{modification_syntax}
-use Rattle.syntax_tables.specs.Structures.{syntax_at}
+use Rattle.expgolomb.specs.Structures.{syntax_at}
 use Rattle.slice_header.proofs.Refusals.{refuses_is, refuses_all}
-use Rattle.syntax_tables.proofs.Structures.{followed_by_at}
+use Rattle.expgolomb.proofs.Structures.{followed_by_at}
 use Rattle.slice_header.proofs.headers.reference_part.Goals as goal
 
 pub returns-in_err-prediction-clause-exact : goal.returns-in_err-prediction-clause-exact

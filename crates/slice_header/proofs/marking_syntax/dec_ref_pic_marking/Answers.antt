@@ -2,9 +2,9 @@
 use Rattle.std.proofs.Common.{refl}
 use Rattle.std.proofs.lemmas.Result.{err_from_is_err_and}
 use Rattle.slice_header.specs.DecRefPicMarkingSyntax.{operations_syntax, marking_syntax}
-use Rattle.syntax_tables.specs.Structures.{syntax_at}
+use Rattle.expgolomb.specs.Structures.{syntax_at}
 use Rattle.slice_header.proofs.Refusals.{refuses_is, refuses_all}
-use Rattle.syntax_tables.proofs.Structures.{followed_by_at}
+use Rattle.expgolomb.proofs.Structures.{followed_by_at}
 use Rattle.slice_header.proofs.marking_syntax.dec_ref_pic_marking.Goals as goal
 
 pub returns-in_err-flags-clause-exact : goal.returns-in_err-flags-clause-exact

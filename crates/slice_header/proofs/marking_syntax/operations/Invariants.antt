@@ -1,6 +1,6 @@
 use Rattle.std.proofs.Common.{◌≡◌, ◌≤◌, ◌+◌, ◌-◌, ◌*◌, length}
 use Rattle.slice_header.specs.DecRefPicMarkingSyntax.{operation_table, operations_syntax}
-use Rattle.syntax_tables.specs.Structures.{syntax_at, ended}
+use Rattle.expgolomb.specs.Structures.{syntax_at, ended}
 use Rattle.slice_header.proofs.marking_syntax.operations.Given as goal
 
 -- the operations so far, and then what is left, are the whole; one was read a turn

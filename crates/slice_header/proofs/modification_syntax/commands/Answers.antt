@@ -2,9 +2,9 @@
 use Rattle.std.proofs.Common.{◌≡◌, ◌+◌, ◌-◌, suc, [], ap, sym, ◌∙◌, arith}
 use Rattle.std.proofs.lemmas.Result.{err_from_is_err_and}
 use Rattle.slice_header.specs.RefPicListModificationSyntax.{command_table}
-use Rattle.syntax_tables.specs.Structures.{syntax_at, ended}
+use Rattle.expgolomb.specs.Structures.{syntax_at, ended}
 use Rattle.slice_header.proofs.Refusals.{refuses_is}
-use Rattle.syntax_tables.proofs.Structures.{ended_step, ended_end, ended_stop, ended_full, ended_full_stop}
+use Rattle.expgolomb.proofs.Structures.{ended_step, ended_end, ended_stop, ended_full, ended_full_stop}
 use Rattle.slice_header.proofs.modification_syntax.commands.Goals as goal
 
 pub returns-in_err-command-clause-exact : goal.returns-in_err-command-clause-exact

@@ -1,6 +1,6 @@
 use Rattle.std.proofs.Common.{◌≡◌, ◌≤◌, ◌+◌, ◌-◌, ◌*◌, []}
 use Rattle.slice_header.specs.RefPicListModificationSyntax.{command_table}
-use Rattle.syntax_tables.specs.Structures.{syntax_at, ended}
+use Rattle.expgolomb.specs.Structures.{syntax_at, ended}
 use Rattle.slice_header.proofs.modification_syntax.commands.Given as goal
 
 -- the commands so far, and then what is left, are the whole

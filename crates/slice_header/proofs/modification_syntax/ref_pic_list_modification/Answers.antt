@@ -3,7 +3,7 @@ use Rattle.std.proofs.Common.{◌≡◌, ◌+◌, [], subst, sym, refl}
 use Rattle.std.proofs.lemmas.Result.{err_from_is_err_and}
 use Rattle.slice_header.specs.HeaderAnswer.{Stores}
 use Rattle.slice_header.specs.RefPicListModificationSyntax.{command_table, modification_syntax}
-use Rattle.syntax_tables.specs.Structures.{syntax_at, ended}
+use Rattle.expgolomb.specs.Structures.{syntax_at, ended}
 use Rattle.slice_header.proofs.Refusals.{refuses_is}
 use Rattle.slice_header.proofs.modification_syntax.ref_pic_list_modification.Goals as goal
 

@@ -2,9 +2,9 @@
 use Rattle.std.proofs.Common.{◌≡◌, ◌+◌, ◌-◌, suc, refl, ap, sym, ◌∙◌, arith}
 use Rattle.std.proofs.lemmas.Result.{err_from_is_err_and}
 use Rattle.slice_header.specs.PredWeightTableSyntax.{entry_syntax, entries_syntax}
-use Rattle.syntax_tables.specs.Structures.{syntax_at, counted}
+use Rattle.expgolomb.specs.Structures.{syntax_at, counted}
 use Rattle.slice_header.proofs.Refusals.{refuses_is}
-use Rattle.syntax_tables.proofs.Structures.{counted_step, counted_stop, counted_all}
+use Rattle.expgolomb.proofs.Structures.{counted_step, counted_stop, counted_all}
 use Rattle.slice_header.proofs.weight_syntax.weights.Goals as goal
 
 pub loop-init : goal.loop-init

@@ -1,6 +1,6 @@
 use Rattle.std.proofs.Common.{◌≡◌, ◌≤◌, ◌+◌, ◌-◌, ◌*◌}
 use Rattle.slice_header.specs.PredWeightTableSyntax.{entry_syntax, entries_syntax}
-use Rattle.syntax_tables.specs.Structures.{syntax_at, counted}
+use Rattle.expgolomb.specs.Structures.{syntax_at, counted}
 use Rattle.slice_header.proofs.weight_syntax.weights.Given as goal
 
 -- the weights so far, and then those of the entries that are left, are the whole

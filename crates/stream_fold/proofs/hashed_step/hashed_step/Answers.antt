@@ -2,7 +2,7 @@ use Rattle.std.proofs.Common.{◌≡◌, ◌∙◌, ℕ, List, ap, sym, subst}
 use Rattle.request_core.specs.States.{FoldState}
 use Rattle.request_core.specs.Fold.{fold_step}
 use Rattle.unit_outcomes.specs.declared.outcome.Outcome.{Outcome}
-use Rattle.hashed_units.specs.Digests.{IsDigestOf}
+use Rattle.picture_keys.specs.Digests.{IsDigestOf}
 use Rattle.stream_fold.proofs.Digests.{step_digest}
 use Rattle.stream_fold.proofs.hashed_step.hashed_step.Goals as goal
 

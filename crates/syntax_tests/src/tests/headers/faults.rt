@@ -1,7 +1,7 @@
 //! What is said of a header that can't be read.
 
 use super::row_holds;
-use slice_front::HeaderFault;
+use slice_header::HeaderFault;
 use std::test::Fail;
 
 /// Each fault with its number and its text.

@@ -3,8 +3,8 @@
 
 use super::{row_holds, summary_of};
 use annexb::{Nal, split};
-use set_types::{Pps, Sps};
-use slice_front::HeaderFault;
+use param_set_types::{Pps, Sps};
+use slice_header::HeaderFault;
 use std::alloc::{AllocError, Global};
 use std::process::Abort;
 use std::test::Fail;

@@ -2,7 +2,7 @@
 
 use super::writer::Code;
 use Code::{FrameNum, LastFrameNum, Lsb, MaxFrameNum, Operations, Se, TooLong, U, Ue};
-use set_types::{ChromaFormat, PicOrderCntType};
+use param_set_types::{ChromaFormat, PicOrderCntType};
 
 /// A field: its place among the codes, codes that are read there, and codes that are out of its range.
 pub(super) type Field = (usize, &'static [Code], &'static [Code]);

@@ -1,6 +1,6 @@
 //! Codes of headers that no encoder writes.
 
-use set_types::Sps;
+use param_set_types::Sps;
 use std::alloc::AllocError;
 use test_builders::BitWriter;
 

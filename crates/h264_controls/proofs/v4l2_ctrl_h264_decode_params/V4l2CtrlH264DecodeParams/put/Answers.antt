@@ -1,7 +1,7 @@
 -- The members are read as they stand, and appending is associative.
 use Rattle.std.proofs.Common.{arith, ◌≡◌, ◌++◌, append_assoc}
 use Rattle.std.proofs.lemmas.Int.{to_z-of_z}
-use Rattle.set_controls.specs.Words.{s32}
+use Rattle.param_set_controls.specs.Words.{s32}
 use Rattle.h264_controls.specs.DecodeParamsForm.{decode_params_form}
 use Rattle.h264_controls.proofs.v4l2_ctrl_h264_decode_params.V4l2CtrlH264DecodeParams.put.Goals as goal
 

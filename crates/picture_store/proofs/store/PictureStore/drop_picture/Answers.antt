@@ -1,7 +1,7 @@
 use Rattle.std.proofs.Common.{◌≡◌, refl, ap, ◌∙◌, subst, ◌<◌, length, Some, slice_get, arith}
 use Rattle.std.specs.Option.{is_some}
 use Rattle.std.proofs.lemmas.Option.{slice_get_read}
-use Rattle.key_places.proofs.Slots.{used_some}
+use Rattle.key_slots.proofs.Slots.{used_some}
 use Rattle.picture_store.proofs.Emptied.{kept_emptied, held_emptied}
 use Rattle.picture_store.proofs.Landed.{found_length}
 use Rattle.picture_store.proofs.Pended.{held_key_at, no_key, not_held}

@@ -1,9 +1,9 @@
 use Rattle.std.proofs.Common.{◌≡◌, ◌≤◌, ◌-◌, ap, ℕ, List, Option, ◌++◌, take, drop, length, refl, sym, subst, append_assoc, arith}
 use Rattle.std.specs.List.{zip}
 use Rattle.std.proofs.lemmas.List.Sums.{sum_by-take-le, sum_by-take-drop}
-use Rattle.key_places.specs.Counting.{once_at, times, times_in}
-use Rattle.key_places.specs.Places.{AreSame}
-use Rattle.key_places.proofs.Taking.{times_at_most}
+use Rattle.key_slots.specs.Counting.{once_at, times, times_in}
+use Rattle.key_slots.specs.Places.{AreSame}
+use Rattle.key_slots.proofs.Taking.{times_at_most}
 use Rattle.picture_keys.specs.Known.{keys_of}
 use Rattle.picture_keys.specs.Numbered.{AllStandFor}
 use Rattle.picture_store.specs.Places.{PlacesValue, ArePlaced}

@@ -1,0 +1,158 @@
+-- What the matches of a command line are read as.
+use Rattle.std.proofs.Common.{◌≡◌, ◌∙◌, ◌≤◌, ◌<◌, ◌^◌, ℕ, Bool, cond, true, false, refl, sym, ap, arith, List, Option, Some, None, option_map, Result, Ok, Err, codes}
+use Rattle.std.specs.Prelude.{option_and_then}
+use Rattle.std.specs.Str.Parse.{ParsesUnsigned, digits_value, without_leading_plus}
+use Rattle.clap.specs.Values.{Accepts}
+use Rattle.clap.specs.ValueTests.{is_unsigned_in}
+use Rattle.clap.specs.Words.{ReadsOne, Text, first_of, first_value, one_of, one_text, rows_of}
+use Rattle.clap.specs.declared.builder.ValueParser.TheVariants.{Unsigned}
+use Rattle.clap.specs.declared.parser.matches.Found.{Found}
+use Rattle.clap.proofs.ValueTestLemmas.{Accepts-accepts, accepts-Accepts}
+use Rattle.clap.proofs.WalkLemmas.{first_value-rows, one_text-rows}
+use Rattle.cli.specs.Bounds.{most_id}
+use Rattle.cli.specs.CommandLine.{Wanted, audit, audit_in, cache_in, draw_in, drawing, from_by, from_in, has_flag, is_true, number_in, number_of, plan, plan_in, run, run_in, several, units_in, workers_in}
+
+-- the plan of a name, as JSON or not
+abbrev plan_with : Bool → Text → Wanted
+plan_with json name = plan name json
+
+-- the value of FILE is what is planned, and as JSON where `--json` was given
+pub plan-read : (f : Found) (name : Option Text) (json : Bool) → name ≡ first_value f (codes "FILE")
+    → json ≡ has_flag (codes "json") (rows_of f) → option_map (plan_with json) name ≡ plan_in (rows_of f)
+plan-read f name json is given =
+    ap (λ (j : Bool). option_map (plan_with j) name) given
+    ∙ ap (option_map (plan_with (has_flag (codes "json") (rows_of f)))) (is ∙ first_value-rows f (codes "FILE"))
+
+-- with no value of FILE nothing is planned
+pub no-file : (f : Found) → None ≡ first_value f (codes "FILE") → None ≡ plan_in (rows_of f)
+no-file f none = ap (option_map (plan_with (has_flag (codes "json") (rows_of f)))) (none ∙ first_value-rows f (codes "FILE"))
+
+-- the script by which the stream is edited
+abbrev script_of : Found → Option Text
+script_of f = first_of (codes "edits") (rows_of f)
+
+-- with no value of FILE nothing is drawn
+pub no-draw : (f : Found) → None ≡ first_value f (codes "FILE") → None ≡ draw_in (rows_of f)
+no-draw f none = ap (option_and_then (λ name. option_and_then (λ from.
+    option_map (drawing name (script_of f) from) (units_in (rows_of f))) (from_in (rows_of f))))
+    (none ∙ first_value-rows f (codes "FILE"))
+
+-- with one it is drawn with what the options give
+pub draw-read : (f : Found) (name : Text) (script : Option Text) (from : Option (Option ℕ)) (units : Option ℕ)
+    → Some name ≡ first_value f (codes "FILE") → script ≡ first_value f (codes "edits")
+    → from_in (rows_of f) ≡ from → units_in (rows_of f) ≡ units
+    → option_and_then (λ n. option_map (drawing name script n) units) from ≡ draw_in (rows_of f)
+draw-read f name script from units file edits from_is is =
+    ap (λ (s : Option Text). option_and_then (λ n. option_map (drawing name s n) units) from) (edits ∙ first_value-rows f (codes "edits"))
+    ∙ (ap (λ (r : Option ℕ). option_and_then (λ n. option_map (drawing name (script_of f) n) r) from) (sym is)
+    ∙ (ap (option_and_then (λ n. option_map (drawing name (script_of f) n) (units_in (rows_of f)))) (sym from_is)
+    ∙ ap (option_and_then (λ t. option_and_then (λ n. option_map (drawing t (script_of f) n) (units_in (rows_of f))) (from_in (rows_of f))))
+    (file ∙ first_value-rows f (codes "FILE"))))
+
+-- no id is given
+pub from-none : (f : Found) → None ≡ first_value f (codes "from") → Some None ≡ from_in (rows_of f)
+from-none f none = ap (λ (o : Option Text). from_by o (rows_of f)) (none ∙ first_value-rows f (codes "from"))
+
+-- one is
+pub from-some : (f : Found) (text : Text) → Some text ≡ first_value f (codes "from") → (id : Option ℕ)
+    → id ≡ number_of (codes "from") 0 most_id (rows_of f) → option_map (λ n. Some n) id ≡ from_in (rows_of f)
+from-some f text some id is =
+    ap (option_map (λ n. Some n)) is ∙ ap (λ (o : Option Text). from_by o (rows_of f)) (some ∙ first_value-rows f (codes "from"))
+
+-- whether `--hex` was given
+abbrev hex_of : Found → Bool
+hex_of f = has_flag (codes "hex") (rows_of f)
+
+-- the run of a script with these
+abbrev run_with : Bool → Text → ℕ → ℕ → Wanted
+run_with hex name workers room = run name (several workers) room hex
+
+-- with no value of SCRIPT nothing is run
+pub no-script : (f : Found) → None ≡ first_value f (codes "SCRIPT") → None ≡ run_in (rows_of f)
+no-script f none = ap (option_and_then (λ name. option_and_then (λ workers.
+    option_map (run_with (hex_of f) name workers) (cache_in (rows_of f))) (workers_in 0 (rows_of f))))
+    (none ∙ first_value-rows f (codes "SCRIPT"))
+
+-- with one it is run with what the options give
+pub script-read : (f : Found) (name : Text) (workers room : Option ℕ) (hex : Bool) → Some name ≡ first_value f (codes "SCRIPT")
+    → workers_in 0 (rows_of f) ≡ workers → cache_in (rows_of f) ≡ room → hex ≡ hex_of f
+    → option_and_then (λ n. option_map (run_with hex name n) room) workers ≡ run_in (rows_of f)
+script-read f name workers room hex script several_are is given =
+    ap (λ (h : Bool). option_and_then (λ n. option_map (run_with h name n) room) workers) given
+    ∙ (ap (λ (r : Option ℕ). option_and_then (λ n. option_map (run_with (hex_of f) name n) r) workers) (sym is)
+    ∙ (ap (option_and_then (λ n. option_map (run_with (hex_of f) name n) (cache_in (rows_of f)))) (sym several_are)
+    ∙ ap (option_and_then (λ t. option_and_then (λ n. option_map (run_with (hex_of f) t n) (cache_in (rows_of f))) (workers_in 0 (rows_of f))))
+    (script ∙ first_value-rows f (codes "SCRIPT"))))
+
+-- with no value of SCRIPT nothing is audited
+pub no-audit : (f : Found) → None ≡ first_value f (codes "SCRIPT") → None ≡ audit_in (rows_of f)
+no-audit f none = ap (option_and_then (λ name. option_and_then (λ workers.
+    option_map (audit name workers) (cache_in (rows_of f))) (workers_in 1 (rows_of f))))
+    (none ∙ first_value-rows f (codes "SCRIPT"))
+
+-- with one it is audited with what the options give
+pub audit-read : (f : Found) (name : Text) (workers room : Option ℕ) → Some name ≡ first_value f (codes "SCRIPT")
+    → workers_in 1 (rows_of f) ≡ workers → cache_in (rows_of f) ≡ room
+    → option_and_then (λ n. option_map (audit name n) room) workers ≡ audit_in (rows_of f)
+audit-read f name workers room script several_are is =
+    ap (λ (r : Option ℕ). option_and_then (λ n. option_map (audit name n) r) workers) (sym is)
+    ∙ (ap (option_and_then (λ n. option_map (audit name n) (cache_in (rows_of f)))) (sym several_are)
+    ∙ ap (option_and_then (λ t. option_and_then (λ n. option_map (audit t n) (cache_in (rows_of f))) (workers_in 1 (rows_of f))))
+    (script ∙ first_value-rows f (codes "SCRIPT")))
+
+-- a flag's value is what the matches give for it
+pub flag-read : (f : Found) (name : Text) (value : Option Text) → value ≡ first_value f name → is_true value ≡ has_flag name (rows_of f)
+flag-read f name value is = ap is_true (is ∙ first_value-rows f name)
+
+module _ (low high : ℕ) where
+  within : (t : Text) → Accepts false (Unsigned low high) t → number_in low high t ≡ Some (digits_value 10 (without_leading_plus t))
+  within t h = ap (λ b. cond b (Some (digits_value 10 (without_leading_plus t))) None) (Accepts-accepts false (Unsigned low high) t h)
+
+  outside : (t : Text) → (Accepts false (Unsigned low high) t → ⊥) → number_in low high t ≡ None
+  outside t bad = go (is_unsigned_in low high t) refl
+    where
+      go : (b : Bool) → is_unsigned_in low high t ≡ b → cond b (Some (digits_value 10 (without_leading_plus t))) None ≡ None
+      go true e = absurd (bad (accepts-Accepts false (Unsigned low high) t e))
+      go false e = refl
+
+module _ (bits : ℕ) (E : Type 0) (G : List ℕ → Result ℕ E → Type 0) (only : (u : List ℕ) (x : Result ℕ E) → G u x → ParsesUnsigned bits 10 u x) (id : Text) (low high : ℕ) (small : high < 2 ^ bits) (fits : high < 2 ^ 64) (f : Found) where
+  at : (o : Option Text) → one_text f id ≡ o → number_of id low high (rows_of f) ≡ option_and_then (number_in low high) o
+  at o is = ap (option_and_then (number_in low high)) (sym (one_text-rows f id) ∙ is)
+
+  -- a number within the bounds that the value reads as is that number
+  pub number-read : (n : ℕ) → (one_text f id ≡ None → Some n ≡ None)
+      → ((t : List ℕ) → one_text f id ≡ Some t → ReadsOne G t (Some n)) → low ≤ n → n ≤ high
+      → Some n ≡ number_of id low high (rows_of f)
+  number-read n none value least most = sym (go (one_text f id) refl)
+    where
+      go : (o : Option Text) → one_text f id ≡ o → number_of id low high (rows_of f) ≡ Some n
+      go None is = let bad = none is in cc
+      go (Some t) is =
+          let read = only t (Ok n) (value t is) in
+          let same = read.1 in
+          at (Some t) is ∙ (within low high t (read.0.0, omega (arith), omega (arith), omega (arith)) ∙ ap (λ k. Some k) (sym read.1))
+
+  -- a number outside them is none
+  pub number-out : (n : ℕ) → (one_text f id ≡ None → Some n ≡ None)
+      → ((t : List ℕ) → one_text f id ≡ Some t → ReadsOne G t (Some n)) → (low ≤ n → n ≤ high → ⊥)
+      → None ≡ number_of id low high (rows_of f)
+  number-out n none value out = sym (go (one_text f id) refl)
+    where
+      go : (o : Option Text) → one_text f id ≡ o → number_of id low high (rows_of f) ≡ None
+      go None is = at None is
+      go (Some t) is =
+          let read = only t (Ok n) (value t is) in
+          let same = read.1 in
+          at (Some t) is ∙ outside low high t (λ h. let above = h.2 in let below = h.3 in out (omega (arith)) (omega (arith)))
+
+  -- nor is a text that is no number
+  pub number-none : ((t : List ℕ) → one_text f id ≡ Some t → ReadsOne G t None)
+      → None ≡ number_of id low high (rows_of f)
+  number-none value = sym (go (one_text f id) refl)
+    where
+      go : (o : Option Text) → one_text f id ≡ o → number_of id low high (rows_of f) ≡ None
+      go None is = at None is
+      go (Some t) is =
+          let read = value t is in
+          let refuses = only t (Err read.0) read.1 in
+          at (Some t) is ∙ outside low high t (λ h. let below = h.3 in refuses (h.0, omega (arith)))

@@ -1,0 +1,18 @@
+use Rattle.std.proofs.Common.{rules, ap, ap₂, codes, pos, ◌≡◌, ◌∙◌}
+use Rattle.std.proofs.lemmas.Result.{IfOk-weaker}
+use Rattle.clap.specs.Words.{app_of, new_app, rule_of, with_rule}
+use Rattle.clap.specs.declared.builder.ValueParser.{ValueParser}
+use Rattle.clap.specs.declared.builder.ValueParser.TheVariants.{Signed}
+use Rattle.cli.specs.Bounds.{most_workers}
+use Rattle.cli.specs.CommandLine.{option_rule, workers_rule}
+use Rattle.cli.proofs.parsing.run_command.Goals as goal
+
+pub returns : goal.returns
+returns c =
+    let few : c.range-few.result ≡ Signed (pos 0) (pos most_workers) = rw (c.value_parser.ensures, c.new.ensures.start, c.new.ensures.end) at c.range-few.ensures in
+    let workers_is : rule_of c.number_option-workers.result ≡ workers_rule = c.number_option-workers.ensures.rule ∙ ap (λ (q : ValueParser). option_rule (codes "workers") q (codes "0")) few in
+    let base : app_of c.about.result ≡ new_app (codes "run") = search rules in
+    IfOk-weaker c.arg-4.result _ _ (λ command added. added.shape c.flag-hex.ensures.local
+    ∙ ap₂ with_rule (c.in_ok-arg-3.ensures.shape c.cache_option-cache.ensures.local
+    ∙ ap₂ with_rule (c.in_ok-arg-2.ensures.shape c.number_option-workers.ensures.local
+    ∙ ap₂ with_rule (c.in_ok-arg.ensures.shape c.needed-script.ensures.local ∙ ap₂ with_rule base c.needed-script.ensures.rule) workers_is) c.cache_option-cache.ensures.rule) c.flag-hex.ensures.rule) c.arg-4.ensures

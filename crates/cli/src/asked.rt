@@ -1,0 +1,65 @@
+//! What a command line asks for.
+
+ghost use Rattle.std.specs.Prelude.{◌≤◌};
+ghost use Rattle.picture_cache.specs.Bounded.{most_room};
+ghost use Rattle.cli.specs.Bounds.{most_workers};
+
+use draw_run::{Choice, EditedChoice};
+use script_run::Options;
+
+/// The most workers that may be asked for.
+pub const MOST_WORKERS: usize = 64;
+
+/// What the command line asks for.
+#[derive(Clone, Copy, Debug)]
+pub enum Asked<'a> {
+    /// The plan of the stream in this file, `-` being the standard input: in lines of text, or as
+    /// JSON.
+    Plan {
+        file: &'a str,
+        json: bool,
+    },
+    /// A drawing of the chosen units of the stream in this file, `-` being the standard input.
+    Draw {
+        file: &'a str,
+        choice: Choice,
+    },
+    /// A drawing of the chosen units of that stream after the edits of the script of this name, `-`
+    /// being the standard input.
+    DrawEdited {
+        file: &'a str,
+        script: &'a str,
+        choice: EditedChoice,
+    },
+    /// A run of the script that the options name, `-` being the standard input: in one thread, or
+    /// beside workers.
+    Run {
+        options: Options<'a>,
+        workers: Option<Workers>,
+    },
+    /// An audit of it, beside workers.
+    Audit {
+        options: Options<'a>,
+        workers: Workers,
+    },
+    /// A server.
+    Serve(Serving),
+}
+
+/// How many workers decode, each in a thread of its own.
+#[derive(Clone, Copy, Debug)]
+pub struct Workers {
+    /// 1 to `MOST_WORKERS`.
+    pub count: usize,
+    ghost in_range: { (1 ≤ count) × (count ≤ most_workers) },
+}
+
+/// With what a server is run.
+#[derive(Clone, Copy, Debug)]
+pub struct Serving {
+    /// The workers that decode; with none it is all one thread.
+    pub workers: Option<Workers>,
+    /// For how many pictures that no unit has the session has room, 1 to `MOST_ROOM`.
+    pub cache: u16,
+    ghost room: { (1 ≤ cache) × (cache ≤ most_room) },
+}

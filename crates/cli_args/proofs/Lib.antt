@@ -1,2 +1,0 @@
-pub mod CommandFaults
-pub mod Matches

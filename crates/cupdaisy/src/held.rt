@@ -1,0 +1,88 @@
+//! A boxed runner whose type names no other type, or none.
+
+ghost use Rattle.std.specs.Prelude.{◌≡◌, Option, None, Some, is_some, true};
+ghost use Rattle.cupdaisy.specs.Ownership.{State, held_owns, state_coded};
+
+mod parts;
+
+use edit_engine::Runner;
+use parts::Parts;
+use std::alloc::Global;
+use std::marker::Model;
+
+/// What a pointer of a `Held` points to, as C sees it.
+#[repr(C)]
+pub struct Opaque {
+    byte: u8,
+}
+
+/// A runner in a block of its own, or none; it is as large as a pointer. Clauses see the runner's
+/// state.
+#[repr(C)]
+pub struct Held {
+    at: *mut Opaque,
+    alloc: Global,
+    pub ghost state: { Option State } by { state_coded },
+}
+
+impl Model for Held {
+    ghost also_owns = { λ held. held_owns held.alloc held.at held.state };
+}
+
+impl Held {
+    /// None: a null pointer.
+    pub fn empty(alloc: Global) -> Held
+        ensures { result.state ≡ None }
+    {
+        Held {
+            at: std::ptr::null_mut(),
+            alloc,
+        }
+    }
+
+    /// The runner.
+    pub fn of(runner: Box<Runner, Global>) -> Held
+        ensures { result.state ≡ Some runner.value }
+    {
+        Held::of_parts(Parts::of(runner))
+    }
+
+    fn of_parts(parts: Parts<Runner, Global>) -> Held
+        ensures { result.state ≡ Some parts.value }
+    {
+        let Parts { ptr, alloc } = parts;
+        Held {
+            at: ptr.cast(),
+            alloc,
+        }
+    }
+
+    fn into_parts(self) -> Parts<Runner, Global>
+        requires { is_some self.state ≡ true }
+        ensures { self.state ≡ Some result.value }
+    {
+        let Held { at, alloc } = self;
+        Parts {
+            ptr: at.cast(),
+            alloc,
+        }
+    }
+
+    /// The runner, of which there is one.
+    pub fn into_box(self) -> Box<Runner, Global>
+        requires { is_some self.state ≡ true }
+        ensures { self.state ≡ Some result.value }
+    {
+        self.into_parts().into_box()
+    }
+
+    /// Lets go of none.
+    pub fn close(self)
+        requires { self.state ≡ None }
+    {
+        let Held { at: _, alloc: _ } = self;
+    }
+}
+
+// A session may be handed from thread to thread, to one call at a time.
+unsafe impl Send for Held {}

@@ -1,5 +1,0 @@
-mod Ends
-mod Inserted
-mod Landed
-mod Opened
-mod Rows

@@ -1,9 +1,0 @@
-use Rattle.draw_edits.proofs.Inserted.{loaded-kept}
-use Rattle.draw_edits.proofs.draw.held.Goals as goal
-
-pub returns-clause-ok : goal.returns-clause-ok
-returns-clause-ok g c = (
-  loaded-kept c.args.text.now c.in_ok-session.session c.settle.new.session c.in_ok-session.ensures.ok c.in_ok-settle.ensures.stream
-      c.in_ok-settle.ensures.out,
-  c.in_ok-settle.ensures.held,
-)

@@ -1,7 +1,0 @@
-use Rattle.draw_edits.proofs.Inserted.{loaded-more}
-use Rattle.draw_edits.proofs.loading.insert_last.Goals as goal
-
-pub returns-in-Ok : goal.returns-in-Ok
-returns-in-Ok c = λ parts loaded.
-    loaded-more parts c.args.session.now c.edit_read.new.self c.args.unit c.end_of-place.result c.in-Ok.field-0 loaded c.end_of-place.ensures
-    c.in_ok-insertion.ensures.accepted (rw c.in_ok-insertion.ensures.ok at c.in-Ok.ensures)

@@ -1,0 +1,76 @@
+-- What `draw --edits` writes of a text and a script (docs/OUTPUT.md).
+use Rattle.std.specs.Prelude.{◌≡◌, ℕ, List, [], Option, ◌⊎◌}
+use Rattle.std.specs.Io.KnownBytes.{Appends, Keeps}
+use Rattle.access_unit.specs.Rooms.{IsStreamRefused, most_units}
+use Rattle.access_unit.specs.declared.room.Refusal.{Refusal}
+use Rattle.console_io.specs.Chunks.{AppendsFront}
+use Rattle.console_io.specs.Messages.{out_of_memory}
+use Rattle.edit_engine.specs.Machines.{Machine}
+use Rattle.edit_script.specs.EditScripts.{HasFirstWrongForEdits, IsEditScript}
+use Rattle.edit_script.specs.declared.edit_commands.EditCommand.{EditCommand}
+use Rattle.edit_script.specs.declared.script.ScriptFault.{ScriptFault}
+use Rattle.edit_script.specs.declared.script.ScriptFault.TheVariants as scripts
+use Rattle.script_run.specs.Messages.{script_fault_text}
+use Rattle.stream_edits.specs.Streams.{ids_of}
+use Rattle.stream_svg.specs.Documents.{HasParts}
+use Rattle.unit_lines.specs.Refusals.{refusal_text}
+use Rattle.draw_run.specs.Choosing.{chosen_ids}
+use Rattle.draw_run.specs.Loading.{IsHeld}
+use Rattle.draw_run.specs.Making.{AreMade}
+use Rattle.draw_run.specs.Marks.{AreOpenedAs}
+use Rattle.draw_run.specs.declared.fault.EditsFault.{EditsFault}
+use Rattle.draw_run.specs.declared.fault.EditsFault.TheVariants.{Script, Refused, Memory, Unwritten}
+
+-- so many units of a session's stream, from the first or from an id on, are in the document, in
+-- stream order: their shapes are opened with their marks, by a stream before, and with their lines
+abbrev pub IsDrawnOf : Option ℕ → ℕ → Machine → Machine → List ℕ → Type 0
+IsDrawnOf from units before after document =
+    (openings : List (List ℕ))
+    × AreOpenedAs before.register.stream after (chosen_ids from units (ids_of after.register.stream)) openings
+    × HasParts openings document
+
+-- the document shows the text's stream after the script's edits, which were made when all its
+-- pictures were held, and this is told of the edits that are refused
+pub record IsDrawnAfter (from : Option ℕ) (units : ℕ) (text script document told : List ℕ) : Type 0 where
+  pub before : Machine
+  pub held : IsHeld text before
+  pub commands : List (ℕ × EditCommand)
+  pub read : IsEditScript script commands
+  pub after : Machine
+  pub made : AreMade before commands told after
+  pub drawn : IsDrawnOf from units before after document
+
+-- one such document was written, and this is to be told
+abbrev pub WritesEdited : Option ℕ → ℕ → List ℕ → List ℕ → List ℕ → Option (List ℕ) → Option (List ℕ) → Type 0
+WritesEdited from units text script told old new =
+    (document : List ℕ) × IsDrawnAfter from units text script document told × Appends old new document
+
+-- nothing was written, or a prefix of the line of the text's refusal or of such a document
+abbrev pub WritesFront : Option ℕ → ℕ → List ℕ → List ℕ → Option (List ℕ) → Option (List ℕ) → Type 0
+WritesFront from units text script old new =
+    Keeps old new
+    ⊎ ((refusal : Refusal) × IsStreamRefused text most_units refusal × AppendsFront old new (refusal_text refusal))
+    ⊎ ((document told : List ℕ) × IsDrawnAfter from units text script document told × AppendsFront old new document)
+
+-- what was written where the drawing ended by this fault: nothing where a line of the script is
+-- wrong, the whole line of the text's refusal, nothing or a prefix where memory runs out or the
+-- writer refused
+abbrev pub EndsBy : Option ℕ → ℕ → List ℕ → List ℕ → EditsFault → Type 0 → Option (List ℕ) → Option (List ℕ) → Type 0
+EndsBy from units text script (Script number) refused old new = HasFirstWrongForEdits script number × Keeps old new
+EndsBy from units text script (Refused refusal) refused old new =
+    IsStreamRefused text most_units refusal × Appends old new (refusal_text refusal)
+EndsBy from units text script Memory refused old new = Keeps old new
+EndsBy from units text script Unwritten refused old new = refused × WritesFront from units text script old new
+
+-- why nothing is drawn where the script isn't read
+abbrev pub fault_of_script : ScriptFault → EditsFault
+fault_of_script (scripts.Line number) = Script number
+fault_of_script scripts.Memory = Memory
+
+-- what is said of it on standard error; nothing where the stream's refusal is printed, or it is the
+-- writer that takes no more
+abbrev pub edits_fault_text : EditsFault → List ℕ
+edits_fault_text (Script number) = script_fault_text number
+edits_fault_text (Refused refusal) = []
+edits_fault_text Memory = out_of_memory
+edits_fault_text Unwritten = []

@@ -1,0 +1,62 @@
+//! All pictures of a stream, decoded one after the other.
+
+ghost use Rattle.std.specs.Prelude.{◌≡◌, [], IfOk, OnOk, false, true};
+ghost use Rattle.draw_run.specs.Marks.{HoldsAll};
+
+use edit_engine::{Job, Session};
+use stand_in_device::{Device, Finished, Undone};
+use std::alloc::{AllocError, Global};
+
+/// Takes jobs and lands their results, one after the other, until no picture is due.
+pub(crate) fn settle(alloc: Global, session: &mut Session) -> Result<(), AllocError>
+    requires { session.old.out ≡ [] }
+    ensures held { OnOk result (HoldsAll session.new) }
+    ensures out { OnOk result (session.new.out ≡ []) }
+    ensures stream { OnOk result (session.new.register ≡ session.old.register) }
+{
+    let mut device = Device::new(alloc);
+    for _ in 0..u64::MAX {
+        if !land_next(alloc, session, &mut device)? {
+            return Ok(());
+        }
+    }
+    // As many jobs were given as there are numbers.
+    Err(AllocError)
+}
+
+/// Takes the job of the picture that is due, if one is, and lands its result. Whether one was due.
+fn land_next(alloc: Global, session: &mut Session, device: &mut Device) -> Result<bool, AllocError>
+    requires { session.old.out ≡ [] }
+    ensures out { OnOk result (session.new.out ≡ []) }
+    ensures stream { OnOk result (session.new.register ≡ session.old.register) }
+    ensures held { IfOk result (λ was_due. was_due ≡ false → HoldsAll session.new) }
+{
+    match session.take() {
+        Ok(Some(job)) => {
+            let finished = decode(alloc, device, job)?;
+            let _ = session.land(finished);
+            Ok(true)
+        }
+        Ok(None) => Ok(false),
+        // Memory ran out, or all numbers of jobs were given.
+        Err(_) => Err(AllocError),
+    }
+}
+
+/// Decodes a job.
+fn decode(alloc: Global, device: &mut Device, job: Job) -> Result<Finished, AllocError>
+    ensures { IfOk result (λ finished. finished ≡ job) }
+{
+    match device.decode(alloc, job) {
+        Ok(finished) => Ok(finished),
+        Err(undone) => Err(cause_of(undone)),
+    }
+}
+
+/// Why a job is undone; the job is spent.
+fn cause_of(undone: Undone) -> AllocError {
+    let Undone { job, cause } = undone;
+    let (_, input) = job.into_parts();
+    drop(input);
+    cause
+}

@@ -1,0 +1,261 @@
+mod period_rows;
+mod stored_states;
+
+ghost use Rattle.std.specs.Prelude.{◌<◌, ◌≤◌, length};
+
+use access_unit::{Refused, read_unit};
+use base_types::Shared;
+use output_order::Comparisons;
+use picture_keys::HashedUnit;
+use pictures::AuId;
+use std::alloc::{AllocError, AllocGlobal, Global};
+use std::process::Abort;
+use std::test::Fail;
+use stream_fold::{Change, Folded, OrderedFold};
+use unit_outcomes::Outcome;
+
+/// Sets and an IDR picture, of one macroblock, count type 2 and one reference frame; frame_num has
+/// four bits.
+const A: [u8; 23] = [
+    0, 0, 1, 0x67, 0x42, 0x00, 0x0A, 0xDA, 0x79, 0, 0, 1, 0x68, 0xCE, 0x38, 0x80, 0, 0, 1, 0x65,
+    0x88, 0x84, 0x80,
+];
+
+/// The IDR picture alone.
+const IDR: [u8; 7] = [0, 0, 1, 0x65, 0x88, 0x84, 0x80];
+
+/// The last two bytes of the P picture of each frame_num, after `00 00 01 41`.
+const P: [[u8; 2]; 16] = [
+    [0x9A, 0x03],
+    [0x9A, 0x23],
+    [0x9A, 0x43],
+    [0x9A, 0x63],
+    [0x9A, 0x83],
+    [0x9A, 0xA3],
+    [0x9A, 0xC3],
+    [0x9A, 0xE3],
+    [0x9B, 0x03],
+    [0x9B, 0x23],
+    [0x9B, 0x43],
+    [0x9B, 0x63],
+    [0x9B, 0x83],
+    [0x9B, 0xA3],
+    [0x9B, 0xC3],
+    [0x9B, 0xE3],
+];
+
+/// The text of a P picture.
+fn p_text(frame_num: usize) -> [u8; 6] {
+    let [first, second] = P[frame_num % 16];
+    [0, 0, 1, 0x41, first, second]
+}
+
+/// The text of a P picture that has the same header and other slice data.
+fn other_p_text(frame_num: usize) -> [u8; 7] {
+    let [first, second] = P[frame_num % 16];
+    [0, 0, 1, 0x41, first, second, 0x80]
+}
+
+/// The access unit of a text that is one, unless memory runs out.
+fn unit(rt: &(impl Abort + AllocGlobal), text: &[u8]) -> Result<Shared<HashedUnit>, AllocError> {
+    match read_unit(rt.alloc(), text) {
+        Ok(unit) => Ok(Shared::new(rt.alloc(), HashedUnit::of(unit))?),
+        Err(Refused::Memory) => Err(AllocError),
+        Err(_) => panic!(rt; "the text is no unit"),
+    }
+}
+
+/// Puts the unit, if there is one, in place of those from `at` on and below `rest`, under the id of
+/// the place, and says how many steps of the fold it took.
+fn changed(
+    alloc: Global,
+    folded: &mut Folded,
+    at: usize,
+    rest: usize,
+    unit: Option<Shared<HashedUnit>>,
+) -> Result<u64, AllocError>
+    requires ordered { at ≤ rest }
+    requires inside { rest ≤ length folded.old.stream }
+    requires short { length folded.old.stream < 70000 }
+{
+    let mut units = Vec::new(alloc);
+    if let Some(unit) = unit {
+        units.push((AuId::new(at as u32 + 1), unit))?;
+    }
+    let prepared = folded.prepare(alloc, Change::new(at, rest, units))?;
+    let steps = prepared.steps();
+    folded.commit(prepared);
+    Ok(steps)
+}
+
+/// Puts the unit of a text at the end, under the next id.
+fn append(
+    rt: &(impl Abort + AllocGlobal),
+    folded: &mut Folded,
+    text: &[u8],
+) -> Result<u64, AllocError> {
+    let at = folded.units().len();
+    if at >= 69_999 {
+        panic!(rt; "the stream is too long");
+    }
+    let unit = unit(rt, text)?;
+    changed(rt.alloc(), folded, at, at, Some(unit))
+}
+
+/// Puts the unit of a text in the place of the one at the place.
+fn replace(
+    rt: &(impl Abort + AllocGlobal),
+    folded: &mut Folded,
+    at: usize,
+    text: &[u8],
+) -> Result<u64, AllocError> {
+    let count = folded.units().len();
+    if at >= count || count >= 70_000 {
+        panic!(rt; "there is no such unit");
+    }
+    let unit = unit(rt, text)?;
+    changed(rt.alloc(), folded, at, at + 1, Some(unit))
+}
+
+/// Takes the unit at the place away.
+fn delete(
+    rt: &(impl Abort + AllocGlobal),
+    folded: &mut Folded,
+    at: usize,
+) -> Result<u64, AllocError> {
+    let count = folded.units().len();
+    if at >= count || count >= 70_000 {
+        panic!(rt; "there is no such unit");
+    }
+    changed(rt.alloc(), folded, at, at + 1, None)
+}
+
+/// Whether the unit at the place is valid.
+fn is_valid(folded: &Folded, at: usize) -> bool {
+    match folded.outcomes().get(at) {
+        Some(outcome) => match &***outcome {
+            Outcome::Plan(_) => true,
+            Outcome::Fault(_) | Outcome::Empty => false,
+        },
+        None => false,
+    }
+}
+
+/// A thousand units: the first has the sets, the 601st is an IDR picture, the others are P pictures
+/// that follow.
+fn thousand(rt: &(impl Abort + AllocGlobal)) -> Result<Folded, AllocError> {
+    let mut folded = Folded::new(rt.alloc())?;
+    append(rt, &mut folded, &A)?;
+    for frame_num in 1..600 {
+        append(rt, &mut folded, &p_text(frame_num))?;
+    }
+    append(rt, &mut folded, &IDR)?;
+    for frame_num in 1..400 {
+        append(rt, &mut folded, &p_text(frame_num))?;
+    }
+    Ok(folded)
+}
+
+#[test]
+fn an_append_makes_one_step(rt: HostRuntime) -> Result<(), Fail> {
+    let mut folded = Folded::new(rt.alloc())?;
+    for frame_num in 0..70 {
+        assert!(rt; append(&rt, &mut folded, &p_text(frame_num))? == 1);
+    }
+    Ok(())
+}
+
+/// From the state stored at place 480 to that at 512, which stays; and from the last one, at 992,
+/// to the end.
+#[test]
+fn a_replacement_in_a_long_stream_makes_few_steps(rt: HostRuntime) -> Result<(), Fail> {
+    let mut folded = thousand(&rt)?;
+    assert!(rt; folded.units().len() == 1000 && is_valid(&folded, 499) && is_valid(&folded, 999));
+    assert!(rt; replace(&rt, &mut folded, 499, &other_p_text(499))? == 32);
+    assert!(rt; replace(&rt, &mut folded, 999, &other_p_text(399))? == 8);
+    assert!(rt; is_valid(&folded, 499) && is_valid(&folded, 999));
+    Ok(())
+}
+
+#[test]
+fn a_deletion_of_what_nobody_refers_to_makes_few_steps(rt: HostRuntime) -> Result<(), Fail> {
+    let mut folded = Folded::new(rt.alloc())?;
+    append(&rt, &mut folded, &A)?;
+    append(&rt, &mut folded, &p_text(1))?;
+    append(&rt, &mut folded, &[0, 0, 1, 0x01, 0x9A, 0x47])?;
+    append(&rt, &mut folded, &p_text(2))?;
+    assert!(rt; is_valid(&folded, 2) && is_valid(&folded, 3));
+    assert!(rt; delete(&rt, &mut folded, 2)? == 3);
+    assert!(rt; folded.units().len() == 3 && is_valid(&folded, 2));
+    Ok(())
+}
+
+/// Puts the unit of a text at the end of a stream in output order, under the next id.
+fn append_in_order(
+    rt: &(impl Abort + AllocGlobal),
+    ordered: &mut OrderedFold,
+    text: &[u8],
+) -> Result<(), AllocError> {
+    let at = ordered.units().len();
+    if at >= 69_999 {
+        panic!(rt; "the stream is too long");
+    }
+    let mut units = Vec::with_capacity(rt.alloc(), 1)?;
+    units.push((AuId::new(at as u32 + 1), unit(rt, text)?))?;
+    let prepared = ordered.prepare(rt.alloc(), Change::new(at, at, units))?;
+    ordered.commit(prepared);
+    Ok(())
+}
+
+/// The thousand units in output order.
+fn thousand_in_order(rt: &(impl Abort + AllocGlobal)) -> Result<OrderedFold, AllocError> {
+    let mut ordered = OrderedFold::new(rt.alloc())?;
+    append_in_order(rt, &mut ordered, &A)?;
+    for frame_num in 1..600 {
+        append_in_order(rt, &mut ordered, &p_text(frame_num))?;
+    }
+    append_in_order(rt, &mut ordered, &IDR)?;
+    for frame_num in 1..400 {
+        append_in_order(rt, &mut ordered, &p_text(frame_num))?;
+    }
+    Ok(ordered)
+}
+
+/// Whether the unit at a place has the position, which takes so many comparisons at most.
+fn stands_at(ordered: &OrderedFold, place: usize, position: usize, most: usize) -> bool {
+    let count = ordered.units().len();
+    if place >= count || count > 70_000 {
+        return false;
+    }
+    let mut comparisons = Comparisons::new();
+    let found = ordered.position_in(place, &mut comparisons);
+    found == Some(position) && comparisons.count() <= most
+}
+
+#[test]
+fn a_position_takes_few_comparisons(rt: HostRuntime) -> Result<(), Fail> {
+    let ordered = thousand_in_order(&rt)?;
+    assert!(rt; stands_at(&ordered, 699, 699, 400));
+    Ok(())
+}
+
+/// Whether a deletion that is refused for lack of memory leaves the stream and the outcomes of its
+/// units as they were, and one that isn't leaves the picture behind it without the one before.
+fn holds_where_refused(rt: &(impl Abort + AllocGlobal)) -> Result<bool, AllocError> {
+    let mut folded = Folded::new(rt.alloc())?;
+    append(rt, &mut folded, &A)?;
+    append(rt, &mut folded, &p_text(1))?;
+    append(rt, &mut folded, &p_text(2))?;
+    match delete(rt, &mut folded, 1) {
+        Ok(_) => Ok(folded.units().len() == 2 && !is_valid(&folded, 1)),
+        Err(_) => Ok(folded.units().len() == 3 && is_valid(&folded, 2)),
+    }
+}
+
+#[test]
+fn refused_memory_changes_nothing(rt: HostRuntime) {
+    match holds_where_refused(&rt) {
+        Ok(holds) => assert!(rt; holds),
+        Err(_) => {}
+    }
+}

@@ -1,4 +1,0 @@
-pub mod Left
-pub mod Counting
-pub mod Places
-pub mod Going

@@ -1,0 +1,17 @@
+pub mod Members
+pub mod Turns
+pub mod Caches
+pub mod Slots
+pub mod Taking
+pub mod Going
+pub mod Held
+pub mod Counts
+pub mod UnitAt
+pub mod Entries
+pub mod Entered
+pub mod Lists
+pub mod Lookups
+pub mod Standing
+pub mod Wanting
+pub mod Closing
+pub mod Scans

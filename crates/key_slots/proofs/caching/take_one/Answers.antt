@@ -1,0 +1,14 @@
+use Rattle.std.proofs.Common.{ap, subst}
+use Rattle.std.specs.Prelude.{Contains}
+use Rattle.key_slots.proofs.Caches.{left_of_remove, among_removed}
+use Rattle.key_slots.proofs.caching.take_one.Goals as goal
+
+pub returns-clause-left : goal.returns-clause-left
+returns-clause-left g c =
+    rw (ap (λ cache. cache.pairs) c.take.ensures.after)
+    (left_of_remove c.args.key c.args.cache.now.pairs c.len.ensures.bounded.once)
+
+pub returns-clause-those : goal.returns-clause-those
+returns-clause-those g c = λ number picture is.
+    among_removed c.args.key c.args.cache.now.pairs (number, picture)
+    (subst (λ pairs. Contains pairs (number, picture)) (ap (λ cache. cache.pairs) c.take.ensures.after) is)

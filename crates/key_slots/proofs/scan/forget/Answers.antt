@@ -1,0 +1,10 @@
+use Rattle.std.proofs.Common.{◌≡◌, rules, ◌==◌, ℕ, not, sym, subst, Contains, filter, ◌↔◌}
+use Rattle.std.proofs.lemmas.Fn.{filter_same}
+use Rattle.key_slots.proofs.Entered.{left_without}
+use Rattle.key_slots.proofs.scan.forget.Goals as goal
+
+pub returns : goal.returns
+returns c = λ other.
+    let left = filter_same _ (λ (one : ℕ). not (one == c.args.id)) _ (λ x b f' k. search rules) _ _ c.retain.ensures.filtered in
+    subst (λ ids. Contains ids other ↔ (Contains c.args.wanted.now.items other × (other ≡ c.args.id → ⊥))) (sym left)
+    (left_without c.args.id c.args.wanted.now.items other)

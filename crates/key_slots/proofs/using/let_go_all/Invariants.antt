@@ -1,0 +1,20 @@
+use Rattle.std.proofs.Common.{◌≡◌, ◌+◌, ◌<◌, ℕ, List, take, Some, ◌⊎◌}
+use Rattle.std.specs.Prelude.{Contains}
+use Rattle.std.specs.Map.{keys_of}
+use Rattle.key_slots.specs.Counting.{times_in}
+use Rattle.key_slots.specs.Places.{uses_at, place_at}
+use Rattle.key_slots.specs.Going.{IsHeldBefore}
+use Rattle.key_slots.proofs.Going.{HaveGone}
+use Rattle.key_slots.proofs.using.let_go_all.Given as goal
+
+abbrev pub invariant-loop-key : goal.invariant-loop-key
+invariant-loop-key g l = record {
+  uses : (number : ℕ) → uses_at l.places number + times_in number (take l.key-index l.leaving) ≡ uses_at l.initial.places number;
+  stay : (number : ℕ) → 0 < uses_at l.places number → place_at l.places number ≡ place_at l.initial.places number;
+  gone : (held : List ℕ) → IsHeldBefore held l.leaving l.initial.places
+      → HaveGone held l.leaving l.key-index l.places l.initial.cache.capacity (keys_of l.initial.cache.pairs) (keys_of l.cache.pairs);
+  room : l.cache.capacity ≡ l.initial.cache.capacity;
+  those : (number : ℕ) (picture : g.row.P.Denot) → Contains l.cache.pairs (number, picture)
+      → Contains l.initial.cache.pairs (number, picture)
+      ⊎ ((place_at l.initial.places number ≡ Some (Some picture)) × (uses_at l.places number ≡ 0));
+}

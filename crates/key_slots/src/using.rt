@@ -1,0 +1,118 @@
+//! Units that come and go, counted by their keys.
+
+ghost use Rattle.std.specs.Prelude.{◌≡◌, ◌+◌, ◌^◌, ◌<◌, ◌≤◌, ℕ, List, ◌⊎◌, Contains, IsSome, None, Some, OnOk, length};
+ghost use Rattle.std.specs.List.Sorted.{IsNonDecreasing};
+ghost use Rattle.std.specs.Map.{keys_of};
+ghost use Rattle.key_slots.specs.Left.{ArePut, IsLeft};
+ghost use Rattle.key_slots.specs.Counting.{once_at, times, times_in};
+ghost use Rattle.key_slots.specs.Places.{AreSame, IsTakenUp, numbers_held, place_at, uses_at};
+ghost use Rattle.key_slots.specs.Going.{Goes, IsHeldBefore};
+
+use crate::caching::put_in;
+use crate::places::Places;
+use dep_keys::KeyId;
+use picture_cache::PictureCache;
+use std::alloc::AllocError;
+
+/// Makes room for the keys of units.
+pub fn make_places<P: Copy + Drop>(
+    places: &mut Places<P>,
+    keys: &[Option<KeyId>],
+) -> Result<(), AllocError>
+    ensures same { AreSame places.old places.new }
+    ensures room { OnOk result ((number : ℕ) → Contains keys.now (Some number)
+        → number < length places.new) }
+{
+    for key in keys {
+        make_place(places, *key)?;
+    }
+    Ok(())
+}
+
+/// Makes room for a key, where there is one.
+fn make_place<P: Copy + Drop>(places: &mut Places<P>, key: Option<KeyId>) -> Result<(), AllocError>
+    ensures same { AreSame places.old places.new }
+    ensures longer { length places.old ≤ length places.new }
+    ensures room { OnOk result ((number : ℕ) → key ≡ Some number → number < length places.new) }
+{
+    match key {
+        Some(key) => places.make_room(key),
+        None => Ok(()),
+    }
+}
+
+/// Counts the units that come, by their keys, for which there is room. A key that comes into use has the picture that is
+/// cached.
+pub fn take_up_all<P: Copy + Drop>(
+    places: &mut Places<P>,
+    cache: &PictureCache<KeyId, P>,
+    keys: &[Option<KeyId>],
+)
+    requires room { (number : ℕ) → Contains keys.now (Some number) → number < length places.old }
+    requires fits { (number : ℕ) → uses_at places.old number + length keys.now < 2 ^ 64 }
+    ensures { (number : ℕ)
+        → IsTakenUp places.old cache.now.pairs (times number keys.now) places.new number }
+{
+    for key in keys {
+        take_up(places, cache, *key);
+    }
+}
+
+/// Counts a unit that comes, by its key, if it has one.
+fn take_up<P: Copy + Drop>(
+    places: &mut Places<P>,
+    cache: &PictureCache<KeyId, P>,
+    key: Option<KeyId>,
+)
+    requires room { (number : ℕ) → key ≡ Some number → number < length places.old }
+    requires fits { (number : ℕ) → uses_at places.old number + 1 < 2 ^ 64 }
+    ensures up { (number : ℕ)
+        → IsTakenUp places.old cache.now.pairs (once_at number key) places.new number }
+    ensures long { length places.new ≡ length places.old }
+{
+    if let Some(key) = key {
+        let cached = cache.picture(&key).copied();
+        places.take_up(key, cached);
+    }
+}
+
+/// Counts the units that go, by their keys in rising order. The picture of a key that goes out of use is put into the cache,
+/// if memory is found.
+pub fn let_go_all<P: Copy + Drop>(
+    places: &mut Places<P>,
+    cache: &mut PictureCache<KeyId, P>,
+    leaving: &[KeyId],
+)
+    requires enough { (number : ℕ) → times_in number leaving.now ≤ uses_at places.old number }
+    requires rising { IsNonDecreasing leaving.now }
+    ensures uses { (number : ℕ)
+        → uses_at places.new number + times_in number leaving.now ≡ uses_at places.old number }
+    ensures stay { (number : ℕ) → 0 < uses_at places.new number
+        → place_at places.new number ≡ place_at places.old number }
+    ensures gone { (held : List ℕ) → IsHeldBefore held leaving.now places.old
+        → (gone : List ℕ) × IsLeft (λ number. IsSome (place_at places.new number)) held gone
+        × ArePut cache.old.capacity gone (keys_of cache.old.pairs) (keys_of cache.new.pairs) }
+    ensures room { cache.new.capacity ≡ cache.old.capacity }
+    ensures those { (number : ℕ) (picture : P) → Contains cache.new.pairs (number, picture)
+        → Contains cache.old.pairs (number, picture)
+        ⊎ ((place_at places.old number ≡ Some (Some picture)) × (uses_at places.new number ≡ 0)) }
+{
+    for key in leaving {
+        let_go(places, cache, *key);
+    }
+}
+
+/// Counts a unit that goes, by its key.
+fn let_go<P: Copy + Drop>(places: &mut Places<P>, cache: &mut PictureCache<KeyId, P>, key: KeyId)
+    requires { 0 < uses_at places.old key }
+    ensures goes { Goes places.old key (keys_of cache.old.pairs) cache.old.capacity
+        places.new (keys_of cache.new.pairs) }
+    ensures room { cache.new.capacity ≡ cache.old.capacity }
+    ensures those { (number : ℕ) (picture : P) → Contains cache.new.pairs (number, picture)
+        → Contains cache.old.pairs (number, picture)
+        ⊎ ((number ≡ key) × (place_at places.old key ≡ Some (Some picture)) × (uses_at places.new key ≡ 0)) }
+{
+    if let Some(picture) = places.let_go(key) {
+        put_in(cache, key, picture);
+    }
+}

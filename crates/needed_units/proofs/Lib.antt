@@ -1,9 +1,0 @@
-pub mod UnitAt
-pub mod Entries
-pub mod Entered
-pub mod Lists
-pub mod Lookups
-pub mod Standing
-pub mod Wanting
-pub mod Closing
-pub mod Scans

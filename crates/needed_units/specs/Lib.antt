@@ -1,4 +1,0 @@
-pub mod Columns
-pub mod Held
-pub mod Needed
-pub mod Scanned

@@ -1,0 +1,15 @@
+-- The controls that the parameter sets alone decide.
+use Rattle.param_set_types.specs.declared.sps.Sps.{Sps}
+use Rattle.param_set_types.specs.declared.pps.Pps.{Pps}
+use Rattle.param_set_controls.specs.declared.set_controls.SetControls.{SetControls}
+use Rattle.param_set_controls.specs.SpsControl.{sps_control}
+use Rattle.param_set_controls.specs.PpsControl.{pps_control}
+use Rattle.param_set_controls.specs.ScalingMatrixControl.{scaling_matrix_control}
+
+-- those of a picture parameter set, and of the sequence parameter set that it stands on
+abbrev pub set_controls : Sps → Pps → SetControls
+set_controls sps pps = record {
+  sps = sps_control sps;
+  pps = pps_control sps pps;
+  scaling_matrix = scaling_matrix_control sps pps;
+}

@@ -1,0 +1,4 @@
+pub mod SameSets
+pub mod FallBack
+pub mod StandardTables
+pub mod ScalingEntries

@@ -1,3 +1,0 @@
-mod FoldSteps
-mod SaidLines
-pub mod Ends

@@ -1,3 +1,0 @@
-pub mod StreamLines
-pub mod Said
-pub mod Ends

@@ -1,0 +1,3 @@
+mod drawing;
+mod json;
+mod window;

@@ -1,3 +1,0 @@
-pub mod FallBack
-pub mod StandardTables
-pub mod ScalingEntries

@@ -1,4 +1,0 @@
-pub mod DefaultScalingLists
-pub mod FallBack
-pub mod InverseScan
-pub mod ScalingMatrix

@@ -1,3 +1,0 @@
-pub mod JobAnswers
-pub mod Replies
-pub mod UnitAnswers

@@ -1,0 +1,113 @@
+//! Results.
+
+use crate::Listed;
+use crate::job_answers::JobAnswer;
+use crate::unit_answers::UnitAnswer;
+use crate::words::{Digits, Word};
+use pictures::AuId;
+use serde::{Serialize, Serializer};
+use unit_outcomes::ValidityFault;
+
+/// The result of a call.
+#[derive(Debug, Drop, Serialize)]
+#[serde(untagged)]
+pub enum Answer {
+    /// How many units were inserted, and the ids of the first and the last of them.
+    Loaded {
+        units: usize,
+        first: Option<u32>,
+        last: Option<u32>,
+    },
+    /// The number of an edit, the id of its unit, and in how many steps of the fold it was made.
+    Edited {
+        edit: u64,
+        id: u32,
+        steps: u64,
+    },
+    /// The number of a group, the ids of its edits' units, and in how many steps of the fold it was
+    /// made.
+    Grouped {
+        edit: u64,
+        #[serde(serialize_with = "write_ids")]
+        ids: Listed<AuId>,
+        steps: u64,
+    },
+    /// The outcomes of units.
+    Units(Listed<UnitAnswer>),
+    /// The unit at an output position, if there is one.
+    Found(Option<Found>),
+    /// What is shown of a unit.
+    Shown(Appearance),
+    /// Which wanted units are ready, and which there are none of now.
+    Wanted {
+        ready: Listed<Picked>,
+        not_now: Listed<u64>,
+    },
+    /// What became of a picture or a job.
+    Word(Word),
+    /// A job, if a picture was due.
+    Job(Option<JobAnswer>),
+    /// How much there is.
+    Stats(Stats),
+    /// Null.
+    Nothing,
+}
+
+/// The unit at an output position.
+#[derive(Clone, Copy, Debug, PartialEq, Eq, Serialize)]
+pub struct Found {
+    pub id: u32,
+    /// Its place in decoding order.
+    pub place: usize,
+}
+
+/// What is shown of a unit.
+#[derive(Debug, Drop, Serialize)]
+#[serde(tag = "state", rename_all = "snake_case")]
+pub enum Appearance {
+    Ready {
+        picture: Digits,
+    },
+    Pending,
+    Fault {
+        number: u8,
+        #[serde(serialize_with = "write_fault_name")]
+        name: ValidityFault,
+    },
+    Empty,
+}
+
+/// A wanted unit that is ready.
+#[derive(Debug, Drop, Serialize)]
+pub struct Picked {
+    pub id: u64,
+    pub picture: Digits,
+}
+
+/// How much there is of what the server keeps.
+#[derive(Clone, Copy, Debug, PartialEq, Eq, Serialize)]
+pub struct Stats {
+    pub units: usize,
+    /// A group is one.
+    pub edits: usize,
+    /// Keys whose pictures are held, and those whose pictures are cached.
+    pub held: usize,
+    pub cached: usize,
+    pub jobs_out: usize,
+    /// The sum of all receipts'.
+    pub steps: u64,
+    /// Of the texts that the session keeps.
+    pub bytes: u64,
+}
+
+fn write_ids<S: Serializer>(ids: &Listed<AuId>, out: &mut S) -> Result<(), S::Error> {
+    out.begin_seq(Some(ids.as_slice().len()))?;
+    for id in ids.as_slice() {
+        id.number().serialize(out)?;
+    }
+    out.end_seq()
+}
+
+fn write_fault_name<S: Serializer>(fault: &ValidityFault, out: &mut S) -> Result<(), S::Error> {
+    fault.name().serialize(out)
+}

@@ -1,6 +1,0 @@
-use Rattle.std.proofs.lemmas.Bool.Decides.{Decides-at}
-use Rattle.set_controls.proofs.Same.{pps_flags_same}
-use Rattle.set_controls.proofs.v4l2_ctrl_h264_pps.PpsFlags.is_same.Goals as goal
-
-pub returns : goal.returns
-returns c = Decides-at _ _ c.eq.ensures (pps_flags_same _ _)

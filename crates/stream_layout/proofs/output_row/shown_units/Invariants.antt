@@ -1,5 +1,0 @@
-use Rattle.stream_layout.proofs.ShownUnits.{AreShownBefore}
-use Rattle.stream_layout.proofs.output_row.shown_units.Given as goal
-
-abbrev pub invariant-loop-place : goal.invariant-loop-place
-invariant-loop-place l = AreShownBefore l.units l.place l.period l.row.items

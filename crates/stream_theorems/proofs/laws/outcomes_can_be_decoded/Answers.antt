@@ -1,5 +1,0 @@
-use Rattle.stream_theorems.proofs.Decodable.{AllCanDecode-outcomes_of}
-use Rattle.stream_theorems.proofs.laws.outcomes_can_be_decoded.Goals as goal
-
-pub returns : goal.returns
-returns c = AllCanDecode-outcomes_of

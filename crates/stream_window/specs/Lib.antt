@@ -1,4 +1,0 @@
-pub mod Seen
-pub mod Fronts
-pub mod Windows
-pub mod Readings

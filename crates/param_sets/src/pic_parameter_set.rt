@@ -18,7 +18,7 @@ use param_set_types::{Pps, ScalingLists, WeightedBipred};
 use std::alloc::Global;
 
 // The beginning of a set: what isn't read yet has the value that is inferred where it stays absent.
-#[tactic(auto, unfolding(expgolomb::specs::Reading::rows_at))]
+#[tactic(auto, unfolding(expgolomb::specs::TableReading::rows_at))]
 fn beginning(alloc: Global, bits: &mut Bits<'_>) -> Result<Pps, SetFault>
     ensures exact { Reads (so_far false) result bits.new (rows_at take id_rows no_pps bits.old) }
     ensures none { IfOk result (λ pps. pps.scaling_lists ≡ []) }
@@ -55,7 +55,7 @@ fn beginning(alloc: Global, bits: &mut Bits<'_>) -> Result<Pps, SetFault>
     })
 }
 
-#[tactic(auto, unfolding(expgolomb::specs::Reading::rows_at))]
+#[tactic(auto, unfolding(expgolomb::specs::TableReading::rows_at))]
 fn coding(bits: &mut Bits<'_>, pps: &mut Pps) -> Result<(), SetFault>
     ensures exact { Reads (λ _. so_far false pps.new) result bits.new
         (rows_at take coding_rows (so_far false pps.old) bits.old) }
@@ -67,7 +67,7 @@ fn coding(bits: &mut Bits<'_>, pps: &mut Pps) -> Result<(), SetFault>
     Ok(())
 }
 
-#[tactic(auto, unfolding(expgolomb::specs::Reading::rows_at))]
+#[tactic(auto, unfolding(expgolomb::specs::TableReading::rows_at))]
 fn prediction(bits: &mut Bits<'_>, pps: &mut Pps) -> Result<(), SetFault>
     ensures exact { Reads (λ _. so_far false pps.new) result bits.new
         (rows_at take prediction_rows (so_far false pps.old) bits.old) }
@@ -90,7 +90,7 @@ fn prediction(bits: &mut Bits<'_>, pps: &mut Pps) -> Result<(), SetFault>
     Ok(())
 }
 
-#[tactic(auto, unfolding(expgolomb::specs::Reading::rows_at))]
+#[tactic(auto, unfolding(expgolomb::specs::TableReading::rows_at))]
 fn quantisation(bits: &mut Bits<'_>, pps: &mut Pps) -> Result<(), SetFault>
     ensures exact { Reads (λ _. so_far false pps.new) result bits.new
         (rows_at take quantisation_rows (so_far false pps.old) bits.old) }
@@ -112,7 +112,7 @@ fn quantisation(bits: &mut Bits<'_>, pps: &mut Pps) -> Result<(), SetFault>
     Ok(())
 }
 
-#[tactic(auto, unfolding(expgolomb::specs::Reading::rows_at))]
+#[tactic(auto, unfolding(expgolomb::specs::TableReading::rows_at))]
 fn slices(bits: &mut Bits<'_>, pps: &mut Pps) -> Result<(), SetFault>
     ensures exact { Reads (λ _. so_far false pps.new) result bits.new
         (rows_at take slice_rows (so_far false pps.old) bits.old) }
@@ -125,7 +125,7 @@ fn slices(bits: &mut Bits<'_>, pps: &mut Pps) -> Result<(), SetFault>
 }
 
 // Whether there is more data, and what it has before the scaling lists.
-#[tactic(auto, unfolding(expgolomb::specs::Reading::rows_at))]
+#[tactic(auto, unfolding(expgolomb::specs::TableReading::rows_at))]
 fn transform(bits: &mut Bits<'_>, pps: &mut Pps) -> Result<bool, SetFault>
     ensures exact { Reads (λ more. so_far more pps.new) result bits.new
         (rows_at take transform_rows (so_far false pps.old) bits.old) }
@@ -139,7 +139,7 @@ fn transform(bits: &mut Bits<'_>, pps: &mut Pps) -> Result<bool, SetFault>
     Ok(true)
 }
 
-#[tactic(auto, unfolding(expgolomb::specs::Reading::rows_at))]
+#[tactic(auto, unfolding(expgolomb::specs::TableReading::rows_at))]
 fn second_offset(bits: &mut Bits<'_>, pps: &mut Pps) -> Result<(), SetFault>
     ensures { Reads (λ _. so_far true pps.new) result bits.new
         (rows_at take second_offset_rows (so_far true pps.old) bits.old) }

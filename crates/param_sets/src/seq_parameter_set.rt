@@ -46,7 +46,7 @@ fn constraint_set_flags(bits: &mut Bits<'_>) -> Result<[bool; 6], SetFault>
 }
 
 // Two bits that aren't tested, level_idc and seq_parameter_set_id.
-#[tactic(auto, unfolding(expgolomb::specs::Reading::rows_at))]
+#[tactic(auto, unfolding(expgolomb::specs::TableReading::rows_at))]
 fn level_and_id(bits: &mut Bits<'_>) -> Result<(u8, AtMost<31>), SetFault>
     ensures { (s : Sps)
         → Reads (λ x. record s { level_idc = x.0; seq_parameter_set_id = x.1 }) result bits.new
@@ -114,7 +114,7 @@ fn chroma_format_idc(bits: &mut Bits<'_>) -> Result<u32, SetFault>
 }
 
 // What the high profiles have before their lists.
-#[tactic(auto, unfolding(expgolomb::specs::Reading::rows_at))]
+#[tactic(auto, unfolding(expgolomb::specs::TableReading::rows_at))]
 fn chroma_and_depths(bits: &mut Bits<'_>, sps: &mut Sps) -> Result<(), SetFault>
     requires { is_high sps.old ≡ true }
     ensures exact { Reads (λ _. sps.new) result bits.new
@@ -166,7 +166,7 @@ fn high(alloc: Global, bits: &mut Bits<'_>, sps: &mut Sps) -> Result<(), SetFaul
     Ok(())
 }
 
-#[tactic(auto, unfolding(expgolomb::specs::Reading::rows_at))]
+#[tactic(auto, unfolding(expgolomb::specs::TableReading::rows_at))]
 fn frame_num_and_count_type(bits: &mut Bits<'_>, sps: &mut Sps) -> Result<(), SetFault>
     ensures exact { Reads (λ _. sps.new) result bits.new
         (rows_at take count_rows sps.old bits.old) }
@@ -190,7 +190,7 @@ fn frame_num_and_count_type(bits: &mut Bits<'_>, sps: &mut Sps) -> Result<(), Se
 }
 
 // What count type 0 has.
-#[tactic(auto, unfolding(expgolomb::specs::Reading::rows_at))]
+#[tactic(auto, unfolding(expgolomb::specs::TableReading::rows_at))]
 fn type_zero(bits: &mut Bits<'_>, sps: &mut Sps) -> Result<(), SetFault>
     requires { sps.old.pic_order_cnt_type ≡ PicOrderCntType.Zero }
     ensures exact { Reads (λ _. sps.new) result bits.new
@@ -205,7 +205,7 @@ fn type_zero(bits: &mut Bits<'_>, sps: &mut Sps) -> Result<(), SetFault>
 }
 
 // What count type 1 has before its cycle.
-#[tactic(auto, unfolding(expgolomb::specs::Reading::rows_at))]
+#[tactic(auto, unfolding(expgolomb::specs::TableReading::rows_at))]
 fn type_one(bits: &mut Bits<'_>, sps: &mut Sps) -> Result<(), SetFault>
     requires { sps.old.pic_order_cnt_type ≡ PicOrderCntType.One }
     ensures exact { Reads (λ _. sps.new) result bits.new
@@ -263,7 +263,7 @@ fn counts(alloc: Global, bits: &mut Bits<'_>, sps: &mut Sps) -> Result<(), SetFa
     }
 }
 
-#[tactic(auto, unfolding(expgolomb::specs::Reading::rows_at))]
+#[tactic(auto, unfolding(expgolomb::specs::TableReading::rows_at))]
 fn frames(bits: &mut Bits<'_>, sps: &mut Sps) -> Result<(), SetFault>
     ensures { Reads (λ _. sps.new) result bits.new (rows_at take frame_rows sps.old bits.old) }
 {
@@ -272,7 +272,7 @@ fn frames(bits: &mut Bits<'_>, sps: &mut Sps) -> Result<(), SetFault>
     Ok(())
 }
 
-#[tactic(auto, unfolding(expgolomb::specs::Reading::rows_at))]
+#[tactic(auto, unfolding(expgolomb::specs::TableReading::rows_at))]
 fn size(bits: &mut Bits<'_>, sps: &mut Sps) -> Result<(), SetFault>
     ensures { Reads (λ _. sps.new) result bits.new (rows_at take size_rows sps.old bits.old) }
 {

@@ -18,7 +18,7 @@ pub struct Coding {
     pub slice_qp_delta: i8,
 }
 
-#[tactic(auto, unfolding(crate::specs::SliceHeaderSyntax::coding_table, expgolomb::specs::Structures::table_at, expgolomb::specs::Reading::rows_at))]
+#[tactic(auto, unfolding(crate::specs::SliceHeaderSyntax::coding_table, expgolomb::specs::Structures::table_at, expgolomb::specs::TableReading::rows_at))]
 pub fn coding_fields(
     bits: &mut Bits<'_>,
     slice_type: SliceType,
@@ -48,7 +48,7 @@ pub struct Deblocking {
     pub slice_beta_offset_div2: i8,
 }
 
-#[tactic(auto, unfolding(crate::specs::SliceHeaderSyntax::deblocking_table, expgolomb::specs::Structures::table_at, expgolomb::specs::Reading::rows_at))]
+#[tactic(auto, unfolding(crate::specs::SliceHeaderSyntax::deblocking_table, expgolomb::specs::Structures::table_at, expgolomb::specs::TableReading::rows_at))]
 pub fn deblocking_fields(bits: &mut Bits<'_>, pps: &Pps) -> Result<Deblocking, HeaderFault>
     ensures exact { Reads (λ deblocking. deblocking) result bits.new
         (table_at (deblocking_table pps.now) bits.old) }

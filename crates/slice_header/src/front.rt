@@ -69,7 +69,7 @@ fn type_of(payload: &[u8]) -> Result<SliceType, HeaderFault>
     any_type(&mut after_first(payload)?)
 }
 
-#[tactic(auto, unfolding(expgolomb::specs::Structures::table_at, expgolomb::specs::Reading::rows_at))]
+#[tactic(auto, unfolding(expgolomb::specs::Structures::table_at, expgolomb::specs::TableReading::rows_at))]
 fn any_front(bits: &mut Bits<'_>) -> Result<HeaderFront, HeaderFault>
     ensures { Reads (λ front. front) result bits.new (table_at (front_table any) bits.old) }
 {
@@ -83,7 +83,7 @@ fn any_front(bits: &mut Bits<'_>) -> Result<HeaderFront, HeaderFault>
     })
 }
 
-#[tactic(auto, unfolding(expgolomb::specs::Structures::table_at, expgolomb::specs::Reading::rows_at))]
+#[tactic(auto, unfolding(expgolomb::specs::Structures::table_at, expgolomb::specs::TableReading::rows_at))]
 fn any_type(bits: &mut Bits<'_>) -> Result<SliceType, HeaderFault>
     ensures { result_ok result ≡ type_of (table_at (type_table any) bits.old) }
 {
@@ -93,7 +93,7 @@ fn any_type(bits: &mut Bits<'_>) -> Result<SliceType, HeaderFault>
 }
 
 /// Reads the first fields of a header, where first_mb_in_slice is at most this much.
-#[tactic(auto, unfolding(expgolomb::specs::Structures::table_at, expgolomb::specs::Reading::rows_at))]
+#[tactic(auto, unfolding(expgolomb::specs::Structures::table_at, expgolomb::specs::TableReading::rows_at))]
 pub fn header_front(bits: &mut Bits<'_>, most: u32) -> Result<HeaderFront, HeaderFault>
     ensures exact { Reads (λ front. front) result bits.new
         (table_at (front_table (at_most most HeaderFault.Value)) bits.old) }

@@ -50,7 +50,7 @@ pub fn dec_ref_pic_marking(
     }
 }
 
-#[tactic(auto, unfolding(crate::specs::DecRefPicMarkingSyntax::marking_table, expgolomb::specs::Structures::table_at, expgolomb::specs::Reading::rows_at))]
+#[tactic(auto, unfolding(crate::specs::DecRefPicMarkingSyntax::marking_table, expgolomb::specs::Structures::table_at, expgolomb::specs::TableReading::rows_at))]
 fn marking_flags(
     bits: &mut Bits<'_>,
     is_reference: bool,
@@ -97,7 +97,7 @@ fn operations(
 }
 
 // An operation, or nothing at the end, which alone may stand where there is no room.
-#[tactic(auto, unfolding(crate::specs::DecRefPicMarkingSyntax::operation_table, expgolomb::specs::Structures::table_at, expgolomb::specs::Reading::rows_at))]
+#[tactic(auto, unfolding(crate::specs::DecRefPicMarkingSyntax::operation_table, expgolomb::specs::Structures::table_at, expgolomb::specs::TableReading::rows_at))]
 fn operation(
     bits: &mut Bits<'_>,
     has_room: bool,
@@ -129,7 +129,7 @@ fn operation(
 }
 
 // memory_management_control_operation.
-#[tactic(auto, unfolding(expgolomb::specs::Reading::value_at))]
+#[tactic(auto, unfolding(expgolomb::specs::TableReading::value_at))]
 fn operation_code(bits: &mut Bits<'_>, has_room: bool) -> Result<u32, HeaderFault>
     ensures exact { Reads pos result bits.new (value_at Unsigned HeaderFault.Cut HeaderFault.Value
         (operation_range has_room) bits.old) }

@@ -35,7 +35,7 @@ pub fn ref_pic_list_modification(
     }
 }
 
-#[tactic(auto, unfolding(crate::specs::RefPicListModificationSyntax::flag_table, expgolomb::specs::Structures::table_at, expgolomb::specs::Reading::rows_at))]
+#[tactic(auto, unfolding(crate::specs::RefPicListModificationSyntax::flag_table, expgolomb::specs::Structures::table_at, expgolomb::specs::TableReading::rows_at))]
 fn modification_flag(bits: &mut Bits<'_>, is_there: bool) -> Result<bool, HeaderFault>
     ensures exact { Reads (λ flag. flag) result bits.new (table_at (flag_table is_there) bits.old) }
     ensures near { bits.new.before ≤ bits.old.before + 63 }
@@ -68,7 +68,7 @@ fn commands(
 }
 
 // A command, or nothing at the end, which alone may stand where there is no room.
-#[tactic(auto, unfolding(crate::specs::RefPicListModificationSyntax::command_table, expgolomb::specs::Structures::table_at, expgolomb::specs::Reading::rows_at))]
+#[tactic(auto, unfolding(crate::specs::RefPicListModificationSyntax::command_table, expgolomb::specs::Structures::table_at, expgolomb::specs::TableReading::rows_at))]
 fn command(
     bits: &mut Bits<'_>,
     has_room: bool,
@@ -94,7 +94,7 @@ fn command(
 }
 
 // modification_of_pic_nums_idc.
-#[tactic(auto, unfolding(expgolomb::specs::Reading::value_at))]
+#[tactic(auto, unfolding(expgolomb::specs::TableReading::value_at))]
 fn command_idc(bits: &mut Bits<'_>, has_room: bool) -> Result<u32, HeaderFault>
     ensures exact { Reads pos result bits.new (value_at Unsigned HeaderFault.Cut HeaderFault.Value
         (idc_range has_room) bits.old) }

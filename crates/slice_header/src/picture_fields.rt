@@ -17,7 +17,7 @@ pub struct Numbers {
     pub idr_pic_id: u16,
 }
 
-#[tactic(auto, unfolding(crate::specs::SliceHeaderSyntax::number_table, expgolomb::specs::Structures::table_at, expgolomb::specs::Reading::rows_at))]
+#[tactic(auto, unfolding(crate::specs::SliceHeaderSyntax::number_table, expgolomb::specs::Structures::table_at, expgolomb::specs::TableReading::rows_at))]
 pub fn picture_numbers(bits: &mut Bits<'_>, is_idr: bool, sps: &Sps) -> Result<Numbers, HeaderFault>
     ensures exact { Reads (λ numbers. numbers) result bits.new
         (table_at (number_table is_idr sps.now) bits.old) }
@@ -47,7 +47,7 @@ const NO_COUNTS: OrderCounts = OrderCounts {
     delta_pic_order_cnt1: 0,
 };
 
-#[tactic(auto, unfolding(crate::specs::SliceHeaderSyntax::order_table, expgolomb::specs::Structures::table_at, expgolomb::specs::Reading::rows_at))]
+#[tactic(auto, unfolding(crate::specs::SliceHeaderSyntax::order_table, expgolomb::specs::Structures::table_at, expgolomb::specs::TableReading::rows_at))]
 pub fn order_counts(bits: &mut Bits<'_>, sps: &Sps, pps: &Pps) -> Result<OrderCounts, HeaderFault>
     ensures exact { Reads (λ counts. counts) result bits.new
         (table_at (order_table sps.now pps.now) bits.old) }
@@ -60,7 +60,7 @@ pub fn order_counts(bits: &mut Bits<'_>, sps: &Sps, pps: &Pps) -> Result<OrderCo
     }
 }
 
-#[tactic(auto, unfolding(crate::specs::SliceHeaderSyntax::order_table, expgolomb::specs::Structures::table_at, expgolomb::specs::Reading::rows_at))]
+#[tactic(auto, unfolding(crate::specs::SliceHeaderSyntax::order_table, expgolomb::specs::Structures::table_at, expgolomb::specs::TableReading::rows_at))]
 fn type_zero(bits: &mut Bits<'_>, sps: &Sps, pps: &Pps) -> Result<OrderCounts, HeaderFault>
     requires { sps.now.pic_order_cnt_type ≡ PicOrderCntType.Zero }
     ensures exact { Reads (λ counts. counts) result bits.new
@@ -80,7 +80,7 @@ fn type_zero(bits: &mut Bits<'_>, sps: &Sps, pps: &Pps) -> Result<OrderCounts, H
     })
 }
 
-#[tactic(auto, unfolding(crate::specs::SliceHeaderSyntax::order_table, expgolomb::specs::Structures::table_at, expgolomb::specs::Reading::rows_at))]
+#[tactic(auto, unfolding(crate::specs::SliceHeaderSyntax::order_table, expgolomb::specs::Structures::table_at, expgolomb::specs::TableReading::rows_at))]
 fn deltas(bits: &mut Bits<'_>, sps: &Sps, pps: &Pps) -> Result<OrderCounts, HeaderFault>
     requires one { sps.now.pic_order_cnt_type ≡ PicOrderCntType.One }
     requires sent { sps.now.delta_pic_order_always_zero_flag ≡ false }

@@ -20,7 +20,7 @@ pub struct Prediction {
     pub direct_spatial_mv_pred_flag: bool,
 }
 
-#[tactic(auto, unfolding(crate::specs::SliceHeaderSyntax::prediction_table, expgolomb::specs::Structures::table_at, expgolomb::specs::Reading::rows_at))]
+#[tactic(auto, unfolding(crate::specs::SliceHeaderSyntax::prediction_table, expgolomb::specs::Structures::table_at, expgolomb::specs::TableReading::rows_at))]
 pub fn prediction_fields(
     bits: &mut Bits<'_>,
     slice_type: SliceType,
@@ -54,7 +54,7 @@ pub struct ActiveCounts {
     pub num_ref_idx_l1_active_minus1: AtMost<31>,
 }
 
-#[tactic(auto, unfolding(crate::specs::SliceHeaderSyntax::active_table, expgolomb::specs::Structures::table_at, expgolomb::specs::Reading::rows_at))]
+#[tactic(auto, unfolding(crate::specs::SliceHeaderSyntax::active_table, expgolomb::specs::Structures::table_at, expgolomb::specs::TableReading::rows_at))]
 pub fn active_counts(
     bits: &mut Bits<'_>,
     slice_type: SliceType,

@@ -65,7 +65,7 @@ pub fn pred_weight_table(
     })
 }
 
-#[tactic(auto, unfolding(crate::specs::PredWeightTableSyntax::denominator_table, expgolomb::specs::Structures::table_at, expgolomb::specs::Reading::rows_at))]
+#[tactic(auto, unfolding(crate::specs::PredWeightTableSyntax::denominator_table, expgolomb::specs::Structures::table_at, expgolomb::specs::TableReading::rows_at))]
 fn read_denominators(bits: &mut Bits<'_>, has_chroma: bool) -> Result<Denominators, HeaderFault>
     ensures exact { Reads (λ denominators. denominators) result bits.new
         (table_at (denominator_table has_chroma) bits.old) }
@@ -129,7 +129,7 @@ fn pred_weight(
     })
 }
 
-#[tactic(auto, unfolding(crate::specs::PredWeightTableSyntax::luma_table, expgolomb::specs::Structures::table_at, expgolomb::specs::Reading::rows_at))]
+#[tactic(auto, unfolding(crate::specs::PredWeightTableSyntax::luma_table, expgolomb::specs::Structures::table_at, expgolomb::specs::TableReading::rows_at))]
 fn read_luma(bits: &mut Bits<'_>, log2_denom: u8) -> Result<LumaWeight, HeaderFault>
     requires { log2_denom ≤ 7 }
     ensures exact { Reads (λ weight. weight) result bits.new
@@ -151,7 +151,7 @@ fn read_luma(bits: &mut Bits<'_>, log2_denom: u8) -> Result<LumaWeight, HeaderFa
     }
 }
 
-#[tactic(auto, unfolding(crate::specs::PredWeightTableSyntax::chroma_table, expgolomb::specs::Structures::table_at, expgolomb::specs::Reading::rows_at))]
+#[tactic(auto, unfolding(crate::specs::PredWeightTableSyntax::chroma_table, expgolomb::specs::Structures::table_at, expgolomb::specs::TableReading::rows_at))]
 fn read_chroma(
     bits: &mut Bits<'_>,
     has_chroma: bool,
@@ -167,7 +167,7 @@ fn read_chroma(
 }
 
 // What follows the flag.
-#[tactic(auto, unfolding(crate::specs::PredWeightTableSyntax::chroma_rows, expgolomb::specs::Reading::rows_at))]
+#[tactic(auto, unfolding(crate::specs::PredWeightTableSyntax::chroma_rows, expgolomb::specs::TableReading::rows_at))]
 fn chroma_weight(
     bits: &mut Bits<'_>,
     is_sent: bool,

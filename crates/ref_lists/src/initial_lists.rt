@@ -1,6 +1,6 @@
 //! Initial reference picture lists (8.2.4.2).
 
-ghost use Rattle.std.specs.Prelude.{◌≡◌, ◌<◌, ◌≤◌, ◌≤ℤ◌, length, negsuc, map, slice_get, IsPermutation, IsSortedBy};
+ghost use Rattle.std.specs.Prelude.{◌≡◌, [], ◌<◌, ◌≤◌, ◌≤ℤ◌, length, negsuc, map, slice_get, IsPermutation, IsSortedBy};
 ghost use Rattle.std.specs.Ordering.{is_lt};
 ghost use Rattle.std.specs.List.{range_with_len};
 ghost use Rattle.ref_lists.specs.InitialLists.{rising, falling, standing, short_term_standing, standing_at, compare, initial_list, exchanged};
@@ -101,7 +101,8 @@ pub(crate) fn initial_list(
     requires { length frames.now ≤ 16 }
     ensures { result.items ≡ initial_list sps.now frame_num order frames.now }
 {
-    let mut standings = standings(frames, order, sps, frame_num);
+    let mut standings = ArrayVec::new();
+    push_standings(&mut standings, frames, order, sps, frame_num);
     sort(&mut standings);
     places(&standings)
 }
@@ -113,22 +114,22 @@ fn sort(standings: &mut ArrayVec<Standing, 16>)
     standings.sort_unstable();
 }
 
-fn standings(
+fn push_standings(
+    standings: &mut ArrayVec<Standing, 16>,
     frames: &[Frame],
     order: ListOrder,
     sps: &Sps,
     frame_num: u16,
-) -> ArrayVec<Standing, 16>
-    requires { length frames.now ≤ 16 }
-    ensures { result.items
+)
+    requires few { length frames.now ≤ 16 }
+    requires none { standings.old.items ≡ [] }
+    ensures { standings.new.items
         ≡ map (standing_at sps.now frame_num order frames.now)
         (range_with_len 0 (length frames.now)) }
 {
-    let mut standings = ArrayVec::new();
     for (place, frame) in frames.iter().enumerate() {
         standings.push(order.standing(sps, frame_num, frame, place as u8));
     }
-    standings
 }
 
 fn places(standings: &[Standing]) -> ArrayVec<u8, 16>

@@ -1,5 +1,5 @@
 -- The set of marked frames after a picture as a function of the set before it: what each step of marking gives.
-use Rattle.std.specs.Prelude.{◌==◌, ◌++◌, ◌∷◌, ℕ, ℤ, Bool, false, nat_le, nat_lt, nat_eq, List, [], length, filter, filter_map, remove, Option, Some, None, option_map, Result, Ok, Err, if◌then◌else◌}
+use Rattle.std.specs.Prelude.{◌==◌, ◌++◌, ◌∷◌, ℕ, ℤ, Bool, false, nat_le, nat_lt, nat_eq, List, [], length, filter, filter_map, remove, Option, Some, None, option_map, Result, Ok, Err, if◌then◌else◌, ⊤}
 use Rattle.std.specs.Int.{int_min}
 use Rattle.std.specs.List.{reduce}
 use Rattle.std.specs.Option.{option_eq}
@@ -23,6 +23,11 @@ use Rattle.pictures.specs.PicNums.{pic_num, long_term_pic_num}
 use Rattle.ref_marking.specs.Steps.{Place}
 use Rattle.ref_marking.specs.Operations.{pic_num_x, max_idx, is_below}
 use Rattle.ref_marking.specs.Marking.{current_frame, idr_marked, contradict, current_idx}
+
+-- what a change in place leaves: the set, or the fault that it answers
+abbrev pub leaves : Result ⊤ MarkFault → Marked → Result Marked MarkFault
+leaves (Ok done) marked = Ok marked
+leaves (Err fault) marked = Err fault
 
 -- a place after one more frame
 abbrev pub after_frame : Frame → Place → Place

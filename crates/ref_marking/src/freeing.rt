@@ -2,7 +2,7 @@
 
 ghost use Rattle.std.specs.Prelude.{◌≡◌, ◌<◌, ◌≤◌, ℕ, length, position, IfSome};
 ghost use Rattle.pictures.specs.MarkedFrames.{without_idx};
-ghost use Rattle.ref_marking.specs.MarksAfter.{has_pic_num, has_long_term_pic_num, without_at};
+ghost use Rattle.ref_marking.specs.MarksAfter.{has_pic_num, has_long_term_pic_num, leaves, without_at};
 
 use crate::fault::MarkFault;
 use param_set_types::Sps;
@@ -31,26 +31,26 @@ pub(crate) fn long_term_place(marks: &Marks, long_term_pic_num: u32) -> Option<u
         == Some(long_term_pic_num))
 }
 
-// The set without the frame at the place, or the fault where there is none.
-pub(crate) fn without(
-    mut marks: Marks,
+// Takes the frame at the place out, or answers the fault where there is none.
+pub(crate) fn take_out(
+    marks: &mut Marks,
     place: Option<usize>,
     fault: MarkFault,
-) -> Result<Marks, MarkFault>
-    requires { IfSome place (λ at. at < length marks.frames) }
-    ensures { result ≡ without_at fault marks place }
+) -> Result<(), MarkFault>
+    requires { IfSome place (λ at. at < length marks.old.frames) }
+    ensures { leaves result marks.new ≡ without_at fault marks.old place }
 {
     let at = place.ok_or(fault)?;
     marks.frames.remove(at);
-    Ok(marks)
+    Ok(())
 }
 
-// The set without long-term frames of this index.
-pub(crate) fn without_long_term(mut marks: Marks, long_term_frame_idx: u8) -> Marks
-    ensures { result ≡ record marks { frames = without_idx long_term_frame_idx marks.frames } }
+// Takes the long-term frames of this index out.
+pub(crate) fn take_out_long_term(marks: &mut Marks, long_term_frame_idx: u8)
+    ensures { marks.new
+        ≡ record marks.old { frames = without_idx long_term_frame_idx marks.old.frames } }
 {
     marks
         .frames
         .retain(|frame| !frame.term.holds(long_term_frame_idx));
-    marks
 }

@@ -7,11 +7,11 @@ ghost use Rattle.pictures.specs.PicOrderCnt.{are_in_range};
 ghost use Rattle.pictures.specs.Resetting.{counts_after_reset};
 ghost use Rattle.pictures.specs.declared.frames.Term.TheVariants.{ShortTerm};
 ghost use Rattle.ref_marking.specs.Marking.{current_frame, idr_marked, Joins, JoinsAs, MarksPicture};
-ghost use Rattle.ref_marking.specs.MarksAfter.{marks_after, adaptively_marked, joined, joined_as};
+ghost use Rattle.ref_marking.specs.MarksAfter.{leaves, marks_after, adaptively_marked, joined, joined_as};
 
 use crate::contradictions::{contradict, current_idx};
 use crate::fault::MarkFault;
-use crate::freeing::without_long_term;
+use crate::freeing::take_out_long_term;
 use crate::operations::{allowed, operate_all};
 use crate::sliding_window::{most_frames, slide_window};
 use param_set_types::Sps;
@@ -30,7 +30,7 @@ use slice_header_types::{
 ///   max_num_ref_frames; 4, 5 or 6 stands twice; 5 stands with 1, 2 or 3.
 /// - `NoShortTerm`: the sliding window is full and has no short-term frame.
 /// - `TooManyReferences`: as many frames are marked already as may be. It is looked for last.
-#[tactic(auto, using(crate::proofs::MarkingLaws::marks, crate::proofs::MarkingLaws::marks_only), unfolding(crate::specs::MarksAfter::marks_after))]
+#[tactic(auto, using(crate::proofs::MarkingLaws::marks, crate::proofs::MarkingLaws::marks_only))]
 pub fn mark(
     marks: &Marks,
     id: AuId,
@@ -44,21 +44,42 @@ pub fn mark(
         MarksPicture id sps.now header.now counts marks.now other → other ≡ result }
     ensures exact { result ≡ marks_after marks.now id sps.now header.now counts }
 {
+    let mut after = marks.copy();
+    mark_in_place(&mut after, id, sps, header, counts)?;
+    Ok(after)
+}
+
+/// Changes the set of the frames that are marked before a picture into that after it, which `mark`
+/// answers. Where the marking can't be done, nothing is said of what is left of the set.
+#[tactic(auto, unfolding(crate::specs::MarksAfter::marks_after))]
+pub fn mark_in_place(
+    marks: &mut Marks,
+    id: AuId,
+    sps: &Sps,
+    header: &SliceHeader,
+    counts: Counts,
+) -> Result<(), MarkFault>
+    requires { IsTrue (are_in_range (counts_after_reset header.now counts)) }
+    ensures { leaves result marks.new ≡ marks_after marks.old id sps.now header.now counts }
+{
     if !header.is_reference() {
-        return Ok(marks.copy());
+        return Ok(());
     }
     let current = current_frame(id, header, counts);
     match &header.dec_ref_pic_marking {
         DecRefPicMarking::Idr {
             long_term_reference_flag,
             ..
-        } => Ok(mark_idr(*long_term_reference_flag, current)),
+        } => {
+            mark_idr(marks, *long_term_reference_flag, current);
+            Ok(())
+        }
         DecRefPicMarking::SlidingWindow => {
-            let marks = slide_window(marks.copy(), sps, header.frame_num)?;
+            slide_window(marks, sps, header.frame_num)?;
             join(marks, sps, current)
         }
         DecRefPicMarking::Adaptive { operations } => mark_adaptively(
-            marks.copy(),
+            marks,
             sps,
             header.frame_num,
             operations.as_slice(),
@@ -81,10 +102,10 @@ fn current_frame(id: AuId, header: &SliceHeader, counts: Counts) -> Frame
 }
 
 // The only frame that is marked after an IDR picture.
-fn mark_idr(long_term_reference_flag: bool, current: Frame) -> Marks
-    ensures { result ≡ idr_marked long_term_reference_flag (with_term current) }
+fn mark_idr(marks: &mut Marks, long_term_reference_flag: bool, current: Frame)
+    ensures { marks.new ≡ idr_marked long_term_reference_flag (with_term current) }
 {
-    let mut marks = Marks::new();
+    *marks = Marks::new();
     if long_term_reference_flag {
         marks.max_long_term_frame_idx = Some(0);
         let term = Term::LongTerm {
@@ -94,38 +115,37 @@ fn mark_idr(long_term_reference_flag: bool, current: Frame) -> Marks
     } else {
         marks.frames.push(current.with_term(Term::ShortTerm));
     }
-    marks
 }
 
 // The current frame joins the others, where there is room for it.
 #[tactic(auto, using(crate::proofs::StepLaws::joins), unfolding(crate::specs::MarksAfter::joined))]
-fn join(mut marks: Marks, sps: &Sps, current: Frame) -> Result<Marks, MarkFault>
-    ensures step { Joins sps.now current marks result }
-    ensures exact { result ≡ joined sps.now current marks }
+fn join(marks: &mut Marks, sps: &Sps, current: Frame) -> Result<(), MarkFault>
+    ensures step { Joins sps.now current marks.old (leaves result marks.new) }
+    ensures exact { leaves result marks.new ≡ joined sps.now current marks.old }
 {
     if marks.frames.len() >= most_frames(sps) {
         return Err(MarkFault::TooManyReferences);
     }
     marks.frames.push(current);
-    Ok(marks)
+    Ok(())
 }
 
 // Adaptive memory control marking (8.2.5.4).
 #[tactic(auto, unfolding(crate::specs::MarksAfter::adaptively_marked))]
 fn mark_adaptively(
-    marks: Marks,
+    marks: &mut Marks,
     sps: &Sps,
     frame_num: u16,
     operations: &[Operation],
     current: Frame,
-) -> Result<Marks, MarkFault>
-    ensures { result
-        ≡ adaptively_marked sps.now frame_num operations.now (with_term current) marks }
+) -> Result<(), MarkFault>
+    ensures { leaves result marks.new
+        ≡ adaptively_marked sps.now frame_num operations.now (with_term current) marks.old }
 {
     if contradict(operations) {
         return Err(MarkFault::BadMarking);
     }
-    let marks = operate_all(marks, sps, frame_num, operations)?;
+    operate_all(marks, sps, frame_num, operations)?;
     join_as(marks, sps, current, current_idx(operations))
 }
 
@@ -133,21 +153,23 @@ fn mark_adaptively(
 // freed (8.2.5.4.6).
 #[tactic(auto, using(crate::proofs::StepLaws::joins_as), unfolding(crate::specs::MarksAfter::holder_freed))]
 fn join_as(
-    marks: Marks,
+    marks: &mut Marks,
     sps: &Sps,
     current: Frame,
     long_term_frame_idx: Option<u32>,
-) -> Result<Marks, MarkFault>
-    ensures step { JoinsAs long_term_frame_idx sps.now (with_term current) marks result }
-    ensures exact { result ≡ joined_as long_term_frame_idx sps.now (with_term current) marks }
+) -> Result<(), MarkFault>
+    ensures step { JoinsAs long_term_frame_idx sps.now (with_term current) marks.old
+        (leaves result marks.new) }
+    ensures exact { leaves result marks.new
+        ≡ joined_as long_term_frame_idx sps.now (with_term current) marks.old }
 {
     let Some(idx) = long_term_frame_idx else {
         return join(marks, sps, current.with_term(Term::ShortTerm));
     };
-    let long_term_frame_idx = allowed(&marks, idx)?;
+    let long_term_frame_idx = allowed(marks, idx)?;
     let current = current.with_term(Term::LongTerm {
         long_term_frame_idx,
     });
-    let marks = without_long_term(marks, long_term_frame_idx);
+    take_out_long_term(marks, long_term_frame_idx);
     join(marks, sps, current)
 }

@@ -5,10 +5,10 @@ ghost use Rattle.pictures.specs.declared.frames.Frame.{Frame};
 ghost use Rattle.pictures.specs.MarkedFrames.{as_long_term};
 ghost use Rattle.ref_marking.specs.declared.fault.MarkFault.TheVariants.{BadMarking};
 ghost use Rattle.ref_marking.specs.Operations.{FreesShortTerm, FreesLongTerm, AssignsLongTerm, LimitsLongTerm, Operates, OperatesAll, is_below};
-ghost use Rattle.ref_marking.specs.MarksAfter.{allows_idx, short_term_freed, long_term_freed, long_term_assigned, long_term_limited, operated, all_operated};
+ghost use Rattle.ref_marking.specs.MarksAfter.{leaves, allows_idx, short_term_freed, long_term_freed, long_term_assigned, long_term_limited, operated, all_operated};
 
 use crate::fault::MarkFault;
-use crate::freeing::{long_term_place, short_term_place, without, without_long_term};
+use crate::freeing::{long_term_place, short_term_place, take_out, take_out_long_term};
 use crate::numbers::pic_num_x;
 use param_set_types::Sps;
 use pictures::{Marks, Term};
@@ -16,60 +16,61 @@ use slice_header_types::MemoryManagementControlOperation as Operation;
 
 // 1: a short-term frame is freed (8.2.5.4.1).
 fn free_short_term(
-    marks: Marks,
+    marks: &mut Marks,
     sps: &Sps,
     frame_num: u16,
     difference_of_pic_nums_minus1: u32,
-) -> Result<Marks, MarkFault>
-    ensures step { FreesShortTerm sps.now frame_num difference_of_pic_nums_minus1 marks result }
-    ensures exact { result
-        ≡ short_term_freed sps.now frame_num difference_of_pic_nums_minus1 marks }
+) -> Result<(), MarkFault>
+    ensures step { FreesShortTerm sps.now frame_num difference_of_pic_nums_minus1 marks.old
+        (leaves result marks.new) }
+    ensures exact { leaves result marks.new
+        ≡ short_term_freed sps.now frame_num difference_of_pic_nums_minus1 marks.old }
 {
     let number = pic_num_x(frame_num, difference_of_pic_nums_minus1);
-    let place = short_term_place(&marks, sps, frame_num, number);
-    without(marks, place, MarkFault::BadMarking)
+    let place = short_term_place(marks, sps, frame_num, number);
+    take_out(marks, place, MarkFault::BadMarking)
 }
 
 // 2: a long-term frame is freed (8.2.5.4.2).
-fn free_long_term(marks: Marks, long_term_pic_num: u32) -> Result<Marks, MarkFault>
-    ensures step { FreesLongTerm long_term_pic_num marks result }
-    ensures exact { result ≡ long_term_freed long_term_pic_num marks }
+fn free_long_term(marks: &mut Marks, long_term_pic_num: u32) -> Result<(), MarkFault>
+    ensures step { FreesLongTerm long_term_pic_num marks.old (leaves result marks.new) }
+    ensures exact { leaves result marks.new ≡ long_term_freed long_term_pic_num marks.old }
 {
-    let place = long_term_place(&marks, long_term_pic_num);
-    without(marks, place, MarkFault::BadMarking)
+    let place = long_term_place(marks, long_term_pic_num);
+    take_out(marks, place, MarkFault::BadMarking)
 }
 
 // 3: a short-term frame becomes long-term, and another frame that holds the index is freed (8.2.5.4.3).
 #[tactic(auto, using(crate::proofs::StepLaws::assigns_long_term), unfolding(crate::specs::MarksAfter::long_term_assigned))]
 fn assign_long_term(
-    marks: Marks,
+    marks: &mut Marks,
     sps: &Sps,
     frame_num: u16,
     difference_of_pic_nums_minus1: u32,
     long_term_frame_idx: u32,
-) -> Result<Marks, MarkFault>
+) -> Result<(), MarkFault>
     ensures step { AssignsLongTerm sps.now frame_num
-        difference_of_pic_nums_minus1 long_term_frame_idx marks result }
-    ensures exact { result ≡ long_term_assigned sps.now frame_num
-        difference_of_pic_nums_minus1 long_term_frame_idx marks }
+        difference_of_pic_nums_minus1 long_term_frame_idx marks.old (leaves result marks.new) }
+    ensures exact { leaves result marks.new ≡ long_term_assigned sps.now frame_num
+        difference_of_pic_nums_minus1 long_term_frame_idx marks.old }
 {
-    let long_term_frame_idx = allowed(&marks, long_term_frame_idx)?;
+    let long_term_frame_idx = allowed(marks, long_term_frame_idx)?;
     let number = pic_num_x(frame_num, difference_of_pic_nums_minus1);
-    let marks = without_long_term(marks, long_term_frame_idx);
-    let place = short_term_place(&marks, sps, frame_num, number);
+    take_out_long_term(marks, long_term_frame_idx);
+    let place = short_term_place(marks, sps, frame_num, number);
     with_long_term(marks, place, long_term_frame_idx)
 }
 
-// The set in which the frame at the place is long-term.
+// Makes the frame at the place long-term.
 fn with_long_term(
-    mut marks: Marks,
+    marks: &mut Marks,
     place: Option<usize>,
     long_term_frame_idx: u8,
-) -> Result<Marks, MarkFault>
-    requires { IfSome place (λ at. at < length marks.frames) }
-    ensures none { IsNone place → result ≡ Err BadMarking }
-    ensures some { (other : Frame) → IfSome place (λ at. result ≡ Ok (record marks {
-      frames = slice_set marks.frames at (as_long_term long_term_frame_idx (slice_index_or marks.frames at other));
+) -> Result<(), MarkFault>
+    requires { IfSome place (λ at. at < length marks.old.frames) }
+    ensures none { IsNone place → leaves result marks.new ≡ Err BadMarking }
+    ensures some { (other : Frame) → IfSome place (λ at. leaves result marks.new ≡ Ok (record marks.old {
+      frames = slice_set marks.old.frames at (as_long_term long_term_frame_idx (slice_index_or marks.old.frames at other));
     })) }
 {
     let at = place.ok_or(MarkFault::BadMarking)?;
@@ -77,18 +78,20 @@ fn with_long_term(
     frame.term = Term::LongTerm {
         long_term_frame_idx,
     };
-    Ok(marks)
+    Ok(())
 }
 
 // 4: the greatest index is set, and long-term frames above it are freed (8.2.5.4.4).
 #[tactic(auto, using(crate::proofs::StepLaws::limits_long_term), unfolding(crate::specs::MarksAfter::long_term_limited))]
 fn limit_long_term(
-    mut marks: Marks,
+    marks: &mut Marks,
     sps: &Sps,
     max_long_term_frame_idx_plus1: u32,
-) -> Result<Marks, MarkFault>
-    ensures step { LimitsLongTerm sps.now max_long_term_frame_idx_plus1 marks result }
-    ensures exact { result ≡ long_term_limited sps.now max_long_term_frame_idx_plus1 marks }
+) -> Result<(), MarkFault>
+    ensures step { LimitsLongTerm sps.now max_long_term_frame_idx_plus1 marks.old
+        (leaves result marks.new) }
+    ensures exact { leaves result marks.new
+        ≡ long_term_limited sps.now max_long_term_frame_idx_plus1 marks.old }
 {
     if max_long_term_frame_idx_plus1 > u32::from(sps.max_num_ref_frames.get()) {
         return Err(MarkFault::BadMarking);
@@ -96,7 +99,7 @@ fn limit_long_term(
     let plus1 = max_long_term_frame_idx_plus1 as u8;
     marks.frames.retain(|frame| is_below(frame.term, plus1));
     marks.max_long_term_frame_idx = plus1.checked_sub(1);
-    Ok(marks)
+    Ok(())
 }
 
 // Whether it is a short-term frame, or its index is below the number.
@@ -127,13 +130,13 @@ pub(crate) fn allowed(marks: &Marks, long_term_frame_idx: u32) -> Result<u8, Mar
 // An operation, but for the current frame.
 #[tactic(auto, using(crate::proofs::StepLaws::operates), unfolding(crate::specs::MarksAfter::operated))]
 fn operate(
-    marks: Marks,
+    marks: &mut Marks,
     sps: &Sps,
     frame_num: u16,
     operation: Operation,
-) -> Result<Marks, MarkFault>
-    ensures step { Operates sps.now frame_num operation marks result }
-    ensures exact { result ≡ operated sps.now frame_num operation marks }
+) -> Result<(), MarkFault>
+    ensures step { Operates sps.now frame_num operation marks.old (leaves result marks.new) }
+    ensures exact { leaves result marks.new ≡ operated sps.now frame_num operation marks.old }
 {
     match operation {
         Operation::FreeShortTerm {
@@ -155,24 +158,29 @@ fn operate(
         Operation::LimitLongTerm {
             max_long_term_frame_idx_plus1,
         } => limit_long_term(marks, sps, max_long_term_frame_idx_plus1),
-        Operation::FreeAll => Ok(Marks::new()),
-        Operation::CurrentLongTerm { .. } => Ok(marks),
+        Operation::FreeAll => {
+            *marks = Marks::new();
+            Ok(())
+        }
+        Operation::CurrentLongTerm { .. } => Ok(()),
     }
 }
 
 // The operations, one after the other.
 #[tactic(auto, using(crate::proofs::StepLaws::operates_all))]
 pub(crate) fn operate_all(
-    mut marks: Marks,
+    marks: &mut Marks,
     sps: &Sps,
     frame_num: u16,
     operations: &[Operation],
-) -> Result<Marks, MarkFault>
-    ensures step { OperatesAll sps.now frame_num operations.now marks result }
-    ensures exact { result ≡ all_operated sps.now frame_num operations.now marks }
+) -> Result<(), MarkFault>
+    ensures step { OperatesAll sps.now frame_num operations.now marks.old
+        (leaves result marks.new) }
+    ensures exact { leaves result marks.new
+        ≡ all_operated sps.now frame_num operations.now marks.old }
 {
     for operation in operations {
-        marks = operate(marks, sps, frame_num, *operation)?;
+        operate(marks, sps, frame_num, *operation)?;
     }
-    Ok(marks)
+    Ok(())
 }

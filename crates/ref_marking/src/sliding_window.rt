@@ -6,10 +6,10 @@ ghost use Rattle.std.specs.List.{reduce};
 ghost use Rattle.pictures.specs.MarkedFrames.{most_frames};
 ghost use Rattle.pictures.specs.PicNums.{pic_num};
 ghost use Rattle.ref_marking.specs.SlidingWindow.{SlidesWindow};
-ghost use Rattle.ref_marking.specs.MarksAfter.{window_slid};
+ghost use Rattle.ref_marking.specs.MarksAfter.{leaves, window_slid};
 
 use crate::fault::MarkFault;
-use crate::freeing::{short_term_place, without};
+use crate::freeing::{short_term_place, take_out};
 use param_set_types::Sps;
 use pictures::Marks;
 
@@ -34,14 +34,14 @@ fn least_frame_num_wrap(marks: &Marks, sps: &Sps, frame_num: u16) -> Option<i64>
 
 // Frees the short-term frame of the least FrameNumWrap, where as many frames are marked as may be.
 #[tactic(auto, using(crate::proofs::StepLaws::slides_window), unfolding(crate::specs::MarksAfter::window_slid))]
-pub(crate) fn slide_window(marks: Marks, sps: &Sps, frame_num: u16) -> Result<Marks, MarkFault>
-    ensures step { SlidesWindow sps.now frame_num marks result }
-    ensures exact { result ≡ window_slid sps.now frame_num marks }
+pub(crate) fn slide_window(marks: &mut Marks, sps: &Sps, frame_num: u16) -> Result<(), MarkFault>
+    ensures step { SlidesWindow sps.now frame_num marks.old (leaves result marks.new) }
+    ensures exact { leaves result marks.new ≡ window_slid sps.now frame_num marks.old }
 {
     if marks.frames.len() != most_frames(sps) {
-        return Ok(marks);
+        return Ok(());
     }
-    let least = least_frame_num_wrap(&marks, sps, frame_num).ok_or(MarkFault::NoShortTerm)?;
-    let place = short_term_place(&marks, sps, frame_num, least);
-    without(marks, place, MarkFault::NoShortTerm)
+    let least = least_frame_num_wrap(marks, sps, frame_num).ok_or(MarkFault::NoShortTerm)?;
+    let place = short_term_place(marks, sps, frame_num, least);
+    take_out(marks, place, MarkFault::NoShortTerm)
 }

@@ -10,7 +10,7 @@ returns-clause-exact c =
     let fits : SFits w64 c.pic_num_x-number.result = search rules in
     let place = simp to_z-of_z at c.short_term_place-place.ensures in
     let allowed = allowed_is _ _ _ _ c.in_ok-long_term_frame_idx.ensures in
-    rw allowed.0 (assigned_to c.args.sps.now c.args.frame_num _ _ _ _ c.args.marks _ _ _ c.pic_num_x-number.ensures allowed.1 c.without_long_term-marks.ensures place c.with_long_term.ensures.none c.with_long_term.ensures.some)
+    rw allowed.0 (assigned_to c.args.sps.now c.args.frame_num _ _ _ _ c.args.marks.now _ _ _ c.pic_num_x-number.ensures allowed.1 c.take_out_long_term.ensures place c.with_long_term.ensures.none c.with_long_term.ensures.some)
 
 pub returns-clause-step : goal.returns-clause-step
-returns-clause-step c = assigns_long_term c.args.sps.now c.args.frame_num c.args.difference_of_pic_nums_minus1 c.args.long_term_frame_idx c.args.marks _ (returns-clause-exact c)
+returns-clause-step c = assigns_long_term c.args.sps.now c.args.frame_num c.args.difference_of_pic_nums_minus1 c.args.long_term_frame_idx c.args.marks.now _ (returns-clause-exact c)

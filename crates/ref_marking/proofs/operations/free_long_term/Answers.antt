@@ -8,7 +8,7 @@ use Rattle.ref_marking.proofs.operations.free_long_term.Goals as goal
 pub returns-clause-exact : goal.returns-clause-exact
 unfolding long_term_freed
 returns-clause-exact c =
-    c.without.ensures ∙ (ap (without_at BadMarking c.args.marks) c.long_term_place-place.ensures ∙ without_first BadMarking c.args.marks (has_long_term_pic_num c.args.long_term_pic_num))
+    c.take_out.ensures ∙ (ap (without_at BadMarking c.args.marks.now) c.long_term_place-place.ensures ∙ without_first BadMarking c.args.marks.now (has_long_term_pic_num c.args.long_term_pic_num))
 
 pub returns-clause-step : goal.returns-clause-step
-returns-clause-step c = frees_long_term c.args.long_term_pic_num c.args.marks _ (returns-clause-exact c)
+returns-clause-step c = frees_long_term c.args.long_term_pic_num c.args.marks.now _ (returns-clause-exact c)

@@ -10,7 +10,7 @@ unfolding short_term_freed
 returns-clause-exact c =
     let fits : SFits w64 c.pic_num_x-number.result = search rules in
     let place = simp to_z-of_z at c.short_term_place-place.ensures in
-    c.without.ensures ∙ (ap (without_at BadMarking c.args.marks) place ∙ short_term_left BadMarking c.args.marks c.args.sps.now c.args.frame_num _ _ c.pic_num_x-number.ensures)
+    c.take_out.ensures ∙ (ap (without_at BadMarking c.args.marks.now) place ∙ short_term_left BadMarking c.args.marks.now c.args.sps.now c.args.frame_num _ _ c.pic_num_x-number.ensures)
 
 pub returns-clause-step : goal.returns-clause-step
-returns-clause-step c = frees_short_term c.args.sps.now c.args.frame_num c.args.difference_of_pic_nums_minus1 c.args.marks _ (returns-clause-exact c)
+returns-clause-step c = frees_short_term c.args.sps.now c.args.frame_num c.args.difference_of_pic_nums_minus1 c.args.marks.now _ (returns-clause-exact c)

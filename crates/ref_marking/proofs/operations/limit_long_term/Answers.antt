@@ -20,4 +20,4 @@ returns-clause-exact c =
     rw (← c.marks.view_is, le-leb _ _ within) (ap (λ frames. made frames c.checked_sub-marks-inside.result) left ∙ ap (made _) idx)
 
 pub returns-clause-step : goal.returns-clause-step
-returns-clause-step c = limits_long_term c.args.sps.now c.args.max_long_term_frame_idx_plus1 c.args.marks _ (returns-clause-exact c)
+returns-clause-step c = limits_long_term c.args.sps.now c.args.max_long_term_frame_idx_plus1 c.args.marks.now _ (returns-clause-exact c)

@@ -2,7 +2,7 @@ use Rattle.std.proofs.Common.{◌≡◌, length, arith, ap, refl, ◌∙◌}
 use Rattle.std.proofs.lemmas.List.FromFn.{length-map-range_with_len, map-range_with_len_more}
 use Rattle.std.proofs.lemmas.Option.{slice_get_read}
 use Rattle.ref_lists.specs.InitialLists.{standing_at}
-use Rattle.ref_lists.proofs.initial_lists.standings.Goals as goal
+use Rattle.ref_lists.proofs.initial_lists.push_standings.Goals as goal
 
 pub push-requires : goal.push-requires
 push-requires c =

@@ -3,7 +3,7 @@ use Rattle.arrayvec.proofs.ArrayVecLemmas.{filter-from_retain}
 use Rattle.pictures.specs.MarkedFrames.{holds}
 use Rattle.pictures.specs.declared.frames.Frame.{Frame}
 use Rattle.ref_marking.proofs.Filters.{with_frames}
-use Rattle.ref_marking.proofs.freeing.without_long_term.Goals as goal
+use Rattle.ref_marking.proofs.freeing.take_out_long_term.Goals as goal
 
 pub returns : goal.returns
 returns c =

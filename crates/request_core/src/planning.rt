@@ -12,10 +12,11 @@ ghost use Rattle.slice_reading.specs.Answers.{Answers, AnswersAs};
 
 use crate::picture::Listed;
 use crate::state::State;
+use base_types::Shared;
 use order_count::count;
 use pictures::{AuId, Counts, Marks};
 use ref_lists::{ListFault, lists};
-use ref_marking::{MarkFault, mark};
+use ref_marking::{MarkFault, mark_in_place};
 use slice_reading::{Gathered, Slice, Stop};
 use std::alloc::Global;
 use unit_outcomes::ValidityFault;
@@ -35,19 +36,35 @@ pub(crate) fn count_picture(state: &State, slice: &Slice) -> Result<Counts, Stop
     }
 }
 
-/// The frames that are marked after the picture.
+/// The frames that are marked after the picture; one that is no reference shares those before it.
+#[tactic(auto, unfolding(ref_marking::specs::MarksAfter::marks_after))]
 pub(crate) fn mark_picture(
+    alloc: Global,
     state: &State,
     id: AuId,
     slice: &Slice,
     counts: Counts,
-) -> Result<Marks, Stop>
+) -> Result<Shared<Marks>, Stop>
     requires { IsTrue (are_in_range (counts_after_reset slice.now.header counts)) }
     ensures { Answers result
         (marked (marks_after state.now.marks id slice.now.sps slice.now.header counts)) }
 {
-    match mark(&state.marks, id, slice.sps(), slice.header(), counts) {
-        Ok(marks) => Ok(marks),
+    if !slice.header().is_reference() {
+        return Ok(state.marks.clone()?);
+    }
+    let mut marks = state.marks.copy();
+    mark_reference(&mut marks, id, slice, counts)?;
+    Ok(Shared::new(alloc, marks)?)
+}
+
+/// Makes of the marked frames those after the picture.
+fn mark_reference(marks: &mut Marks, id: AuId, slice: &Slice, counts: Counts) -> Result<(), Stop>
+    requires { IsTrue (are_in_range (counts_after_reset slice.now.header counts)) }
+    ensures { AnswersAs (λ done. marks.new) result
+        (marked (marks_after marks.old id slice.now.sps slice.now.header counts)) }
+{
+    match mark_in_place(marks, id, slice.sps(), slice.header(), counts) {
+        Ok(()) => Ok(()),
         Err(MarkFault::TooManyReferences) => Err(Stop::Fault(ValidityFault::TooManyReferences)),
         Err(MarkFault::BadMarking | MarkFault::NoShortTerm) => Err(Stop::Fault(
             ValidityFault::BadMarking,

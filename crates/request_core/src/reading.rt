@@ -80,7 +80,7 @@ fn with_sets(alloc: Global, state: &State, unit: &Unit) -> Result<State, AllocEr
         active: state.active()?,
         anchor: state.anchor,
         prev_ref_frame_num: state.prev_ref_frame_num,
-        marks: state.marks.copy(),
+        marks: state.marks.clone()?,
     })
 }
 

@@ -20,7 +20,8 @@ pub struct State {
     pub(crate) anchor: Anchor,
     /// PrevRefFrameNum (7.4.3).
     pub(crate) prev_ref_frame_num: u16,
-    pub(crate) marks: Marks,
+    /// Shared, so that a state is copied and moved without the frames.
+    pub(crate) marks: Shared<Marks>,
 }
 
 // By hand, so that whoever drops one is proved over one call.
@@ -54,7 +55,7 @@ impl State {
             active: None,
             anchor: Anchor::new(),
             prev_ref_frame_num: 0,
-            marks: Marks::new(),
+            marks: Shared::new(alloc, Marks::new())?,
         })
     }
 
@@ -67,7 +68,7 @@ impl State {
             active: self.active()?,
             anchor: self.anchor,
             prev_ref_frame_num: self.prev_ref_frame_num,
-            marks: self.marks.copy(),
+            marks: self.marks.clone()?,
         })
     }
 

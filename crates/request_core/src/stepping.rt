@@ -81,7 +81,7 @@ fn plan_first<'a>(
     follow(state, first)?;
     let counts = count_picture(state, first)?;
     let listed = list_picture(alloc, state, counts, slices)?;
-    let marks = mark_picture(state, id, first, counts)?;
+    let marks = mark_picture(alloc, state, id, first, counts)?;
     let after = state_after(state, first, counts, marks)?;
     let picture = make_picture(state, id, first, counts, listed);
     Ok((after, Finding::Picture(picture)))
@@ -131,7 +131,7 @@ fn state_after(
     state: &State,
     slice: &Slice,
     counts: Counts,
-    marks: Marks,
+    marks: Shared<Marks>,
 ) -> Result<State, AllocError>
     requires { counts_of state.now.anchor slice.now.sps slice.now.header ≡ Ok counts }
     ensures { IfOk result (λ after. after ≡ state_after state.now slice.now counts marks) }

@@ -1,8 +1,5 @@
 -- What planning answers, by what the fold says.
 use Rattle.std.specs.Prelude.{◌≡◌, ⊤, Result, Ok, Err}
-use Rattle.slice_header.specs.declared.fault.HeaderFault.{HeaderFault}
-use Rattle.slice_header.specs.declared.fault.HeaderFault.TheVariants as headers
-use Rattle.slice_reading.specs.Slices.{header_fault}
 use Rattle.unit_outcomes.specs.declared.validity_fault.ValidityFault.{ValidityFault}
 use Rattle.slice_reading.specs.declared.stop.Stop.{Stop}
 use Rattle.slice_reading.specs.declared.stop.Stop.TheVariants.{Fault, Memory}
@@ -19,8 +16,3 @@ AnswersAs view (Err stop) says = Ends stop says
 
 abbrev pub Answers : {X : Type 0} → Result X Stop → Result X ValidityFault → Type 0
 Answers answer says = AnswersAs (λ x. x) answer says
-
--- how the fault of a header ends it
-abbrev pub StopsAt : Stop → HeaderFault → Type 0
-StopsAt stop headers.Memory = stop ≡ Memory
-StopsAt stop fault = stop ≡ Fault (header_fault fault)

@@ -1,6 +1,6 @@
 //! What the slices of a unit give: all that they have, or the least of their faults.
 
-ghost use Rattle.std.specs.Prelude.{◌≡◌, [], OnOk, OnErr, IfOk, Ok, Result, List, length, ◌-◌, option_copied, slice_get};
+ghost use Rattle.std.specs.Prelude.{◌≡◌, [], OnOk, OnErr, IfOk, Ok, Err, Result, List, length, ◌-◌, option_copied, slice_get};
 ghost use Rattle.unit_outcomes.specs.declared.validity_fault.ValidityFault.{ValidityFault};
 ghost use Rattle.unit_outcomes.specs.Numbers.{number_of};
 ghost use Rattle.slice_reading.specs.Numbers.{lower, gathered};
@@ -50,11 +50,29 @@ impl<T: Drop> Gathered<T> {
         ensures kept { OnErr result (self.new ≡ self.old) }
     {
         match answer {
-            Ok(item) => self.items.push(item)?,
-            Err(Stop::Fault(fault)) => self.fault = Some(lower(self.fault, fault)),
-            Err(Stop::Memory) => return Err(AllocError),
+            Ok(item) => self.push(item),
+            Err(Stop::Fault(fault)) => {
+                self.add_fault(fault);
+                Ok(())
+            }
+            Err(Stop::Memory) => Err(AllocError),
         }
+    }
+
+    /// Adds an item.
+    pub(crate) fn push(&mut self, item: T) -> Result<(), AllocError>
+        ensures added { OnOk result (self.new ≡ gathered_after self.old (Ok item)) }
+        ensures kept { OnErr result (self.new ≡ self.old) }
+    {
+        self.items.push(item)?;
         Ok(())
+    }
+
+    /// Adds a fault.
+    pub(crate) fn add_fault(&mut self, fault: ValidityFault)
+        ensures { self.new ≡ gathered_after self.old (Err fault) }
+    {
+        self.fault = Some(lower(self.fault, fault));
     }
 
     /// The last item, also where there is a fault.

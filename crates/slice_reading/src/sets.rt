@@ -55,7 +55,8 @@ impl Sets {
     }
 
     /// The sets, with what they decide. It's shared with the place of the picture parameter set, or
-    /// with the last sets that were used, where those are the same.
+    /// with the last sets that were used, where those are the same. The place has its own set, which
+    /// isn't compared.
     pub(crate) fn of(
         alloc: Global,
         last: Option<&Sets>,
@@ -65,7 +66,7 @@ impl Sets {
         ensures { IfOk result (λ sets. sets ≡ record { sps = sps.now; pps = pps.now }) }
     {
         match (pps.sets(), last) {
-            (Some(sets), _) if sets.are(sps, pps.set()) => sets.copy(),
+            (Some(sets), _) if sets.sps.is_same(sps.set()) => sets.copy(),
             (_, Some(last)) if last.are(sps, pps.set()) => last.copy(),
             _ => Sets::new(alloc, sps, pps.set()),
         }

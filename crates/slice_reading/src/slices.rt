@@ -1,11 +1,13 @@
 //! The slices of a unit, each with its header and the sets that it names.
 
-ghost use Rattle.std.specs.Prelude.{◌≡◌, ◌∷◌, ◌++◌, map, Ok, Err, IfOk, option_map};
+ghost use Rattle.std.specs.Prelude.{◌≡◌, ◌≢◌, ◌∷◌, ◌++◌, map, Ok, Err, IfOk, OnOk, option_map};
 ghost use Rattle.annexb.specs.ByteStream.{start_code};
 ghost use Rattle.param_set_controls.specs.SetControls.{set_controls};
-ghost use Rattle.slice_reading.specs.Numbers.{joined, gathered, lower};
+ghost use Rattle.slice_header.specs.declared.fault.HeaderFault.TheVariants.{Memory};
+ghost use Rattle.slice_reading.specs.Numbers.{gathered};
+ghost use Rattle.slice_reading.specs.Gathering.{gathered_after};
 ghost use Rattle.slice_reading.specs.Slices.{slice_at, header_fault};
-ghost use Rattle.slice_reading.specs.Answers.{Answers, AnswersAs, StopsAt};
+ghost use Rattle.slice_reading.specs.Answers.{AnswersAs};
 
 use crate::gathered::Gathered;
 use crate::sets::Sets;
@@ -91,42 +93,48 @@ pub fn read_slices(alloc: Global, tables: &Tables, nals: &[SharedNal]) -> Result
 {
     let mut slices = Gathered::with_capacity(alloc, nals.len())?;
     for nal in nals {
-        let slice = read_slice(alloc, tables, slices.last(), nal);
-        slices.add(slice)?;
+        add_slice(alloc, tables, nal, &mut slices)?;
     }
     slices.finish()
 }
 
-/// The slice of a NAL unit, or the fault that it shows. It shares the sets of the last slice that
-/// was read where those are the same. The front of the unit is unescaped once.
+/// Adds the slice of a NAL unit, or the fault that it shows. It shares the sets of the last slice
+/// that was read where those are the same. The front of the unit is unescaped once, and the slice
+/// is made where it is added, since it is large.
 #[tactic(auto, unfolding(crate::specs::Slices::slice_at))]
-fn read_slice(
+fn add_slice(
     alloc: Global,
     tables: &Tables,
-    last: Option<&Slice>,
     nal: &SharedNal,
-) -> Result<Slice, Stop>
-    ensures { Answers result (slice_at tables.now nal.now) }
+    slices: &mut Gathered<Slice>,
+) -> Result<(), AllocError>
+    ensures { OnOk result
+        (slices.new ≡ gathered_after slices.old (slice_at tables.now nal.now)) }
 {
     let unit = nal.nal();
     let start = Start::of(&unit);
     let front = match peek_start(&start) {
         Ok(front) => front,
-        Err(fault) => return Err(stop(fault)),
+        Err(fault) => return add_header_fault(slices, fault),
     };
     let Some(pps) = tables.pps(front.pic_parameter_set_id) else {
-        return Err(Stop::Fault(ValidityFault::MissingPps));
+        slices.add_fault(ValidityFault::MissingPps);
+        return Ok(());
     };
     let Some(sps) = tables.sps(pps.set().seq_parameter_set_id.get()) else {
-        return Err(Stop::Fault(ValidityFault::MissingSps));
+        slices.add_fault(ValidityFault::MissingSps);
+        return Ok(());
     };
     match read_from(alloc, &start, sps.set(), pps.set()) {
-        Ok(header) => Ok(Slice {
-            nal: nal.clone()?,
-            sets: Sets::of(alloc, last_sets(last), sps, pps)?,
-            header,
-        }),
-        Err(fault) => Err(stop(fault)),
+        Ok(header) => {
+            let sets = Sets::of(alloc, last_sets(slices.last()), sps, pps)?;
+            slices.push(Slice {
+                nal: nal.clone()?,
+                sets,
+                header,
+            })
+        }
+        Err(fault) => add_header_fault(slices, fault),
     }
 }
 
@@ -141,13 +149,15 @@ fn last_sets(last: Option<&Slice>) -> Option<&Sets>
     }
 }
 
-/// A header's fault as the fault of its unit.
-fn stop(fault: HeaderFault) -> Stop
-    ensures { StopsAt result fault }
+/// Adds a header's fault as the fault of its unit, unless memory ran out.
+fn add_header_fault(slices: &mut Gathered<Slice>, fault: HeaderFault) -> Result<(), AllocError>
+    ensures { OnOk result ((slices.new ≡ gathered_after slices.old (Err (header_fault fault)))
+        × (fault ≢ Memory)) }
 {
     match fault {
-        HeaderFault::Cut => Stop::Fault(ValidityFault::HeaderCut),
-        HeaderFault::Value => Stop::Fault(ValidityFault::HeaderValue),
-        HeaderFault::Memory => Stop::Memory,
+        HeaderFault::Cut => slices.add_fault(ValidityFault::HeaderCut),
+        HeaderFault::Value => slices.add_fault(ValidityFault::HeaderValue),
+        HeaderFault::Memory => return Err(AllocError),
     }
+    Ok(())
 }

@@ -8,7 +8,7 @@ use Rattle.slice_reading.proofs.slices.read_slices.Goals as goal
 
 pub loop-nal-preserved : goal.loop-nal-preserved
 loop-nal-preserved c =
-    c.in_ok-add.ensures.added (slice_at c.args.tables.now c.nal-item.result) c.read_slice-slice.ensures
+    c.in_ok-add_slice.ensures
     ∙ (ap (λ found. gathered_after found (slice_at c.args.tables.now c.nal-item.result)) c.loop-nal.invariant
     ∙ (sym (gathered-map-more (slice_at c.args.tables.now) (take c.loop-nal.nal-index c.args.nals.now) c.nal-item.result)
     ∙ ap (λ nals. gathered (map (slice_at c.args.tables.now) nals)) (sym more)))

@@ -4,6 +4,7 @@ pub mod Firsts
 pub mod Pieces
 pub mod Progress
 pub mod Lengths
+pub mod LoneSlices
 pub mod Texts
 pub mod StreamParts
 pub mod Trailing

@@ -12,6 +12,7 @@ mod cuts;
 mod joining;
 mod kept;
 mod laws;
+mod lone;
 mod parameter_sets;
 mod parts;
 mod placed;

@@ -11,6 +11,7 @@ ghost use Rattle.access_unit.specs.Stored.{IsShown, units_in};
 
 use crate::cuts::cut_next;
 use crate::kept::{Kept, keep};
+use crate::lone::keep_lone;
 use crate::parameter_sets::ParameterSet;
 use crate::parts::Parts;
 use crate::refused::Refused;
@@ -144,7 +145,21 @@ pub(crate) fn split_units(alloc: Global, text: &[u8]) -> Result<Option<Vec<Nal<'
 }
 
 /// The access unit of the NAL units of the text, which share it, or their refusal.
-pub(crate) fn unit_of(alloc: Global, mut text: Bytes, nals: &[Nal<'_>]) -> Result<Unit, Refused>
+pub(crate) fn unit_of(alloc: Global, text: Bytes, nals: &[Nal<'_>]) -> Result<Unit, Refused>
+    requires { IsShortText text nals.now }
+    ensures ok { IfOk result (λ unit. (unit ≡ nals.now) × (refusal_of nals.now ≡ None)) }
+    ensures err { IfErr result (IsShown (refusal_of nals.now)) }
+{
+    match nals {
+        [nal] if nal.is_slice() => Ok(Unit {
+            kept: keep_lone(text, nal)?,
+        }),
+        _ => unit_of_parts(alloc, text, nals),
+    }
+}
+
+/// The access unit of any NAL units of the text, or their refusal.
+fn unit_of_parts(alloc: Global, mut text: Bytes, nals: &[Nal<'_>]) -> Result<Unit, Refused>
     requires { IsShortText text nals.now }
     ensures ok { IfOk result (λ unit. (unit ≡ nals.now) × (refusal_of nals.now ≡ None)) }
     ensures err { IfErr result (IsShown (refusal_of nals.now)) }

@@ -1,5 +1,5 @@
 use Rattle.access_unit.proofs.Progress.{IsReadTo}
-use Rattle.access_unit.proofs.unit.unit_of.Given as goal
+use Rattle.access_unit.proofs.unit.unit_of_parts.Given as goal
 
 abbrev pub invariant-loop-nal : goal.invariant-loop-nal
 invariant-loop-nal l = IsReadTo l.nals l.nal-index l.text l.parts

@@ -4,7 +4,7 @@ use Rattle.std.proofs.lemmas.List.{get_or_read}
 use Rattle.std.proofs.lemmas.Result.{err_from_is_err_and}
 use Rattle.access_unit.proofs.Firsts.{IsShown-first}
 use Rattle.access_unit.proofs.Progress.{left_next, IsReadTo-first, IsAddedTo-more, IsOfUnit-end}
-use Rattle.access_unit.proofs.unit.unit_of.Goals as goal
+use Rattle.access_unit.proofs.unit.unit_of_parts.Goals as goal
 
 pub cut_next-requires : goal.cut_next-requires
 cut_next-requires c =

@@ -106,6 +106,23 @@ module _ (stream : Stream) (outcomes : List Outcome) (states : States) (end : Fo
             (begins stream place place fold (subst (λ (s : FoldState). Begins place place s fold) past.is begun) (omega arith) past.within);
       }
 
+  -- or where a fold has come, past the stored state before
+  pub starts_where_reached : (at kept place : ℕ) (before state : FoldState) (fold : Refold) → at < length stream
+      → IsBefore states at kept before → kept ≤ place → place ≤ at → state ≡ state_past stream place → Begins place kept state fold
+      → IsStart at stream states fold
+  starts_where_reached at kept place before state fold inside stored above below past begun =
+      let close : at < kept + spacing = before_near at kept before inside stored in
+      record {
+        before = omega (arith, begun.from_is, below);
+        close = omega (arith, begun.from_is, close, above);
+        place_is = begun.place_is ∙ sym begun.from_is;
+        kept_before = omega (arith, begun.from_is, begun.kept_is, above);
+        kept = (before, subst (λ (n : ℕ). IsStoredAt states n before) (sym begun.kept_is) stored.stored);
+        refolded =
+            subst (λ (n : ℕ). IsRefolded (take n stream) fold) (sym begun.from_is)
+            (begins stream place kept fold (subst (λ (s : FoldState). Begins place kept s fold) past begun) above (omega (arith, below, inside)));
+      }
+
 module _ (stream : Stream) (states : States) (from : ℕ) where
   -- the units from a place on, and one more
   one_more : (at : ℕ) → from ≤ at → at < length stream
@@ -166,6 +183,13 @@ module _ (stream : Stream) (states : States) (from : ℕ) where
     met_at = tt;
     not_before = λ front was place above below stored. so_far.none front was place above (omega (arith, is, below)) stored;
   }
+
+-- from its start over the units in front of a place, past which its state is then that of the stream
+pub state_in_front : (stream : Stream) (states : States) (at : ℕ) (first second : Refold) → IsStart at stream states first
+    → GoesOn first (take (at - first.from) (drop first.from stream)) second → second.state ≡ state_past stream at
+state_in_front stream states at first second start on =
+    (on.refolded (take first.from stream) start.refolded).state_is
+    ∙ ap (λ (units : Stream). state_from no_units units) (sym (take_more_of first.from at stream start.before))
 
 -- from its start over the unit that is changed and those behind it
 module _ (change : Change) (stream : Stream) (outcomes : List Outcome) (states : States) (end : FoldState)

@@ -1,5 +1,5 @@
 -- The bytes of a plan's requests are those of its unit's slices.
-use Rattle.std.proofs.Common.{◌≡◌, ℕ, Bool, true, false, List, [], ◌∷◌, map, filter, Option, None, Some, Result, Ok, Err, refl, sym, ap, ◌∙◌, subst}
+use Rattle.std.proofs.Common.{◌≡◌, ℕ, List, [], ◌∷◌, map, filter, Option, None, Some, Result, Ok, Err, refl, sym, ap, ◌∙◌, subst}
 use Rattle.base_types.specs.Chains.{◌>>=◌}
 use Rattle.param_set_types.specs.declared.sps.Sps.{Sps}
 use Rattle.param_set_types.specs.declared.pps.Pps.{Pps}
@@ -11,7 +11,6 @@ use Rattle.slice_header.specs.Fronts.{front_at}
 use Rattle.slice_header.specs.SliceHeaders.{header_at}
 use Rattle.pictures.specs.declared.counts.Counts.{Counts}
 use Rattle.pictures.specs.declared.frames.Frame.{Frame}
-use Rattle.pictures.specs.MarkedFrames.{Marked}
 use Rattle.order_count.specs.Counting.{counts_of}
 use Rattle.ref_marking.specs.MarksAfter.{marks_after}
 use Rattle.ref_lists.specs.declared.fault.ListFault.{ListFault}
@@ -26,7 +25,7 @@ use Rattle.slice_reading.specs.Faults.{first_shown, slice_rows}
 use Rattle.request_core.specs.States.{FoldState}
 use Rattle.request_core.specs.Faults.{picture_rows}
 use Rattle.request_core.specs.Requests.{ListedSlice, requests_of}
-use Rattle.request_core.specs.Fold.{passes, counted, with_lists, listed, marked, state_after, plan_of, picture_after, picture_of, with_sets, planned, outcome_of, fold_step}
+use Rattle.request_core.specs.Fold.{passes, counted, with_lists, listed, marked, picture_after, picture_of, with_sets, planned, outcome_of, fold_step}
 use Rattle.picture_keys.specs.SliceBytes.{coded, slices_digest}
 use Rattle.picture_keys.specs.Digests.{bytes_of, unit_digest, IsDigestOf}
 

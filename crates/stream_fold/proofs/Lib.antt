@@ -21,6 +21,7 @@ mod Storage
 mod Anew
 mod Thinned
 mod Committed
+mod Reaching
 mod Stretch
 mod InFront
 mod Digests

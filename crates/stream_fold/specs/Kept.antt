@@ -1,5 +1,5 @@
 -- What a folded stream stores.
-use Rattle.std.specs.Prelude.{◌≡◌, ℕ, ◌+◌, ◌<◌, ◌≤◌, List, Contains, length}
+use Rattle.std.specs.Prelude.{◌≡◌, ℕ, ◌+◌, ◌<◌, ◌≤◌, List, Contains, length, Option, IfSome}
 use Rattle.std.specs.Map.{keys_of}
 use Rattle.unit_outcomes.specs.declared.outcome.Outcome.{Outcome}
 use Rattle.request_core.specs.States.{FoldState, no_units}
@@ -7,6 +7,7 @@ use Rattle.request_core.specs.Fold.{outcomes_of}
 use Rattle.request_core.specs.Agreement.{Stream, state_from}
 use Rattle.checkpoints.specs.Stored.{Stored, IsStoredAt}
 use Rattle.checkpoints.specs.Spacing.{HasNear}
+use Rattle.stream_fold.specs.declared.reached.Reached.{Reached}
 use Rattle.stream_fold.specs.Streams.{state_past}
 
 -- the stream, the states that are stored along it, and for how many more units and outcomes there
@@ -25,6 +26,11 @@ spacing = 32
 pub record IsPast (stream : Stream) (place : ℕ) (state : FoldState) : Type 0 where
   pub within : place ≤ length stream
   pub is : state ≡ state_past stream place
+
+-- the place to which a fold has come, if one is kept, is one up to this one, with the state past it
+abbrev pub IsReached : Stream → ℕ → Option Reached → Type 0
+IsReached stream at reached =
+    IfSome reached (λ reached. (reached.place ≤ at) × (reached.state ≡ state_past stream reached.place))
 
 -- each stored state is that past its place
 abbrev pub ArePast : Stream → List (ℕ × FoldState) → Type 0

@@ -5,8 +5,8 @@ use Rattle.request_core.specs.Fold.{outcomes_of}
 use Rattle.request_core.specs.Agreement.{Stream}
 use Rattle.stream_edits.specs.declared.changes.Change.{Change}
 use Rattle.stream_fold.specs.declared.folded.Prepared.{Prepared}
-use Rattle.stream_edits.specs.Changes.{IsInside, stream_after, units_of}
-use Rattle.stream_fold.specs.Kept.{FoldedValue}
+use Rattle.stream_edits.specs.Changes.{IsInside, at_of, stream_after, units_of}
+use Rattle.stream_fold.specs.Kept.{FoldedValue, IsReached}
 use Rattle.stream_fold.specs.Refolding.{IsMadeAnew, end_of}
 
 -- the change is one of this stream, what it changes is folded anew, and there is room for what is
@@ -15,6 +15,7 @@ pub record IsPrepared (folded : FoldedValue) (prepared : Prepared) : Type 0 wher
   pub inside : IsInside prepared.change folded.stream
   pub short : length folded.stream + length (units_of prepared.change) < 2 ^ 64
   pub made : IsMadeAnew prepared.change folded.stream folded.stored.states prepared.fold prepared.met
+  pub reached : IsReached folded.stream (at_of prepared.change) prepared.reached
   pub units_room : length (units_of prepared.change) ≤ folded.units_room
   pub outcomes_room : length prepared.fold.outcomes.items ≤ folded.outcomes_room
   pub states_room : length prepared.fold.states.items ≤ folded.stored.room

@@ -4,10 +4,12 @@ ghost use Rattle.std.specs.Prelude.{◌≡◌, ◌↔◌, ◌+◌, ◌-◌, ◌^
 ghost use Rattle.request_core.specs.Fold.{outcomes_of};
 ghost use Rattle.checkpoints.specs.Stored.{IsStoredAt};
 ghost use Rattle.stream_edits.specs.Changes.{IsInside, at_of, rest_from, stream_after, units_of};
-ghost use Rattle.stream_fold.specs.Kept.{AreNear, ArePast, AreSparse};
+ghost use Rattle.stream_fold.specs.Kept.{AreNear, ArePast, AreSparse, IsReached};
+ghost use Rattle.stream_fold.specs.Streams.{state_past};
 ghost use Rattle.stream_fold.specs.Meeting.{IsCounted, IsMeeting};
 
 use crate::changes::length_change;
+use crate::reached::{Reached, if_between};
 use crate::refold::Refold;
 use crate::storing::{keep_end, store_anew, thin};
 use base_types::{Shared, replace_range};
@@ -27,6 +29,8 @@ pub struct Folded {
     outcomes: Vec<Shared<HashedOutcome>>,
     stored: Checkpoints<State>,
     end: State,
+    // That of the last change, if it was within the stream: an edit near it begins there.
+    reached: Option<Reached>,
 }
 
 // By hand, so that whoever drops one is proved over one call.
@@ -37,20 +41,22 @@ impl Drop for Folded {
             outcomes: _,
             stored: _,
             end: _,
+            reached: _,
         } = self;
     }
 }
 
 impl Model for Folded {
-    ghost use Rattle.std.specs.Prelude.{◌-◌, vec_len};
+    ghost use Rattle.std.specs.Prelude.{◌-◌, length, vec_len};
     ghost use Rattle.std.specs.Vec.{vec_capacity};
-    ghost use Rattle.stream_fold.specs.Kept.{FoldedValue, IsFolded};
+    ghost use Rattle.stream_fold.specs.Kept.{FoldedValue, IsFolded, IsReached};
 
     ghost Value = { FoldedValue };
 
     ghost view = { λ f. record { stream = f.units.items; stored = f.stored; units_room = vec_capacity f.units - vec_len f.units; outcomes_room = vec_capacity f.outcomes - vec_len f.outcomes } };
 
-    ghost invariant = { λ f. IsFolded f.units.items f.outcomes.items f.stored.states f.end };
+    ghost invariant = { λ f. IsFolded f.units.items f.outcomes.items f.stored.states f.end
+        × IsReached f.units.items (length f.units.items) f.reached };
 }
 
 /// A change that is prepared: the outcomes of the units of one stretch, made anew. That of all
@@ -61,6 +67,8 @@ pub struct Prepared {
     fold: Refold,
     /// The place of the stream as it was at which the fold came to a stored state, if it did.
     met: Option<usize>,
+    /// The place of the change with the state past it, if it is within the stream.
+    reached: Option<Reached>,
 }
 
 impl Prepared {
@@ -116,6 +124,7 @@ impl Folded {
             outcomes: Vec::new(alloc),
             stored: Checkpoints::new(alloc, State::new(alloc)?)?,
             end: State::new(alloc)?,
+            reached: None,
         })
     }
 
@@ -159,11 +168,16 @@ impl Folded {
         ensures counted { IfOk result
             (λ prepared. IsCounted change self.old.stream (steps_in prepared)) }
     {
-        let (fold, met) = self.refold(alloc, &change)?;
+        let (fold, met, reached) = self.refold(alloc, &change)?;
         self.units.reserve(change.units().len())?;
         self.outcomes.reserve(fold.outcomes.len())?;
         self.stored.reserve(fold.states.len())?;
-        Ok(Prepared { change, fold, met })
+        Ok(Prepared {
+            change,
+            fold,
+            met,
+            reached,
+        })
     }
 
     /// Makes a prepared change. Takes no memory.
@@ -171,7 +185,12 @@ impl Folded {
         requires { IsPrepared self.old prepared }
         ensures { self.new.stream ≡ stream_after (change_in prepared) self.old.stream }
     {
-        let Prepared { change, fold, met } = prepared;
+        let Prepared {
+            change,
+            fold,
+            met,
+            reached,
+        } = prepared;
         let end = self.units.len();
         store_anew(
             &mut self.stored,
@@ -189,30 +208,51 @@ impl Folded {
             fold.outcomes,
         );
         keep_end(&mut self.end, met, fold.state);
+        self.reached = reached;
         change.make(&mut self.units);
     }
 
     /// The fold over what a change changes, and the place at which it came to a stored state, if it
-    /// did.
+    /// did; and the place of the change within the stream, if it is one, with the state past it.
     #[tactic(auto, using(crate::proofs::Changed::at_inside, crate::proofs::Changed::rest_inside, crate::proofs::Changed::at_rest))]
-    fn refold(&self, alloc: Global, change: &Change) -> Result<(Refold, Option<usize>), AllocError>
+    fn refold(
+        &self,
+        alloc: Global,
+        change: &Change,
+    ) -> Result<(Refold, Option<usize>, Option<Reached>), AllocError>
         requires inside { IsInside change.now self.now.stream }
         requires short { length self.now.stream + length (units_of change.now) < 2 ^ 64 }
-        ensures { IfOk result (λ made.
+        ensures made { IfOk result (λ made.
             IsMadeAnew change.now self.now.stream self.now.stored.states made.0 made.1) }
+        ensures reached { IfOk result (λ made. IsReached self.now.stream (at_of change.now) made.2) }
     {
         let at = change.at();
         let mut fold = self.start(alloc, at)?;
         let from = fold.from;
         fold.go_over(alloc, &self.units[from..at])?;
         fold.share(alloc, &self.outcomes[from..at])?;
+        let reached = self.reached_at(at, &fold.state)?;
         fold.go_over(alloc, change.units())?;
         let met = self.catch_up(alloc, change.rest_from(), &mut fold)?;
-        Ok((fold, met))
+        Ok((fold, met, reached))
     }
 
-    /// A fold from the last place up to this one whose state is there: a stored one, or the end of
-    /// the stream.
+    /// The place with the state past it, where it is one in front of some unit.
+    fn reached_at(&self, at: usize, state: &State) -> Result<Option<Reached>, AllocError>
+        requires { state.now ≡ state_past self.now.stream at }
+        ensures { IfOk result (IsReached self.now.stream at) }
+    {
+        if at == self.units.len() {
+            return Ok(None);
+        }
+        Ok(Some(Reached {
+            place: at,
+            state: state.copy()?,
+        }))
+    }
+
+    /// A fold from the last place up to this one whose state is there: a stored one, the one where
+    /// the last change was prepared, or the end of the stream.
     fn start(&self, alloc: Global, at: usize) -> Result<Refold, AllocError>
         requires { at ≤ length self.now.stream }
         ensures { IfOk result (IsStart at self.now.stream self.now.stored.states) }
@@ -220,8 +260,19 @@ impl Folded {
         if at == self.units.len() {
             Refold::new(alloc, at, self.stored.last().place, &self.end)
         } else {
-            let before = self.stored.before(at);
-            Refold::new(alloc, before.place, before.place, before.state)
+            self.start_before(alloc, at)
+        }
+    }
+
+    /// A fold from the last place up to that of a unit whose state is there.
+    fn start_before(&self, alloc: Global, at: usize) -> Result<Refold, AllocError>
+        requires { at < length self.now.stream }
+        ensures { IfOk result (IsStart at self.now.stream self.now.stored.states) }
+    {
+        let before = self.stored.before(at);
+        match if_between(&self.reached, before.place, at) {
+            Some(reached) => Refold::new(alloc, reached.place, before.place, &reached.state),
+            None => Refold::new(alloc, before.place, before.place, before.state),
         }
     }
 

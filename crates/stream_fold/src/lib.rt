@@ -4,7 +4,8 @@
 //! `Folded` keeps the units of a stream, what the fold over it makes of each, and the states past
 //! some of its places. A change of one stretch is prepared, which may run out of memory and leaves
 //! all answers as they were, and then committed, which takes none. The fold goes on from the stored
-//! state before the change, and ends where it comes to a state that is stored.
+//! state before the change, or from the place of the last change, where that is nearer, and ends
+//! where it comes to a state that is stored.
 //!
 //! `OrderedFold` joins a `Folded` with the `Periods` of output_order that its outcomes make. Of the
 //! periods, those that the stretch of new outcomes touches are changed, and no others.
@@ -26,6 +27,7 @@ mod hashed_step;
 mod laws;
 mod ordered;
 mod prepared_change;
+mod reached;
 mod refold;
 mod shares;
 mod showing;

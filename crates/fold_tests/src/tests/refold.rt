@@ -177,6 +177,21 @@ fn a_replacement_in_a_long_stream_makes_few_steps(rt: HostRuntime) -> Result<(),
     Ok(())
 }
 
+/// From place 499, where the change before it was, to the state at 512; and from the stored state at
+/// 480 where the change is in front of the one before it, or where that was at the end.
+#[test]
+fn a_change_near_the_one_before_it_begins_there(rt: HostRuntime) -> Result<(), Fail> {
+    let mut folded = thousand(&rt)?;
+    assert!(rt; replace(&rt, &mut folded, 499, &other_p_text(499))? == 32);
+    assert!(rt; replace(&rt, &mut folded, 499, &p_text(499))? == 13);
+    assert!(rt; replace(&rt, &mut folded, 501, &other_p_text(501))? == 13);
+    assert!(rt; replace(&rt, &mut folded, 490, &other_p_text(490))? == 32);
+    append(&rt, &mut folded, &IDR)?;
+    assert!(rt; replace(&rt, &mut folded, 491, &other_p_text(491))? == 32);
+    assert!(rt; is_valid(&folded, 501) && is_valid(&folded, 999) && is_valid(&folded, 1000));
+    Ok(())
+}
+
 #[test]
 fn a_deletion_of_what_nobody_refers_to_makes_few_steps(rt: HostRuntime) -> Result<(), Fail> {
     let mut folded = Folded::new(rt.alloc())?;

@@ -76,7 +76,8 @@ const REPAIRED: [Step; 10] = [
     Step::Edit(Delete(2), Ok((4, 2, 2))),
     Unit(2, Gone),
     Unit(3, Fault(ValidityFault::FrameNumGap)),
-    Step::Edit(After(1, P1), Ok((5, 4, 3))),
+    // From where the deletion was.
+    Step::Edit(After(1, P1), Ok((5, 4, 2))),
     Unit(4, At(1)),
     Unit(3, At(2)),
 ];

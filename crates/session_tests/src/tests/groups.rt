@@ -39,8 +39,9 @@ fn is_answer(answer: &Result<GroupReceipt, GroupRefused>, wanted: Answer) -> boo
 }
 
 /// Groups on one session after the other, and what each is answered. The stream is short, so that a
-/// group at its end makes a step for each new unit, any other for each unit of the new stream, and
-/// one that changes nothing none.
+/// group at its end makes a step for each new unit, any other for each unit of the new stream, but
+/// those in front of the one before it where that was in the same place, and one that changes
+/// nothing none.
 const GROUPS: [(&[Told], Answer); 14] = [
     (&[], Err((None, 20))),
     (&[First(A)], Ok((1, &[1], 1))),
@@ -53,8 +54,8 @@ const GROUPS: [(&[Told], Answer); 14] = [
     (&[Delete(3), Delete(3)], Err((Some(1), 16))),
     // The ids of refused groups weren't given.
     (&[Delete(2), After(1, P1)], Ok((3, &[2, 4], 3))),
-    (&[Replace(4, P1), Replace(4, P2)], Ok((4, &[4, 4], 3))),
-    (&[Replace(4, P1)], Ok((5, &[4], 3))),
+    (&[Replace(4, P1), Replace(4, P2)], Ok((4, &[4, 4], 2))),
+    (&[Replace(4, P1)], Ok((5, &[4], 2))),
     // What is inserted and deleted again changes nothing.
     (&[First(I), Delete(5)], Ok((6, &[5, 5], 0))),
     (&[After(3, I), First(I), Delete(7)], Ok((7, &[6, 7, 7], 1))),

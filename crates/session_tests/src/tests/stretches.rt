@@ -1,6 +1,6 @@
 //! How many steps of the fold an edit makes, by a hand: states are stored at every 32nd place, and
 //! an edit folds from the last one up to its place until it comes to the same state as one that is
-//! stored behind it, or to the end.
+//! stored behind it, or to the end. It begins where the edit before it was, if that is nearer.
 
 use super::{A, I, P1, empty_session, is_answer, row_holds};
 use Told::{After, Delete, First, Replace};
@@ -22,9 +22,14 @@ fn appended(last: u32) -> Told {
 }
 
 /// Edits of that stream in turn, each with the id and the steps that it is answered.
-const EDITS: [(Told, u32, u64); 5] = [
+const EDITS: [(Told, u32, u64); 8] = [
     // From place 96 to 128, since after the next IDR picture the states agree.
     (Replace(100, P1), 100, 32),
+    // Place 101: from 99, where the edit before it was, to 128.
+    (Replace(102, P1), 102, 29),
+    // Place 97, in front of that: from 96 again. And place 99 once more: from 97.
+    (Replace(98, P1), 98, 32),
+    (Replace(100, A), 100, 31),
     // Place 2,000: from 1984 to the unit, and those behind it up to 2016, which becomes 2015.
     (Delete(2_001), 2_001, 31),
     // Place 2,018: from 2015 to the unit, and those behind it up to 2047, once 2048.

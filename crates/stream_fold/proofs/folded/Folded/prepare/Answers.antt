@@ -4,6 +4,6 @@ use Rattle.stream_fold.proofs.folded.Folded.prepare.Goals as goal
 pub returns-clause-anew : goal.returns-clause-anew
 returns-clause-anew c =
     let inside = rw (← c.self.view_is) at c.requires.inside in
-    let made = rw (← c.self.view_is) at c.in_ok-fold.ensures in
+    let made = rw (← c.self.view_is) at c.in_ok-fold.ensures.made in
     rw (← c.self.view_is)
-    (is_anew c.self.inside.units.items c.self.inside.outcomes.items c.self.inside.stored.states c.self.inside.end c.self.invariant _ inside made)
+    (is_anew c.self.inside.units.items c.self.inside.outcomes.items c.self.inside.stored.states c.self.inside.end c.self.invariant.0 _ inside made)

@@ -12,8 +12,8 @@ mod choice;
 mod comparison;
 mod document;
 mod draw;
-mod draw_edited;
 mod drawn;
+mod edited;
 mod edited_choice;
 mod edits;
 mod fault;
@@ -27,7 +27,7 @@ mod snapshot;
 
 pub use choice::Choice;
 pub use draw::draw_on;
-pub use draw_edited::draw_edited;
 pub use drawn::drawn_unit;
+pub use edited::draw_edited;
 pub use edited_choice::EditedChoice;
 pub use stream_svg::MOST_UNITS as MOST_DRAWN;

@@ -1,5 +1,5 @@
 use Rattle.draw_run.proofs.Inserted.{loaded-kept}
-use Rattle.draw_run.proofs.draw_edited.held.Goals as goal
+use Rattle.draw_run.proofs.edited.held.Goals as goal
 
 pub returns-clause-ok : goal.returns-clause-ok
 returns-clause-ok g c = (

@@ -1,4 +1,4 @@
-use Rattle.draw_run.proofs.draw_edited.draw.Goals as goal
+use Rattle.draw_run.proofs.edited.draw.Goals as goal
 
 pub returns-in-Ok-clause-done : goal.returns-in-Ok-clause-done
 returns-in-Ok-clause-done g c =

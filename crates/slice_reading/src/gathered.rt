@@ -60,6 +60,7 @@ impl<T: Drop> Gathered<T> {
     }
 
     /// Adds an item.
+    #[inline(always)]
     pub(crate) fn push(&mut self, item: T) -> Result<(), AllocError>
         ensures added { OnOk result (self.new ≡ gathered_after self.old (Ok item)) }
         ensures kept { OnErr result (self.new ≡ self.old) }

@@ -125,15 +125,10 @@ fn add_slice(
         slices.add_fault(ValidityFault::MissingSps);
         return Ok(());
     };
+    let sets = Sets::of(alloc, last_sets(slices.last()), sps, pps)?;
+    let nal = nal.clone()?;
     match read_from(alloc, &start, sps.set(), pps.set()) {
-        Ok(header) => {
-            let sets = Sets::of(alloc, last_sets(slices.last()), sps, pps)?;
-            slices.push(Slice {
-                nal: nal.clone()?,
-                sets,
-                header,
-            })
-        }
+        Ok(header) => slices.push(Slice { nal, sets, header }),
         Err(fault) => add_header_fault(slices, fault),
     }
 }

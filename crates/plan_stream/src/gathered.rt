@@ -5,12 +5,14 @@ ghost use Rattle.annexb.specs.ByteStream.{HasUnits, joined};
 ghost use Rattle.access_unit.specs.Answers.{IsAccepted};
 ghost use Rattle.access_unit.specs.Rooms.{IsStream, IsStreamRefused, most_units};
 ghost use Rattle.plan_stream.specs.Fronts.{IsFront};
-ghost use Rattle.plan_stream.specs.Readings.{IsFrontRefused};
+ghost use Rattle.plan_stream.specs.Readings.{IsFrontReadAs, IsFrontRefused};
 ghost use Rattle.plan_stream.specs.Folds.{IsFoldOf, IsFoldOfStream};
 ghost use Rattle.plan_stream.specs.Gathering.{ComesTo, IsGathered};
 ghost use Rattle.plan_stream.specs.RefusalWith.{refusal_with};
 
 use crate::folded::Folded;
+use crate::reading::{MOST_BYTES, read_held};
+use crate::room::Room;
 use crate::{Window, read_front};
 use access_unit::{MOST_UNITS, Refusal, Refused, Unit};
 use console_io::InputFault;
@@ -34,12 +36,13 @@ pub(crate) fn gather<R: Read>(alloc: Global, reader: &mut R) -> Result<Gathered,
 {
     let mut window = Window::new(alloc)?;
     let mut gathered = Gathered::new(alloc)?;
+    let mut room = Room::new(alloc);
     'units: for turn in 0..u64::MAX {
         let is_some = window.next(reader)?;
         if !is_some {
             return Ok(gathered);
         }
-        gathered.add(alloc, window.text())?;
+        gathered.add(alloc, &mut room, window.text())?;
     }
     Err(InputFault::Memory)
 }
@@ -56,12 +59,27 @@ impl Gathered {
         })
     }
 
-    /// Takes the text of the next access unit.
-    fn add(&mut self, alloc: Global, front: &[u8]) -> Result<(), AllocError>
+    /// Takes the text of the next access unit, which is read where there is room for it.
+    fn add(&mut self, alloc: Global, room: &mut Room, front: &[u8]) -> Result<(), AllocError>
         ensures { (text left rest : List ℕ) → 0 < length left → IsFront left front.now rest
             → IsGathered text left self.old → OnOk result (IsGathered text rest self.new) }
     {
-        match read_front(alloc, front) {
+        if front.len() > MOST_BYTES {
+            return self.take(alloc, read_front(alloc, front));
+        }
+        let held = room.hold(alloc, front)?;
+        let taken = self.take(alloc, read_held(alloc, &held));
+        room.take_back(held);
+        taken
+    }
+
+    /// Takes what the text of the next access unit is read as.
+    fn take(&mut self, alloc: Global, read: Result<Unit, Refused>) -> Result<(), AllocError>
+        ensures { (text left front rest : List ℕ) → 0 < length left → IsFront left front rest
+            → IsFrontReadAs front read
+            → IsGathered text left self.old → OnOk result (IsGathered text rest self.new) }
+    {
+        match read {
             Ok(unit) => self.accept(alloc, &unit),
             Err(refused) => self.refuse(refused),
         }

@@ -16,6 +16,7 @@ mod laws;
 mod plan;
 mod printing;
 mod reading;
+mod room;
 mod shown;
 mod tails;
 mod window;

@@ -1,9 +1,10 @@
 //! What is kept of a unit's outcome.
 
-ghost use Rattle.std.specs.Prelude.{◌≡◌};
+ghost use Rattle.std.specs.Prelude.{◌≡◌, []};
 ghost use Rattle.plan_stream.specs.Shown.{shown_of};
 ghost use Rattle.request_core.specs.Findings.{outcome_in};
 
+use pictures::Counts;
 use request_core::Finding;
 use std::alloc::Global;
 use unit_outcomes::{Outcome, Plan, Requests};
@@ -13,12 +14,7 @@ pub fn shown_of(alloc: Global, outcome: &Outcome) -> Outcome
     ensures { result ≡ shown_of outcome.now }
 {
     match outcome {
-        Outcome::Plan(plan) => Outcome::Plan(Plan {
-            requests: Requests::new(Vec::new(alloc)),
-            counts: plan.counts,
-            order: plan.order,
-            begins_period: plan.begins_period,
-        }),
+        Outcome::Plan(plan) => shown_plan(alloc, plan.counts, plan.order, plan.begins_period),
         Outcome::Fault(fault) => Outcome::Fault(*fault),
         Outcome::Empty => Outcome::Empty,
     }
@@ -29,13 +25,30 @@ pub(crate) fn shown_in(alloc: Global, finding: &Finding<'_>) -> Outcome
     ensures { result ≡ shown_of (outcome_in finding.now) }
 {
     match finding {
-        Finding::Picture(picture) => Outcome::Plan(Plan {
-            requests: Requests::new(Vec::new(alloc)),
-            counts: picture.counts(),
-            order: picture.order(),
-            begins_period: picture.begins_period(),
-        }),
+        Finding::Picture(picture) => shown_plan(
+            alloc,
+            picture.counts(),
+            picture.order(),
+            picture.begins_period(),
+        ),
         Finding::Fault(fault) => Outcome::Fault(*fault),
         Finding::Empty => Outcome::Empty,
     }
+}
+
+/// The plan of a picture, without its requests.
+fn shown_plan(alloc: Global, counts: Counts, order: i32, begins_period: bool) -> Outcome
+    ensures { result ≡ Outcome.Plan (record {
+      requests = [];
+      counts = counts;
+      order = order;
+      begins_period = begins_period;
+    }) }
+{
+    Outcome::Plan(Plan {
+        requests: Requests::new(Vec::new(alloc)),
+        counts,
+        order,
+        begins_period,
+    })
 }

@@ -1,5 +1,18 @@
+use Rattle.std.proofs.Common.{ap, arith, length, rules}
 use Rattle.stream_fold.proofs.Stretch.{is_anew}
 use Rattle.stream_fold.proofs.folded.Folded.prepare.Goals as goal
+
+pub returns-clause-ready : goal.returns-clause-ready
+returns-clause-ready c =
+    record {
+      inside = search rules;
+      short = search rules;
+      made = search rules;
+      reached = search rules;
+      units_room = omega (arith, c.in_ok-reserve.ensures.ok, c.len.ensures, ap length c.units.ensures);
+      outcomes_room = omega (arith, c.in_ok-reserve-2.ensures.ok, c.len-2.ensures);
+      states_room = search rules;
+    }
 
 pub returns-clause-anew : goal.returns-clause-anew
 returns-clause-anew c =

@@ -63,8 +63,8 @@ fn runner_of(rt: &(impl Abort + AllocGlobal), cache: u16) -> Runner
 
 /// A receipt's number, its id and its steps; or a refusal's number. States are stored every 32
 /// units: in a shorter stream an edit at the end makes a step for each new unit, and any other one
-/// for each unit of the new stream, but those in front of the edit before it, if that was in front of
-/// some unit and isn't behind this one.
+/// for each unit of the new stream, but those in front of the edit before it, if that was in front
+/// of some unit and isn't behind this one.
 type Answer = Result<(u64, u32, u64), u8>;
 
 /// What an edit is answered is this.

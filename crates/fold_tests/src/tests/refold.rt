@@ -177,8 +177,8 @@ fn a_replacement_in_a_long_stream_makes_few_steps(rt: HostRuntime) -> Result<(),
     Ok(())
 }
 
-/// From place 499, where the change before it was, to the state at 512; and from the stored state at
-/// 480 where the change is in front of the one before it, or where that was at the end.
+/// From place 499, where the change before it was, to the state at 512; and from the stored state
+/// at 480 where the change is in front of the one before it, or where that was at the end.
 #[test]
 fn a_change_near_the_one_before_it_begins_there(rt: HostRuntime) -> Result<(), Fail> {
     let mut folded = thousand(&rt)?;

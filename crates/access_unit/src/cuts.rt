@@ -23,7 +23,8 @@ pub(crate) fn cut_next(text: &mut Bytes, nal: &Nal<'_>) -> Result<SharedNal, All
     Ok(SharedNal::new(coded))
 }
 
-/// The NAL units of the text, each with a share of it, and the places where they end. No byte is copied.
+/// The NAL units of the text, each with a share of it, and the places where they end. No byte is
+/// copied.
 pub(crate) fn cut_all(
     alloc: Global,
     mut text: Bytes,

@@ -8,7 +8,8 @@ use crate::shared_nal::SharedNal;
 use bytes::Bytes;
 use std::alloc::AllocError;
 
-/// The text of several NAL units joined, where it stands so in this text, in front of the place. No byte is copied.
+/// The text of several NAL units joined, where it stands so in this text, in front of the place. No
+/// byte is copied.
 pub(crate) fn joined_text(
     text: &Bytes,
     end: Option<&usize>,

@@ -74,7 +74,8 @@ impl Kept {
     }
 }
 
-/// What is kept of these parts, which are those of an access unit, and of their text, if there is one in one piece.
+/// What is kept of these parts, which are those of an access unit, and of their text, if there is
+/// one in one piece.
 pub(crate) fn keep(alloc: Global, parts: Parts, text: Option<Bytes>) -> Result<Kept, AllocError>
     requires parts { IsOfUnit parts }
     requires text { IfSome text (λ text. text ≡ joined parts.nals.items) }

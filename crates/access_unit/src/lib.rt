@@ -2,9 +2,9 @@
 //!
 //! A text is read as one access unit, or as a stream of them, or refused by number. A unit owns its
 //! bytes once and shares them, and its parameter sets are read once. `read_units` reads a stream in
-//! threads; `read_alone` answers the same, gives each access unit a copy of its own text, and starts no
-//! thread: for a library whose calls may start none. What the slices' headers say is left to the crates
-//! above.
+//! threads; `read_alone` answers the same, gives each access unit a copy of its own text, and
+//! starts no thread: for a library whose calls may start none. What the slices' headers say is left
+//! to the crates above.
 #![tactic(auto)]
 
 mod checks;

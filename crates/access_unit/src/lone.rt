@@ -13,8 +13,8 @@ use crate::refused::Refused;
 use annexb::Nal;
 use bytes::Bytes;
 
-/// What is kept of the text of one NAL unit, which is a slice, or its refusal. Most access units of a
-/// stream are such, and nothing is allocated for them.
+/// What is kept of the text of one NAL unit, which is a slice, or its refusal. Most access units of
+/// a stream are such, and nothing is allocated for them.
 pub(crate) fn keep_lone(mut text: Bytes, nal: &Nal<'_>) -> Result<Kept, Refused>
     requires short { IsShortText text (nal.now ∷ []) }
     requires slice { IsTrue (is_slice nal.now) }

@@ -15,8 +15,8 @@ use bytes::Bytes;
 use std::alloc::{AllocError, Global};
 use std::ops::Range;
 
-/// The access units of a text, where there is room for so many, read one after the other. Memory is the answer only for a
-/// text of NAL units.
+/// The access units of a text, where there is room for so many, read one after the other. Memory is
+/// the answer only for a text of NAL units.
 pub fn read_alone(alloc: Global, text: &[u8], room: usize) -> Result<Vec<Unit>, ReadFault>
     ensures { IsReadAs text.now room result }
 {

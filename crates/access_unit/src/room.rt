@@ -53,9 +53,9 @@ impl From<StreamRefused> for ReadFault {
     }
 }
 
-/// The access units of a text, where there is room for so many. Memory is the answer only for a text of NAL units.
-/// No byte is copied: the units share the text. They are read in several threads, and in this one where none can be
-/// started.
+/// The access units of a text, where there is room for so many. Memory is the answer only for a
+/// text of NAL units. No byte is copied: the units share the text. They are read in several
+/// threads, and in this one where none can be started.
 pub fn read_units(
     threads: &(impl Threads + Sync),
     alloc: Global,

@@ -131,7 +131,8 @@ fn read_nals(
     gather(alloc, answers)
 }
 
-/// What the access units at the ranges are read as, in several threads. The NAL units end at these places of the text.
+/// What the access units at the ranges are read as, in several threads. The NAL units end at these
+/// places of the text.
 fn read_parts(
     rt: &(impl Threads + Sync),
     alloc: Global,
@@ -160,9 +161,9 @@ fn read_parts(
         .collect(rt, alloc)
 }
 
-/// What a stream is read as, by what each of its access units is read as, in order: all units; that memory ran out,
-/// where it is for any of them; or else the first refusal. `read_stream` reads the access units in threads and ends by
-/// this.
+/// What a stream is read as, by what each of its access units is read as, in order: all units; that
+/// memory ran out, where it is for any of them; or else the first refusal. `read_stream` reads the
+/// access units in threads and ends by this.
 pub fn gather(
     alloc: Global,
     answers: Vec<Result<Unit, Refused>>,
@@ -196,8 +197,8 @@ fn wants_memory(answers: &[Result<Unit, Refused>]) -> bool
         .any(|answer| matches!(answer, Err(Refused::Memory)))
 }
 
-/// What the text of an access unit's NAL units is read as, whose bytes are those of the text in front of this place, if they
-/// stand joined there.
+/// What the text of an access unit's NAL units is read as, whose bytes are those of the text in
+/// front of this place, if they stand joined there.
 fn read_part(
     alloc: Global,
     text: &Bytes,

@@ -24,8 +24,8 @@ use std::marker::Model;
 /// How many bytes the text of an access unit has at most.
 pub(crate) const MOST_BYTES: usize = 4_194_304;
 
-/// An access unit that shows no refusal: its NAL units, with the slices and the parameter sets among
-/// them. It owns their bytes once. Clauses see the bytes of the NAL units.
+/// An access unit that shows no refusal: its NAL units, with the slices and the parameter sets
+/// among them. It owns their bytes once. Clauses see the bytes of the NAL units.
 #[derive(Debug)]
 pub struct Unit {
     kept: Kept,
@@ -59,8 +59,9 @@ impl Unit {
         self.kept.nals()
     }
 
-    /// The text of the NAL units joined, which is read as this access unit. It shares the bytes of a lone one, and those of
-    /// several that stand joined in the stream which they were read from; those of others are copied.
+    /// The text of the NAL units joined, which is read as this access unit. It shares the bytes of
+    /// a lone one, and those of several that stand joined in the stream which they were read from;
+    /// those of others are copied.
     pub fn text(&self, alloc: Global) -> Result<Bytes, AllocError>
         ensures value { IfOk result (λ text. text ≡ joined self.now) }
         ensures accepted { IsAccepted (joined self.now) self.now }
@@ -174,7 +175,8 @@ fn unit_of_parts(alloc: Global, mut text: Bytes, nals: &[Nal<'_>]) -> Result<Uni
     })
 }
 
-/// The access unit of these NAL units and of their text, if it is there in one piece, which it shares, or their refusal.
+/// The access unit of these NAL units and of their text, if it is there in one piece, which it
+/// shares, or their refusal.
 pub(crate) fn unit_with(
     alloc: Global,
     nals: &[SharedNal],

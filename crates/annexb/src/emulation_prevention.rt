@@ -26,7 +26,8 @@ pub fn payload(alloc: Global, nal: &Nal<'_>) -> Result<Vec<u8>, AllocError>
 }
 
 /// Writes the first bytes of the payload, as many as `front` holds or the payload has, and says how
-/// many; what stands after them in `front` stays. It reads no further into the unit than these bytes take.
+/// many; what stands after them in `front` stays. It reads no further into the unit than these
+/// bytes take.
 pub fn payload_front(nal: &Nal<'_>, front: &mut [u8]) -> usize
     ensures count { result ≡ min (length front.old) (length (payload_of nal.now)) }
     ensures written { take result front.new ≡ take (length front.old) (payload_of nal.now) }

@@ -21,11 +21,12 @@ pub struct Checkpoint<'a, S> {
     pub state: &'a S,
 }
 
-/// States stored along a stream. Place p is the one past the first p units; place 0 is always stored.
+/// States stored along a stream. Place p is the one past the first p units; place 0 is always
+/// stored.
 ///
-/// A look-up takes time that grows with the logarithm of the number of states. To put a state at a new place or to cut
-/// moves the places and the states after it, to shift the places alone. To
-/// put one in the place of another moves none.
+/// A look-up takes time that grows with the logarithm of the number of states. To put a state at a
+/// new place or to cut moves the places and the states after it, to shift the places alone. To put
+/// one in the place of another moves none.
 #[derive(Debug, Drop)]
 pub struct Checkpoints<S> {
     places: Vec<usize>,
@@ -144,8 +145,8 @@ impl<S: Drop> Checkpoints<S> {
         Ok(())
     }
 
-    /// Stores the state at the place, in the place of one that is stored there; at a new place it takes up room. Takes
-    /// no memory.
+    /// Stores the state at the place, in the place of one that is stored there; at a new place it
+    /// takes up room. Takes no memory.
     pub fn put(&mut self, place: usize, state: S)
         requires { lookup (nat_eq place) self.old.states ≡ None → 0 < self.old.room }
         ensures states { self.new.states ≡ insert_entry nat_cmp self.old.states place state }
@@ -162,8 +163,8 @@ impl<S: Drop> Checkpoints<S> {
         }
     }
 
-    /// Moves the places not below `from` by the change in length of what is before them. No two of them may meet.
-    /// Takes no memory.
+    /// Moves the places not below `from` by the change in length of what is before them. No two of
+    /// them may meet. Takes no memory.
     pub fn shift(&mut self, from: usize, change: LengthChange)
         requires above { 0 < from }
         requires apart { CanShift from change (keys_of self.old.states) }

@@ -11,7 +11,8 @@ ghost use Rattle.checkpoints.specs.Stored.{IsInOrder, IsStoredAt, IsBefore, IsLa
 ghost use Rattle.checkpoints.specs.Changes.{CanShift, changed, moved, shifted, is_kept, cut};
 ghost use Rattle.checkpoints.specs.Spacing.{AreSpaced, HasNear};
 
-/// Places up to the end of a stream are spaced exactly where each place before the end has one of them near.
+/// Places up to the end of a stream are spaced exactly where each place before the end has one of
+/// them near.
 pub fn spaced_where_near()
     ensures { (n end : ℕ) (places : List ℕ) → StartsAtZero places → AreRising places
         → All (λ p. p ≤ end) places
@@ -78,7 +79,8 @@ pub fn near_after_shift<S>()
         → HasNear n (keys_of (shifted from change states)) (changed change k) }
 {}
 
-/// Where the states above `low` and below `high` are dropped, those from `high` on may come down as far as past `low`.
+/// Where the states above `low` and below `high` are dropped, those from `high` on may come down as
+/// far as past `low`.
 pub fn can_shift_after_cut<S>()
     ensures { (states : List (ℕ × S)) (low high by : ℕ) → low + by < high
         → CanShift high (Shorter by) (keys_of (cut low high states)) }

@@ -1,7 +1,8 @@
-//! States along a stream of units, each stored at a place: what a fold over the stream had come to past so many units.
+//! States along a stream of units, each stored at a place: what a fold over the stream had come to
+//! past so many units.
 //!
-//! `Checkpoints` answers the stored state from which to fold on, and keeps the others at their places where a stretch of
-//! the stream changes. What a state is is left to the crates above.
+//! `Checkpoints` answers the stored state from which to fold on, and keeps the others at their
+//! places where a stretch of the stream changes. What a state is is left to the crates above.
 #![tactic(auto)]
 
 mod checkpoints;

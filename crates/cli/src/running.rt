@@ -30,8 +30,7 @@ use std::sync::Wait;
 use std::thread::Threads;
 use unit_json::{Json, plan_json_on};
 
-/// Does what the process's words ask for, with these threads. Words that can't be read are a wrong
-/// command line.
+/// Does what the process's words ask for; words that can't be read are a wrong command line.
 pub fn run<D: Directory, I: Read + Drop, W: Sink + Send, E: Sink>(
     threads: &(impl Threads + Wait + Sync),
     alloc: Global,
@@ -41,8 +40,7 @@ pub fn run<D: Directory, I: Read + Drop, W: Sink + Send, E: Sink>(
     output: &mut W,
     errors: &mut E,
 ) -> Ended
-    // At success what the words ask for was done, on what they name, and nothing was told but of
-    // refused edits.
+    // At success what the words ask for was done, and nothing was told but of refused edits.
     ensures right { result.status ≡ Status.Success → IsOkAnd words (λ words.
         Succeeds (D.bytes directory.now) (I.remaining standard) (map string_bytes words.items) result.told
         (W.contents output.old) (W.contents output.new)

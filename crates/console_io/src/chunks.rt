@@ -84,7 +84,8 @@ impl Chunks {
     }
 }
 
-/// Writes the bytes: all of them, or those before the writer fails or takes none. An interrupted write is made again.
+/// Writes the bytes: all of them, or those before the writer fails or takes none. An interrupted
+/// write is made again.
 pub fn write_bytes<W: Sink>(writer: &mut W, bytes: &[u8]) -> Result<(), PrintFault>
     ensures ok { OnOk result (Appends (W.contents writer.old) (W.contents writer.new) bytes.now) }
     ensures unwritten { OnErr result
@@ -100,7 +101,8 @@ pub fn write_bytes<W: Sink>(writer: &mut W, bytes: &[u8]) -> Result<(), PrintFau
     Ok(())
 }
 
-/// Writes a prefix of the bytes, of which there are some, and says how long it is. An interrupted write is made again.
+/// Writes a prefix of the bytes, of which there are some, and says how long it is. An interrupted
+/// write is made again.
 fn write_front<W: Sink>(writer: &mut W, bytes: &[u8]) -> Result<usize, PrintFault>
     requires { 0 < length bytes.now }
     ensures some { IfOk result (λ count. (0 < count) × (count ≤ length bytes.now)) }

@@ -1,7 +1,9 @@
-//! What a program reads and writes: whole inputs, files by their names, bytes for a writer, messages and statuses.
+//! What a program reads and writes: whole inputs, files by their names, bytes for a writer,
+//! messages and statuses.
 //!
-//! All of it is generic over the readers and writers, whose bytes the contracts name where those declare them; the
-//! system's files and streams declare none. Nothing here knows of video: plan_stream, script_run and preview do.
+//! All of it is generic over the readers and writers, whose bytes the contracts name where those
+//! declare them; the system's files and streams declare none. Nothing here knows of video:
+//! plan_stream, script_run and preview do.
 #![tactic(auto)]
 
 mod chunks;

@@ -1,4 +1,5 @@
-//! What is said on standard error. It takes no memory, and where it can't be written nothing more is said.
+//! What is said on standard error. It takes no memory, and where it can't be written nothing more
+//! is said.
 
 ghost use Rattle.std.specs.Prelude.{codes};
 ghost use Rattle.console_io.specs.Messages.{Tells, input_fault_text, line_text, not_text, out_of_memory, print_fault_text, unread_text};

@@ -9,7 +9,8 @@ use std::alloc::Allocator;
 use std::io;
 use std::io::{Stderr, Stdout, Write};
 
-/// A writer that may declare that it took nothing, by which contracts say that it is the writer that failed.
+/// A writer that may declare that it took nothing, by which contracts say that it is the writer
+/// that failed.
 pub trait Sink: Write {
     // Its last write failed or took none of the bytes; by default nothing is known of that.
     ghost refuses: { Self → Type 0 } = { λ _. Unit {0} };

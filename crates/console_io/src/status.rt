@@ -12,7 +12,8 @@ use std::process::ExitCode;
 pub enum Status {
     /// What was asked for is done.
     Success = 0,
-    /// The input can't be read, its stream is refused, memory runs out, or the output can't be written.
+    /// The input can't be read, its stream is refused, memory runs out, or the output can't be
+    /// written.
     Failure = 1,
     /// The command line is wrong.
     Usage = 2,

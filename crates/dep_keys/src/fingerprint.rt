@@ -12,7 +12,8 @@ use crate::work::Work;
 use sha2::{Digest, Sha256};
 use std::alloc::AllocError;
 
-/// 32 bytes that are one function of a node's value. Nodes of one fingerprint are compared; others are not.
+/// 32 bytes that are one function of a node's value. Nodes of one fingerprint are compared; others
+/// are not.
 pub trait Fingerprint<W> {
     // The fingerprint of a node: one function for the type.
     ghost digest: { NodeOf W → List ℕ };

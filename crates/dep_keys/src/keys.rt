@@ -18,8 +18,9 @@ use std::marker::Model;
 
 /// Keys of pictures under numbers: equal numbers exactly for equal keys.
 ///
-/// A key is the tree of a picture's own work and, at each of its list entries, the key of the picture named. It is kept
-/// as one node, which names the keys of its entries by their numbers. Clauses see the live numbers with their trees.
+/// A key is the tree of a picture's own work and, at each of its list entries, the key of the
+/// picture named. It is kept as one node, which names the keys of its entries by their numbers.
+/// Clauses see the live numbers with their trees.
 #[derive(Debug)]
 pub struct Keys<W, F: Fingerprint<W>> {
     alloc: Global,
@@ -152,7 +153,8 @@ impl<W: Work + Drop, F: Fingerprint<W>> Keys<W, F> {
         }
     }
 
-    /// Keeps the keys of the roots that are live and of all below them. The numbers of the others may be given again.
+    /// Keeps the keys of the roots that are live and of all below them. The numbers of the others
+    /// may be given again.
     pub fn sweep(&mut self, roots: &[KeyId]) -> Result<(), AllocError>
         ensures ok { OnOk result (IsSwept self.old roots.now self.new) }
         ensures map { IsKeyMap self.new }

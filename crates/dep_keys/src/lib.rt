@@ -1,9 +1,10 @@
 //! Keys of pictures under numbers.
 //!
-//! A picture's key is a tree: its own work, and at each of its list entries the key of the picture named. `Keys` keeps
-//! each tree once, as a node that names the keys of its entries by their numbers: `intern` answers equal numbers exactly
-//! for equal trees, `node` the node of a number, and `sweep` keeps the roots and all below them. What the work is is left
-//! to the crates above, as `Work`; a `Fingerprint` finds the nodes that may be equal, and equality of the node decides.
+//! A picture's key is a tree: its own work, and at each of its list entries the key of the picture
+//! named. `Keys` keeps each tree once, as a node that names the keys of its entries by their
+//! numbers: `intern` answers equal numbers exactly for equal trees, `node` the node of a number,
+//! and `sweep` keeps the roots and all below them. What the work is is left to the crates above, as
+//! `Work`; a `Fingerprint` finds the nodes that may be equal, and equality of the node decides.
 #![tactic(auto)]
 
 mod fingerprint;

@@ -7,7 +7,8 @@ use crate::key_id::KeyId;
 use crate::work::Work;
 use std::marker::Model;
 
-/// A picture's own work, and at each of its list entries, in their order, the key of the picture named or nothing.
+/// A picture's own work, and at each of its list entries, in their order, the key of the picture
+/// named or nothing.
 #[derive(Debug, Drop)]
 pub struct Node<W> {
     work: W,

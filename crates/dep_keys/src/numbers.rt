@@ -11,7 +11,8 @@ use crate::marks::is_marked;
 use std::alloc::{AllocError, Global};
 use std::marker::Model;
 
-/// Numbers that are live, in the order in which they were given. A number that is live no more may be given again.
+/// Numbers that are live, in the order in which they were given. A number that is live no more may
+/// be given again.
 #[derive(Debug, Drop)]
 pub(crate) struct Numbers {
     live: Vec<usize>,
@@ -116,7 +117,8 @@ fn place_of(live: &[usize], places: &[usize], number: usize) -> Option<usize>
     }
 }
 
-/// Adds the numbers that have a place and aren't live, the greatest first. There is room for as many as have a place.
+/// Adds the numbers that have a place and aren't live, the greatest first. There is room for as
+/// many as have a place.
 fn add_unused(live: &[usize], places: &[usize], unused: &mut Vec<usize>)
     requires placed { ArePlaced live.now places.now }
     requires none { unused.old.items ≡ [] }

@@ -14,8 +14,8 @@ pub trait Work {
     fn is_same(&self, other: &Self) -> bool
         ensures { IsTrue result ↔ (self.now ≡ other.now) };
 
-    /// Adds the bytes of this work to a hasher. Different work may have the same bytes: then it shares a fingerprint,
-    /// which costs time alone.
+    /// Adds the bytes of this work to a hasher. Different work may have the same bytes: then it
+    /// shares a fingerprint, which costs time alone.
     fn feed(&self, hasher: &mut Sha256)
         ensures { (message : List ℕ) → Holds256 hasher.old message
             → Holds256 hasher.new (message ++ bytes self.now) };

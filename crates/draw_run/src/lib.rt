@@ -1,11 +1,11 @@
 //! `preview draw`: a stream read, planned and drawn, as it is or after the edits of a script.
 //!
-//! `draw_on` reads a byte stream to its end as plan_stream does, folds each access unit once, and keeps
-//! what is drawn alone; then it writes the document, or the line of the stream's refusal. `draw_edited`
-//! makes a session of the stream with all its pictures held, makes the script's edits on it, and writes
-//! the document of the stream that they leave: the mark of each unit says whether its outcome or its
-//! key differs from before, and whether its picture is held or pending. What is read and written is
-//! generic. Below are stream_svg, plan_stream and edit_engine; above is cli.
+//! `draw_on` reads a byte stream to its end as plan_stream does, folds each access unit once, and
+//! keeps what is drawn alone; then it writes the document, or the line of the stream's refusal.
+//! `draw_edited` makes a session of the stream with all its pictures held, makes the script's edits
+//! on it, and writes the document of the stream that they leave: the mark of each unit says whether
+//! its outcome or its key differs from before, and whether its picture is held or pending. What is
+//! read and written is generic. Below are stream_svg, plan_stream and edit_engine; above is cli.
 #![tactic(auto)]
 
 mod choice;

@@ -1,10 +1,10 @@
-//! Bits of a payload, the codes of its syntax elements (ITU-T H.264, 7.2 and 9.1), and syntax tables
-//! (7.3).
+//! Bits of a payload, the codes of its syntax elements (ITU-T H.264, 7.2 and 9.1), and syntax
+//! tables (7.3).
 //!
-//! Each call of `Bits` answers the value of the code at the place and moves past it, or says why there
-//! is no code and stays. A table has rows of a field, its code, its condition and its range, with one
-//! law of reading for every table; `ue` and its kin read one field. Parameter sets and slice headers
-//! are read by such tables.
+//! Each call of `Bits` answers the value of the code at the place and moves past it, or says why
+//! there is no code and stays. A table has rows of a field, its code, its condition and its range,
+//! with one law of reading for every table; `ue` and its kin read one field. Parameter sets and
+//! slice headers are read by such tables.
 #![tactic(auto)]
 
 mod bits;

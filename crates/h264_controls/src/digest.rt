@@ -9,10 +9,12 @@ use param_set_controls::put_sets;
 use param_set_controls::words::put;
 use std::alloc::AllocError;
 
-/// Appends the digest form of the controls: 2,040 bytes, or 2,812 where there are weights. Room is reserved once.
+/// Appends the digest form of the controls: 2,040 bytes, or 2,812 where there are weights. Room is
+/// reserved once.
 ///
-/// The form is this project's own: the members in order, without gaps and without reference_ts, little-endian, signed
-/// ones in two's complement, flags by Linux's numbers. Memory runs out only where the room isn't there.
+/// The form is this project's own: the members in order, without gaps and without reference_ts,
+/// little-endian, signed ones in two's complement, flags by Linux's numbers. Memory runs out only
+/// where the room isn't there.
 pub fn digest_form(controls: &Controls, form: &mut Vec<u8>) -> Result<(), AllocError>
     ensures written { OnOk result (form.new.items ≡ form.old.items ++ digest_form controls.now) }
     ensures size { OnOk result (vec_len form.new ≡ vec_len form.old + digest_size controls.now) }
@@ -25,7 +27,8 @@ pub fn digest_form(controls: &Controls, form: &mut Vec<u8>) -> Result<(), AllocE
     Ok(())
 }
 
-/// Appends the rest of the digest form, after what `sets_form` appends: 500 bytes, or 1,272 where there are weights.
+/// Appends the rest of the digest form, after what `sets_form` appends: 500 bytes, or 1,272 where
+/// there are weights.
 pub fn slice_form(controls: &Controls, form: &mut Vec<u8>) -> Result<(), AllocError>
     ensures written { OnOk result (form.new.items ≡ form.old.items ++ slice_form controls.now) }
     ensures size { OnOk result (vec_len form.new ≡ vec_len form.old + slice_size controls.now) }

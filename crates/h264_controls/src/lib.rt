@@ -1,9 +1,11 @@
-//! The controls of a stateless H.264 decoder, as the media documentation of the Linux kernel has them.
+//! The controls of a stateless H.264 decoder, as the media documentation of the Linux kernel has
+//! them.
 //!
-//! A control is a struct under its Linux name, with the members that Linux gives it and a function `of` that fills it
-//! from the parsed sets, the slice header, the lists and the state before the picture's marking. A `Work` has the six
-//! controls of a slice and the slice's bytes; a `Request` shares it, and says when it stands and which units its
-//! references are. `digest_form` writes controls as the bytes of which a picture's digest is made.
+//! A control is a struct under its Linux name, with the members that Linux gives it and a function
+//! `of` that fills it from the parsed sets, the slice header, the lists and the state before the
+//! picture's marking. A `Work` has the six controls of a slice and the slice's bytes; a `Request`
+//! shares it, and says when it stands and which units its references are. `digest_form` writes
+//! controls as the bytes of which a picture's digest is made.
 #![tactic(auto)]
 
 mod controls;

@@ -58,7 +58,8 @@ fn put(factors: &mut V4l2H264WeightFactors, place: usize, weight: PredWeight)
     factors.chroma_offset[place] = [i16::from(weight.cb_offset), i16::from(weight.cr_offset)];
 }
 
-/// The weights of the entry at a place; zeros past the active entries, and for chroma where there is none.
+/// The weights of the entry at a place; zeros past the active entries, and for chroma where there
+/// is none.
 fn weight_at(has_chroma: bool, weights: &[PredWeight], place: usize) -> PredWeight
     ensures { result ≡ weight_at has_chroma weights.now place }
 {

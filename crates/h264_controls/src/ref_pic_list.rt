@@ -12,8 +12,8 @@ use std::marker::Model;
 /// How many entries stand in the list itself, which takes 16 bytes with them.
 const FEW: usize = 7;
 
-/// The active entries of a reference list, at most 32: each the index of an entry of the decoded picture buffer, or
-/// missing. A short list takes no memory of its own.
+/// The active entries of a reference list, at most 32: each the index of an entry of the decoded
+/// picture buffer, or missing. A short list takes no memory of its own.
 #[derive(Debug)]
 pub struct RefPicList {
     entries: Entries,

@@ -13,8 +13,8 @@ use std::marker::Model;
 /// How many ids stand in the value itself, which takes 32 bytes with them.
 const FEW: usize = 6;
 
-/// The units of the frames of the decoded picture buffer, in the order of its entries. Few of them take no memory of
-/// their own.
+/// The units of the frames of the decoded picture buffer, in the order of its entries. Few of them
+/// take no memory of their own.
 #[derive(Debug)]
 pub struct References {
     ids: Ids,

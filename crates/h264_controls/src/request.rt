@@ -17,7 +17,8 @@ pub struct Request {
     pub work: Shared<Work>,
     /// The timestamp of the unit, in nanoseconds.
     pub timestamp: u64,
-    /// The units of the frames of the decoded picture buffer: reference_ts of its entries is their timestamp.
+    /// The units of the frames of the decoded picture buffer: reference_ts of its entries is their
+    /// timestamp.
     pub references: Shared<References>,
     /// V4L2_BUF_FLAG_M2M_HOLD_CAPTURE_BUF: more slices of the picture follow.
     pub hold: bool,
@@ -50,7 +51,8 @@ impl Request {
         &self.work.bytes
     }
 
-    /// The unit of the frame at an index of the decoded picture buffer, which an entry of a reference list names.
+    /// The unit of the frame at an index of the decoded picture buffer, which an entry of a
+    /// reference list names.
     pub fn reference(&self, index: u8) -> Option<AuId>
         ensures { result ≡ slice_get self.now.references index }
     {

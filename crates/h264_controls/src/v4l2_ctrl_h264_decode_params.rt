@@ -8,10 +8,12 @@ ghost use Rattle.h264_controls.specs.DecodeParamsForm.{decode_flags, decode_para
 use crate::dpb::Dpb;
 use param_set_controls::words::{flag, put, put_s32, put_u16, put_u32, put_zeros};
 
-/// struct v4l2_ctrl_h264_decode_params: what the header says of the picture, and the decoded picture buffer.
+/// struct v4l2_ctrl_h264_decode_params: what the header says of the picture, and the decoded
+/// picture buffer.
 #[derive(Debug)]
 pub struct V4l2CtrlH264DecodeParams {
-    /// The frames that were marked before the picture's own marking, in decode order; none at an IDR picture.
+    /// The frames that were marked before the picture's own marking, in decode order; none at an
+    /// IDR picture.
     pub dpb: Dpb,
     /// nal_ref_idc of the slice.
     pub nal_ref_idc: u16,
@@ -29,7 +31,8 @@ pub struct V4l2CtrlH264DecodeParams {
     pub dec_ref_pic_marking_bit_size: u32,
     /// The size in bits of the fields from pic_order_cnt_lsb to delta_pic_order_cnt1 together.
     pub pic_order_cnt_bit_size: u32,
-    /// 0 here, and so one byte in place of Linux's four: a set with several slice groups is refused.
+    /// 0 here, and so one byte in place of Linux's four: a set with several slice groups is
+    /// refused.
     pub slice_group_change_cycle: u8,
     pub flags: DecodeFlags,
 }
@@ -56,8 +59,8 @@ impl Drop for V4l2CtrlH264DecodeParams {
     }
 }
 
-/// struct v4l2_h264_dpb_entry: a frame of the decoded picture buffer, without reference_ts, which depends on the
-/// stream.
+/// struct v4l2_h264_dpb_entry: a frame of the decoded picture buffer, without reference_ts, which
+/// depends on the stream.
 #[derive(Clone, Copy, Debug, PartialEq, Eq, Default)]
 pub struct V4l2H264DpbEntry {
     /// PicNum as its low 32 bits; LongTermPicNum of a long-term frame.
@@ -91,8 +94,8 @@ pub struct DpbEntryFlags {
     pub long_term: bool,
 }
 
-/// V4L2_H264_DECODE_PARAM_FLAG_*, without those that no unit of this project sets: FIELD_PIC, BOTTOM_FIELD, PFRAME and
-/// BFRAME.
+/// V4L2_H264_DECODE_PARAM_FLAG_*, without those that no unit of this project sets: FIELD_PIC,
+/// BOTTOM_FIELD, PFRAME and BFRAME.
 #[derive(Clone, Copy, Debug, PartialEq, Eq)]
 pub struct DecodeFlags {
     pub idr_pic: bool,

@@ -32,7 +32,8 @@ pub struct V4l2CtrlH264SliceParams {
     pub num_ref_idx_l1_active_minus1: u8,
     /// Before the lists, after which they would take eight bytes more.
     pub flags: SliceFlags,
-    /// The active entries of list 0: each the index of an entry of the decoded picture buffer, or missing.
+    /// The active entries of list 0: each the index of an entry of the decoded picture buffer, or
+    /// missing.
     pub ref_pic_list0: RefPicList,
     /// The active entries of list 1.
     pub ref_pic_list1: RefPicList,

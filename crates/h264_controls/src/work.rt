@@ -5,7 +5,8 @@ ghost use Rattle.std.specs.Prelude.{◌≡◌, ◌↔◌, IsTrue};
 use crate::controls::Controls;
 use bytes::Bytes;
 
-/// The work of a slice: all of its request that doesn't depend on the place of its unit in the stream.
+/// The work of a slice: all of its request that doesn't depend on the place of its unit in the
+/// stream.
 #[derive(Debug)]
 pub struct Work {
     pub controls: Controls,

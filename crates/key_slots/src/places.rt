@@ -24,7 +24,8 @@ impl<P> Slot<P> {
     }
 }
 
-/// The keys in use, each with the number of units that use it, and with its picture where that is held.
+/// The keys in use, each with the number of units that use it, and with its picture where that is
+/// held.
 #[derive(Debug, Drop)]
 pub struct Places<P> {
     slots: Vec<Slot<P>>,
@@ -49,7 +50,8 @@ impl<P: Copy + Drop> Places<P> {
         }
     }
 
-    /// The place of a key: nothing where the key isn't in use, and else its picture where that is held.
+    /// The place of a key: nothing where the key isn't in use, and else its picture where that is
+    /// held.
     pub fn get(&self, key: KeyId) -> Option<Option<P>>
         ensures { result ≡ place_at self.now key }
     {
@@ -129,7 +131,8 @@ impl<P: Copy + Drop> Places<P> {
         );
     }
 
-    /// Counts one unit less that uses a key. Its picture, where one was held and the key goes out of use.
+    /// Counts one unit less that uses a key. Its picture, where one was held and the key goes out
+    /// of use.
     pub(crate) fn let_go(&mut self, key: KeyId) -> Option<P>
         ensures picture { result
             ≡ (if uses_at self.old key == 1 then (slot_at self.old key).picture else None) }

@@ -41,8 +41,8 @@ fn make_place<P: Copy + Drop>(places: &mut Places<P>, key: Option<KeyId>) -> Res
     }
 }
 
-/// Counts the units that come, by their keys, for which there is room. A key that comes into use has the picture that is
-/// cached.
+/// Counts the units that come, by their keys, for which there is room. A key that comes into use
+/// has the picture that is cached.
 pub fn take_up_all<P: Copy + Drop>(
     places: &mut Places<P>,
     cache: &PictureCache<KeyId, P>,
@@ -76,8 +76,8 @@ fn take_up<P: Copy + Drop>(
     }
 }
 
-/// Counts the units that go, by their keys in rising order. The picture of a key that goes out of use is put into the cache,
-/// if memory is found.
+/// Counts the units that go, by their keys in rising order. The picture of a key that goes out of
+/// use is put into the cache, if memory is found.
 pub fn let_go_all<P: Copy + Drop>(
     places: &mut Places<P>,
     cache: &mut PictureCache<KeyId, P>,

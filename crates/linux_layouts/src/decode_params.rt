@@ -47,8 +47,8 @@ const DECODE_PARAM_FLAGS: [&str; 5] = [
 ];
 
 impl DecodeParams {
-    /// The struct of the control, whose frames were decoded from these units: reference_ts of an entry is the timestamp of its
-    /// unit.
+    /// The struct of the control, whose frames were decoded from these units: reference_ts of an
+    /// entry is the timestamp of its unit.
     pub fn of(control: &V4l2CtrlH264DecodeParams, references: &References) -> DecodeParams
         ensures { result ≡ decode_params_layout references.now control.now }
     {

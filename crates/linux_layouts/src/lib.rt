@@ -1,9 +1,11 @@
-//! The controls of a request in the memory layout of the Linux kernel's structs, ready for its Request API.
+//! The controls of a request in the memory layout of the Linux kernel's structs, ready for its
+//! Request API.
 //!
-//! A struct has the members, the order, the types and the size of the one of <linux/v4l2-controls.h> that its line names, and
-//! a function `of` that fills it from the control. The same structs are written as JSON by `serde`: members under their
-//! names, flags as the kernel's names of those that are set, rising, joined by `|`; what is reserved is left out. Below is
-//! h264_controls.
+//! A struct has the members, the order, the types and the size of the one of
+//! <linux/v4l2-controls.h> that its line names, and a function `of` that fills it from the control.
+//! The same structs are written as JSON by `serde`: members under their names, flags as the
+//! kernel's names of those that are set, rising, joined by `|`; what is reserved is left out. Below
+//! is h264_controls.
 #![tactic(auto)]
 
 mod decode_params;

@@ -36,8 +36,8 @@ pub struct SliceParams {
     pub flags: u32,
 }
 
-/// struct v4l2_h264_reference: V4L2_H264_FRAME_REF and the index of an entry of the decoded picture buffer; zeros where the
-/// entry is missing or isn't active.
+/// struct v4l2_h264_reference: V4L2_H264_FRAME_REF and the index of an entry of the decoded picture
+/// buffer; zeros where the entry is missing or isn't active.
 #[repr(C)]
 #[derive(Clone, Copy, Debug, PartialEq, Eq, Serialize)]
 pub struct Reference {

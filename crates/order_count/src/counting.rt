@@ -15,8 +15,8 @@ use slice_header_types::SliceHeader;
 
 /// The counts of a picture, before operation 5 resets them.
 ///
-/// OrderRange is refused where one of them, or of what `after_reset` keeps of them, has more than 32 bits, and where
-/// the type of counting reads a FrameNumOffset of 2^32 or more.
+/// OrderRange is refused where one of them, or of what `after_reset` keeps of them, has more than
+/// 32 bits, and where the type of counting reads a FrameNumOffset of 2^32 or more.
 #[tactic(auto, unfolding(crate::specs::Counting::counts_of))]
 pub fn count(anchor: &Anchor, sps: &Sps, header: &SliceHeader) -> Result<Counts, OrderRange>
     ensures exact { result ≡ counts_of anchor.now sps.now header.now }

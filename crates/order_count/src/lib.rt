@@ -1,7 +1,8 @@
 //! Picture order counts of H.264 (ITU-T H.264, 8.2.1): the order in which pictures are shown.
 //!
-//! `count` answers the two counts of a picture, from its slice header, its sequence parameter set and the `Anchor`,
-//! which is what counting keeps of the pictures before; `anchor_after` answers the next one.
+//! `count` answers the two counts of a picture, from its slice header, its sequence parameter set
+//! and the `Anchor`, which is what counting keeps of the pictures before; `anchor_after` answers
+//! the next one.
 #![tactic(auto)]
 
 mod anchors;

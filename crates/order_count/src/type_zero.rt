@@ -39,7 +39,8 @@ pub(crate) fn pic_order_cnt_msb(anchor: &Anchor, sps: &Sps, header: &SliceHeader
     }
 }
 
-// PicOrderCntMsb, one round of pic_order_cnt_lsb further or back where this brings the count nearer (8-3).
+// PicOrderCntMsb, one round of pic_order_cnt_lsb further or back where this brings the count nearer
+// (8-3).
 fn msb_near(prev_msb: i64, prev_lsb: i32, lsb: u16, max: u32) -> i128
     requires { 2 ≤ max }
     ensures value { result ≡ msb_near prev_msb prev_lsb (pos lsb) max }

@@ -7,7 +7,8 @@ ghost use Rattle.order_count.specs.Width.{plain};
 use crate::fault::OrderRange;
 use pictures::Counts;
 
-// Counts that were not yet tested: their width holds whatever an anchor, a set and a header lead to.
+// Counts that were not yet tested: their width holds whatever an anchor, a set and a header lead
+// to.
 #[derive(Clone, Copy)]
 pub(crate) struct WideCounts {
     pub(crate) top: i128,

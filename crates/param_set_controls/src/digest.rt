@@ -7,10 +7,11 @@ ghost use Rattle.param_set_controls.specs.SetsForm.{sets_form};
 use crate::set_controls::SetControls;
 use std::alloc::AllocError;
 
-/// Appends the first 1,540 bytes of the digest form: SPS, PPS and SCALING_MATRIX, which the parameter sets decide.
+/// Appends the first 1,540 bytes of the digest form: SPS, PPS and SCALING_MATRIX, which the
+/// parameter sets decide.
 ///
-/// With what h264_controls' `slice_form` appends after it, it is the digest form: slices over one set have this part in
-/// common. Memory runs out only where the room isn't there.
+/// With what h264_controls' `slice_form` appends after it, it is the digest form: slices over one
+/// set have this part in common. Memory runs out only where the room isn't there.
 pub fn sets_form(sets: &SetControls, form: &mut Vec<u8>) -> Result<(), AllocError>
     ensures written { OnOk result (form.new.items ≡ form.old.items ++ sets_form sets.now) }
     ensures size { OnOk result (vec_len form.new ≡ vec_len form.old + 1540) }

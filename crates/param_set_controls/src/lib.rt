@@ -1,8 +1,9 @@
 //! The controls of a stateless H.264 decoder that the parameter sets alone decide.
 //!
-//! SPS, PPS and SCALING_MATRIX are structs under their Linux names, with the members that Linux gives them and a function
-//! `of` that fills them from the parsed sets. `SetControls` has the three of a picture parameter set, and `sets_form`
-//! writes them as the bytes of which a picture's digest is made, member by member as `words` writes them.
+//! SPS, PPS and SCALING_MATRIX are structs under their Linux names, with the members that Linux
+//! gives them and a function `of` that fills them from the parsed sets. `SetControls` has the three
+//! of a picture parameter set, and `sets_form` writes them as the bytes of which a picture's digest
+//! is made, member by member as `words` writes them.
 #![tactic(auto)]
 
 mod digest;

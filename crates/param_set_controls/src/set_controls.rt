@@ -11,7 +11,8 @@ use base_types::Shared;
 use param_set_types::{Pps, Sps};
 use std::alloc::AllocError;
 
-/// The controls of a picture parameter set, of the sequence parameter set that it stands on, and of their scaling lists.
+/// The controls of a picture parameter set, of the sequence parameter set that it stands on, and of
+/// their scaling lists.
 #[derive(Debug)]
 pub struct SetControls {
     /// Shared by all picture parameter sets that stand on the set.

@@ -6,7 +6,8 @@ ghost use Rattle.param_set_controls.specs.ScalingMatrixForm.{lists_form, scaling
 
 use crate::words::put;
 
-/// struct v4l2_ctrl_h264_scaling_matrix: the scaling lists of the picture, each a block in raster order.
+/// struct v4l2_ctrl_h264_scaling_matrix: the scaling lists of the picture, each a block in raster
+/// order.
 ///
 /// It belongs to each request, flat lists included.
 #[derive(Debug, Drop)]

@@ -134,7 +134,8 @@ fn sequence_lists(sps: &Sps, prediction: Prediction) -> Lists
     }
 }
 
-// The lists of a set that has some, by what the rule says and by what stands for lists that it doesn't send.
+// The lists of a set that has some, by what the rule says and by what stands for lists that it
+// doesn't send.
 fn lists_in(lists: &ScalingLists, prediction: Prediction, rule: &Lists, unsent: &Lists) -> Lists
     ensures { (r u : ℕ → List ℕ) → rule.now ≡ lists_of r prediction
         → unsent.now ≡ lists_of u prediction

@@ -13,8 +13,8 @@ pub enum WeightedBipred {
 
 /// A picture parameter set (7.3.2.2), each field under its name there.
 ///
-/// num_slice_groups_minus1 is 0, so it is no field. What the set doesn't send has its inferred value: flags are 0,
-/// no scaling lists, and the second chroma offset is the first.
+/// num_slice_groups_minus1 is 0, so it is no field. What the set doesn't send has its inferred
+/// value: flags are 0, no scaling lists, and the second chroma offset is the first.
 #[derive(Debug)]
 pub struct Pps {
     pub pic_parameter_set_id: u8,

@@ -8,7 +8,8 @@ use crate::scaling_lists::ScalingList;
 use crate::sps::Sps;
 
 impl Sps {
-    /// Whether the sets agree in each field that is read, scaling lists as they were sent (7.4.1.2.1).
+    /// Whether the sets agree in each field that is read, scaling lists as they were sent
+    /// (7.4.1.2.1).
     #[tactic(auto, unfolding(crate::specs::SameSets::same_sps), using(crate::proofs::SameSets::sps_same))]
     pub fn is_same(&self, other: &Sps) -> bool
         ensures same { IsTrue result ↔ (self.now ≡ other.now) }
@@ -76,7 +77,8 @@ fn same_frames(a: &Sps, b: &Sps) -> bool
 }
 
 impl Pps {
-    /// Whether the sets agree in each field that is read, scaling lists as they were sent (7.4.1.2.1).
+    /// Whether the sets agree in each field that is read, scaling lists as they were sent
+    /// (7.4.1.2.1).
     pub fn is_same(&self, other: &Pps) -> bool
         ensures { IsTrue result ↔ (self.now ≡ other.now) }
     {

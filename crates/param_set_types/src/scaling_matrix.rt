@@ -36,8 +36,8 @@ const ENTRY_NUMBERS_8X8: [u8; 64] = [
 
 /// The scaling lists that a picture with these sets uses.
 ///
-/// Flat_4x4_16 and Flat_8x8_16 where neither set has lists. Lists of 8x8 blocks that a picture parameter set doesn't
-/// send are those of the sequence parameter set.
+/// Flat_4x4_16 and Flat_8x8_16 where neither set has lists. Lists of 8x8 blocks that a picture
+/// parameter set doesn't send are those of the sequence parameter set.
 pub fn resolve_matrix(sps: &Sps, pps: &Pps) -> ScalingMatrix
     ensures { result ≡ scaling_matrix sps.now pps.now }
 {

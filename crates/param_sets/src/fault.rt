@@ -24,7 +24,8 @@ pub enum SetField {
     CountBits,
     /// num_ref_frames_in_pic_order_cnt_cycle, 0 to 255.
     CycleLength,
-    /// offset_for_non_ref_pic, offset_for_top_to_bottom_field and offset_for_ref_frame: a code too long.
+    /// offset_for_non_ref_pic, offset_for_top_to_bottom_field and offset_for_ref_frame: a code too
+    /// long.
     Offset,
     /// pic_width_in_mbs_minus1, 0 to 65,535.
     Width,

@@ -6,8 +6,8 @@ ghost use Rattle.param_sets.specs.declared.fault.SetFault.{SetFault};
 ghost use Rattle.param_set_types.specs.declared.pps.Pps.{Pps};
 ghost use Rattle.param_set_types.specs.declared.sps.Sps.{Sps};
 
-/// A payload has a sequence parameter set exactly where reading its syntax in order gives that set, and shows a fault
-/// first exactly where reading ends with it.
+/// A payload has a sequence parameter set exactly where reading its syntax in order gives that set,
+/// and shows a fault first exactly where reading ends with it.
 pub fn one_sps()
     ensures set { (payload : List ℕ) (set : Sps) → (IsSps payload set ↔ (sps_at payload ≡ Ok set)) }
     ensures fault { (payload : List ℕ) (fault : SetFault)

@@ -1,8 +1,8 @@
 //! Sequence and picture parameter sets of H.264 (ITU-T H.264, 7.3.2.1 and 7.3.2.2).
 //!
-//! `read_sps` and `read_pps` answer exactly the set of a payload, or what its first field shows that can't be read. The
-//! sets are values of `param_set_types`, their syntax stands as `expgolomb`, and `resolve_matrix` is that of
-//! `param_set_types`.
+//! `read_sps` and `read_pps` answer exactly the set of a payload, or what its first field shows
+//! that can't be read. The sets are values of `param_set_types`, their syntax stands as
+//! `expgolomb`, and `resolve_matrix` is that of `param_set_types`.
 #![tactic(auto)]
 
 mod fault;

@@ -13,8 +13,8 @@ pub const MOST_ROOM: u16 = 4_096;
 
 /// A list of pairs of a key and a picture, the pair put last first, of at most `capacity` pairs.
 ///
-/// It takes expected constant time to put and to take. The hasher's seed is fixed, so the keys should be none that an
-/// attacker picks.
+/// It takes expected constant time to put and to take. The hasher's seed is fixed, so the keys
+/// should be none that an attacker picks.
 #[derive(Debug, Drop)]
 pub struct PictureCache<K: Eq + Hash, P> {
     cache: LruCache<K, P>,
@@ -46,8 +46,8 @@ impl<K: Eq + Hash + Drop, P: Drop> PictureCache<K, P> {
         Ok(PictureCache { cache })
     }
 
-    /// Puts a pair first. One that had its key goes, and where there are too many, the last one. For lack of memory
-    /// the new pair alone is dropped; where the key is there, none is wanted.
+    /// Puts a pair first. One that had its key goes, and where there are too many, the last one.
+    /// For lack of memory the new pair alone is dropped; where the key is there, none is wanted.
     pub fn put(&mut self, key: K, picture: P) -> Result<(), AllocError>
         ensures ok { OnOk result (self.new ≡ with_first K.eq self.old key picture) }
         ensures err { OnErr result (self.new ≡ self.old) }

@@ -2,12 +2,12 @@
 //!
 //! The key of a valid unit is the tree of its slices' works with, at each entry of their reference
 //! lists, the key of the picture that the entry names; timestamps are no part of it. dep_keys keeps
-//! such trees under numbers: here are the works that stand in its nodes, the node of a unit, and the
-//! law that the picture of a unit is the one of its key.
+//! such trees under numbers: here are the works that stand in its nodes, the node of a unit, and
+//! the law that the picture of a unit is the one of its key.
 //!
-//! A unit's bytes are hashed once, when the unit is read: `HashedUnit` keeps the digest and how many
-//! bytes were hashed beside the unit, and `HashedOutcome` the digest beside its outcome, so that keys
-//! are looked for without the bytes. Clauses see the unit and the outcome.
+//! A unit's bytes are hashed once, when the unit is read: `HashedUnit` keeps the digest and how
+//! many bytes were hashed beside the unit, and `HashedOutcome` the digest beside its outcome, so
+//! that keys are looked for without the bytes. Clauses see the unit and the outcome.
 #![tactic(auto)]
 
 mod digest;

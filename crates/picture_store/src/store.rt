@@ -39,8 +39,9 @@ use stand_in_device::{Finished, Job, Picture};
 use std::alloc::{AllocError, Global};
 use std::marker::Model;
 
-/// The pictures of a stream's units. Clauses see the units, each with its id and its outcome; the keys whose
-/// pictures are held, and those whose pictures are cached after they went out of use; and the jobs that are out.
+/// The pictures of a stream's units. Clauses see the units, each with its id and its outcome; the
+/// keys whose pictures are held, and those whose pictures are cached after they went out of use;
+/// and the jobs that are out.
 #[derive(Debug)]
 pub struct PictureStore {
     alloc: Global,
@@ -147,7 +148,8 @@ impl PictureStore {
         self.outcomes.as_slice()
     }
 
-    /// The number of each unit's key, in the order of the stream; nothing for a unit that isn't valid.
+    /// The number of each unit's key, in the order of the stream; nothing for a unit that isn't
+    /// valid.
     pub fn numbers(&self) -> &[Option<KeyId>]
         ensures value { result.now ≡ self.now.numbers }
         ensures numbered { AreNumbered self.now }
@@ -155,13 +157,15 @@ impl PictureStore {
         self.found.as_slice()
     }
 
-    /// Takes a stretch of units in the place of another one. A picture whose key stays in use stays held, and one that is
-    /// cached is held again where its key comes into use. Where memory runs out, nothing changes; but a picture whose key
-    /// goes out of use is cached only where memory is found for it.
+    /// Takes a stretch of units in the place of another one. A picture whose key stays in use stays
+    /// held, and one that is cached is held again where its key comes into use. Where memory runs
+    /// out, nothing changes; but a picture whose key goes out of use is cached only where memory is
+    /// found for it.
     ///
-    /// The keys of the units in front of the stretch stay as they are; those of its units and of the units after it are
-    /// found anew, as pictures refer to earlier ones, up to the first place at which a state of the stream as it was is
-    /// stored and the keys of all frames that it marks are what they were: from there on they stay too.
+    /// The keys of the units in front of the stretch stay as they are; those of its units and of
+    /// the units after it are found anew, as pictures refer to earlier ones, up to the first place
+    /// at which a state of the stream as it was is stored and the keys of all frames that it marks
+    /// are what they were: from there on they stay too.
     pub fn refit(&mut self, stretch: Stretch, states: &Checkpoints<State>) -> Result<(), AllocError>
         requires stretch { IsStretch stretch self.old.ids }
         requires decodable { AllCanDecode []
@@ -205,7 +209,8 @@ impl PictureStore {
         Ok(())
     }
 
-    /// Forgets the keys that are neither stored nor below one that is, where there may be as many of them as of others.
+    /// Forgets the keys that are neither stored nor below one that is, where there may be as many
+    /// of them as of others.
     fn sweep(&mut self) -> Result<(), AllocError>
         ensures { self.new ≡ self.old }
     {
@@ -230,8 +235,8 @@ impl PictureStore {
         self.places.get(self.found[at]?)?
     }
 
-    /// The number of the key of the unit at a place of the stream; nothing where it isn't valid. While a key stays in use,
-    /// its number stays.
+    /// The number of the key of the unit at a place of the stream; nothing where it isn't valid.
+    /// While a key stays in use, its number stays.
     pub fn key_at(&self, at: usize) -> Option<KeyId>
         requires { at < length self.now.ids }
         ensures value { IsNumberAt self.now at result }
@@ -268,9 +273,10 @@ impl PictureStore {
         Ok(Some(self.give(at, key)?))
     }
 
-    /// Gives the earliest picture that is due of those that the picture of the unit at a place needs, under the next
-    /// number. Its unit needn't be the first of the stream that has its key. What is needed is found once for calls for one
-    /// place that follow one another, where only jobs are given and results land between them.
+    /// Gives the earliest picture that is due of those that the picture of the unit at a place
+    /// needs, under the next number. Its unit needn't be the first of the stream that has its key.
+    /// What is needed is found once for calls for one place that follow one another, where only
+    /// jobs are given and results land between them.
     pub fn take_for(&mut self, at: usize) -> Result<Option<JobAt>, TakeRefused>
         requires { at < length self.old.ids }
         ensures tells { TellsTakeFor self.old at result self.new }
@@ -358,7 +364,8 @@ impl PictureStore {
         }
     }
 
-    /// Drops the picture of the unit at a place, and says whether it was held. It isn't cached, and it takes no memory.
+    /// Drops the picture of the unit at a place, and says whether it was held. It isn't cached, and
+    /// it takes no memory.
     pub fn drop_picture(&mut self, at: usize) -> bool
         requires { at < length self.old.ids }
         ensures { AnswersDrop self.old at result self.new }

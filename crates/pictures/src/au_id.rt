@@ -4,7 +4,8 @@ ghost use Rattle.std.specs.Prelude.{◌≡◌, ◌*◌};
 
 use std::marker::Model;
 
-/// The id of an access unit of a stream: 1, 2, 3 and so on, in the order in which they were accepted.
+/// The id of an access unit of a stream: 1, 2, 3 and so on, in the order in which they were
+/// accepted.
 #[derive(Clone, Copy, Debug, PartialEq, Eq, PartialOrd, Ord, Hash, Drop)]
 pub struct AuId {
     number: u32,

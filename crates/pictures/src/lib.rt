@@ -1,8 +1,8 @@
-//! Pictures of a stream as values: ids, picture order counts (ITU-T H.264, 8.2.1), frames that are marked as references
-//! and their numbers (8.2.4.1), and reference lists.
+//! Pictures of a stream as values: ids, picture order counts (ITU-T H.264, 8.2.1), frames that are
+//! marked as references and their numbers (8.2.4.1), and reference lists.
 //!
-//! What a picture's counts, marks and lists are is said by `order_count`, `ref_marking` and `ref_lists`, which stand
-//! side by side on these types.
+//! What a picture's counts, marks and lists are is said by `order_count`, `ref_marking` and
+//! `ref_lists`, which stand side by side on these types.
 #![tactic(auto)]
 
 mod au_id;

@@ -6,7 +6,8 @@ use crate::frames::Frame;
 use arrayvec::ArrayVec;
 use std::marker::Model;
 
-/// The frames that are marked as references, in decode order, and the greatest long-term index that they may have.
+/// The frames that are marked as references, in decode order, and the greatest long-term index that
+/// they may have.
 #[derive(Debug)]
 pub struct Marks {
     /// In decode order.

@@ -5,7 +5,8 @@ ghost use Rattle.pictures.specs.PicNums.{frame_num_wrap};
 
 use param_set_types::Sps;
 
-/// FrameNumWrap of a FrameNum, for a picture with this frame_num (8-27): PicNum of the short-term frame that has it.
+/// FrameNumWrap of a FrameNum, for a picture with this frame_num (8-27): PicNum of the short-term
+/// frame that has it.
 pub fn frame_num_wrap(sps: &Sps, frame_num: u16, number: u16) -> i64
     ensures value { result ≡ frame_num_wrap sps.now frame_num number }
     ensures low { negsuc 65535 ≤ℤ result }

@@ -19,7 +19,8 @@ pub fn resets(header: &SliceHeader) -> bool
     }
 }
 
-/// The counts that are kept of a picture once it is decoded: where operation 5 stands, both less the smaller.
+/// The counts that are kept of a picture once it is decoded: where operation 5 stands, both less
+/// the smaller.
 ///
 /// For the counts that `count` answers for the header, the result always fits.
 #[tactic(auto, unfolding(crate::specs::Resetting::counts_after_reset))]

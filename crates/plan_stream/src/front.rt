@@ -11,7 +11,8 @@ use memchr::memmem;
 /// What stands before each NAL unit.
 const START_CODE: [u8; 3] = [0, 0, 1];
 
-/// How many bytes the access unit at the front has, where that is certain: whatever follows, or where nothing does.
+/// How many bytes the access unit at the front has, where that is certain: whatever follows, or
+/// where nothing does.
 pub(crate) fn front_len(bytes: &[u8], is_over: bool) -> Option<usize>
     ensures within { IfSome result (λ len. len ≤ length bytes.now) }
     ensures found { IfSome result (λ len. (more : List ℕ) → (is_over ≡ true → more ≡ [])
@@ -41,7 +42,8 @@ fn is_seen(nal: &[u8], is_over: bool) -> bool
     is_over || nal.len() >= 2
 }
 
-/// Whether a boundary stands before what the bytes begin with, where a slice stands before them or none does.
+/// Whether a boundary stands before what the bytes begin with, where a slice stands before them or
+/// none does.
 fn has_boundary(has_slice: bool, nal: &[u8]) -> bool
     ensures { result ≡ (has_slice && begins_access_unit nal.now) }
 {

@@ -6,8 +6,8 @@ ghost use Rattle.access_unit.specs.Streams.{HasAccessUnits};
 ghost use Rattle.plan_stream.specs.Fronts.{IsFront};
 ghost use Rattle.plan_stream.specs.Readings.{IsReadTo};
 
-/// The access units of a text are the NAL units of its fronts, one after the other; where the prefix of what is left has
-/// none, the text has none.
+/// The access units of a text are the NAL units of its fronts, one after the other; where the
+/// prefix of what is left has none, the text has none.
 pub fn fronts()
     ensures none { (text : List ℕ) → IsReadTo text [] text }
     ensures more { (text left front rest : List ℕ) (done : List (List (List ℕ)))

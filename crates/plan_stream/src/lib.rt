@@ -1,11 +1,11 @@
 //! `preview plan`: a stream read through a window, planned and printed.
 //!
-//! `Window::next` shows the text of the next access unit of what a reader gives, and forgets the one
-//! before it, so that its memory is used again; `read_front` reads such a text. `plan_on` reads a byte
-//! stream to its end in this way, has each access unit folded by request_core and keeps of it what its
-//! lines need; then it writes the lines, or the line of the stream's refusal. What it reads and writes
-//! is generic; below are console_io and unit_lines, and access_unit, whose definitions say which access
-//! units a stream has.
+//! `Window::next` shows the text of the next access unit of what a reader gives, and forgets the
+//! one before it, so that its memory is used again; `read_front` reads such a text. `plan_on` reads
+//! a byte stream to its end in this way, has each access unit folded by request_core and keeps of
+//! it what its lines need; then it writes the lines, or the line of the stream's refusal. What it
+//! reads and writes is generic; below are console_io and unit_lines, and access_unit, whose
+//! definitions say which access units a stream has.
 #![tactic(auto)]
 
 mod fault;

@@ -12,8 +12,8 @@ use std::alloc::Global;
 /// How many bytes the text of an access unit has at most, without the zeros between its NAL units.
 pub(crate) const MOST_BYTES: usize = 4_194_304;
 
-/// The access unit of the NAL units that the text has, or their refusal; `Split` only where it has none. Zeros after NAL
-/// units don't count for its length.
+/// The access unit of the NAL units that the text has, or their refusal; `Split` only where it has
+/// none. Zeros after NAL units don't count for its length.
 pub fn read_front(alloc: Global, text: &[u8]) -> Result<Unit, Refused>
     ensures { IsFrontReadAs text.now result }
 {

@@ -12,7 +12,8 @@ use std::io::{ErrorKind, Read};
 /// How many bytes a window holds at first.
 const SIZE: usize = 256 * 1024;
 
-/// The text of an access unit, and what was read after it. It grows where an access unit is longer than it.
+/// The text of an access unit, and what was read after it. It grows where an access unit is longer
+/// than it.
 #[derive(Drop)]
 pub struct Window {
     buffer: Vec<u8>,
@@ -60,7 +61,8 @@ impl Window {
         &self.buffer[self.cut..self.end]
     }
 
-    /// Shows the text of the next access unit of what the reader gives, and says whether there is any.
+    /// Shows the text of the next access unit of what the reader gives, and says whether there is
+    /// any.
     ///
     /// An interrupted read is made again. The reader is the same one in each call.
     pub fn next<R: Read>(&mut self, reader: &mut R) -> Result<bool, InputFault>
@@ -89,7 +91,8 @@ impl Window {
         self.cut += len;
     }
 
-    /// Reads more of the text of an access unit that is longer than what was read, where nothing is shown.
+    /// Reads more of the text of an access unit that is longer than what was read, where nothing is
+    /// shown.
     fn read_more<R: Read>(&mut self, reader: &mut R) -> Result<(), InputFault>
         requires { self.old.start ≡ self.old.cut }
         ensures none { OnOk result (self.new.start ≡ self.new.cut) }

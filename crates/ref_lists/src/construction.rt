@@ -19,11 +19,13 @@ use param_set_types::Sps;
 use pictures::{Counts, Frame, List, Marks};
 use slice_header_types::{RefPicListModifications, SliceHeader, SliceType};
 
-/// List 0 and list 1 of a slice, from the frames marked before its picture and the picture's counts before resetting.
+/// List 0 and list 1 of a slice, from the frames marked before its picture and the picture's counts
+/// before resetting.
 ///
-/// I and SI slices have no lists, P and SP slices have list 0 alone: a list that the slice doesn't have is empty. An
-/// entry is the place of its frame in the marks. Where several frames stand alike or have the number that a command
-/// names, the first in decode order comes first; commands past the last entry are left out.
+/// I and SI slices have no lists, P and SP slices have list 0 alone: a list that the slice doesn't
+/// have is empty. An entry is the place of its frame in the marks. Where several frames stand alike
+/// or have the number that a command names, the first in decode order comes first; commands past
+/// the last entry are left out.
 ///
 /// - `OrderTie`: a short-term frame has the PicOrderCnt of another or of the picture, in a B slice.
 /// - `NoReference`: no frame is marked, in a slice that has a list.

@@ -87,7 +87,8 @@ impl PictureNumber {
     }
 }
 
-/// picNumLXNoWrap: less or more than the last by the command's difference, once around MaxFrameNum (8-34, 8-35).
+/// picNumLXNoWrap: less or more than the last by the command's difference, once around MaxFrameNum
+/// (8-34, 8-35).
 fn no_wrap(command: RefPicListModification, last: i64, sps: &Sps) -> i64
     requires low { negsuc 1099511627775 ≤ℤ last }
     requires high { last ≤ℤ pos 1099511627776 }

@@ -1,4 +1,5 @@
-//! A reference picture list in the making: cut to its active entries, and one frame moved to the next entry.
+//! A reference picture list in the making: cut to its active entries, and one frame moved to the
+//! next entry.
 
 ghost use Rattle.std.specs.Prelude.{◌≡◌, ◌<◌, ◌≤◌, length, drop, count_by, position};
 ghost use Rattle.ref_lists.specs.InitialLists.{cut};
@@ -19,7 +20,8 @@ pub(crate) fn cut(places: &[u8], active: usize) -> List
     List { entries }
 }
 
-/// The frame at the place goes to the index, and out where it stands after it. Where it doesn't, the last entry goes.
+/// The frame at the place goes to the index, and out where it stands after it. Where it doesn't,
+/// the last entry goes.
 pub(crate) fn put(list: &mut List, index: usize, place: u8)
     requires inside { index < length list.old }
     requires once { count_by (is_entry_of place) (drop index list.old) ≤ 1 }

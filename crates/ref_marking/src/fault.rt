@@ -5,7 +5,8 @@ use thiserror::Error;
 /// Why a picture's marking can't be done. The marks are as they were.
 #[derive(Clone, Copy, Debug, PartialEq, Eq, Hash, Error)]
 pub enum MarkFault {
-    /// An operation names a frame that isn't there, or an index above the greatest, or contradicts another.
+    /// An operation names a frame that isn't there, or an index above the greatest, or contradicts
+    /// another.
     #[error("a marking operation names what isn't there, or contradicts another")]
     BadMarking = 1,
     /// The sliding window has to free a short-term frame, and there is none (8.2.5.3).

@@ -1,7 +1,7 @@
 //! Decoded reference picture marking (ITU-T H.264, 8.2.5).
 //!
-//! `mark` answers the frames that are marked as references after a picture, in decode order, or why the picture's
-//! marking can't be done; `mark_in_place` changes the set of the frames before it.
+//! `mark` answers the frames that are marked as references after a picture, in decode order, or why
+//! the picture's marking can't be done; `mark_in_place` changes the set of the frames before it.
 #![tactic(auto)]
 
 mod contradictions;

@@ -20,11 +20,12 @@ use slice_header_types::{
     DecRefPicMarking, MemoryManagementControlOperation as Operation, SliceHeader,
 };
 
-/// The frames that are marked after a picture: the set before it, its access unit's id, its sequence parameter set,
-/// its slice header, and its counts before resetting.
+/// The frames that are marked after a picture: the set before it, its access unit's id, its
+/// sequence parameter set, its slice header, and its counts before resetting.
 ///
-/// A picture that is no reference leaves the set. Frames that stay keep their order, and the current one is last.
-/// Where several frames of the set have the number that an operation names, the first in decode order is meant.
+/// A picture that is no reference leaves the set. Frames that stay keep their order, and the
+/// current one is last. Where several frames of the set have the number that an operation names,
+/// the first in decode order is meant.
 ///
 /// - `BadMarking`: an operation names a frame that isn't there or an index above the greatest; operation 4 is above
 ///   max_num_ref_frames; 4, 5 or 6 stands twice; 5 stands with 1, 2 or 3.
@@ -149,8 +150,8 @@ fn mark_adaptively(
     join_as(marks, sps, current, current_idx(operations))
 }
 
-// The current frame joins the others: with an index as a long-term frame, and another frame that holds the index is
-// freed (8.2.5.4.6).
+// The current frame joins the others: with an index as a long-term frame, and another frame that
+// holds the index is freed (8.2.5.4.6).
 #[tactic(auto, using(crate::proofs::StepLaws::joins_as), unfolding(crate::specs::MarksAfter::holder_freed))]
 fn join_as(
     marks: &mut Marks,

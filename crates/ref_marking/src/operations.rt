@@ -40,7 +40,8 @@ fn free_long_term(marks: &mut Marks, long_term_pic_num: u32) -> Result<(), MarkF
     take_out(marks, place, MarkFault::BadMarking)
 }
 
-// 3: a short-term frame becomes long-term, and another frame that holds the index is freed (8.2.5.4.3).
+// 3: a short-term frame becomes long-term, and another frame that holds the index is freed
+// (8.2.5.4.3).
 #[tactic(auto, using(crate::proofs::StepLaws::assigns_long_term), unfolding(crate::specs::MarksAfter::long_term_assigned))]
 fn assign_long_term(
     marks: &mut Marks,

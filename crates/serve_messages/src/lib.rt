@@ -1,11 +1,11 @@
 //! Messages of the server and what they are answered, in JSON-RPC 2.0 (docs/SERVER.md).
 //!
-//! `Message::of` says what a value of JSON is as a message, and `Request::call` which call a request
-//! asks for, or why it asks for none. `result_line`, `failure_line` and `notification_line` write
-//! lines, by `serde_json`, and declare nothing of their text. An `Answer` is made of what a session
-//! answers, or of what is asked of it, and has just the members that are written; a refusal is a
-//! `Failure`. No session is asked here. Below are edit_engine, whose replies answers are made of,
-//! edit_script, whose rule for ids this is, and unit_json, for what becomes of a unit; above is
+//! `Message::of` says what a value of JSON is as a message, and `Request::call` which call a
+//! request asks for, or why it asks for none. `result_line`, `failure_line` and `notification_line`
+//! write lines, by `serde_json`, and declare nothing of their text. An `Answer` is made of what a
+//! session answers, or of what is asked of it, and has just the members that are written; a refusal
+//! is a `Failure`. No session is asked here. Below are edit_engine, whose replies answers are made
+//! of, edit_script, whose rule for ids this is, and unit_json, for what becomes of a unit; above is
 //! serve_calls.
 #![tactic(auto)]
 

@@ -1,4 +1,5 @@
-//! The fields of a slice header, one at a time: those of syntax tables, with the faults of slice headers.
+//! The fields of a slice header, one at a time: those of syntax tables, with the faults of slice
+//! headers.
 
 ghost use Rattle.std.specs.Prelude.{◌≡◌, ◌<◌, ◌≤◌, ◌+◌, ◌^◌, pos, IfOk, IsTrue, int_le, ◌&&◌, MatchResult, []};
 ghost use Rattle.expgolomb.specs.Grammar.{Fixed, Unsigned, Signed};

@@ -28,8 +28,8 @@ pub struct HeaderFront {
 // As many bytes as the header of a unit and two codes of at most 63 bits take.
 const TYPE_LEN: usize = 17;
 
-/// Reads the first fields of a slice header, whatever follows, and without testing that first_mb_in_slice lies in the
-/// picture.
+/// Reads the first fields of a slice header, whatever follows, and without testing that
+/// first_mb_in_slice lies in the picture.
 pub fn peek(nal: &Nal<'_>) -> Result<HeaderFront, HeaderFault>
     ensures exact { result ≡ front_at nal.now }
     // What is read is what the unit has, and a refusal is that of the first field that shows one.

@@ -7,8 +7,8 @@ ghost use Rattle.param_set_types.specs.declared.sps.Sps.{Sps};
 ghost use Rattle.slice_header.specs.declared.fault.HeaderFault.{HeaderFault};
 ghost use Rattle.slice_header.specs.SliceHeaders.{HeaderHasFault, IsSliceHeader, header_at};
 
-/// A unit has a slice header over two parameter sets exactly where reading its syntax in order gives that header, and
-/// shows a fault first exactly where reading ends with it.
+/// A unit has a slice header over two parameter sets exactly where reading its syntax in order
+/// gives that header, and shows a fault first exactly where reading ends with it.
 pub fn one_header()
     ensures header { (unit : List ℕ) (sps : Sps) (pps : Pps) (header : SliceHeader)
         → (IsSliceHeader unit sps pps header ↔ (header_at unit sps pps ≡ Ok header)) }

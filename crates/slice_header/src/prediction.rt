@@ -46,7 +46,8 @@ pub fn prediction_fields(
     })
 }
 
-/// The numbers of active entries, each less 1: the slice's own or those of the picture parameter set.
+/// The numbers of active entries, each less 1: the slice's own or those of the picture parameter
+/// set.
 #[derive(Clone, Copy)]
 pub struct ActiveCounts {
     pub num_ref_idx_active_override_flag: bool,

@@ -17,14 +17,15 @@ use param_set_types::{Pps, Sps};
 use slice_header_types::SliceHeader;
 use std::alloc::Global;
 
-/// Reads the header of a slice with the parameter sets that it names: the first field that can't be read is what is
-/// refused. Memory is taken where the header is long or has many commands.
+/// Reads the header of a slice with the parameter sets that it names: the first field that can't be
+/// read is what is refused. Memory is taken where the header is long or has many commands.
 pub fn read(alloc: Global, nal: &Nal<'_>, sps: &Sps, pps: &Pps) -> Result<SliceHeader, HeaderFault>
     // What is read is the unit's header, and where it has one that is read.
     ensures found { IfOk result (λ header. IsSliceHeader nal.now sps.now pps.now header) }
     ensures only { (header : SliceHeader) → IsSliceHeader nal.now sps.now pps.now header
         → Answers result (Ok header) }
-    // A refusal is that of the first field that shows one, and where there is such a field it is refused.
+    // A refusal is that of the first field that shows one, and where there is such a field it is
+    // refused.
     ensures fault { IfErr result (λ fault. (fault ≡ HeaderFault.Memory)
         ⊎ HeaderHasFault nal.now sps.now pps.now fault) }
     ensures refused { (fault : HeaderFault) → HeaderHasFault nal.now sps.now pps.now fault
@@ -34,7 +35,8 @@ pub fn read(alloc: Global, nal: &Nal<'_>, sps: &Sps, pps: &Pps) -> Result<SliceH
     read_from(alloc, &Start::of(nal), sps, pps)
 }
 
-/// Reads the header from the start of the unit, as `read` does. One that is longer is read from the whole payload.
+/// Reads the header from the start of the unit, as `read` does. One that is longer is read from the
+/// whole payload.
 pub fn read_from(
     alloc: Global,
     start: &Start<'_>,

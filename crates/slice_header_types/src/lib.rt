@@ -1,7 +1,7 @@
 //! Slice headers as values (ITU-T H.264, 7.4.3): fields, commands of lists, weights and marking.
 //!
-//! The headers are read by `slice_header`; what follows from them is left to the crates above, none of which needs to
-//! know how a header is written.
+//! The headers are read by `slice_header`; what follows from them is left to the crates above, none
+//! of which needs to know how a header is written.
 #![tactic(auto)]
 
 mod dec_ref_pic_marking;

@@ -7,8 +7,8 @@ use smallvec::SmallVec;
 use std::alloc::{AllocError, Global};
 use std::marker::Model;
 
-/// The weights and offsets of one entry of a list. An absent weight is 2 to the power of its denominator, an absent
-/// offset 0.
+/// The weights and offsets of one entry of a list. An absent weight is 2 to the power of its
+/// denominator, an absent offset 0.
 #[derive(Clone, Copy, Debug, PartialEq, Eq, Hash, Default, Drop)]
 pub struct PredWeight {
     pub luma_weight: i16,

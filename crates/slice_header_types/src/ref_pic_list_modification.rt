@@ -10,9 +10,11 @@ use std::marker::Model;
 /// One command of a list, by its modification_of_pic_nums_idc.
 #[derive(Clone, Copy, Debug, PartialEq, Eq, Hash, Drop)]
 pub enum RefPicListModification {
-    /// 0: the short-term frame whose number is lower than the last by `abs_diff_pic_num_minus1` + 1.
+    /// 0: the short-term frame whose number is lower than the last by `abs_diff_pic_num_minus1` +
+    /// 1.
     Subtract { abs_diff_pic_num_minus1: u32 },
-    /// 1: the short-term frame whose number is higher than the last by `abs_diff_pic_num_minus1` + 1.
+    /// 1: the short-term frame whose number is higher than the last by `abs_diff_pic_num_minus1` +
+    /// 1.
     Add { abs_diff_pic_num_minus1: u32 },
     /// 2: the long-term frame of this number.
     LongTerm { long_term_pic_num: u32 },

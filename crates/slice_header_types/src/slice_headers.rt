@@ -10,8 +10,8 @@ use base_types::AtMost;
 
 /// A slice header, each field under its name in the standard, with those of the unit's first byte.
 ///
-/// What the header doesn't send has its inferred value: 0, no commands, no table; an absent active count is the
-/// picture parameter set's where the list exists.
+/// What the header doesn't send has its inferred value: 0, no commands, no table; an absent active
+/// count is the picture parameter set's where the list exists.
 #[derive(Debug)]
 pub struct SliceHeader {
     pub nal_ref_idc: u8,

@@ -55,8 +55,8 @@ impl Sets {
     }
 
     /// The sets, with what they decide. It's shared with the place of the picture parameter set, or
-    /// with the last sets that were used, where those are the same. The place has its own set, which
-    /// isn't compared.
+    /// with the last sets that were used, where those are the same. The place has its own set,
+    /// which isn't compared.
     pub(crate) fn of(
         alloc: Global,
         last: Option<&Sets>,

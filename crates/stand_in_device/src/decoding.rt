@@ -14,8 +14,8 @@ use m2m_queues::{Dequeued, QueueFault, Queues, RequestId, RunOne};
 use std::alloc::{AllocError, Global};
 use std::marker::Model;
 
-/// The queues of a decoder with one OUTPUT and one CAPTURE buffer, between two slices, and the request that each slice
-/// uses in turn.
+/// The queues of a decoder with one OUTPUT and one CAPTURE buffer, between two slices, and the
+/// request that each slice uses in turn.
 #[derive(Drop)]
 pub(crate) struct Decoding {
     queues: Queues<SliceControls>,
@@ -49,7 +49,8 @@ impl Decoding {
         Ok(Decoding { queues, request })
     }
 
-    /// Decodes a slice of the frame whose CAPTURE buffer can take it. Where memory runs out, the decoder is closed.
+    /// Decodes a slice of the frame whose CAPTURE buffer can take it. Where memory runs out, the
+    /// decoder is closed.
     pub(crate) fn decode_slice(
         self,
         slice: &Request,
@@ -76,8 +77,8 @@ impl Decoding {
         Ok(Decoding { queues, request })
     }
 
-    /// Decodes the slices of a frame whose CAPTURE buffer can take the first, each run before the next is queued; then
-    /// the CAPTURE buffer is done.
+    /// Decodes the slices of a frame whose CAPTURE buffer can take the first, each run before the
+    /// next is queued; then the CAPTURE buffer is done.
     pub(crate) fn decode_slices(
         self,
         slices: &[Request],

@@ -12,7 +12,8 @@ use crate::slice_digest::SliceDigest;
 use std::alloc::{AllocError, Global};
 use std::marker::Model;
 
-/// A stateless decoder whose pictures are digests, with the finished frames that slices may refer to.
+/// A stateless decoder whose pictures are digests, with the finished frames that slices may refer
+/// to.
 pub struct Device {
     work: SliceDigest,
 }
@@ -43,8 +44,8 @@ impl Device {
         }
     }
 
-    /// Adds a finished frame after those that are there, as a CAPTURE buffer that was dequeued with this timestamp in
-    /// nanoseconds. Of two frames with one timestamp the first is referred to.
+    /// Adds a finished frame after those that are there, as a CAPTURE buffer that was dequeued with
+    /// this timestamp in nanoseconds. Of two frames with one timestamp the first is referred to.
     pub fn place(&mut self, timestamp: u64, picture: Picture) -> Result<(), AllocError>
         ensures ok { OnOk result
             (self.new ≡ self.old ++ record { timestamp = timestamp; picture = picture } ∷ []) }
@@ -54,9 +55,9 @@ impl Device {
         Ok(())
     }
 
-    /// Decodes a job: a device without frames but the job's references runs its requests through the queues, one after
-    /// the other, and the picture is that of the done CAPTURE buffer. Where memory runs out, the job is handed back.
-    /// The device has no frames afterwards.
+    /// Decodes a job: a device without frames but the job's references runs its requests through
+    /// the queues, one after the other, and the picture is that of the done CAPTURE buffer. Where
+    /// memory runs out, the job is handed back. The device has no frames afterwards.
     pub fn decode(&mut self, alloc: Global, job: Job) -> Result<Finished, Undone>
         ensures done { IfOk result (λ finished. finished ≡ job) }
         ensures undone { IfErr result (λ undone. undone.job ≡ job) }

@@ -18,7 +18,8 @@ pub struct Reference {
     pub picture: Picture,
 }
 
-/// The requests of a picture, one for each slice, and the pictures of the frames that their lists name.
+/// The requests of a picture, one for each slice, and the pictures of the frames that their lists
+/// name.
 #[derive(Debug)]
 pub struct Input {
     requests: Vec<Request>,
@@ -90,8 +91,9 @@ impl Input {
             && same_references(&self.references, &other.references)
     }
 
-    /// Whether the requests are those of one picture, with its timestamp and with the capture buffer held on all but
-    /// the last, and the picture of each frame that their lists name is there.
+    /// Whether the requests are those of one picture, with its timestamp and with the capture
+    /// buffer held on all but the last, and the picture of each frame that their lists name is
+    /// there.
     pub fn is_whole(&self) -> bool
         ensures { result ≡ is_whole self.now }
     {

@@ -1,4 +1,5 @@
-//! Jobs, and what comes of them. Neither is dropped: a job is decoded or handed back, a result lands.
+//! Jobs, and what comes of them. Neither is dropped: a job is decoded or handed back, a result
+//! lands.
 
 ghost use Rattle.std.specs.Prelude.{◌≡◌, IsTrue};
 ghost use Rattle.stand_in_device.specs.Inputs.{is_whole};

@@ -1,8 +1,10 @@
-//! The stand-in for a decoder: its picture is a digest of what a decoder would be asked and of the pictures referred to.
+//! The stand-in for a decoder: its picture is a digest of what a decoder would be asked and of the
+//! pictures referred to.
 //!
-//! A `Job` is the requests of a picture with the pictures of its references; `Device::decode` runs them through the
-//! queues of a stateless decoder, a slice at a time, and gives the picture, a SHA-256. So a request that differs in one
-//! bit, or a wrong reference, shows as another picture. Below are h264_controls and m2m_queues.
+//! A `Job` is the requests of a picture with the pictures of its references; `Device::decode` runs
+//! them through the queues of a stateless decoder, a slice at a time, and gives the picture, a
+//! SHA-256. So a request that differs in one bit, or a wrong reference, shows as another picture.
+//! Below are h264_controls and m2m_queues.
 #![tactic(auto)]
 
 mod decoding;

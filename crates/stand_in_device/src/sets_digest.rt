@@ -1,4 +1,5 @@
-//! The digest of what the parameter sets decide: the prefix of a picture's first record, kept for the pictures after it.
+//! The digest of what the parameter sets decide: the prefix of a picture's first record, kept for
+//! the pictures after it.
 
 ghost use Rattle.std.specs.Prelude.{◌≡◌, ◌↔◌, ◌++◌, IfOk, IsTrue, OnOk};
 ghost use Rattle.sha2.specs.Hashers.{Holds256};

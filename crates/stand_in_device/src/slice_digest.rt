@@ -1,8 +1,8 @@
 //! The work on a slice: its record is added to the digest of its frame.
 //!
-//! The front of a record is what the parameter sets decide. What a hasher holds goes on from all that was fed before, so
-//! only the prefix of a frame's first record is the prefix of a message: while the sets stay the same its hasher is copied.
-//! For the other records its bytes are.
+//! The front of a record is what the parameter sets decide. What a hasher holds goes on from all
+//! that was fed before, so only the prefix of a frame's first record is the prefix of a message:
+//! while the sets stay the same its hasher is copied. For the other records its bytes are.
 
 ghost use Rattle.std.specs.Prelude.{◌≡◌, ◌++◌, ℕ, List, [], IfOk, OnOk};
 ghost use Rattle.std.specs.List.{flat_map};
@@ -23,8 +23,8 @@ use m2m_queues::{SliceWork, Target};
 use sha2::{Digest, Sha256};
 use std::alloc::{AllocError, Global};
 
-/// The controls of a slice, as they are bound to a request of the queues, with the units of its decoded picture buffer:
-/// these are its reference_ts.
+/// The controls of a slice, as they are bound to a request of the queues, with the units of its
+/// decoded picture buffer: these are its reference_ts.
 #[derive(Debug, Drop)]
 pub(crate) struct SliceControls {
     pub(crate) work: Shared<Work>,

@@ -1,5 +1,5 @@
-//! A stream under changes, with each unit's outcome and its place in output order, refolded from stored
-//! states; and theorems on whole streams.
+//! A stream under changes, with each unit's outcome and its place in output order, refolded from
+//! stored states; and theorems on whole streams.
 //!
 //! `Folded` keeps the units of a stream, what the fold over it makes of each, and the states past
 //! some of its places. A change of one stretch is prepared, which may run out of memory and leaves
@@ -10,13 +10,13 @@
 //! `OrderedFold` joins a `Folded` with the `Periods` of output_order that its outcomes make. Of the
 //! periods, those that the stretch of new outcomes touches are changed, and no others.
 //!
-//! The theorems: whoever decodes a stream's units in order never meets one that lacks something: where
-//! no access unit is refused, the plan of each valid unit has the requests of one picture, and each
-//! entry of their reference lists is missing or names an earlier valid unit, whose picture has been
-//! made by then (`outcomes_can_be_decoded`). Where the folds over two streams agree in state and in the
-//! keys of the marked frames, they go on alike over the same further units
-//! (`folds_that_agree_go_on_alike`): of the keys before them, those of units depend on the keys of the
-//! marked frames alone (`keys_depend_on_marked_frames`).
+//! The theorems: whoever decodes a stream's units in order never meets one that lacks something:
+//! where no access unit is refused, the plan of each valid unit has the requests of one picture,
+//! and each entry of their reference lists is missing or names an earlier valid unit, whose picture
+//! has been made by then (`outcomes_can_be_decoded`). Where the folds over two streams agree in
+//! state and in the keys of the marked frames, they go on alike over the same further units
+//! (`folds_that_agree_go_on_alike`): of the keys before them, those of units depend on the keys of
+//! the marked frames alone (`keys_depend_on_marked_frames`).
 #![tactic(auto)]
 
 mod changes;

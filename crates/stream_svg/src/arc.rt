@@ -68,7 +68,8 @@ fn place_of(units: &[DrawnUnit], id: AuId) -> Option<usize>
     units.iter().position(|unit| unit.id == id)
 }
 
-/// Where the arcs of a list end at the unit that refers: on the edge of its box, left of the middle.
+/// Where the arcs of a list end at the unit that refers: on the edge of its box, left of the
+/// middle.
 fn left_of_middle(list: RefList, area: Rect) -> Point
     requires { IsSmall area }
     ensures { IsAtEdge list area result }
@@ -101,7 +102,8 @@ fn edge_of(list: RefList, area: Rect) -> usize
     }
 }
 
-/// Where an arc ends at the frame's unit, of which the place is known if it is drawn; a stub ends at this height.
+/// Where an arc ends at the frame's unit, of which the place is known if it is drawn; a stub ends
+/// at this height.
 fn end_of(grid: Grid, list: RefList, target: Option<usize>, height: usize) -> Point
     requires { IfSome target (λ place. place < grid.units) }
     ensures { EndsAt grid list target result }

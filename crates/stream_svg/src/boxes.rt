@@ -52,7 +52,8 @@ fn part_of(area: Rect, place: usize, parts: usize) -> (usize, usize)
     (area.x + area.width.min(width.saturating_mul(place)), width)
 }
 
-/// Writes a number into a box, at this height below its upper edge; upright where it isn't too wide, else from below.
+/// Writes a number into a box, at this height below its upper edge; upright where it isn't too
+/// wide, else from below.
 pub(crate) fn write_number(
     page: &mut Page,
     area: Rect,

@@ -45,8 +45,8 @@ pub(crate) fn write_hatch(
     ))
 }
 
-/// Writes what became of a unit's picture at the lower end of its box, of which the style sheet shows the disc where it is
-/// held and the diamond where it is pending.
+/// Writes what became of a unit's picture at the lower end of its box, of which the style sheet
+/// shows the disc where it is held and the diamond where it is pending.
 pub(crate) fn write_picture(
     page: &mut Page,
     area: Rect,

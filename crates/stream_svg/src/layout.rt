@@ -10,7 +10,8 @@ use crate::output_row::{Shown, output_row};
 use crate::unit::{DrawnUnit, Kind, RefList};
 use std::alloc::{AllocError, Global};
 
-/// The width that the boxes of a drawing take together, where they needn't be narrower or wider than they may be.
+/// The width that the boxes of a drawing take together, where they needn't be narrower or wider
+/// than they may be.
 const ROW: usize = 1200;
 
 /// The layout of a drawing.

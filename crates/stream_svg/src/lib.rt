@@ -1,11 +1,12 @@
 //! A drawing of a stream: its layout, and the layout as an SVG document.
 //!
-//! `lay_out` says where the boxes of the units lie, in stream order and in output order, and where the
-//! arcs to the frames that their lists name end, in whole numbers of pixels. No two boxes share a
-//! point, each arc ends at the edges of its boxes, and the second row is in output order: contracts and
-//! laws say so. `document` writes it, with letters, ids, positions, names of faults, a legend and each
-//! unit's lines as its title. The document needs no script, no font and no other file, and has a light
-//! and a dark form. Texts go into it through `push_escaped` alone. draw_run makes what is drawn.
+//! `lay_out` says where the boxes of the units lie, in stream order and in output order, and where
+//! the arcs to the frames that their lists name end, in whole numbers of pixels. No two boxes share
+//! a point, each arc ends at the edges of its boxes, and the second row is in output order:
+//! contracts and laws say so. `document` writes it, with letters, ids, positions, names of faults,
+//! a legend and each unit's lines as its title. The document needs no script, no font and no other
+//! file, and has a light and a dark form. Texts go into it through `push_escaped` alone. draw_run
+//! makes what is drawn.
 #![tactic(auto)]
 
 mod arc;

@@ -30,7 +30,8 @@ pub(crate) fn write_arc(page: &mut Page, arc: &Arc) -> Result<(), AllocError> {
     page.print(format_args!("<circle class=\"d{list}\" cx=\"{end}\" cy=\"{stop}\" r=\"2\"/>"))
 }
 
-/// Writes the way from a box of the stream's row to one of the second row, which turns at this height.
+/// Writes the way from a box of the stream's row to one of the second row, which turns at this
+/// height.
 pub(crate) fn write_way(
     page: &mut Page,
     from: Rect,

@@ -2,8 +2,8 @@
 
 /// The style sheet, and what it names.
 ///
-/// Colours are told apart by who doesn't see red and green too: blue, light blue, yellow and vermilion differ in how light they
-/// are, and each has its letter.
+/// Colours are told apart by who doesn't see red and green too: blue, light blue, yellow and
+/// vermilion differ in how light they are, and each has its letter.
 pub(crate) const STYLE: &str = "<style>
 text{font:11px ui-sans-serif,system-ui,sans-serif;fill:#1d2733}
 .m{text-anchor:middle}

@@ -13,8 +13,8 @@ use crate::style::{EDITS_LEGEND, LEGEND, LEGEND_END, STYLE};
 use crate::{DrawnUnit, Grid, Kind, Layout, Shown, arc_of};
 use std::alloc::{AllocError, Global};
 
-/// The document of these units, laid out so, each with what is said of it, of a stream of so many units; with the legend of
-/// edits where some were made.
+/// The document of these units, laid out so, each with what is said of it, of a stream of so many
+/// units; with the legend of edits where some were made.
 pub fn document(
     alloc: Global,
     layout: &Layout,
@@ -25,7 +25,8 @@ pub fn document(
 ) -> Result<Vec<u8>, AllocError>
     requires units { layout.now.grid.units ≡ length units.now }
     requires captions { length captions.now ≡ length units.now }
-    // Each unit's shapes are opened with the classes of its mark and with its lines as their title, in stream order.
+    // Each unit's shapes are opened with the classes of its mark and with its lines as their title,
+    // in stream order.
     ensures openings { IfOk result (λ document. HasParts (openings_of units.now captions.now) document.items) }
     ensures titles { AreUnmarked units.now
         → IfOk result (λ document. HasTitles (map lines_of captions.now) document.items) }
@@ -38,7 +39,8 @@ pub fn document(
     Ok(page.bytes)
 }
 
-/// Writes what stands before the first unit: the head, where periods begin, and the ways between the rows.
+/// Writes what stands before the first unit: the head, where periods begin, and the ways between
+/// the rows.
 fn write_beginning(
     page: &mut Page,
     layout: &Layout,

@@ -29,7 +29,8 @@ impl BitWriter {
         Ok(())
     }
 
-    /// ue(v) of a value (9.1): the value plus one in binary, with one zero fewer before it than it has digits.
+    /// ue(v) of a value (9.1): the value plus one in binary, with one zero fewer before it than it
+    /// has digits.
     pub fn ue(&mut self, value: u64) -> Result<(), AllocError> {
         let next = value.saturating_add(1);
         let digits = 64u32.saturating_sub(next.leading_zeros());
@@ -69,8 +70,8 @@ impl BitWriter {
         Ok(bytes)
     }
 
-    /// The first so many bits as a unit with this first byte after a start code, with emulation prevention (7.3.1); ones
-    /// fill the last byte.
+    /// The first so many bits as a unit with this first byte after a start code, with emulation
+    /// prevention (7.3.1); ones fill the last byte.
     pub fn unit(&self, alloc: Global, first: u8, count: usize) -> Result<Vec<u8>, AllocError> {
         let mut unit = Vec::new(alloc);
         unit.extend_from_slice(&[0, 0, 1, first])?;
@@ -93,7 +94,8 @@ fn byte_of(bits: &[bool]) -> u8 {
     byte
 }
 
-/// Puts a byte after so many zeros, with emulation prevention; how many zeros stand at the end then.
+/// Puts a byte after so many zeros, with emulation prevention; how many zeros stand at the end
+/// then.
 fn put_escaped(unit: &mut Vec<u8>, zeros: u8, byte: u8) -> Result<u8, AllocError> {
     let mut zeros = zeros;
     if zeros >= 2 && byte <= 3 {

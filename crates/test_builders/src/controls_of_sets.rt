@@ -9,7 +9,8 @@ use h264_controls::{
 use param_set_types::{ChromaFormat, PicOrderCntType, WeightedBipred};
 use std::alloc::{AllocError, Global};
 
-/// The sequence parameter set 67 42 00 0A DA 79, but for the width; of two macroblocks it is 67 42 00 0A DA 2E 40.
+/// The sequence parameter set 67 42 00 0A DA 79, but for the width; of two macroblocks it is 67 42
+/// 00 0A DA 2E 40.
 pub fn small_sps_control(pic_width_in_mbs_minus1: u16) -> V4l2CtrlH264Sps
     ensures { result.pic_width_in_mbs_minus1 ≡ pic_width_in_mbs_minus1 }
 {

@@ -6,8 +6,8 @@ use base_types::AtMost;
 use slice_header_types::{DecRefPicMarking, RefPicListModifications, SliceHeader, SliceType};
 use std::alloc::Global;
 
-/// The header of a P slice of this frame_num, of a reference picture with the sliding window: each other field has the
-/// value that stands for an absent one, and each list one entry.
+/// The header of a P slice of this frame_num, of a reference picture with the sliding window: each
+/// other field has the value that stands for an absent one, and each list one entry.
 pub fn p_header(alloc: Global, frame_num: u16) -> SliceHeader
     ensures { result.frame_num ≡ frame_num }
 {

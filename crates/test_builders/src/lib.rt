@@ -1,6 +1,7 @@
-//! What tests of several crates build: parameter sets, headers, controls and requests of small pictures, bits of units
-//! that no encoder writes, and drawn numbers. Tests alone use it. What a picture's controls are here is put together by
-//! hand, from the standard and the documentation of Linux, and not by the functions that fill them.
+//! What tests of several crates build: parameter sets, headers, controls and requests of small
+//! pictures, bits of units that no encoder writes, and drawn numbers. Tests alone use it. What a
+//! picture's controls are here is put together by hand, from the standard and the documentation of
+//! Linux, and not by the functions that fill them.
 #![tactic(auto)]
 
 mod bit_writer;

@@ -15,7 +15,8 @@ pub fn shared<T: Drop>(alloc: Global, value: T) -> Result<Shared<T>, AllocError>
     Ok(Shared::new(alloc, value)?)
 }
 
-/// The request of a slice with these bytes, of the unit of this id, whose references are these units.
+/// The request of a slice with these bytes, of the unit of this id, whose references are these
+/// units.
 pub fn request_of(
     alloc: Global,
     id: u32,

@@ -8,7 +8,8 @@ use param_set_types::{
 };
 use std::alloc::Global;
 
-/// The sequence parameter set 67 42 00 0A DA 79: one macroblock, MaxFrameNum 16, count type 2, one reference frame.
+/// The sequence parameter set 67 42 00 0A DA 79: one macroblock, MaxFrameNum 16, count type 2, one
+/// reference frame.
 pub fn small_sps(alloc: Global) -> Sps
     ensures frames { result.max_num_ref_frames ≡ 1 }
     ensures order { result.pic_order_cnt_type ≡ PicOrderCntType.Two }

@@ -1,11 +1,11 @@
 //! A unit's outcome as a JSON object, and `preview plan --json` (docs/OUTPUT.md).
 //!
-//! A `JsonLine` is made of what the fold says of a unit, of a unit that isn't there, or of a stream's
-//! refusal, and has just the members that are printed; the six controls of a request are the kernel's
-//! structs of linux_layouts. `serde` and `serde_json` write it, by the encoder `Json`; what prints
-//! lines is generic over the `Encoder`. `plan_json_on` reads a whole input, has its access units read
-//! in threads and folded by request_core, and writes the line of each, or that of the stream's refusal.
-//! Above are script_run, serve_messages and cli.
+//! A `JsonLine` is made of what the fold says of a unit, of a unit that isn't there, or of a
+//! stream's refusal, and has just the members that are printed; the six controls of a request are
+//! the kernel's structs of linux_layouts. `serde` and `serde_json` write it, by the encoder `Json`;
+//! what prints lines is generic over the `Encoder`. `plan_json_on` reads a whole input, has its
+//! access units read in threads and folded by request_core, and writes the line of each, or that of
+//! the stream's refusal. Above are script_run, serve_messages and cli.
 #![tactic(auto)]
 
 mod encoding;

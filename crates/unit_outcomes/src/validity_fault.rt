@@ -6,8 +6,8 @@ ghost use Rattle.unit_outcomes.specs.Numbers.{number_of};
 
 use thiserror::Error;
 
-/// What keeps a unit from being decoded, in the order in which it is looked for: the first that any slice or the
-/// picture shows is given.
+/// What keeps a unit from being decoded, in the order in which it is looked for: the first that any
+/// slice or the picture shows is given.
 #[derive(Clone, Copy, Debug, PartialEq, Eq, Hash, Error)]
 pub enum ValidityFault {
     /// A slice names a picture parameter set that wasn't sent.

@@ -15,21 +15,22 @@ use test_builders::{
     small_set_controls,
 };
 
-/// The SHA-256 of 2,055 bytes: the form of the IDR picture 65 88 84 80 of 2,040 bytes, the length 7 in 8 bytes, and
-/// 00 00 01 65 88 84 80.
+/// The SHA-256 of 2,055 bytes: the form of the IDR picture 65 88 84 80 of 2,040 bytes, the length 7
+/// in 8 bytes, and 00 00 01 65 88 84 80.
 const ONE_IDR: [u8; 32] = [
     0x0A, 0xC6, 0xF5, 0xC6, 0xBC, 0x06, 0x4C, 0x43, 0x63, 0x09, 0xC1, 0x8B, 0x3D, 0x1B, 0x60, 0x5A,
     0xD6, 0x0F, 0x7D, 0xE3, 0x72, 0x40, 0x81, 0xB8, 0x4F, 0xF0, 0x1A, 0xAC, 0x2C, 0x39, 0x54, 0xCF,
 ];
 
-/// The SHA-256 of 2,086 bytes: the form of the P picture 41 9A 23 after it, the length 6, 00 00 01 41 9A 23, and the
-/// 32 bytes above.
+/// The SHA-256 of 2,086 bytes: the form of the P picture 41 9A 23 after it, the length 6, 00 00 01
+/// 41 9A 23, and the 32 bytes above.
 const IDR_AND_P: [u8; 32] = [
     0x6B, 0xC6, 0xC0, 0x8C, 0xF1, 0xBA, 0xA8, 0x6F, 0x62, 0x95, 0x0D, 0xB2, 0xC1, 0xAC, 0xFA, 0xAC,
     0x24, 0x91, 0x2A, 0x0B, 0x56, 0xA8, 0xE0, 0xE6, 0xAC, 0x08, 0xD3, 0x02, 0xE2, 0xB4, 0x9D, 0x88,
 ];
 
-/// The SHA-256 of 4,110 bytes: the records of the slices 65 88 84 80 and 65 42 21 30 of an IDR picture of two macroblocks.
+/// The SHA-256 of 4,110 bytes: the records of the slices 65 88 84 80 and 65 42 21 30 of an IDR
+/// picture of two macroblocks.
 const TWO_SLICES: [u8; 32] = [
     0x54, 0x17, 0x61, 0x10, 0x96, 0x8C, 0x2F, 0xC8, 0xE6, 0x41, 0x64, 0xE9, 0xF1, 0xC2, 0xD3, 0x48,
     0xCF, 0x30, 0xC9, 0x20, 0x0C, 0x0E, 0xCE, 0xCA, 0x9B, 0xF6, 0xA3, 0x78, 0x61, 0x02, 0x18, 0xCF,
@@ -40,8 +41,8 @@ const TWO_SLICES: [u8; 32] = [
 enum Slice {
     /// That of the IDR picture 65 88 84 80, which is unit 1, with or without the hold flag.
     Idr(bool),
-    /// That of the P picture 41 9A 23, which is unit 2, whose list 0 has this entry; unit 1 is the one frame that it may
-    /// name.
+    /// That of the P picture 41 9A 23, which is unit 2, whose list 0 has this entry; unit 1 is the
+    /// one frame that it may name.
     P(Option<u8>),
     /// Those of an IDR picture of two macroblocks, which is unit 1.
     FirstOfTwo,
@@ -103,7 +104,8 @@ fn slice_of_two(
     request_of(alloc, 1, controls, bytes, &[], hold)
 }
 
-/// The input of these slices' requests, where the frame of unit 1, if it is there, is the IDR picture.
+/// The input of these slices' requests, where the frame of unit 1, if it is there, is the IDR
+/// picture.
 fn input_of(alloc: Global, slices: &[Slice], has_frame: bool) -> Result<Input, AllocError> {
     let (mut requests, mut references) = (Vec::new(alloc), Vec::new(alloc));
     for slice in slices {
@@ -118,7 +120,8 @@ fn input_of(alloc: Global, slices: &[Slice], has_frame: bool) -> Result<Input, A
     Ok(Input::new(requests, references))
 }
 
-/// The number and the picture of job 7 with this input, if that is whole, by a device that has another frame of unit 1.
+/// The number and the picture of job 7 with this input, if that is whole, by a device that has
+/// another frame of unit 1.
 fn decoded(alloc: Global, input: Input) -> Result<Option<(u64, Picture)>, AllocError> {
     if !input.is_whole() {
         return Ok(None);
@@ -159,12 +162,14 @@ fn pictures_are_digests_of_their_records(rt: HostRuntime) -> Result<(), Fail> {
     Ok(())
 }
 
-/// What stands at places of a digest form whose other bytes are 0: of the sets, of the IDR picture 65 88 84 80, and of the
-/// P picture 41 9A 23 after it. The offsets are those of the members, in the order and sizes of the form.
+/// What stands at places of a digest form whose other bytes are 0: of the sets, of the IDR picture
+/// 65 88 84 80, and of the P picture 41 9A 23 after it. The offsets are those of the members, in
+/// the order and sizes of the form.
 type Members = &'static [(usize, &'static [u8])];
 
 const OF_SETS: Members = &[
-    // profile_idc to num_ref_frames_in_pic_order_cnt_cycle, and frame_mbs_only with direct_8x8_inference.
+    // profile_idc to num_ref_frames_in_pic_order_cnt_cycle, and frame_mbs_only with
+    // direct_8x8_inference.
     (0, &[0x42, 0, 0x0A, 0, 1, 0, 0, 0, 2, 0, 1, 0]),
     (1044, &[0x50]),
 ];
@@ -189,8 +194,8 @@ const OF_P: Members = &[
     (2024, &[1]),
 ];
 
-/// The record of a slice without weights: its form of 2,040 bytes, in which all entries of the scaling lists are 16, the
-/// number of its bytes, these, and the pictures of its references.
+/// The record of a slice without weights: its form of 2,040 bytes, in which all entries of the
+/// scaling lists are 16, the number of its bytes, these, and the pictures of its references.
 fn record_of(
     alloc: Global,
     members: Members,
@@ -240,8 +245,9 @@ fn digests_are_those_of_these_bytes(rt: HostRuntime) -> Result<(), Fail> {
     Ok(())
 }
 
-/// Slices, whether the frame of unit 1 is there, and whether they are a whole input: none where there is no slice, where
-/// the last one is held, another one isn't, timestamps differ or a reference isn't there.
+/// Slices, whether the frame of unit 1 is there, and whether they are a whole input: none where
+/// there is no slice, where the last one is held, another one isn't, timestamps differ or a
+/// reference isn't there.
 const INPUTS: [(&[Slice], bool, bool); 8] = [
     (&[], true, false),
     (&[Slice::Idr(true)], true, false),
@@ -305,7 +311,8 @@ fn states_after(
     Ok((buffer.state, buffer.timestamp, state))
 }
 
-/// The same after each slice of the picture of two, as a device runs them: one after the other, on one request.
+/// The same after each slice of the picture of two, as a device runs them: one after the other, on
+/// one request.
 fn states_of_two(alloc: Global) -> Result<(States, States), QueueFault> {
     let first = Slice::FirstOfTwo.request(alloc)?;
     let last = Slice::LastOfTwo.request(alloc)?;
@@ -316,7 +323,8 @@ fn states_of_two(alloc: Global) -> Result<(States, States), QueueFault> {
     Ok((after_first, states_after(&mut queues, request, &last)?))
 }
 
-/// Two slices of a picture go to one CAPTURE buffer, which is held after the first and done after the second.
+/// Two slices of a picture go to one CAPTURE buffer, which is held after the first and done after
+/// the second.
 #[test]
 fn two_slices_hold_one_capture_buffer(rt: HostRuntime) {
     let held = (BufferState::Held, 1000, RequestState::Complete);
@@ -324,7 +332,8 @@ fn two_slices_hold_one_capture_buffer(rt: HostRuntime) {
     assert!(rt; states_of_two(rt.alloc()) == Ok((held, done)));
 }
 
-/// The picture of job 7 with this input: where memory runs out the job comes back, and it is decoded again.
+/// The picture of job 7 with this input: where memory runs out the job comes back, and it is
+/// decoded again.
 fn decoded_again(alloc: Global, input: Input) -> Option<(u64, Picture)> {
     if !input.is_whole() {
         return None;

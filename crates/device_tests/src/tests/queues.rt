@@ -1,4 +1,5 @@
-//! Examples of the documentation of Linux, worked out by hand, and drawn calls beside a plain machine.
+//! Examples of the documentation of Linux, worked out by hand, and drawn calls beside a plain
+//! machine.
 
 mod calls;
 mod drawn;
@@ -19,8 +20,8 @@ use std::test::Fail;
 /// Calls in turn, each with its answer.
 type Calls = &'static [(Call, Answer)];
 
-/// How many slices were worked on, and of the last one the controls, the timestamp, the CAPTURE buffer and whether it
-/// begins that one's frame.
+/// How many slices were worked on, and of the last one the controls, the timestamp, the CAPTURE
+/// buffer and whether it begins that one's frame.
 type Worked = (u32, u32, u64, usize, bool);
 
 /// Whether the work runs out of memory, calls, and what was worked on after them.
@@ -29,8 +30,8 @@ type Stretch = (bool, Calls, Option<Worked>);
 /// How many buffers the queues of an example have, and its calls.
 type Example = (usize, usize, &'static [Stretch]);
 
-/// Requests 0 and 1 are queued, with controls 5 and 6: the first with OUTPUT buffer 0, timestamp 1000 and the hold
-/// flag, the second with OUTPUT buffer 1, the same timestamp and no flag.
+/// Requests 0 and 1 are queued, with controls 5 and 6: the first with OUTPUT buffer 0, timestamp
+/// 1000 and the hold flag, the second with OUTPUT buffer 1, the same timestamp and no flag.
 const ONE_FRAME: Calls = &[
     (Alloc, Given(0)),
     (Alloc, Given(1)),
@@ -108,7 +109,8 @@ const TWO_BUFFERS: &[Stretch] = &[
     ),
 ];
 
-/// A held buffer is released for want of another; dequeued and queued again, it takes the second frame.
+/// A held buffer is released for want of another; dequeued and queued again, it takes the second
+/// frame.
 const RELEASED: &[Stretch] = &[
     (false, TWO_FRAMES, None),
     (
@@ -198,7 +200,8 @@ const MANY_BUFFERS: &[Stretch] = &[(
     None,
 )];
 
-/// No request comes before no buffer, that before a request in use, and that before a buffer in use.
+/// No request comes before no buffer, that before a request in use, and that before a buffer in
+/// use.
 const FIRST_REFUSALS: &[Stretch] = &[
     (false, ONE_FRAME, None),
     (

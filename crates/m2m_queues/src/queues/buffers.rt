@@ -54,9 +54,9 @@ impl<C: Drop> Queues<C> {
         look(&self.captures, index)
     }
 
-    /// Puts a slice of the frame with this timestamp, in nanoseconds, into a free OUTPUT buffer, and binds that to an
-    /// idle request that has none. `hold` says that further slices of the frame follow, so that the CAPTURE buffer is
-    /// held for them.
+    /// Puts a slice of the frame with this timestamp, in nanoseconds, into a free OUTPUT buffer,
+    /// and binds that to an idle request that has none. `hold` says that further slices of the
+    /// frame follow, so that the CAPTURE buffer is held for them.
     pub fn queue_output(
         &mut self,
         index: usize,

@@ -14,7 +14,8 @@ use crate::requests::{Output, Request, RequestState};
 use crate::work::{RunOne, SliceWork, Target};
 use slab::Slab;
 
-/// Releases a CAPTURE buffer that is held for another frame than this one, and answers whether there was one.
+/// Releases a CAPTURE buffer that is held for another frame than this one, and answers whether
+/// there was one.
 fn release(captures: &mut Buffers, timestamp: u64) -> bool
     ensures released { captures.new ≡ released captures.old timestamp }
     ensures found { result ≡ is_some (held_for_another captures.old timestamp) }
@@ -73,9 +74,10 @@ fn complete<C: Drop>(requests: &mut Slab<Request<C>>, id: usize)
 }
 
 impl<C: Drop> Queues<C> {
-    /// Runs the oldest queued request, on the CAPTURE buffer that is held for its frame or else on the oldest queued
-    /// one. A CAPTURE buffer that is held for another frame is done before that, or, where no other is queued, done
-    /// instead. Where the work runs out of memory, the queues are as they were.
+    /// Runs the oldest queued request, on the CAPTURE buffer that is held for its frame or else on
+    /// the oldest queued one. A CAPTURE buffer that is held for another frame is done before that,
+    /// or, where no other is queued, done instead. Where the work runs out of memory, the queues
+    /// are as they were.
     pub fn run_one<S: SliceWork<C>>(&mut self, work: &mut S) -> Result<RunOne, QueueFault>
         ensures { RunsOne S.works self.old self.new work.old work.new result }
     {

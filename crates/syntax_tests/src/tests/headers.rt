@@ -270,8 +270,8 @@ fn has_commands(header: &SliceHeader) -> bool {
     }
 }
 
-/// 1 00110 1 0001, 1 and 010: two entries, 1: commands 1 011, 011 1 and the end 00100, 1: operations 00100 010 1, 010 1,
-/// 00111 010 and the end 1, and 1: a slice_qp_delta of 0.
+/// 1 00110 1 0001, 1 and 010: two entries, 1: commands 1 011, 011 1 and the end 00100, 1:
+/// operations 00100 010 1, 010 1, 00111 010 and the end 1, and 1: a slice_qp_delta of 0.
 fn reads_commands(alloc: Global, sps: &Sps, pps: &Pps) -> Result<bool, SplitFault> {
     let text = [0, 0, 1, 0x41, 0x9A, 0x35, 0xB7, 0x24, 0x8A, 0xA7, 0x58];
     let header = header_of(alloc, sps, pps, &text)?;

@@ -11,7 +11,8 @@ use std::test::Fail;
 #[derive(Clone, Copy, Debug, PartialEq, Eq, Hash)]
 struct KeyId(u64);
 
-/// A cache of three pairs with the keys 1, 2 and 3, put in this order, and the pictures 10, 20 and 30.
+/// A cache of three pairs with the keys 1, 2 and 3, put in this order, and the pictures 10, 20 and
+/// 30.
 fn three_pairs(alloc: Global, capacity: u16) -> Result<PictureCache<KeyId, u8>, AllocError>
     requires least { 1 ≤ capacity }
     requires most { capacity ≤ most_room }

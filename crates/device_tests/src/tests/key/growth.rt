@@ -19,7 +19,8 @@ fn intern_again(
     intern(rt, keys, number, entries)
 }
 
-/// Interns the rows; a row that runs out of memory leaves the keys as they were, and is interned again.
+/// Interns the rows; a row that runs out of memory leaves the keys as they were, and is interned
+/// again.
 fn intern_through(
     rt: &(impl Abort + AllocGlobal),
     keys: &mut Keys<Number, Sha256Fingerprint>,
@@ -37,7 +38,8 @@ fn intern_through(
     Ok(ids)
 }
 
-/// Whether a sweep that runs out of memory leaves the keys as they were; made again, it keeps row 9 and what is below it.
+/// Whether a sweep that runs out of memory leaves the keys as they were; made again, it keeps row 9
+/// and what is below it.
 fn sweeps_through(
     keys: &mut Keys<Number, Sha256Fingerprint>,
     ids: &[KeyId],

@@ -9,7 +9,8 @@ use test_builders::Draws;
 
 /// How many calls are drawn.
 const CALLS: u32 = 20_000;
-/// For so many calls there are few requests; then, for as many, they are made until there are as many as there may be.
+/// For so many calls there are few requests; then, for as many, they are made until there are as
+/// many as there may be.
 const TURN: u32 = 1000;
 
 /// An index of a buffer, or now and then the one past the last.
@@ -22,7 +23,8 @@ fn index(draws: &mut Draws) -> usize {
     draws.below(last as u64 + 1) as usize
 }
 
-/// A call. Requests to make, close and look at are those below a bound, those to run the first four.
+/// A call. Requests to make, close and look at are those below a bound, those to run the first
+/// four.
 fn call(draws: &mut Draws, requests: u64) -> Call {
     let any = draws.below(requests) as usize;
     let id = draws.below(4) as usize;

@@ -1,5 +1,5 @@
-//! The queues as a plain slow machine, by the rules of the Linux media documentation alone: each request and each buffer
-//! has its state, and the moment from which it has been in it.
+//! The queues as a plain slow machine, by the rules of the Linux media documentation alone: each
+//! request and each buffer has its state, and the moment from which it has been in it.
 
 use super::calls::{Answer, Call, Slice};
 use m2m_queues::{BufferState, MOST_REQUESTS, QueueFault, RequestState, RunOne, Target};
@@ -315,7 +315,8 @@ impl PlainQueues {
         Some(Answer::Did(RunOne::Released))
     }
 
-    /// The request is complete, its OUTPUT buffer is done, and so is the CAPTURE buffer, unless it is held.
+    /// The request is complete, its OUTPUT buffer is done, and so is the CAPTURE buffer, unless it
+    /// is held.
     fn has_run(&mut self, id: usize, bound: Bound, capture: usize) {
         let since = self.tick();
         let hold = if bound.hold {

@@ -104,7 +104,8 @@ fn cuts_by_type(rt: HostRuntime) -> Result<(), Fail> {
     Ok(())
 }
 
-/// forbidden_zero_bit, nal_ref_idc, nal_unit_type, and whether it is a slice, and one that begins at macroblock 0.
+/// forbidden_zero_bit, nal_ref_idc, nal_unit_type, and whether it is a slice, and one that begins
+/// at macroblock 0.
 type Fields = (bool, u8, u8, bool, bool);
 
 fn fields(nal: &Nal<'_>) -> Fields {

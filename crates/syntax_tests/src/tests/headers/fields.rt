@@ -87,7 +87,8 @@ fn reads(
     Ok(header_bit_size(alloc, &text, place)? == Some(wanted))
 }
 
-/// Whether the payload is cut where it ends after so many bits; nothing where a unit can't end there.
+/// Whether the payload is cut where it ends after so many bits; nothing where a unit can't end
+/// there.
 fn is_cut(
     alloc: Global,
     place: &Place<'_>,
@@ -101,7 +102,8 @@ fn is_cut(
     Ok(Some(header_bit_size(alloc, &text, place)? == Some(Err(HeaderFault::Cut))))
 }
 
-/// How often a code is cut, so often as a byte ends in it; nothing where a cut shows something else.
+/// How often a code is cut, so often as a byte ends in it; nothing where a cut shows something
+/// else.
 fn cuts(
     alloc: Global,
     place: &Place<'_>,
@@ -143,7 +145,8 @@ fn is_refused(alloc: Global, place: &Place<'_>, code: Code) -> Result<bool, Fail
     )
 }
 
-/// How often the codes are cut that are read; nothing where one isn't read, or one that is to be refused is.
+/// How often the codes are cut that are read; nothing where one isn't read, or one that is to be
+/// refused is.
 fn cuts_of_field(
     alloc: Global,
     place: &Place<'_>,

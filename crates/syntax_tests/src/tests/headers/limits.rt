@@ -1,5 +1,5 @@
-//! Headers about as long as the prefix of 64 bytes that is read first, and as many commands and operations as there can
-//! be (7.3.3.1, 7.3.3.3). None of them is answered by lack of memory.
+//! Headers about as long as the prefix of 64 bytes that is read first, and as many commands and
+//! operations as there can be (7.3.3.1, 7.3.3.3). None of them is answered by lack of memory.
 
 use super::{row_holds, summary_of};
 use annexb::{Nal, split};
@@ -10,8 +10,8 @@ use std::process::Abort;
 use std::test::Fail;
 use test_builders::{small_pps, small_sps};
 
-/// A unit: its first bytes with a start code, one byte more so many times, and its last bytes; and how many bits its
-/// header and its marking have.
+/// A unit: its first bytes with a start code, one byte more so many times, and its last bytes; and
+/// how many bits its header and its marking have.
 type Row = (
     &'static [u8],
     (u8, usize),
@@ -19,9 +19,9 @@ type Row = (
     Result<(u32, u32), HeaderFault>,
 );
 
-/// 1 00110 1 0001, 0 and 0, 1, and then operations 010 00100 of eight bits, with which each byte 0x11 goes on. The end of
-/// the last one is 000100, the operations' end 1, and 1 a slice_qp_delta of 0: the payload of n operations has n bytes
-/// and three.
+/// 1 00110 1 0001, 0 and 0, 1, and then operations 010 00100 of eight bits, with which each byte
+/// 0x11 goes on. The end of the last one is 000100, the operations' end 1, and 1 a slice_qp_delta
+/// of 0: the payload of n operations has n bytes and three.
 const OPERATIONS: &[u8] = &[0, 0, 1, 0x41, 0x9A, 0x25];
 
 const LONG: [Row; 15] = [
@@ -60,8 +60,8 @@ const LONG: [Row; 15] = [
     ),
 ];
 
-/// 1 00110 1 0001, 1 and 00000100000: 32 entries, 1, and then commands 1 0001000 of eight bits. Their end is 00100, 0 the
-/// flag of the marking, and 1 a slice_qp_delta of 0.
+/// 1 00110 1 0001, 1 and 00000100000: 32 entries, 1, and then commands 1 0001000 of eight bits.
+/// Their end is 00100, 0 the flag of the marking, and 1 a slice_qp_delta of 0.
 const COMMANDS: &[u8] = &[0, 0, 1, 0x41, 0x9A, 0x30, 0x41];
 
 const MANY: [Row; 8] = [

@@ -4,10 +4,12 @@ use super::writer::Code;
 use Code::{FrameNum, LastFrameNum, Lsb, MaxFrameNum, Operations, Se, TooLong, U, Ue};
 use param_set_types::{ChromaFormat, PicOrderCntType};
 
-/// A field: its place among the codes, codes that are read there, and codes that are out of its range.
+/// A field: its place among the codes, codes that are read there, and codes that are out of its
+/// range.
 pub(super) type Field = (usize, &'static [Code], &'static [Code]);
 
-/// A header: the unit's first byte, the count type, the codes in order, and fields that stand for others of theirs.
+/// A header: the unit's first byte, the count type, the codes in order, and fields that stand for
+/// others of theirs.
 #[derive(Clone, Copy)]
 pub(super) struct Header {
     pub(super) first: u8,

@@ -1,4 +1,5 @@
-//! Forms are compared with bytes that are written by hand, a piece with its place in the form on a line.
+//! Forms are compared with bytes that are written by hand, a piece with its place in the form on a
+//! line.
 
 mod distinct;
 mod flags;
@@ -244,7 +245,8 @@ fn forms(rt: HostRuntime) -> Result<(), Fail> {
     Ok(())
 }
 
-/// Whether a copy of the request that `copies` makes has its work, its timestamp, its references and that it is held.
+/// Whether a copy of the request that `copies` makes has its work, its timestamp, its references
+/// and that it is held.
 fn is_copy(request: &Request, copy: &Request) -> bool {
     copy.work.is_same(&request.work)
         && copy.bytes().len() == 6

@@ -15,7 +15,8 @@ use std::process::Abort;
 use std::test::Fail;
 use test_builders::{p_header_with, small_sps};
 
-// Sets with MaxFrameNum 16: type 0 with MaxPicOrderCntLsb 16; type 1 with -1, 1 and a cycle of 2 and 4; type 2.
+// Sets with MaxFrameNum 16: type 0 with MaxPicOrderCntLsb 16; type 1 with -1, 1 and a cycle of 2
+// and 4; type 2.
 const TYPE_ZERO: &[u8] = &[0x67, 0x42, 0x00, 0x0A, 0xF4, 0xF8];
 
 const TYPE_ONE: &[u8] = &[0x67, 0x42, 0x00, 0x0A, 0xD5, 0xA6, 0x41, 0x09, 0xE4];
@@ -32,8 +33,8 @@ enum Kind {
     Resetting(i32, i32),
 }
 
-/// A picture: what it is; its number, as its frame_num and its pic_order_cnt_lsb; delta_pic_order_cnt_bottom and both
-/// values of delta_pic_order_cnt; its counts.
+/// A picture: what it is; its number, as its frame_num and its pic_order_cnt_lsb;
+/// delta_pic_order_cnt_bottom and both values of delta_pic_order_cnt; its counts.
 type Picture = (Kind, u16, [i32; 3], (i32, i32));
 
 /// No difference.
@@ -117,7 +118,8 @@ fn counted_along(
     Ok(Some(anchor))
 }
 
-/// The pictures of a stream in decoding order, with a set, and whether counting begins anew after the last one.
+/// The pictures of a stream in decoding order, with a set, and whether counting begins anew after
+/// the last one.
 type Stream = (&'static [u8], &'static [Picture], bool);
 
 const NEAR_THE_LAST_COUNT: [Stream; 5] = [
@@ -271,8 +273,8 @@ fn is_refused(
     Ok(count(anchor, sps, &header) == Err(OrderRange))
 }
 
-/// PicOrderCntMsb of the last reference picture, what a picture of type 0 is after it, and its differences from top to
-/// bottom: one that is taken and one that is refused.
+/// PicOrderCntMsb of the last reference picture, what a picture of type 0 is after it, and its
+/// differences from top to bottom: one that is taken and one that is refused.
 const RANGES: [(i64, Kind, i32, i32); 3] = [
     (0x7FFF_FFF0, Reference, 15, 16),
     (-0x8000_0000, Reference, 0, -1),
@@ -311,8 +313,9 @@ fn tells_the_fault(rt: HostRuntime) -> Result<(), Fail> {
     Ok(())
 }
 
-/// Whether a frame_num that doesn't fall is counted where FrameNumOffset is the last that there is, and one that falls is
-/// refused. Of type 1 with an empty cycle, frame numbers don't show in the counts.
+/// Whether a frame_num that doesn't fall is counted where FrameNumOffset is the last that there is,
+/// and one that falls is refused. Of type 1 with an empty cycle, frame numbers don't show in the
+/// counts.
 fn refuses_the_next_offset(alloc: Global, sps: &Sps) -> Result<bool, AllocError> {
     let anchor = Anchor {
         prev_frame_num_offset: u32::MAX - 15,

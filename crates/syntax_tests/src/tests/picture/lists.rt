@@ -27,10 +27,12 @@ fn sps_of_sixteen(alloc: Global) -> Sps {
     sps
 }
 
-/// A frame to be marked: its frame_num, its count, and its LongTermFrameIdx, if it is to be a long-term frame.
+/// A frame to be marked: its frame_num, its count, and its LongTermFrameIdx, if it is to be a
+/// long-term frame.
 type Picture = (u16, u16, Option<u32>);
 
-/// A slice: its type, frame_num, PicOrderCnt, how many entries are active in both lists, and the commands of both.
+/// A slice: its type, frame_num, PicOrderCnt, how many entries are active in both lists, and the
+/// commands of both.
 type Slice = (
     SliceType,
     u16,

@@ -196,8 +196,8 @@ fn is_only(marked: &Result<Marks, MarkFault>, frame: &Frame) -> bool {
     }
 }
 
-/// Whether only the picture with operation 5 is marked: frame_num counts as 0, and 7, the smaller count, is taken from
-/// both.
+/// Whether only the picture with operation 5 is marked: frame_num counts as 0, and 7, the smaller
+/// count, is taken from both.
 fn takes_counts_to_0(alloc: Global, sps: &Sps) -> Result<bool, AllocError> {
     let freed = Marking::Adaptive(&[Operation::FreeAll]);
     let pictures = [(0, Marking::Idr(true)), (1, Marking::Window), (2, freed)];

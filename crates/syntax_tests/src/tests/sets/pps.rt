@@ -28,7 +28,8 @@ fn is_plain(pps: &Pps) -> bool {
         && pps.second_chroma_qp_index_offset == 0
 }
 
-/// Ids 255 and 31, all flags, 32 entries, implicit weights, the least offsets; a second offset of 12.
+/// Ids 255 and 31, all flags, 32 entries, implicit weights, the least offsets; a second offset of
+/// 12.
 fn has_ends(pps: &Pps) -> bool {
     pps.pic_parameter_set_id == 255
         && pps.seq_parameter_set_id.get() == 31

@@ -43,7 +43,8 @@ fn refused_scaling_lists(rt: HostRuntime) {
     assert!(rt; reads_lists(rt.alloc()));
 }
 
-/// Whether the set has six lists, without 8x8 transforms, the last by delta -8, and a second offset of 3.
+/// Whether the set has six lists, without 8x8 transforms, the last by delta -8, and a second offset
+/// of 3.
 fn has_six_lists(pps: &Pps) -> bool {
     !pps.transform_8x8_mode_flag
         && pps.scaling_lists.as_slice().len() == 6
@@ -95,7 +96,8 @@ const SPS_LISTS: [u8; 11] = [
 /// Six lists, of which the last is the default by its first delta -8.
 const PPS_LISTS: [u8; 6] = [0x68, 0xCE, 0x38, 0x41, 0x08, 0x9A];
 
-/// The default lists in raster order, as ffmpeg has them (h264_ps.c, default_scaling4 and default_scaling8).
+/// The default lists in raster order, as ffmpeg has them (h264_ps.c, default_scaling4 and
+/// default_scaling8).
 const INTRA_4X4: [u8; 16] = [
     6, 13, 20, 28, 13, 20, 28, 32, 20, 28, 32, 37, 28, 32, 37, 42,
 ];

@@ -54,7 +54,8 @@ fn is_high(sps: &Sps) -> bool {
         && sps.pic_order_cnt_type == PicOrderCntType::Two
 }
 
-/// Id 31, log2_max_frame_num_minus4 12, type 0 with 12, 16 frames with gaps, 65,536 by 65,536 macroblocks.
+/// Id 31, log2_max_frame_num_minus4 12, type 0 with 12, 16 frames with gaps, 65,536 by 65,536
+/// macroblocks.
 fn is_greatest(sps: &Sps) -> bool {
     sps.profile_idc == 77
         && sps.constraint_set_flags == [true, false, true, false, true, false]

@@ -43,7 +43,8 @@ fn dpb_entry_flags(set: u8) -> DpbEntryFlags {
     }
 }
 
-/// The flag that is set, and the numbers of the flags of a PPS, an SPS, an entry of the buffer and a slice.
+/// The flag that is set, and the numbers of the flags of a PPS, an SPS, an entry of the buffer and
+/// a slice.
 const NUMBERS: [(u8, u32, u32, u32, u32); 8] = [
     (0, 1, 1, 1, 1),
     (1, 2, 2, 2, 2),

@@ -6,7 +6,8 @@ use slice_header_types::RefPicListModification as Command;
 use slice_header_types::SliceType::{B, I, P, Si, Sp};
 use std::test::Fail;
 
-// Commands that name the short-term frame whose number is lower than the last by so much, or higher.
+// Commands that name the short-term frame whose number is lower than the last by so much, or
+// higher.
 const LOWER_1: Command = Command::Subtract {
     abs_diff_pic_num_minus1: 0,
 };

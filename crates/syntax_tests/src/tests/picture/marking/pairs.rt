@@ -9,7 +9,8 @@ use slice_header_types::MemoryManagementControlOperation as Operation;
 use std::alloc::{AllocError, Global};
 use std::test::Fail;
 
-// After the frames 1, long-term with index 0, and 2 and 3, short-term with FrameNums 1 and 2, frame 4 has frame_num 3.
+// After the frames 1, long-term with index 0, and 2 and 3, short-term with FrameNums 1 and 2, frame
+// 4 has frame_num 3.
 /// Frees frame 3.
 const ONE: Operation = Operation::FreeShortTerm {
     difference_of_pic_nums_minus1: 0,

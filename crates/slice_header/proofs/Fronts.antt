@@ -69,7 +69,7 @@ same_value : {A : Type 0} (more : List Bool) (r : Result (A × Place) HeaderFaul
 same_value more (Ok x) = refl
 same_value more (Err e) = refl
 
-same_type : (more : List Bool) (r : _) → type_of (after_extended more r) ≡ type_of r
+pub same_type : (more : List Bool) (r : _) → type_of (after_extended more r) ≡ type_of r
 same_type more (Ok x) = refl
 same_type more (Err e) = refl
 
@@ -81,7 +81,7 @@ at_most-Value most (pos k) is = go (leb k most) refl is
     go false here same = cc
 at_most-Value most (negsuc k) is = cc
 
-cut_is : (row : FrontRow) → row.cut ≡ Cut → row.code ≡ Unsigned → CutIs Cut row
+pub cut_is : (row : FrontRow) → row.cut ≡ Cut → row.code ≡ Unsigned → CutIs Cut row
 cut_is row fault code = record { fault = fault; plain = rw code tt }
 
 first_mb : IsUnsignedRow Cut (first_mb_row any)

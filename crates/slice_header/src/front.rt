@@ -1,6 +1,6 @@
 //! The front of a slice header, which is read without parameter sets.
 
-ghost use Rattle.std.specs.Prelude.{◌≡◌, ◌≤◌, ◌+◌, IfErr, IfOk};
+ghost use Rattle.std.specs.Prelude.{◌≡◌, ◌≤◌, ◌+◌, ◌∷◌, ℕ, List, Some, IfErr, IfOk, IfSome};
 ghost use Rattle.std.specs.Result.{result_ok};
 ghost use Rattle.expgolomb.specs.Ranges.{any, at_most};
 ghost use Rattle.expgolomb.specs.Answer.{Reads};
@@ -48,6 +48,48 @@ pub fn peek_start(start: &Start<'_>) -> Result<HeaderFront, HeaderFault>
 
 /// The type of a slice whose first_mb_in_slice and slice_type can be read, whatever follows.
 pub fn slice_type(nal: &Nal<'_>) -> Option<SliceType>
+    ensures { result ≡ slice_type_at nal.now }
+{
+    match told_type(nal.bytes()) {
+        Some(slice_type) => Some(slice_type),
+        None => read_type(nal),
+    }
+}
+
+// The type, where the byte after the unit's first tells it, as it mostly does.
+#[inline]
+fn told_type(unit: &[u8]) -> Option<SliceType>
+    ensures { IfSome result (λ told. slice_type_at unit.now ≡ Some told) }
+{
+    match unit {
+        [_, byte, ..] => type_in(*byte),
+        _ => None,
+    }
+}
+
+// The type of a slice that begins at macroblock 0, which is one bit, where the byte has its code.
+#[inline]
+fn type_in(byte: u8) -> Option<SliceType>
+    ensures { IfSome result (λ told. (header : ℕ) (more : List ℕ)
+        → slice_type_at (header ∷ byte ∷ more) ≡ Some told) }
+{
+    if byte >= 0b1100_0000 {
+        Some(SliceType::P)
+    } else if byte >= 0b1011_0000 {
+        Some(SliceType::I)
+    } else if byte >= 0b1001_1100 {
+        Some(SliceType::B)
+    } else if byte >= 0b1001_1000 {
+        Some(SliceType::P)
+    } else if byte == 0b1000_1000 {
+        Some(SliceType::I)
+    } else {
+        None
+    }
+}
+
+// The type as it is read.
+fn read_type(nal: &Nal<'_>) -> Option<SliceType>
     ensures { result ≡ slice_type_at nal.now }
 {
     let mut front = [0; TYPE_LEN];

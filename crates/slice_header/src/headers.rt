@@ -62,6 +62,7 @@ pub struct HeaderFields {
 }
 
 /// Reads the parts of a unit's header.
+#[inline(always)]
 pub fn header_fields(
     alloc: Global,
     nal: &Nal<'_>,
@@ -169,6 +170,7 @@ fn ending_part(
 }
 
 /// The header of these fields.
+#[inline(always)]
 pub fn header_from(nal: &Nal<'_>, fields: HeaderFields) -> SliceHeader
     ensures { result ≡ header_from (nal_ref_idc nal.now) (nal_unit_type nal.now) fields }
 {

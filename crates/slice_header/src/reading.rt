@@ -65,6 +65,7 @@ fn is_cut_short(answer: &Result<SliceHeader, HeaderFault>, start: &Start<'_>) ->
 }
 
 // The header from the whole payload.
+#[cold]
 fn whole(alloc: Global, nal: &Nal<'_>, sps: &Sps, pps: &Pps) -> Result<SliceHeader, HeaderFault>
     ensures { Answers result (header_at nal.now sps.now pps.now) }
 {

@@ -2,7 +2,7 @@ use Rattle.std.proofs.Common.{◌∙◌}
 use Rattle.annexb.specs.EmulationPrevention.{payload_of}
 use Rattle.slice_header.specs.Fronts.{slice_type_at}
 use Rattle.slice_header.proofs.Fronts.{type_is}
-use Rattle.slice_header.proofs.front.slice_type.Goals as goal
+use Rattle.slice_header.proofs.front.read_type.Goals as goal
 
 pub returns : goal.returns
 unfolding slice_type_at

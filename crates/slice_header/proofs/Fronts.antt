@@ -65,7 +65,7 @@ module _ {S : Type 0} {F : Type 0} (table : Table F S HeaderFault) (cuts : AllBy
         | inr all ↦ ap (λ bytes. view (table_at table (after_first bytes))) (take_all n payload all)
       ]
 
-same_value : {A : Type 0} (more : List Bool) (r : Result (A × Place) HeaderFault) → read_value (after_extended more r) ≡ read_value r
+pub same_value : {A : Type 0} (more : List Bool) (r : Result (A × Place) HeaderFault) → read_value (after_extended more r) ≡ read_value r
 same_value more (Ok x) = refl
 same_value more (Err e) = refl
 

@@ -17,7 +17,7 @@ use Rattle.slice_header.proofs.Fronts.{cut_is, same_type}
 use Rattle.slice_header.specs.Fronts.{slice_type_at, type_of}
 
 -- no byte of the first two is left out, where the second isn't 0
-payload_begins : (header byte : ℕ) (more : List ℕ) → 1 ≤ byte → payload_of (header ∷ byte ∷ more) ≡ header ∷ byte ∷ payload_of more
+pub payload_begins : (header byte : ℕ) (more : List ℕ) → 1 ≤ byte → payload_of (header ∷ byte ∷ more) ≡ header ∷ byte ∷ payload_of more
 payload_begins zero (suc b) more some = refl
 payload_begins (suc h) (suc b) more some = refl
 payload_begins header zero more some = absurd (omega (arith, some))
@@ -82,10 +82,10 @@ i7 : (more : List Bool) → read (true ∷ false ∷ false ∷ false ∷ true �
 i7 more = read_more (true ∷ false ∷ false ∷ false ∷ true ∷ false ∷ false ∷ false ∷ []) more I read_i7
 
 -- a bit of a byte
-one : (byte k : ℕ) → byte / 2 ^ k % 2 ≡ 1 → bit_of byte k ≡ true
+pub one : (byte k : ℕ) → byte / 2 ^ k % 2 ≡ 1 → bit_of byte k ≡ true
 one byte k is = ap (λ n. n == 1) is
 
-nought : (byte k : ℕ) → byte / 2 ^ k % 2 ≡ 0 → bit_of byte k ≡ false
+pub nought : (byte k : ℕ) → byte / 2 ^ k % 2 ≡ 0 → bit_of byte k ≡ false
 nought byte k is = ap (λ n. n == 1) is
 
 pub told_p0 : (byte : ℕ) → 192 ≤ byte → byte < 256 → (header : ℕ) (more : List ℕ) → slice_type_at (header ∷ byte ∷ more) ≡ Some P

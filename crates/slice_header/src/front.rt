@@ -1,6 +1,6 @@
 //! The front of a slice header, which is read without parameter sets.
 
-ghost use Rattle.std.specs.Prelude.{◌≡◌, ◌≤◌, ◌+◌, ◌∷◌, ℕ, List, Some, IfErr, IfOk, IfSome};
+ghost use Rattle.std.specs.Prelude.{◌≡◌, ◌≤◌, ◌+◌, ◌∷◌, ℕ, List, Some, Ok, IfErr, IfOk, IfSome};
 ghost use Rattle.std.specs.Result.{result_ok};
 ghost use Rattle.expgolomb.specs.Ranges.{any, at_most};
 ghost use Rattle.expgolomb.specs.Answer.{Reads};
@@ -41,6 +41,68 @@ pub fn peek(nal: &Nal<'_>) -> Result<HeaderFront, HeaderFault>
 
 /// Reads them from the start of the unit, as `peek` does.
 pub fn peek_start(start: &Start<'_>) -> Result<HeaderFront, HeaderFault>
+    ensures { result ≡ front_at start.now }
+{
+    match told_front(start.nal().bytes()) {
+        Some(front) => Ok(front),
+        None => read_front(start),
+    }
+}
+
+// The first fields, where the byte after the unit's first tells them, as it mostly does.
+#[inline]
+fn told_front(unit: &[u8]) -> Option<HeaderFront>
+    ensures { IfSome result (λ told. front_at unit.now ≡ Ok told) }
+{
+    match unit {
+        [_, byte, ..] => front_in(*byte),
+        _ => None,
+    }
+}
+
+// The fields where the byte has their codes: macroblock 0, the type, and parameter set 0.
+#[inline]
+fn front_in(byte: u8) -> Option<HeaderFront>
+    ensures { IfSome result (λ told. (header : ℕ) (more : List ℕ)
+        → front_at (header ∷ byte ∷ more) ≡ Ok told) }
+{
+    match type_between_zeros(byte) {
+        Some(slice_type) => Some(HeaderFront {
+            first_mb_in_slice: 0,
+            slice_type,
+            pic_parameter_set_id: 0,
+        }),
+        None => None,
+    }
+}
+
+// The type where a 1 stands before its code and after it, each of them the code of 0.
+#[inline]
+fn type_between_zeros(byte: u8) -> Option<SliceType>
+    ensures { IfSome result (λ told. (header : ℕ) (more : List ℕ)
+        → front_at (header ∷ byte ∷ more) ≡ Ok (record {
+          first_mb_in_slice = 0;
+          slice_type = told;
+          pic_parameter_set_id = 0;
+        })) }
+{
+    if byte >= 0b1110_0000 {
+        Some(SliceType::P)
+    } else if byte / 8 == 0b10111 {
+        Some(SliceType::I)
+    } else if byte / 8 == 0b10101 {
+        Some(SliceType::B)
+    } else if byte / 2 == 0b100_1111 {
+        Some(SliceType::B)
+    } else if byte / 2 == 0b100_1101 {
+        Some(SliceType::P)
+    } else {
+        None
+    }
+}
+
+// The first fields as they are read.
+fn read_front(start: &Start<'_>) -> Result<HeaderFront, HeaderFault>
     ensures { result ≡ front_at start.now }
 {
     front_of(start.bytes())

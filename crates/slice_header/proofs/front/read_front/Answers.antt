@@ -2,7 +2,7 @@ use Rattle.std.proofs.Common.{◌∙◌}
 use Rattle.annexb.specs.EmulationPrevention.{payload_of}
 use Rattle.slice_header.specs.Fronts.{front_at}
 use Rattle.slice_header.proofs.Fronts.{front_is}
-use Rattle.slice_header.proofs.front.peek_start.Goals as goal
+use Rattle.slice_header.proofs.front.read_front.Goals as goal
 
 pub returns : goal.returns
 unfolding front_at

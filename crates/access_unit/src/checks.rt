@@ -6,7 +6,7 @@ ghost use Rattle.access_unit.specs.Stored.{refusal_in};
 
 use crate::refused::Refused;
 use crate::shared_nal::SharedNal;
-use annexb::Nal;
+use annexb::{Nal, precedes_slices};
 use slice_header::slice_type;
 use slice_header_types::SliceType;
 
@@ -32,7 +32,7 @@ pub(crate) fn check_order(slices: &[SharedNal], nal: &Nal<'_>) -> Result<(), Ref
 {
     if nal.is_slice() {
         check_slice(slices, nal)
-    } else if matches!(nal.nal_unit_type(), 6..=9 | 14..=18) && !slices.is_empty() {
+    } else if precedes_slices(nal.nal_unit_type()) && !slices.is_empty() {
         Err(Refused::UnitOrder)
     } else {
         Ok(())

@@ -4,12 +4,12 @@ ghost use Rattle.annexb.specs.ByteStream.{HasUnits, start_code};
 ghost use Rattle.access_unit.specs.Coded.{HasRest};
 
 use crate::shared_nal::SharedNal;
-use annexb::Nal;
+use annexb::{Nal, START_CODE};
 use bytes::Bytes;
 use std::alloc::{AllocError, Global};
 
 /// How many bytes a start code has.
-pub(crate) const START_CODE_LEN: usize = 3;
+pub(crate) const START_CODE_LEN: usize = START_CODE.len();
 
 /// The NAL unit that is the next of the text, which then goes on after it. No byte is copied.
 pub(crate) fn cut_next(text: &mut Bytes, nal: &Nal<'_>) -> Result<SharedNal, AllocError>

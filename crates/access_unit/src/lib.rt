@@ -30,4 +30,4 @@ pub use refused::Refused;
 pub use room::{MOST_UNITS, ReadFault, Refusal, read_units};
 pub use shared_nal::SharedNal;
 pub use stream::{StreamRefused, gather, read_shared_stream, read_stream};
-pub use unit::{Unit, read_shared, read_unit};
+pub use unit::{MOST_BYTES, Unit, read_shared, read_unit};

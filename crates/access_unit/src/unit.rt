@@ -22,7 +22,7 @@ use std::alloc::{AllocError, Global};
 use std::marker::Model;
 
 /// How many bytes the text of an access unit has at most.
-pub(crate) const MOST_BYTES: usize = 4_194_304;
+pub const MOST_BYTES: usize = 4_194_304;
 
 /// An access unit that shows no refusal: its NAL units, with the slices and the parameter sets
 /// among them. It owns their bytes once. Clauses see the bytes of the NAL units.

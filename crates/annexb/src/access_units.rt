@@ -2,6 +2,7 @@
 ghost use Rattle.std.specs.Prelude.{◌≡◌, ◌&&◌, ℕ, ◌<◌, ◌≤◌, List, length, All, IfOk};
 ghost use Rattle.annexb.specs.AccessUnits.{IsCut, AreConsecutive, parts_at, begins_access_unit};
 
+use crate::headers::begins_access_unit;
 use crate::nal_unit::Nal;
 use std::alloc::{AllocError, Global};
 use std::ops::Range;
@@ -38,5 +39,5 @@ pub fn cut_units(alloc: Global, nals: &[Nal<'_>]) -> Result<Vec<Range<usize>>, A
 fn has_boundary(has_slice: bool, nal: &Nal<'_>) -> bool
     ensures { result ≡ (has_slice && begins_access_unit nal.now) }
 {
-    has_slice && (matches!(nal.nal_unit_type(), 6..=9 | 14..=18) || nal.begins_at_macroblock_zero())
+    has_slice && begins_access_unit(nal.bytes())
 }

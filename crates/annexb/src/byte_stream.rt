@@ -11,7 +11,7 @@ use crate::search::{first_unit, unit_at};
 use std::alloc::{AllocError, Global};
 
 /// What stands before each unit.
-const START_CODE: [u8; 3] = [0, 0, 1];
+pub const START_CODE: [u8; 3] = [0, 0, 1];
 
 /// The units of the text, or its first fault. Memory is the answer only for a text that has units:
 /// where a growth is refused, the rest of the text is still looked through.

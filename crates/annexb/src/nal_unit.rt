@@ -2,6 +2,7 @@
 ghost use Rattle.std.specs.Prelude.{◌≡◌, ℕ, List};
 ghost use Rattle.annexb.specs.NalUnit.{IsUnit, header_of, forbidden_zero_bit, nal_ref_idc, nal_unit_type, is_slice, begins_at_macroblock_zero};
 
+use crate::headers;
 use std::marker::Model;
 
 /// The bytes of a NAL unit, header included and start code left out, where they lie in a text.
@@ -60,20 +61,20 @@ impl<'a> Nal<'a> {
     pub fn nal_unit_type(&self) -> u8
         ensures { result ≡ nal_unit_type self.now }
     {
-        self.header() % 32
+        headers::nal_unit_type(self.bytes())
     }
 
     /// Whether the unit is a coded slice without data partitioning: of type 1 or 5.
     pub fn is_slice(&self) -> bool
         ensures { result ≡ is_slice self.now }
     {
-        matches!(self.nal_unit_type(), 1 | 5)
+        headers::is_slice(self.bytes())
     }
 
     /// Whether the unit is a slice whose first_mb_in_slice is 0. A slice of one byte isn't.
     pub fn begins_at_macroblock_zero(&self) -> bool
         ensures { result ≡ begins_at_macroblock_zero self.now }
     {
-        self.is_slice() && self.bytes().len() > 1 && self.bytes()[1] >= 128
+        headers::begins_at_macroblock_zero(self.bytes())
     }
 }

@@ -8,11 +8,12 @@ use crate::fault::SplitFault;
 use crate::nal_unit::Nal;
 use memchr::memmem;
 
-/// A unit, and the place after the next start code, if there's one.
+/// A unit, and the place after the next start code, if there's one. Zeros before that start code,
+/// or before the end, are no part of the unit.
 #[derive(Drop)]
-pub(crate) struct Found<'a> {
-    pub(crate) nal: Nal<'a>,
-    pub(crate) next: Option<usize>,
+pub struct Found<'a> {
+    pub nal: Nal<'a>,
+    pub next: Option<usize>,
 }
 
 /// How many bytes a unit has, and the place after the next start code, if there's one.
@@ -35,8 +36,9 @@ enum Run {
     Forbidden,
 }
 
-/// The place after the start code that the text begins with, after zeros.
-pub(crate) fn first_unit(text: &[u8]) -> Option<usize>
+/// The place after the start code that the text begins with, after zeros or none. Where other bytes
+/// stand before the first start code there is none.
+pub fn first_unit(text: &[u8]) -> Option<usize>
     ensures { IsFirstUnit text.now result }
 {
     let zeros = zero_run(text);
@@ -46,8 +48,9 @@ pub(crate) fn first_unit(text: &[u8]) -> Option<usize>
     }
 }
 
-/// The unit that begins at a place after a start code.
-pub(crate) fn unit_at(text: &[u8], at: usize) -> Result<Found<'_>, SplitFault>
+/// The unit that begins at a place after a start code, or the text's first fault from there on. The
+/// walk along a text goes on from the place that it gives.
+pub fn unit_at(text: &[u8], at: usize) -> Result<Found<'_>, SplitFault>
     requires { FollowsStartCode text.now at }
     ensures ok { IfOk result (λ found. IsFoundAt text.now at found.nal found.next) }
     ensures err { IfErr result (IsFaultFrom text.now at) }

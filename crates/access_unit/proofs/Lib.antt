@@ -6,6 +6,7 @@ pub mod Progress
 pub mod Lengths
 pub mod LoneSlices
 pub mod Texts
+pub mod UnitsAt
 pub mod StreamParts
 pub mod Trailing
 mod PartsAlone

@@ -1,6 +1,7 @@
 pub mod Names
 pub mod Numbers
 pub mod Coded
+pub mod Places
 pub mod Sets
 pub mod Refusals
 pub mod Answers

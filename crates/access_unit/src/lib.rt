@@ -16,6 +16,7 @@ mod lone;
 mod parameter_sets;
 mod parts;
 mod placed;
+mod places;
 mod reading;
 mod refused;
 mod room;
@@ -25,6 +26,7 @@ mod unit;
 
 pub use laws::one_answer;
 pub use parameter_sets::ParameterSet;
+pub use places::read_split;
 pub use reading::read_alone;
 pub use refused::Refused;
 pub use room::{MOST_UNITS, ReadFault, Refusal, read_units};

@@ -146,7 +146,11 @@ fn final_list(
 {
     let active = usize::from(num_ref_idx_active_minus1.get()) + 1;
     let list = cut(initial, active);
-    modified(list, commands.as_slice(), frames, sps, frame_num)
+    let commands = commands.as_slice();
+    if commands.is_empty() {
+        return Ok(list);
+    }
+    modified(list, commands, frames, sps, frame_num)
 }
 
 fn counts_with(pic_order_cnt: i32, frames: &[Frame]) -> ArrayVec<i32, 17>

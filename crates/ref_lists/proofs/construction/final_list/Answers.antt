@@ -10,4 +10,4 @@ pub returns : goal.returns
 returns c =
     let active = c.args.num_ref_idx_active_minus1 + 1 in
     let list : c.cut-list.result ≡ cut (c.args.num_ref_idx_active_minus1 + 1) c.args.initial.now = search rules in
-    rw (c.modified.ensures, list, length-cut active c.args.initial.now, c.as_slice.ensures) refl
+    rw (c.modified.ensures, list, length-cut active c.args.initial.now, c.as_slice-commands.ensures) refl

@@ -1,11 +1,14 @@
 -- Which numbers have a picture that is held.
-use Rattle.std.proofs.Common.{◌≡◌, refl, sym, subst, ℕ, zero, suc, ◌+◌, ◌<◌, List, [], ◌∷◌, Option, None, Some, inl, inr, arith}
+use Rattle.std.proofs.Common.{◌≡◌, refl, sym, subst, ℕ, zero, suc, ◌+◌, ◌<◌, Bool, true, false, IsTrue, List, [], ◌∷◌, Option, None, Some, ◌↔◌, inl, inr, arith}
 use Rattle.std.specs.Prelude.{Contains}
 use Rattle.std.specs.List.{cons_option}
 use Rattle.key_slots.specs.declared.places.Slot.{Slot}
-use Rattle.key_slots.specs.Places.{place_of, place_at, number_held, held_from, numbers_held}
+use Rattle.key_slots.specs.Places.{is_awaited, is_held, place_of, place_at, number_held, held_from, numbers_held}
 use Rattle.key_slots.specs.Going.{AreAbove, AreRising}
 use Rattle.key_slots.proofs.Members.{here, there, nowhere, first_or_among}
+
+not_true : false ≡ true → ⊥
+not_true same = cc
 
 module _ {P : Type 0} where
   -- a slot of these has the number, counted from one on, and a picture
@@ -52,6 +55,24 @@ module _ {P : Type 0} where
 
   none_some : (picture : P) → ◌≡◌ {A = Option (Option P)} None (Some (Some picture)) → ⊥
   none_some picture same = cc
+
+  empty_some : (picture : P) → ◌≡◌ {A = Option (Option P)} (Some None) (Some (Some picture)) → ⊥
+  empty_some picture same = cc
+
+  none_empty : ◌≡◌ {A = Option (Option P)} None (Some None) → ⊥
+  none_empty same = cc
+
+  -- what is told of a place: that a picture is held there
+  pub held_told : (place : Option (Option P)) → IsTrue (is_held place) ↔ ((picture : P) × (place ≡ Some (Some picture)))
+  held_told None = (λ yes. absurd (not_true yes), λ held. absurd (none_some held.0 held.1))
+  held_told (Some None) = (λ yes. absurd (not_true yes), λ held. absurd (empty_some held.0 held.1))
+  held_told (Some (Some picture)) = (λ yes. (picture, refl), λ held. refl)
+
+  -- and that one is awaited
+  pub awaited_told : (place : Option (Option P)) → IsTrue (is_awaited place) ↔ (place ≡ Some None)
+  awaited_told None = (λ yes. absurd (not_true yes), λ is. absurd (none_empty is))
+  awaited_told (Some None) = (λ yes. refl, λ is. refl)
+  awaited_told (Some (Some picture)) = (λ yes. absurd (not_true yes), λ is. absurd (empty_some picture (sym is)))
 
   held_there : (from : ℕ) (places : List (Slot P)) (k : ℕ) (picture : P) → place_at places k ≡ Some (Some picture)
       → Contains (held_from from places) (from + k)

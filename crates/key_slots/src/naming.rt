@@ -20,7 +20,7 @@ use unit_outcomes::Outcome;
 pub fn is_held(places: &Places<Picture>, key: KeyId) -> bool
     ensures { IsTrue result ↔ IsHeld places.now key }
 {
-    matches!(places.get(key), Some(Some(_)))
+    places.is_held(key)
 }
 
 /// Adds the ids that the lists of a unit with this key have, of units whose pictures aren't held.

@@ -2,7 +2,7 @@
 
 ghost use Rattle.std.specs.Prelude.{◌≡◌, ◌+◌, ◌^◌, ◌==◌, ◌<◌, ◌≤◌, ℕ, [], length, if◌then◌else◌, Some, None, OnOk};
 ghost use Rattle.std.specs.List.{slice_set};
-ghost use Rattle.key_slots.specs.Places.{AreSame, is_held, numbers_held, place_at, place_of, slot_at, taken_up, uses_at};
+ghost use Rattle.key_slots.specs.Places.{AreSame, is_awaited, is_held, numbers_held, place_at, place_of, slot_at, taken_up, uses_at};
 
 use dep_keys::KeyId;
 use std::alloc::{AllocError, Global};
@@ -21,6 +21,13 @@ impl<P> Slot<P> {
         ensures { result ≡ is_held (place_of self.now) }
     {
         self.uses > 0 && self.picture.is_some()
+    }
+
+    /// Whether units use the key, and its picture isn't held.
+    fn is_awaited(&self) -> bool
+        ensures { result ≡ is_awaited (place_of self.now) }
+    {
+        self.uses > 0 && self.picture.is_none()
     }
 }
 
@@ -60,6 +67,26 @@ impl<P: Copy + Drop> Places<P> {
             None
         } else {
             Some(slot.picture)
+        }
+    }
+
+    /// Whether a key is in use and its picture held. The picture isn't copied.
+    pub fn is_held(&self, key: KeyId) -> bool
+        ensures { result ≡ is_held (place_at self.now key) }
+    {
+        match self.slots.get(key.number() as usize) {
+            Some(slot) => slot.is_held(),
+            None => false,
+        }
+    }
+
+    /// Whether a key is in use and its picture isn't held.
+    pub fn is_awaited(&self, key: KeyId) -> bool
+        ensures { result ≡ is_awaited (place_at self.now key) }
+    {
+        match self.slots.get(key.number() as usize) {
+            Some(slot) => slot.is_awaited(),
+            None => false,
         }
     }
 

@@ -33,13 +33,13 @@ pub drop_past : (piece rest : List ℕ) (at : ℕ) → drop (length piece + at) 
 drop_past piece rest at = sym (drop-drop at (length piece) (piece ++ rest)) ∙ ap (drop at) (drop_at piece rest (length piece) refl)
 
 -- a unit with its start code and the zeros after it
-abbrev piece_of : List ℕ → ℕ → List ℕ
+abbrev pub piece_of : List ℕ → ℕ → List ℕ
 piece_of unit zeros = start_code ++ (unit ++ replicate zeros 0)
 
-piece_whole : (unit rest : List ℕ) (zeros : ℕ) → start_code ++ (unit ++ (replicate zeros 0 ++ rest)) ≡ piece_of unit zeros ++ rest
+pub piece_whole : (unit rest : List ℕ) (zeros : ℕ) → start_code ++ (unit ++ (replicate zeros 0 ++ rest)) ≡ piece_of unit zeros ++ rest
 piece_whole unit rest zeros = ap (λ l. start_code ++ l) (sym (append_assoc unit (replicate zeros 0) rest))
 
-length-piece : (unit : List ℕ) (zeros : ℕ) → length (piece_of unit zeros) ≡ 3 + (length unit + zeros)
+pub length-piece : (unit : List ℕ) (zeros : ℕ) → length (piece_of unit zeros) ≡ 3 + (length unit + zeros)
 length-piece unit zeros = omega (arith, length-append unit (replicate zeros 0), length-replicate {A = ℕ} zeros 0)
 
 -- how far the text goes from a start code on: not at all, where a boundary stands there, or past its unit
@@ -52,7 +52,7 @@ module _ (has_slice : Bool) (unit rest : List ℕ) (zeros : ℕ) (is_unit : IsUn
       let begins = same_begins (replicate zeros 0 ++ rest) (FollowsUnit-zeros rest ends zeros) unit is_unit.filled in
       rw (begins, there) refl
 
-  goes_on : (has_slice && begins_access_unit unit) ≡ false
+  pub goes_on : (has_slice && begins_access_unit unit) ≡ false
       → front_len has_slice (start_code ++ (unit ++ (replicate zeros 0 ++ rest)))
       ≡ length (piece_of unit zeros) + front_len (has_slice || is_slice unit) rest
   goes_on none =

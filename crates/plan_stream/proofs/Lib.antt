@@ -1,6 +1,7 @@
 pub mod Lengths
 pub mod Needles
 pub mod Cuts
+pub mod Walks
 pub mod Ranges
 pub mod Texts
 pub mod FrontTexts

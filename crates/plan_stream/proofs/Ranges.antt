@@ -8,8 +8,9 @@ use borrow.Rule.Slice.PartMut.{put_mid, post_of}
 use lib.Seq.{take-add}
 use Rattle.plan_stream.specs.declared.window.Window.{Window}
 use Rattle.plan_stream.specs.Fronts.{front_len}
-use Rattle.plan_stream.specs.Windows.{HasLeft, Shows, front_of, held_by}
+use Rattle.plan_stream.specs.Windows.{HasLeft, IsWalkedAlong, Shows, front_of, held_by}
 use Rattle.plan_stream.proofs.Lengths.{same_some}
+use Rattle.plan_stream.proofs.Walks.{walked-longer}
 
 -- bytes past the end are added
 pub grown : (xs ys : List ℕ) (start end k n : ℕ) → start ≤ end → end ≤ length xs → n ≤ length ys
@@ -41,12 +42,6 @@ parted xs start cut end ordered held =
     ap (λ n. take n (drop start xs)) sum ∙ take-add (cut - start) (end - cut) (drop start xs)
     ∙ ap (λ l. take (cut - start) (drop start xs) ++ take (end - cut) l) (drop-drop (cut - start) start xs ∙ ap (λ n. drop n xs) there)
 
--- more bytes after the list change nothing within it
-pub longer : (xs more : List ℕ) (start end : ℕ) → start ≤ end → end ≤ length xs → slice_range (xs ++ more) start end ≡ slice_range xs start end
-longer xs more start end ordered within =
-    ap (take (end - start)) (drop-append-le start xs more (omega arith))
-    ∙ take-append-le (end - start) (drop start xs) more (omega (arith, length-drop start xs))
-
 -- what was read is held, and what stays is left
 pub left-read : (held : List ℕ) (old new : Option (List ℕ)) (more left : List ℕ) → Consumes old new more
     → prepend_known held old ≡ Some left → prepend_known (held ++ more) new ≡ Some left
@@ -73,6 +68,10 @@ pub HasLeft-kept : (old new : Window) (known after : Option (List ℕ)) (left : 
     → HasLeft old known left → HasLeft new after left
 HasLeft-kept old new known after left held keeps over has =
     record { left_is = rw held (left-kept (held_by old) known after left keeps has.left_is); over = λ is. absurd (false≢true (sym over ∙ is)) }
+
+pub walked-read : (old new : Window) (more : List ℕ) → held_by new ≡ held_by old ++ more → new.walk ≡ old.walk → IsWalkedAlong old → IsWalkedAlong new
+walked-read old new more held same walked =
+    rw (held, same) (walked-longer (held_by old) more old.walk.places.items old.walk.next old.walk.has_slice walked)
 
 -- and one that holds the same
 pub HasLeft-same : (old new : Window) (known : Option (List ℕ)) (left : List ℕ)

@@ -1,4 +1,5 @@
 pub mod Seen
+pub mod Walks
 pub mod Fronts
 pub mod Windows
 pub mod Readings

@@ -3,6 +3,7 @@ use Rattle.std.specs.Prelude.{◌≡◌, ℕ, nat_lt, Bool, true, List, length, 
 use Rattle.std.specs.Io.KnownBytes.{IsAtEnd, prepend_known}
 use Rattle.plan_stream.specs.declared.window.Window.{Window}
 use Rattle.plan_stream.specs.Fronts.{IsFront}
+use Rattle.plan_stream.specs.Walks.{IsWalked}
 
 -- the text of the access unit that the window shows
 abbrev pub front_of : Window → List ℕ
@@ -11,6 +12,10 @@ front_of window = slice_range window.buffer.items window.start window.cut
 -- the bytes after it that were read
 abbrev pub held_by : Window → List ℕ
 held_by window = slice_range window.buffer.items window.cut window.end
+
+-- the window's walk has come so far along the bytes after it
+abbrev pub IsWalkedAlong : Window → Type 0
+IsWalkedAlong window = IsWalked (held_by window) window.walk
 
 -- after what the window shows these bytes are left, in it and then in its reader, whose bytes are known
 pub record HasLeft (window : Window) (known : Option (List ℕ)) (left : List ℕ) : Type 0 where

@@ -9,15 +9,17 @@ ghost use Rattle.plan_stream.specs.Readings.{IsFrontReadAs, IsFrontRefused};
 ghost use Rattle.plan_stream.specs.Folds.{IsFoldOf, IsFoldOfStream};
 ghost use Rattle.plan_stream.specs.Gathering.{ComesTo, IsGathered};
 ghost use Rattle.plan_stream.specs.RefusalWith.{refusal_with};
+ghost use Rattle.plan_stream.specs.Walks.{AreKnown};
 
 use crate::folded::Folded;
-use crate::reading::{MOST_BYTES, read_held};
+use crate::reading::read_held;
 use crate::room::Room;
 use crate::{Window, read_front};
-use access_unit::{MOST_UNITS, Refusal, Refused, Unit};
+use access_unit::{MOST_BYTES, MOST_UNITS, Refusal, Refused, Unit};
 use console_io::InputFault;
 use std::alloc::{AllocError, Global};
 use std::io::Read;
+use std::ops::Range;
 
 /// What a stream comes to so far.
 #[derive(Drop)]
@@ -38,11 +40,11 @@ pub(crate) fn gather<R: Read>(alloc: Global, reader: &mut R) -> Result<Gathered,
     let mut gathered = Gathered::new(alloc)?;
     let mut room = Room::new(alloc);
     'units: for turn in 0..u64::MAX {
-        let is_some = window.next(reader)?;
+        let is_some = window.next_split(reader)?;
         if !is_some {
             return Ok(gathered);
         }
-        gathered.add(alloc, &mut room, window.text())?;
+        gathered.add(alloc, &mut room, window.text(), window.places())?;
     }
     Err(InputFault::Memory)
 }
@@ -60,7 +62,14 @@ impl Gathered {
     }
 
     /// Takes the text of the next access unit, which is read where there is room for it.
-    fn add(&mut self, alloc: Global, room: &mut Room, front: &[u8]) -> Result<(), AllocError>
+    fn add(
+        &mut self,
+        alloc: Global,
+        room: &mut Room,
+        front: &[u8],
+        places: &[Range<usize>],
+    ) -> Result<(), AllocError>
+        requires { AreKnown front.now places.now }
         ensures { (text left rest : List ℕ) → 0 < length left → IsFront left front.now rest
             → IsGathered text left self.old → OnOk result (IsGathered text rest self.new) }
     {
@@ -68,7 +77,7 @@ impl Gathered {
             return self.take(alloc, read_front(alloc, front));
         }
         let held = room.hold(alloc, front)?;
-        let taken = self.take(alloc, read_held(alloc, &held));
+        let taken = self.take(alloc, read_held(alloc, &held, places));
         room.take_back(held);
         taken
     }

@@ -19,6 +19,7 @@ mod reading;
 mod room;
 mod shown;
 mod tails;
+mod walk;
 mod window;
 
 pub use fault::{PlanFault, say_plan_fault};

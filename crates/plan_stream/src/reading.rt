@@ -3,14 +3,13 @@
 ghost use Rattle.std.specs.Prelude.{◌≤◌, length};
 ghost use Rattle.access_unit.specs.Refusals.{most_bytes};
 ghost use Rattle.plan_stream.specs.Readings.{IsFrontReadAs};
+ghost use Rattle.plan_stream.specs.Walks.{AreKnown};
 
-use access_unit::{Refused, Unit, read_shared, read_unit};
+use access_unit::{MOST_BYTES, Refused, Unit, read_shared, read_split, read_unit};
 use annexb::{SplitFault, join, split};
 use bytes::Bytes;
 use std::alloc::Global;
-
-/// How many bytes the text of an access unit has at most, without the zeros between its NAL units.
-pub(crate) const MOST_BYTES: usize = 4_194_304;
+use std::ops::Range;
 
 /// The access unit of the NAL units that the text has, or their refusal; `Split` only where it has
 /// none. Zeros after NAL units don't count for its length.
@@ -24,12 +23,22 @@ pub fn read_front(alloc: Global, text: &[u8]) -> Result<Unit, Refused>
     }
 }
 
-/// What `read_front` answers for the text, which the access unit shares.
-pub(crate) fn read_held(alloc: Global, text: &Bytes) -> Result<Unit, Refused>
-    requires { length text.now ≤ most_bytes }
+/// What `read_front` answers for the text, which the access unit shares; where the places of its
+/// NAL units are known, none is searched again.
+pub(crate) fn read_held(
+    alloc: Global,
+    text: &Bytes,
+    places: &[Range<usize>],
+) -> Result<Unit, Refused>
+    requires short { length text.now ≤ most_bytes }
+    requires known { AreKnown text.now places.now }
     ensures { IsFrontReadAs text.now result }
 {
-    read_shared(alloc, text)
+    if places.is_empty() {
+        read_shared(alloc, text)
+    } else {
+        read_split(alloc, text, places)
+    }
 }
 
 /// The access unit of a text that is too long as it is.

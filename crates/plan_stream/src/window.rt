@@ -1,13 +1,14 @@
 //! The window: bytes that were read and are still needed, and room for more.
 
-ghost use Rattle.std.specs.Prelude.{◌≡◌, ◌+◌, ◌<◌, ◌≤◌, ◌++◌, ℕ, List, [], false, true, length, slice_range, IfOk, OnOk, OnErr, vec_len};
+ghost use Rattle.std.specs.Prelude.{◌≡◌, ◌+◌, ◌<◌, ◌≤◌, ◌++◌, ℕ, List, [], None, false, true, length, slice_range, IfOk, IfSome, OnOk, OnErr, vec_len};
 ghost use Rattle.std.specs.Io.KnownBytes.{Consumes, IsAtEnd, Keeps};
 
-use crate::front::front_len;
+use crate::walk::Walk;
 use console_io::InputFault;
 use std::alloc::{AllocError, Global};
 use std::io;
 use std::io::{ErrorKind, Read};
+use std::ops::Range;
 
 /// How many bytes a window holds at first.
 const SIZE: usize = 256 * 1024;
@@ -25,13 +26,16 @@ pub struct Window {
     end: usize,
     /// Whether the reader has no more.
     is_over: bool,
+    /// Along the NAL units of the access unit that is shown, or of the next one where none is.
+    walk: Walk,
     ghost ordered: { start ≤ cut },
     ghost held: { cut ≤ end },
     ghost within: { end ≤ vec_len buffer },
 }
 
 impl Window {
-    ghost use Rattle.plan_stream.specs.Windows.{HasLeft, Shows, front_of, held_by};
+    ghost use Rattle.plan_stream.specs.Walks.{AreKnown, IsEnd};
+    ghost use Rattle.plan_stream.specs.Windows.{HasLeft, IsWalkedAlong, Shows, front_of, held_by};
 
     /// A window over a reader of which nothing is read.
     pub fn new(alloc: Global) -> Result<Window, AllocError>
@@ -44,6 +48,7 @@ impl Window {
             cut: 0,
             end: 0,
             is_over: false,
+            walk: Walk::new(alloc),
         })
     }
 
@@ -52,6 +57,13 @@ impl Window {
         ensures { result.now ≡ front_of self.now }
     {
         &self.buffer[self.start..self.cut]
+    }
+
+    /// Where the NAL units stand in it, where that is known: after `next_split`.
+    pub(crate) fn places(&self) -> &[Range<usize>]
+        ensures { result.now ≡ self.now.walk.places.items }
+    {
+        self.walk.places()
     }
 
     /// The bytes after it that were read.
@@ -69,15 +81,40 @@ impl Window {
         ensures { (left : List ℕ) → HasLeft self.old (R.remaining reader.old) left
             → IfOk result (λ is_some. Shows left is_some self.new (R.remaining reader.new)) }
     {
+        self.next_split(reader)
+    }
+
+    /// What `next` does; then it's known where the NAL units stand in the text.
+    pub(crate) fn next_split<R: Read>(&mut self, reader: &mut R) -> Result<bool, InputFault>
+        ensures shown { (left : List ℕ) → HasLeft self.old (R.remaining reader.old) left
+            → IfOk result (λ is_some. Shows left is_some self.new (R.remaining reader.new)) }
+        ensures known { OnOk result (AreKnown (front_of self.new) self.new.walk.places.items) }
+    {
         self.start = self.cut;
+        self.walk.clear();
         'turns: for turn in 0..u64::MAX {
-            if let Some(len) = front_len(self.held(), self.is_over) {
+            if let Some(len) = self.front_len() {
                 self.show(len);
                 return Ok(len > 0);
             }
             self.read_more(reader)?;
         }
         Err(InputFault::Memory)
+    }
+
+    /// How many bytes the next access unit has, where nothing is shown and that is certain.
+    fn front_len(&mut self) -> Option<usize>
+        requires none { self.old.start ≡ self.old.cut }
+        requires walked { IsWalkedAlong self.old }
+        ensures none { self.new.start ≡ self.new.cut }
+        ensures held { held_by self.new ≡ held_by self.old }
+        ensures over { self.new.is_over ≡ self.old.is_over }
+        ensures end { IfSome result
+            (IsEnd (held_by self.new) self.new.is_over self.new.walk.places.items) }
+        ensures walked { result ≡ None → IsWalkedAlong self.new }
+    {
+        self.walk
+            .front_len(&self.buffer[self.cut..self.end], self.is_over)
     }
 
     /// Shows so many of the bytes that were read.
@@ -87,6 +124,7 @@ impl Window {
         ensures parts { held_by self.old ≡ front_of self.new ++ held_by self.new }
         ensures len { length (front_of self.new) ≡ len }
         ensures over { self.new.is_over ≡ self.old.is_over }
+        ensures walk { self.new.walk ≡ self.old.walk }
     {
         self.cut += len;
     }
@@ -94,8 +132,10 @@ impl Window {
     /// Reads more of the text of an access unit that is longer than what was read, where nothing is
     /// shown.
     fn read_more<R: Read>(&mut self, reader: &mut R) -> Result<(), InputFault>
-        requires { self.old.start ≡ self.old.cut }
+        requires none { self.old.start ≡ self.old.cut }
+        requires walked { IsWalkedAlong self.old }
         ensures none { OnOk result (self.new.start ≡ self.new.cut) }
+        ensures walked { OnOk result (IsWalkedAlong self.new) }
         ensures left { (left : List ℕ) → HasLeft self.old (R.remaining reader.old) left
             → OnOk result (HasLeft self.new (R.remaining reader.new) left) }
     {
@@ -110,6 +150,7 @@ impl Window {
         ensures none { self.new.start ≡ self.new.cut }
         ensures held { held_by self.new ≡ held_by self.old }
         ensures over { self.new.is_over ≡ self.old.is_over }
+        ensures walk { self.new.walk ≡ self.old.walk }
     {
         let (start, end) = (self.cut, self.end);
         self.buffer.copy_within(start..end, 0);
@@ -125,6 +166,7 @@ impl Window {
         ensures none { self.new.start ≡ self.new.cut }
         ensures held { held_by self.new ≡ held_by self.old }
         ensures over { self.new.is_over ≡ self.old.is_over }
+        ensures walk { self.new.walk ≡ self.old.walk }
     {
         let len = self.buffer.len();
         if self.end < len {
@@ -138,10 +180,12 @@ impl Window {
 
     /// Reads until the buffer is full, or the reader has no more.
     fn fill<R: Read>(&mut self, reader: &mut R) -> Result<(), InputFault>
-        requires { self.old.start ≡ self.old.cut }
+        requires none { self.old.start ≡ self.old.cut }
+        requires walked { IsWalkedAlong self.old }
         ensures filled { OnOk result
             (self.new.is_over ≡ false → self.new.end ≡ vec_len self.new.buffer) }
         ensures none { self.new.start ≡ self.new.cut }
+        ensures walked { IsWalkedAlong self.new }
         ensures left { (left : List ℕ) → HasLeft self.old (R.remaining reader.old) left
             → HasLeft self.new (R.remaining reader.new) left }
     {
@@ -159,7 +203,9 @@ impl Window {
         requires none { self.old.start ≡ self.old.cut }
         requires room { self.old.end < vec_len self.old.buffer }
         requires more { self.old.is_over ≡ false }
+        requires walked { IsWalkedAlong self.old }
         ensures none { self.new.start ≡ self.new.cut }
+        ensures walked { IsWalkedAlong self.new }
         ensures left { (left : List ℕ) → HasLeft self.old (R.remaining reader.old) left
             → HasLeft self.new (R.remaining reader.new) left }
     {
@@ -191,6 +237,7 @@ impl Window {
         requires room { self.old.end < vec_len self.old.buffer }
         ensures none { self.new.start ≡ self.new.cut }
         ensures over { self.new.is_over ≡ self.old.is_over }
+        ensures walk { self.new.walk ≡ self.old.walk }
         ensures ok { IfOk result (λ count. (more : List ℕ) × (held_by self.new ≡ held_by self.old ++ more)
             × Consumes (R.remaining reader.old) (R.remaining reader.new) more) }
         ensures end { IfOk result (λ count. count ≡ 0 → IsAtEnd (R.remaining reader.new)) }

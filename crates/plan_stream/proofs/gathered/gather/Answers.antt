@@ -7,9 +7,12 @@ units-init g c =
 
 pub returns-then-not-is_some : goal.returns-then-not-is_some
 returns-then-not-is_some g c =
-    goes-last _ _ _ c.units.window _ c.units.gathered c.in_ok-is_some.is_some c.if-not-is_some.true c.in_ok-is_some.ensures c.units.invariant
+    goes-last _ _ _ c.units.window _ c.units.gathered c.in_ok-is_some.is_some c.if-not-is_some.true c.in_ok-is_some.ensures.shown c.units.invariant
 
 pub units-preserved : goal.units-preserved
 units-preserved g c =
-    goes-more _ _ _ c.units.window c.next.new.self c.units.gathered _ c.in_ok-is_some.is_some c.if-not-is_some.false c.in_ok-is_some.ensures
+    goes-more _ _ _ c.units.window c.next_split.new.self c.units.gathered _ c.in_ok-is_some.is_some c.if-not-is_some.false c.in_ok-is_some.ensures.shown
     (rw c.text.ensures at c.in_ok-add.ensures) c.units.invariant
+
+pub add-requires : goal.add-requires
+add-requires g c = rw (c.text.ensures, c.places.ensures) c.in_ok-is_some.ensures.known

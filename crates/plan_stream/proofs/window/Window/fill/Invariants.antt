@@ -1,9 +1,10 @@
 use Rattle.std.proofs.Common.{◌≡◌, ℕ, List}
-use Rattle.plan_stream.specs.Windows.{HasLeft}
+use Rattle.plan_stream.specs.Windows.{HasLeft, IsWalkedAlong}
 use Rattle.plan_stream.proofs.window.Window.fill.Given as goal
 
 abbrev pub invariant-reads : goal.invariant-reads
 invariant-reads g l = record {
   none : l.self.start ≡ l.self.cut;
+  walked : IsWalkedAlong l.self;
   left : (left : List ℕ) → HasLeft l.fn.self (g.R.Read.remaining l.fn.reader) left → HasLeft l.self (g.R.Read.remaining l.reader) left;
 }

@@ -26,5 +26,8 @@ pub mod Entering
 pub mod Between
 pub mod Queues
 pub mod Scheduling
+pub mod Earlier
+pub mod Looked
+pub mod Lowered
 pub mod TakenFor
 pub mod Same

@@ -77,7 +77,7 @@ module _ (keys : Trees) (ids : List ℕ) (outcomes : List Outcome) (found : List
   used_same number = (used_placed number, λ is. ap is_some (placed_used number is))
 
   -- a picture that is held now was held or cached
-  held_before : (number : ℕ) (picture : Picture) → place_at more_places number ≡ Some (Some picture)
+  pub held_before : (number : ℕ) (picture : Picture) → place_at more_places number ≡ Some (Some picture)
       → (place_at places number ≡ Some (Some picture)) ⊎ Contains cached (number, picture)
   held_before number picture is =
       let used : Contains more_found (Some number) = used_placed number (ap is_some is) in

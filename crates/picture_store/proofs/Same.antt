@@ -10,6 +10,7 @@ use Rattle.picture_store.specs.declared.schedule.Schedule.{Schedule}
 use Rattle.picture_store.specs.Places.{PlacesValue}
 use Rattle.picture_store.specs.Kept.{Trees, IsKept, KeepsStored, keys_for}
 use Rattle.picture_store.specs.Settled.{NeedsNone, AreSettled, IsStored}
+use Rattle.picture_store.proofs.Looked.{looked_same, looked_stays}
 use Rattle.picture_store.proofs.Viewed.{viewed}
 use Rattle.picture_store.proofs.Stays.{kept_stays, viewed_stays}
 use Rattle.picture_store.proofs.Settled.{settled_stay}
@@ -47,20 +48,24 @@ module _ (places grown : PlacesValue) (same : AreSame places grown) where
       settled_stay places grown out out found count (λ number among needs. needs_same out number needs) are
 
 module _ (keys more : Trees) (ids : List ℕ) (outcomes : List Outcome) (found : List (Option ℕ)) (places grown : PlacesValue)
-    (cached : List (ℕ × Picture)) (out : List JobOut) (count : ℕ) (schedule : Option Schedule)
-    (stored : IsStored keys ids outcomes found places cached out count schedule) (stay : KeepsStored found cached out keys more)
+    (cached : List (ℕ × Picture)) (out : List JobOut) (count passed : ℕ) (schedule : Option Schedule)
+    (stored : IsStored keys ids outcomes found places cached out count passed schedule) (stay : KeepsStored found cached out keys more)
     (one : IsKeyMap more) (same : AreSame places grown) where
   pub kept_still : IsKept more ids outcomes found grown cached out
   kept_still =
       kept_same places grown same more ids outcomes found cached out
       (kept_stays keys more ids outcomes found places cached out stored.kept stay one)
 
-  pub stored_still : IsStored more ids outcomes found grown cached out count None
+  pub stored_still : IsStored more ids outcomes found grown cached out count passed None
   stored_still = record {
     kept = kept_still;
     counted = λ number. ap (λ slot. slot.uses) (same.slots number) ∙ stored.counted number;
     apart = λ number used. stored.apart number (subst (λ n. 0 < n) (ap (λ slot. slot.uses) (same.slots number)) used);
     settled = settled_same places grown same out found count stored.settled;
+    looked =
+        looked_same places grown same more out found passed
+        (looked_stays keys more ids outcomes found places cached out stored.kept stay passed stored.looked);
+    behind = stored.behind;
     scheduled = tt;
   }
 

@@ -70,7 +70,7 @@ scheduled_left keys units found places out target dependents queue after ordered
 }
 
 -- a key that is due though a job more is out was due
-due_given : (keys : Trees) (places : PlacesValue) (out more : List JobOut)
+pub due_given : (keys : Trees) (places : PlacesValue) (out more : List JobOut)
     → ((number : ℕ) → Contains (numbers_out out) number → Contains (numbers_out more) number)
     → (number : ℕ) → IsDueNumber keys places more number → IsDueNumber keys places out number
 due_given keys places out more stay number due = record {
@@ -92,7 +92,7 @@ scheduled_given keys units found places out job more is schedule are =
     (Contains-append_left (numbers_out out) (numbers_out (job ∷ [])) number among)))) are
 
 -- nor does one become due where a job of a key goes that doesn't wait for its picture
-due_stale : (keys : Trees) (places : PlacesValue) (out : List JobOut) (at : ℕ) (other : JobOut)
+pub due_stale : (keys : Trees) (places : PlacesValue) (out : List JobOut) (at : ℕ) (other : JobOut)
     → other ≡ slice_index_or out at other → (place_at places other.key ≡ Some None → ⊥) → (number : ℕ)
     → IsDueNumber keys places (remove out at) number → IsDueNumber keys places out number
 due_stale keys places out at other stands not number due = record {
@@ -159,12 +159,12 @@ module _ (keys : Trees) (ids : List ℕ) (outcomes : List Outcome) (found : List
       (subst (IsReady (keys_for keys (numbers_held places))) same ready) name.0 entry in
       waits.2 (key_held keys places kept.right waits.0 name.0 name.2 held)
 
-  -- the picture of a key lands, whose references' pictures are held
+  -- the picture of a key lands
   module _ (at : ℕ) (other : JobOut) (stands : other ≡ slice_index_or out at other) (picture : Picture) (more : PlacesValue)
       (awaited : place_at places other.key ≡ Some None)
       (put : (number : ℕ) → place_at more number
       ≡ (if other.key == number then Some (Some picture) else place_at places number))
-      (key : Key) (tree : tree_at keys other.key ≡ Some key) (ready : IsReady (keys_for keys (numbers_held places)) key) where
+      (key : Key) (tree : tree_at keys other.key ≡ Some key) where
     put_cases : (b : Bool) (number : ℕ) (shown : Option Picture) → b ≡ (other.key == number)
         → (if b then Some (Some picture) else place_at places number) ≡ Some shown
         → ((other.key ≡ number) × (shown ≡ Some picture)) ⊎ (place_at places number ≡ Some shown)
@@ -199,28 +199,6 @@ module _ (keys : Trees) (ids : List ℕ) (outcomes : List Outcome) (found : List
     needed_before target place needed =
         needed_more units (IsWaiting found more) (IsWaiting found places) target waits_before place needed
 
-    -- a needed unit that names one that waits still waits itself
-    names_waits : (place next : ℕ) → IsWaiting found places place → Names units place next → IsWaiting found places next
-        → IsWaiting found more place
-    names_waits place next waits names next_waits = (
-      waits.0,
-      waits.1,
-      λ held. elim (held_before waits.0 held) [
-        | inl same ↦
-            ready_names place waits.0 key waits.1 (subst (λ n. tree_at keys n ≡ Some key) same tree) ready next names next_waits
-        | inr was ↦ waits.2 was
-      ],
-    )
-
-    -- what was needed and waits still is needed still
-    needed_stays : (target place : ℕ) → IsNeededHere units found places target place → IsWaiting found more place
-        → IsNeededHere units found more target place
-    needed_stays target place (itself waits) now = itself now
-    needed_stays target place (named above below needed names waits) now =
-        named above below
-        (needed_stays target above needed
-        (names_waits above below (needed_waits units (IsWaiting found places) target above needed) names waits)) names now
-
     awaited_before : (number : ℕ) → place_at more number ≡ Some None → place_at places number ≡ Some None
     awaited_before number is = elim (place_then number None is) [
       | inl new ↦ absurd (let wrong = new.1 in cc)
@@ -249,7 +227,7 @@ module _ (keys : Trees) (ids : List ℕ) (outcomes : List Outcome) (found : List
         ]
 
     -- a unit that is due then was due, or refers to the key
-    due_or : (place : ℕ) → IsDueThere keys more (remove out at) found place
+    pub due_or : (place : ℕ) → IsDueThere keys more (remove out at) found place
         → IsDueThere keys places out found place ⊎ RefersTo keys found place other.key
     due_or place (number, is, due) =
         elim (ready_split (keys_for keys (numbers_held places)) (keys_for keys (numbers_held more)) key held_then due.key due.ready) [
@@ -275,28 +253,52 @@ module _ (keys : Trees) (ids : List ℕ) (outcomes : List Outcome) (found : List
           })
         ]
 
-    -- so a schedule goes on with the units that become due, or nothing is left of it
-    scheduled_on : (old new : Option Schedule) → IsScheduled keys units found places out old
-        → GoesOn keys more (remove out at) found other.key old new → IsScheduled keys units found more (remove out at) new
-    scheduled_on old None are goes = tt
-    scheduled_on None (Some new) are goes = absurd goes
-    scheduled_on (Some old) (Some new) are goes = rw (goes.0, goes.1) (record {
-      by_entry = are.by_entry;
-      ordered = goes.2.ordered are.ordered;
-      due = λ place needed due. elim (due_or place due) [
-        | inl was ↦ goes.2.stay place (are.due place (needed_before old.target place needed) was)
-        | inr refers ↦
-            goes.2.all place (are.listed place other.key (needed_before old.target place needed) refers
-            (λ held. let both = sym held.1 ∙ awaited in cc)) due
-      ];
-      queued = λ place is waits. needed_stays old.target place (elim (goes.2.only place is) [
-        | inl was ↦ are.queued place was (waits_before place waits)
-        | inr new ↦ are.those place other.key new (waits_before place waits)
-      ]) waits;
-      listed = λ place entry needed refers not.
-          are.listed place entry (needed_before old.target place needed) refers (λ held. not (held_still entry held));
-      those = λ place entry is waits. needed_stays old.target place (are.those place entry is (waits_before place waits)) waits;
-    })
+    -- whose references' pictures are held
+    module _ (ready : IsReady (keys_for keys (numbers_held places)) key) where
+      -- a needed unit that names one that waits still waits itself
+      names_waits : (place next : ℕ) → IsWaiting found places place → Names units place next → IsWaiting found places next
+          → IsWaiting found more place
+      names_waits place next waits names next_waits = (
+        waits.0,
+        waits.1,
+        λ held. elim (held_before waits.0 held) [
+          | inl same ↦
+              ready_names place waits.0 key waits.1 (subst (λ n. tree_at keys n ≡ Some key) same tree) ready next names next_waits
+          | inr was ↦ waits.2 was
+        ],
+      )
+
+      -- what was needed and waits still is needed still
+      needed_stays : (target place : ℕ) → IsNeededHere units found places target place → IsWaiting found more place
+          → IsNeededHere units found more target place
+      needed_stays target place (itself waits) now = itself now
+      needed_stays target place (named above below needed names waits) now =
+          named above below
+          (needed_stays target above needed
+          (names_waits above below (needed_waits units (IsWaiting found places) target above needed) names waits)) names now
+
+      -- so a schedule goes on with the units that become due, or nothing is left of it
+      scheduled_on : (old new : Option Schedule) → IsScheduled keys units found places out old
+          → GoesOn keys more (remove out at) found other.key old new → IsScheduled keys units found more (remove out at) new
+      scheduled_on old None are goes = tt
+      scheduled_on None (Some new) are goes = absurd goes
+      scheduled_on (Some old) (Some new) are goes = rw (goes.0, goes.1) (record {
+        by_entry = are.by_entry;
+        ordered = goes.2.ordered are.ordered;
+        due = λ place needed due. elim (due_or place due) [
+          | inl was ↦ goes.2.stay place (are.due place (needed_before old.target place needed) was)
+          | inr refers ↦
+              goes.2.all place (are.listed place other.key (needed_before old.target place needed) refers
+              (λ held. let both = sym held.1 ∙ awaited in cc)) due
+        ];
+        queued = λ place is waits. needed_stays old.target place (elim (goes.2.only place is) [
+          | inl was ↦ are.queued place was (waits_before place waits)
+          | inr new ↦ are.those place other.key new (waits_before place waits)
+        ]) waits;
+        listed = λ place entry needed refers not.
+            are.listed place entry (needed_before old.target place needed) refers (λ held. not (held_still entry held));
+        those = λ place entry is waits. needed_stays old.target place (are.those place entry is (waits_before place waits)) waits;
+      })
 
   -- what is left of a schedule where the references' pictures aren't held
   scheduled_if : (kept_one : Option Schedule) (old : Option Schedule) (number : ℕ) → IsScheduled keys units found places out old

@@ -184,13 +184,13 @@ module _ (keys : Trees) (ids : List ℕ) (outcomes : List Outcome) (found : List
 
     -- the job of the unit is given
     pub given_job : (outcome : Outcome) → unit.0.1 ≡ outcome
-        → (input : InputValue) → IsInputOf known outcome input → (next : ℕ) → next ≡ given + 1
-        → (more : List JobOut) → more ≡ out ++ (record { number = next; key = number; input = input }) ∷ []
+        → (input : InputValue) → IsInputOf known outcome input → (next from : ℕ) → next ≡ given + 1
+        → (more : List JobOut) → more ≡ out ++ (record { number = next; key = number; input = input; from = from }) ∷ []
         → Gives (viewed keys ids outcomes found places cached room out given) at (record { number = next; input = input })
         (viewed keys ids outcomes found places cached room more next)
-    given_job (Faulty fault) same input made next next_is more more_is = absurd made
-    given_job Empty same input made next next_is more more_is = absurd made
-    given_job (Planned plan) same input made next next_is more more_is =
+    given_job (Faulty fault) same input made next from next_is more more_is = absurd made
+    given_job Empty same input made next from next_is more more_is = absurd made
+    given_job (Planned plan) same input made next from next_is more more_is =
         let tree : tree_at keys number ≡ Some (key_of known plan.requests) =
         tree_is ∙ ap (key_of_outcome known) same in
         let key_same : key_for keys number ≡ key_of known plan.requests =
@@ -211,7 +211,7 @@ module _ (keys : Trees) (ids : List ℕ) (outcomes : List Outcome) (found : List
           new_is =
               ap (λ (jobs : List OutValue). record (viewed keys ids outcomes found places cached room out given) { out = jobs; given = next })
               (ap (jobs_for keys) more_is
-              ∙ map-append (seen keys) out ((record { number = next; key = number; input = input }) ∷ [])
+              ∙ map-append (seen keys) out ((record { number = next; key = number; input = input; from = from }) ∷ [])
               ∙ ap (λ (key : Key). jobs_for keys out ++ (record { number = next; key = key; input = input }) ∷ []) key_same);
         }
 
@@ -248,11 +248,12 @@ module _ (keys : Trees) (ids : List ℕ) (outcomes : List Outcome) (found : List
 
     -- what is stored then
     pub kept_taken : (outcome : Outcome) → unit.0.1 ≡ outcome → (input : InputValue) → IsInputOf known outcome input
-        → (next : ℕ) (more : List JobOut) → more ≡ out ++ (record { number = next; key = number; input = input }) ∷ []
+        → (next from : ℕ) (more : List JobOut)
+        → more ≡ out ++ (record { number = next; key = number; input = input; from = from }) ∷ []
         → IsKept keys ids outcomes found places cached more
-    kept_taken (Faulty fault) same input made next more more_is = absurd made
-    kept_taken Empty same input made next more more_is = absurd made
-    kept_taken (Planned plan) same input made next more more_is =
+    kept_taken (Faulty fault) same input made next from more more_is = absurd made
+    kept_taken Empty same input made next from more more_is = absurd made
+    kept_taken (Planned plan) same input made next from more more_is =
         let tree : tree_at keys number ≡ Some (key_of known plan.requests) =
         tree_is ∙ ap (key_of_outcome known) same in
         let right : IsRight keys number (picture_of input) = (
@@ -268,7 +269,7 @@ module _ (keys : Trees) (ids : List ℕ) (outcomes : List Outcome) (found : List
           decodable = kept.decodable;
           used = kept.used;
           stored = kept.stored;
-          jobs = All-push (IsJobRight keys) out (record { number = next; key = number; input = input }) kept.jobs right;
+          jobs = All-push (IsJobRight keys) out (record { number = next; key = number; input = input; from = from }) kept.jobs right;
         })
 
     -- the unit's outcome is what is stored at its place

@@ -9,6 +9,7 @@ pub mod Naming
 pub mod Filling
 pub mod Due
 pub mod Schedules
+pub mod Looked
 pub mod Settled
 pub mod Stretches
 pub mod Needs

@@ -1,4 +1,4 @@
--- How many units, from the first on, need no job.
+-- How many units, from the first on, need no job, and what is stored.
 use Rattle.std.specs.Prelude.{◌≡◌, ℕ, ◌<◌, ◌≤◌, List, ◌⊎◌, length, take, All, Contains, Option, IfSome}
 use Rattle.std.specs.List.{zip}
 use Rattle.std.specs.Map.{keys_of as numbers_of}
@@ -11,6 +11,7 @@ use Rattle.picture_store.specs.declared.schedule.Schedule.{Schedule}
 use Rattle.picture_store.specs.Places.{PlacesValue}
 use Rattle.picture_store.specs.Kept.{Trees, numbers_out, IsKept}
 use Rattle.picture_store.specs.Due.{IsHeld}
+use Rattle.picture_store.specs.Looked.{AreNotDue, IsBehind}
 use Rattle.picture_store.specs.Schedules.{IsScheduled}
 
 -- the unit of this number needs no job: it has no key, or the picture of its key is held or that of
@@ -23,12 +24,14 @@ abbrev pub AreSettled : PlacesValue → List JobOut → List (Option ℕ) → �
 AreSettled places out found count = (count ≤ length found) × All (NeedsNone places out) (take count found)
 
 -- what is stored: what is kept of the stream, where each place counts the units that use its key
--- and no key in use is cached; how many units are known to need no job; and the schedule of the
--- units that one needs
+-- and no key in use is cached; how many units are known to need no job, and how many not to be due;
+-- no unit before a job's place has its key; and the schedule of the units that one needs
 pub record IsStored (keys : Trees) (ids : List ℕ) (outcomes : List Outcome) (found : List (Option ℕ))
-    (places : PlacesValue) (cached : List (ℕ × Picture)) (out : List JobOut) (count : ℕ) (schedule : Option Schedule) : Type 0 where
+    (places : PlacesValue) (cached : List (ℕ × Picture)) (out : List JobOut) (count passed : ℕ) (schedule : Option Schedule) : Type 0 where
   pub kept : IsKept keys ids outcomes found places cached out
   pub counted : (number : ℕ) → uses_at places number ≡ times number found
   pub apart : (number : ℕ) → 0 < uses_at places number → Contains (numbers_of cached) number → ⊥
   pub settled : AreSettled places out found count
+  pub looked : AreNotDue keys places out found passed
+  pub behind : All (IsBehind found) out
   pub scheduled : IsScheduled keys (zip ids outcomes) found places out schedule

@@ -5,6 +5,7 @@ ghost use Rattle.std.specs.Prelude.{◌≡◌, ◌<◌, ◌↔◌, ℕ, Option, 
 ghost use Rattle.picture_store.specs.Kept.{AreRight};
 ghost use Rattle.key_slots.specs.Places.{place_at};
 ghost use Rattle.picture_store.specs.Due.{AreHeld, IsDueNumber, IsNotDue, IsReadyNumber};
+ghost use Rattle.picture_store.specs.Looked.{AreNotDue};
 ghost use Rattle.picture_store.specs.Settled.{AreSettled, NeedsNone};
 
 use crate::job_out::{JobOut, is_out};
@@ -41,16 +42,16 @@ fn needs_none(places: &Places<Picture>, out: &[JobOut], key: Option<KeyId>) -> b
     }
 }
 
-/// The place of the first unit whose key is due, where those before one are known to need no job.
+/// The place of the first unit whose key is due, from one on before which none is known to be.
 pub(crate) fn first_due<F: Fingerprint<Works>>(
     keys: &Keys<Works, F>,
     places: &Places<Picture>,
     out: &[JobOut],
     found: &[Option<KeyId>],
-    settled: usize,
+    from: usize,
 ) -> Option<usize>
     requires right { AreRight keys.now places.now }
-    requires settled { AreSettled places.now out.now found.now settled }
+    requires before { AreNotDue keys.now places.now out.now found.now from }
     ensures { MatchOption result (All (IsNotDue keys.now places.now out.now) found.now)
         (λ at. (at < length found.now)
         × ((other : Option ℕ)
@@ -58,7 +59,7 @@ pub(crate) fn first_due<F: Fingerprint<Works>>(
         × All (IsNotDue keys.now places.now out.now) (take at found.now)
         × ((other : Option ℕ) → IsSome (slice_index_or found.now at other))) }
 {
-    for at in settled..found.len() {
+    for at in from..found.len() {
         if has_due(keys, places, out, found[at]) {
             return Some(at);
         }
@@ -122,10 +123,7 @@ fn is_due<F: Fingerprint<Works>>(
     requires { AreRight keys.now places.now }
     ensures { IsTrue result ↔ IsDueNumber keys.now places.now out.now key }
 {
-    let Some(node) = keys.node(key) else {
-        return false;
-    };
-    is_awaited(places, key) && !is_out(out, key) && are_held(places, node.entries())
+    is_awaited(places, key) && is_ready(keys, places, key) && !is_out(out, key)
 }
 
 /// Whether the pictures to which a key refers are held.
@@ -135,7 +133,7 @@ pub(crate) fn is_ready<F: Fingerprint<Works>>(
     key: KeyId,
 ) -> bool
     requires { AreRight keys.now places.now }
-    ensures { IsTrue result → IsReadyNumber keys.now places.now key }
+    ensures { IsTrue result ↔ IsReadyNumber keys.now places.now key }
 {
     match keys.node(key) {
         Some(node) => are_held(places, node.entries()),
@@ -147,7 +145,7 @@ pub(crate) fn is_ready<F: Fingerprint<Works>>(
 pub(crate) fn is_awaited(places: &Places<Picture>, key: KeyId) -> bool
     ensures { IsTrue result ↔ (place_at places.now key ≡ Some None) }
 {
-    matches!(places.get(key), Some(None))
+    places.is_awaited(key)
 }
 
 /// Whether the pictures of the keys at these entries are held.

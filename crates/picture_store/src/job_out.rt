@@ -3,16 +3,19 @@
 ghost use Rattle.std.specs.Prelude.{◌≡◌, ◌<◌, ◌==◌, ◌↔◌, length, map, All, Contains, IsTrue, MatchOption, slice_index_or};
 ghost use Rattle.picture_store.specs.declared.job_out.JobOut.{JobOut as Out};
 ghost use Rattle.picture_store.specs.Kept.{numbers_out};
+ghost use Rattle.picture_store.specs.Looked.{lowered};
 
 use dep_keys::KeyId;
 use stand_in_device::Input;
 
-/// A job that is out: its number, the number of its key, and what it was given to decode.
+/// A job that is out: its number, the number of its key, what it was given to decode, and a place
+/// before which no unit has the key.
 #[derive(Debug)]
 pub(crate) struct JobOut {
     pub(crate) number: u64,
     pub(crate) key: KeyId,
     pub(crate) input: Input,
+    pub(crate) from: usize,
 }
 
 // By hand, so that whoever drops one is proved over one call.
@@ -22,6 +25,7 @@ impl Drop for JobOut {
             number: _,
             key: _,
             input: _,
+            from: _,
         } = self;
     }
 }
@@ -51,4 +55,20 @@ pub(crate) fn place_of(jobs: &[JobOut], number: u64, input: &Input) -> Option<us
         }
     }
     None
+}
+
+/// Moves the places of jobs down to one, from which on units have other keys than before.
+pub(crate) fn lower_all(jobs: &mut Vec<JobOut>, from: usize)
+    ensures { jobs.new.items ≡ map (lowered from) jobs.old.items }
+{
+    lower_each(jobs, from);
+}
+
+/// Moves each of these places so.
+fn lower_each(jobs: &mut [JobOut], from: usize)
+    ensures { jobs.new ≡ map (lowered from) jobs.old }
+{
+    for job in jobs.iter_mut() {
+        job.from = job.from.min(from);
+    }
 }

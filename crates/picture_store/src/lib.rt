@@ -12,6 +12,7 @@
 
 mod answers;
 mod due;
+mod filling;
 mod inputs;
 mod job_out;
 mod laws;

@@ -7,8 +7,6 @@ ghost use Rattle.picture_keys.specs.Decodable.{AllCanDecode};
 ghost use Rattle.picture_store.specs.Stores.{empty, AreNumbered, AreOneToOne, IsNumberInUse};
 ghost use Rattle.picture_store.specs.Changes.{Refits};
 ghost use Rattle.picture_store.specs.Jobs.{AnswersGiveBack, AnswersLand, TellsTake};
-ghost use Rattle.key_slots.specs.Places.{uses_at};
-ghost use Rattle.picture_store.specs.Filling.{IsFilled};
 ghost use Rattle.picture_store.specs.Showing.{IsNumberAt, IsPictureAt};
 ghost use Rattle.picture_store.specs.Needs.{TellNeeds};
 ghost use Rattle.picture_store.specs.Pending.{IsAnyOutBy, IsDueAt, IsPending};
@@ -18,9 +16,10 @@ ghost use Rattle.picture_store.specs.Stretches.{IsStretch, ids_with, outcomes_wi
 mod counts;
 
 use crate::answers::{JobAt, Landing, Returning};
-use crate::due::{first_due, first_to_do, is_awaited};
+use crate::due::{first_due, first_to_do};
+use crate::filling::{fill, looked_after};
 use crate::inputs::input_of;
-use crate::job_out::{JobOut, place_of};
+use crate::job_out::{JobOut, lower_all, place_of};
 use crate::recounting::{make_ready, recount};
 use crate::refitting::{keys_from, make_room, sweep_at};
 use crate::refusals::TakeRefused;
@@ -57,6 +56,8 @@ pub struct PictureStore {
     given: u64,
     // How many units, from the first on, are known to need no job.
     settled: usize,
+    // How many units, from the first on, are known not to be due.
+    looked: usize,
     // That of the last `take_for`, where only jobs were given and results landed since.
     schedule: Option<Schedule>,
 }
@@ -76,6 +77,7 @@ impl Drop for PictureStore {
             out: _,
             given: _,
             settled: _,
+            looked: _,
             schedule: _,
         } = self;
     }
@@ -108,7 +110,7 @@ impl Model for PictureStore {
     } };
 
     ghost invariant = { λ s. IsStored s.keys s.ids.items s.outcomes.items s.found.items s.places s.cache.pairs s.out.items
-        s.settled s.schedule };
+        s.settled s.looked s.schedule };
 }
 
 impl PictureStore {
@@ -130,6 +132,7 @@ impl PictureStore {
             out: Vec::new(alloc),
             given: 0,
             settled: 0,
+            looked: 0,
             schedule: None,
         })
     }
@@ -206,6 +209,8 @@ impl PictureStore {
         replace_range(&mut self.outcomes, from, to, outcomes);
         replace_range(&mut self.found, from, past, later);
         self.settled = self.settled.min(from);
+        self.looked = self.looked.min(from);
+        lower_all(&mut self.out, from);
         Ok(())
     }
 
@@ -263,10 +268,13 @@ impl PictureStore {
     {
         let settled = first_to_do(&self.places, &self.out, &self.found, self.settled);
         self.settled = settled;
-        let due = first_due(&self.keys, &self.places, &self.out, &self.found, settled);
+        let from = settled.max(self.looked);
+        let due = first_due(&self.keys, &self.places, &self.out, &self.found, from);
         let Some(at) = due else {
+            self.looked = self.found.len();
             return Ok(None);
         };
+        self.looked = at;
         let Some(key) = self.found[at] else {
             return Ok(None);
         };
@@ -319,6 +327,7 @@ impl PictureStore {
             number,
             key,
             input: given,
+            from: self.looked,
         });
         self.given = number;
         let job = Job::new(number, input);
@@ -336,6 +345,7 @@ impl PictureStore {
         let job = self.out.remove(at);
         let schedule = if_ready(&self.keys, &self.places, job.key, self.schedule.take());
         let landing = fill(&mut self.places, job.key, picture);
+        self.looked = looked_after(self.looked, landing, job.from);
         self.schedule = after_landing(
             &self.keys,
             &self.places,
@@ -357,6 +367,7 @@ impl PictureStore {
             Some(at) => {
                 drop(self.out.remove(at));
                 self.settled = 0;
+                self.looked = 0;
                 self.schedule = None;
                 Returning::Returned
             }
@@ -378,6 +389,7 @@ impl PictureStore {
         }
         self.places.empty(key);
         self.settled = 0;
+        self.looked = 0;
         self.schedule = None;
         true
     }
@@ -388,16 +400,4 @@ impl PictureStore {
     {
         self.cache.clear();
     }
-}
-
-/// Puts the picture of a result into the place of its key, where that waits for one.
-fn fill(places: &mut Places<Picture>, key: KeyId, picture: Picture) -> Landing
-    ensures filled { IsFilled places.old key picture result places.new }
-    ensures uses { (number : ℕ) → uses_at places.new number ≡ uses_at places.old number }
-{
-    if !is_awaited(places, key) {
-        return Landing::Stale;
-    }
-    places.fill(key, picture);
-    Landing::Taken
 }

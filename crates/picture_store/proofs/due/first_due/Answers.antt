@@ -2,14 +2,7 @@ use Rattle.std.proofs.Common.{subst, All, arith}
 use Rattle.std.proofs.lemmas.List.{take_all}
 use Rattle.std.proofs.lemmas.List.Elements.{All-more}
 use Rattle.picture_store.specs.Due.{IsNotDue}
-use Rattle.picture_store.proofs.Settled.{none_due_before}
 use Rattle.picture_store.proofs.due.first_due.Goals as goal
-
-pub loop-at-init : goal.loop-at-init
-loop-at-init g c = (
-  c.requires.settled.0,
-  none_due_before c.args.keys.now c.args.places.now c.args.out.now c.args.found.now c.args.settled c.requires.settled,
-)
 
 pub loop-at-preserved : goal.loop-at-preserved
 loop-at-preserved g c =

@@ -1,16 +1,29 @@
-use Rattle.std.proofs.Common.{subst}
+use Rattle.std.proofs.Common.{◌≡◌, sym, subst, ◌∙◌}
+use Rattle.std.proofs.lemmas.Option.{same_Some}
 use Rattle.dep_keys.specs.KeyMaps.{tree_of}
 use Rattle.picture_store.specs.Due.{AreHeld}
-use Rattle.picture_store.proofs.Ready.{is_ready}
+use Rattle.picture_store.specs.Kept.{keys_for}
+use Rattle.picture_store.specs.Stores.{IsReady}
+use Rattle.key_slots.specs.Places.{numbers_held}
+use Rattle.picture_store.proofs.Ready.{is_ready, are_held}
 use Rattle.picture_store.proofs.due.is_ready.Goals as goal
 
 pub returns-in-Some : goal.returns-in-Some
 returns-in-Some g c =
     let keys = c.args.keys.now in
     let places = c.args.places.now in
-    let node = c.in-Some.node.now in λ yes. (
-      tree_of keys node,
-      c.in-Some.ensures.tree,
-      is_ready keys places c.requires node.work node.entries c.in-Some.ensures.live
-          (subst (λ entries. AreHeld places entries) c.entries.ensures (c.are_held.ensures.0 yes)),
+    let node = c.in-Some.node.now in
+    let is_node = c.in-Some.ensures in (
+      λ yes. (
+        tree_of keys node,
+        is_node.tree,
+        is_ready keys places c.requires node.work node.entries is_node.live
+            (subst (λ entries. AreHeld places entries) c.entries.ensures (c.are_held.ensures.0 yes)),
+      ),
+      λ ready.
+          let same : ready.0 ≡ tree_of keys node = same_Some ready.0 (tree_of keys node) (sym ready.1 ∙ is_node.tree) in
+          c.are_held.ensures.1
+          (subst (λ entries. AreHeld places entries) (sym c.entries.ensures)
+          (are_held keys places c.requires node.work node.entries is_node.live
+          (subst (λ key. IsReady (keys_for keys (numbers_held places)) key) same ready.2))),
     )

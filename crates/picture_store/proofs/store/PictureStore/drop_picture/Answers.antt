@@ -4,6 +4,7 @@ use Rattle.std.proofs.lemmas.Option.{slice_get_read}
 use Rattle.key_slots.proofs.Slots.{used_some}
 use Rattle.picture_store.proofs.Emptied.{kept_emptied, held_emptied}
 use Rattle.picture_store.proofs.Landed.{found_length}
+use Rattle.picture_store.proofs.Looked.{none_looked}
 use Rattle.picture_store.proofs.Pended.{held_key_at, no_key, not_held}
 use Rattle.picture_store.proofs.Settled.{none_settled}
 use Rattle.picture_store.proofs.store.PictureStore.drop_picture.Goals as goal
@@ -81,5 +82,7 @@ invariant_of-self c =
       counted = λ number. c.empty.ensures.uses number ∙ c.self.invariant.counted number;
       apart = λ number used. c.self.invariant.apart number (subst (λ n. 0 < n) (c.empty.ensures.uses number) used);
       settled = none_settled c.empty.new.self s.out.items s.found.items;
+      looked = none_looked s.keys c.empty.new.self s.out.items s.found.items;
+      behind = c.self.invariant.behind;
       scheduled = tt;
     }

@@ -2,6 +2,7 @@ use Rattle.std.proofs.Common.{◌≡◌, refl, sym, ◌∙◌, Some, ◌∷◌, 
 use Rattle.std.specs.List.{zip}
 use Rattle.std.proofs.lemmas.Option.{get_or_from_slice_get, slice_get_within}
 use Rattle.picture_store.proofs.Landed.{found_length}
+use Rattle.picture_store.proofs.Looked.{behind_more, looked_more}
 use Rattle.picture_store.proofs.Pended.{due_number}
 use Rattle.picture_store.proofs.Scheduling.{scheduled_given}
 use Rattle.picture_store.proofs.Settled.{settled_more}
@@ -77,22 +78,30 @@ invariant_of-self-2 c =
     c.self.invariant.kept c.args.at within c.args.key is due) (has_known s.keys s.ids.items s.outcomes.items s.found.items s.places s.cache.pairs s.cache.capacity s.out.items s.given
     c.self.invariant.kept c.args.at within c.args.key is due c.index-outcome.result.now same) in
     let more : c.push_reserved.new.self.items
-    ≡ s.out.items ++ (record { number = c.in-Some.number; key = c.args.key; input = c.in_ok-input.input }) ∷ [] =
+    ≡ s.out.items ++ (record { number = c.in-Some.number; key = c.args.key; input = c.in_ok-input.input; from = s.looked }) ∷ [] =
     c.push_reserved.ensures.items
     ∙ rw (c.reserve.ensures.items, c.in_ok-given.ensures) refl in
     record {
       kept =
           kept_taken s.keys s.ids.items s.outcomes.items s.found.items s.places s.cache.pairs s.cache.capacity s.out.items s.given
-          c.self.invariant.kept c.args.at within c.args.key is due c.index-outcome.result.now same c.in_ok-input.input made c.in-Some.number
+          c.self.invariant.kept c.args.at within c.args.key is due c.index-outcome.result.now same c.in_ok-input.input made c.in-Some.number s.looked
           c.push_reserved.new.self.items more;
       counted = c.self.invariant.counted;
       apart = c.self.invariant.apart;
       settled =
-          settled_more s.places s.out.items (record { number = c.in-Some.number; key = c.args.key; input = c.in_ok-input.input })
+          settled_more s.places s.out.items (record { number = c.in-Some.number; key = c.args.key; input = c.in_ok-input.input; from = s.looked })
           c.push_reserved.new.self.items s.found.items s.settled more c.self.invariant.settled;
+      looked =
+          looked_more s.keys s.places s.out.items s.found.items
+          (record { number = c.in-Some.number; key = c.args.key; input = c.in_ok-input.input; from = s.looked })
+          c.push_reserved.new.self.items more s.looked c.self.invariant.looked;
+      behind =
+          behind_more s.keys s.places s.out.items s.found.items s.looked c.self.invariant.looked
+          (record { number = c.in-Some.number; key = c.args.key; input = c.in_ok-input.input; from = s.looked })
+          c.push_reserved.new.self.items more refl due c.self.invariant.behind;
       scheduled =
           scheduled_given s.keys (zip s.ids.items s.outcomes.items) s.found.items s.places s.out.items
-          (record { number = c.in-Some.number; key = c.args.key; input = c.in_ok-input.input }) c.push_reserved.new.self.items more
+          (record { number = c.in-Some.number; key = c.args.key; input = c.in_ok-input.input; from = s.looked }) c.push_reserved.new.self.items more
           s.schedule c.self.invariant.scheduled;
     }
 
@@ -111,12 +120,12 @@ returns c =
     c.self.invariant.kept c.args.at within c.args.key is due) (has_known s.keys s.ids.items s.outcomes.items s.found.items s.places s.cache.pairs s.cache.capacity s.out.items s.given
     c.self.invariant.kept c.args.at within c.args.key is due c.index-outcome.result.now same) in
     let more : c.push_reserved.new.self.items
-    ≡ s.out.items ++ (record { number = c.in-Some.number; key = c.args.key; input = c.in_ok-input.input }) ∷ [] =
+    ≡ s.out.items ++ (record { number = c.in-Some.number; key = c.args.key; input = c.in_ok-input.input; from = s.looked }) ∷ [] =
     c.push_reserved.ensures.items
     ∙ rw (c.reserve.ensures.items, c.in_ok-given.ensures) refl in (
       refl,
       rw (← c.self.view_is, c.new-job.ensures)
           (given_job s.keys s.ids.items s.outcomes.items s.found.items s.places s.cache.pairs s.cache.capacity s.out.items s.given
-          c.self.invariant.kept c.args.at within c.args.key is due c.index-outcome.result.now same c.in_ok-input.input made c.in-Some.number
+          c.self.invariant.kept c.args.at within c.args.key is due c.index-outcome.result.now same c.in_ok-input.input made c.in-Some.number s.looked
           (omega (arith, c.in-Some.ensures)) c.push_reserved.new.self.items more),
     )

@@ -1,6 +1,8 @@
 use Rattle.std.proofs.Common.{refl}
+use Rattle.picture_store.specs.Looked.{IsBehind}
 use Rattle.picture_store.proofs.Viewed.{seen}
-use Rattle.picture_store.proofs.Landed.{foreign_for, kept_without, out_seen, seen_without}
+use Rattle.picture_store.proofs.Landed.{all_without, foreign_for, kept_without, out_seen, seen_without}
+use Rattle.picture_store.proofs.Looked.{none_looked}
 use Rattle.picture_store.proofs.Settled.{none_settled}
 use Rattle.picture_store.proofs.store.PictureStore.give_back.Goals as goal
 
@@ -14,6 +16,8 @@ invariant_of-self c =
       counted = c.self.invariant.counted;
       apart = c.self.invariant.apart;
       settled = none_settled c.self.inside.places _ c.self.inside.found.items;
+      looked = none_looked c.self.inside.keys c.self.inside.places _ c.self.inside.found.items;
+      behind = all_without (IsBehind c.self.inside.found.items) c.self.inside.out.items c.in-Some.at c.self.invariant.behind;
       scheduled = tt;
     })
 

@@ -2,6 +2,7 @@ use Rattle.std.proofs.Common.{◌≡◌, refl, sym, subst, ◌∙◌, ◌<◌, O
 use Rattle.std.specs.Prelude.{IfSome}
 use Rattle.picture_store.proofs.Landed.{foreign_for}
 use Rattle.picture_store.proofs.Filled.{landed, kept_filled}
+use Rattle.picture_store.proofs.Looked.{behind_left, looked_landed}
 use Rattle.picture_store.proofs.Scheduling.{scheduled_landed}
 use Rattle.picture_store.proofs.Settled.{settled_landed}
 use Rattle.picture_store.proofs.store.PictureStore.land.Goals as goal
@@ -43,6 +44,15 @@ invariant_of-self c =
           settled_landed s.keys s.ids.items s.outcomes.items s.found.items s.places s.cache.pairs s.out.items
           c.self.invariant.kept c.in-Some.at c.remove-job.result c.remove-job.ensures.value _ c.fill-landing.result c.fill-landing.new.places
           c.remove-job.new.self.items s.settled c.remove-job.ensures.items filled c.self.invariant.settled;
+      looked =
+          looked_landed s.keys s.ids.items s.outcomes.items s.found.items s.places s.cache.pairs s.out.items
+          c.self.invariant.kept c.in-Some.at found.0 c.remove-job.result c.remove-job.ensures.value _ c.fill-landing.result
+          c.fill-landing.new.places c.remove-job.new.self.items s.looked c.looked_after-self-inside.result c.remove-job.ensures.items filled
+          c.looked_after-self-inside.ensures.before c.looked_after-self-inside.ensures.front c.self.invariant.behind c.self.invariant.looked;
+      behind =
+          behind_left s.keys s.ids.items s.outcomes.items s.found.items s.places s.cache.pairs s.out.items
+          c.self.invariant.kept c.in-Some.at found.0 c.remove-job.result c.remove-job.ensures.value c.remove-job.new.self.items
+          c.remove-job.ensures.items c.self.invariant.behind;
       scheduled =
           scheduled_landed s.keys s.ids.items s.outcomes.items s.found.items s.places s.cache.pairs s.out.items
           c.self.invariant.kept c.in-Some.at c.remove-job.result c.remove-job.ensures.value _ c.fill-landing.result

@@ -1,4 +1,4 @@
-use Rattle.std.proofs.Common.{◌≡◌, ◌≤◌, ◌-◌, ap, ℕ, List, Option, ◌++◌, take, drop, length, refl, sym, subst, append_assoc, arith}
+use Rattle.std.proofs.Common.{◌≡◌, ◌≤◌, ◌-◌, ap, ℕ, List, Option, ◌++◌, ◌∙◌, map, take, drop, length, refl, sym, subst, append_assoc, arith}
 use Rattle.std.specs.List.{zip}
 use Rattle.std.proofs.lemmas.List.Sums.{sum_by-take-le, sum_by-take-drop}
 use Rattle.key_slots.specs.Counting.{once_at, times, times_in}
@@ -7,7 +7,11 @@ use Rattle.key_slots.proofs.Taking.{times_at_most}
 use Rattle.picture_keys.specs.Known.{keys_of}
 use Rattle.picture_keys.specs.Numbered.{AllStandFor}
 use Rattle.picture_store.specs.Places.{PlacesValue, ArePlaced}
+use Rattle.picture_store.specs.Kept.{jobs_for}
+use Rattle.picture_store.specs.Looked.{AreNotDue, IsBehind, lowered}
 use Rattle.picture_store.specs.Settled.{AreSettled}
+use Rattle.picture_store.specs.declared.job_out.JobOut.{JobOut}
+use Rattle.std.specs.Prelude.{All}
 use Rattle.picture_store.specs.Recounts.{IsRecounted}
 use Rattle.picture_store.specs.Stores.{StoreValue}
 use Rattle.picture_store.specs.Changes.{Refits}
@@ -17,6 +21,8 @@ use Rattle.picture_store.proofs.Landed.{found_length}
 use Rattle.picture_store.proofs.Stays.{kept_stays, viewed_stays}
 use Rattle.picture_store.proofs.Stretched.{same_with, stand_with}
 use Rattle.picture_store.proofs.Refitted.{kept_after, refitted}
+use Rattle.picture_store.proofs.Looked.{looked_stays}
+use Rattle.picture_store.proofs.Lowered.{behind_lowered, jobs_lowered, kept_lowered, looked_front, looked_lowered, settled_lowered}
 use Rattle.picture_store.proofs.Settled.{settled_front}
 use Rattle.picture_store.proofs.Same.{stored_still, viewed_still}
 use Rattle.picture_store.proofs.Using.{countable, recounted_same}
@@ -45,7 +51,7 @@ invariant_of-self-in_err-past c =
     let s = c.self.inside in
     rw (c.make_room.ensures.ids, c.make_room.ensures.outcomes)
     (stored_still s.keys c.keys_from.new.keys s.ids.items s.outcomes.items s.found.items s.places s.places s.cache.pairs s.out.items
-    s.settled s.schedule c.self.invariant (λ n k stored is. c.keys_from.ensures.stay n k is)
+    s.settled s.looked s.schedule c.self.invariant (λ n k stored is. c.keys_from.ensures.stay n k is)
     (c.keys_from.ensures.one c.self.invariant.kept.right.one) (same_self s.places))
 
 pub returns-in_err-past-clause-err : goal.returns-in_err-past-clause-err
@@ -77,7 +83,7 @@ invariant_of-self-in_err-leaving c =
     let s = c.self.inside in
     rw (c.make_room.ensures.ids, c.make_room.ensures.outcomes, c.make_ready.ensures.found)
     (stored_still s.keys c.keys_from.new.keys s.ids.items s.outcomes.items s.found.items s.places c.make_ready.new.places
-    s.cache.pairs s.out.items s.settled s.schedule c.self.invariant (λ n k stored is. c.keys_from.ensures.stay n k is)
+    s.cache.pairs s.out.items s.settled s.looked s.schedule c.self.invariant (λ n k stored is. c.keys_from.ensures.stay n k is)
     (c.keys_from.ensures.one c.self.invariant.kept.right.one) c.make_ready.ensures.same)
 
 pub returns-in_err-leaving-clause-err : goal.returns-in_err-leaving-clause-err
@@ -86,7 +92,7 @@ returns-in_err-leaving-clause-err c =
     on_any_err c.from_residual-in_err-leaving.result
     (rw (← c.sweep.ensures, ← c.self.view_is, c.make_room.ensures.ids, c.make_room.ensures.outcomes, c.make_ready.ensures.found)
     (viewed_still s.keys c.keys_from.new.keys s.ids.items s.outcomes.items s.found.items s.places c.make_ready.new.places
-    s.cache.pairs s.out.items s.settled s.schedule c.self.invariant (λ n k stored is. c.keys_from.ensures.stay n k is)
+    s.cache.pairs s.out.items s.settled s.looked s.schedule c.self.invariant (λ n k stored is. c.keys_from.ensures.stay n k is)
     (c.keys_from.ensures.one c.self.invariant.kept.right.one) c.make_ready.ensures.same s.cache.capacity s.given))
 
 pub recount-requires-clause-room : goal.recount-requires-clause-room
@@ -195,25 +201,50 @@ invariant_of-self-2 c =
       found_length s.keys s.ids.items s.outcomes.items s.found.items s.places s.cache.pairs s.cache.capacity s.out.items s.given
           c.self.invariant.kept,
     ) in
+    let later_found : List (Option ℕ) = later.items ++ drop past s.found.items in
+    let parts : take c.args.stretch.from s.found.items ++ later_found ≡ found =
+    sym (append_assoc (take c.args.stretch.from s.found.items) later.items (drop past s.found.items)) in
+    let placed : ArePlaced (take c.args.stretch.from s.found.items ++ later_found) s.places s.cache.pairs c.recount.new.places =
+    subst (λ all. ArePlaced all s.places s.cache.pairs c.recount.new.places) (sym parts) recounted.placed in
+    let out : List JobOut = c.lower_all.new.jobs.items in
+    let out_are : out ≡ map (lowered c.args.stretch.from) s.out.items = c.lower_all.ensures in
+    let after =
+    kept_after c.keys_from.new.keys ids outcomes s.found.items s.places s.cache.pairs s.out.items kept
+    (ids_with c.args.stretch ids) (outcomes_with c.args.stretch outcomes) found
+    c.recount.new.places stand recounted.placed recounted.left c.recount.new.cache.pairs recounted.leaves
+    recounted.left_pairs s.cache.capacity recounted.gone recounted.go recounted.puts recounted.put_pairs
+    (same_with ids outcomes kept.same c.args.stretch stretch) decodable in
     record {
       kept =
           rw (ids_are, outcomes_are, found_are)
-          (kept_after c.keys_from.new.keys ids outcomes s.found.items s.places s.cache.pairs s.out.items kept
-          (ids_with c.args.stretch ids) (outcomes_with c.args.stretch outcomes) found
-          c.recount.new.places stand recounted.placed recounted.left c.recount.new.cache.pairs recounted.leaves
-          recounted.left_pairs s.cache.capacity recounted.gone recounted.go recounted.puts recounted.put_pairs
-          (same_with ids outcomes kept.same c.args.stretch stretch) decodable);
+          (kept_lowered c.keys_from.new.keys (ids_with c.args.stretch ids) (outcomes_with c.args.stretch outcomes) found
+          c.recount.new.places c.recount.new.cache.pairs s.out.items out c.args.stretch.from out_are after);
       counted = rw (found_are) recounted.counted;
       apart = recounted.apart;
       settled =
           rw (found_are)
-          (subst (λ all. AreSettled c.recount.new.places s.out.items all c.min-self-inside.result)
-          (sym (append_assoc (take c.args.stretch.from s.found.items) later.items (drop past s.found.items)))
+          (settled_lowered c.recount.new.places s.out.items out c.args.stretch.from found c.min-self-inside.result out_are
+          (subst (λ all. AreSettled c.recount.new.places s.out.items all c.min-self-inside.result) parts
           (settled_front s.places c.recount.new.places s.cache.pairs s.out.items s.found.items
-          (later.items ++ drop past s.found.items) s.settled c.args.stretch.from c.min-self-inside.result (omega (arith, c.min-self-inside.ensures))
-          (omega (arith, c.min-self-inside.ensures)) in_front c.self.invariant.settled
-          (subst (λ all. ArePlaced all s.places s.cache.pairs c.recount.new.places)
-          (append_assoc (take c.args.stretch.from s.found.items) later.items (drop past s.found.items)) recounted.placed)));
+          later_found s.settled c.args.stretch.from c.min-self-inside.result (omega (arith, c.min-self-inside.ensures))
+          (omega (arith, c.min-self-inside.ensures)) in_front c.self.invariant.settled placed)));
+      looked =
+          rw (found_are)
+          (looked_lowered c.keys_from.new.keys c.recount.new.places s.out.items out c.args.stretch.from found
+          c.min-self-inside-2.result out_are
+          (subst (λ all. AreNotDue c.keys_from.new.keys c.recount.new.places s.out.items all c.min-self-inside-2.result) parts
+          (looked_front c.keys_from.new.keys ids outcomes s.found.items s.places s.cache.pairs s.out.items kept
+          c.self.invariant.apart (ids_with c.args.stretch ids) (outcomes_with c.args.stretch outcomes) found
+          c.recount.new.places stand recounted.placed after.right later_found s.looked c.args.stretch.from
+          c.min-self-inside-2.result (omega (arith, c.min-self-inside-2.ensures)) (omega (arith, c.min-self-inside-2.ensures))
+          in_front
+          (looked_stays s.keys c.keys_from.new.keys s.ids.items s.outcomes.items s.found.items s.places s.cache.pairs s.out.items
+          c.self.invariant.kept (λ n k stored is. c.keys_from.ensures.stay n k is) s.looked c.self.invariant.looked))));
+      behind =
+          rw (found_are)
+          (subst (λ all. All (IsBehind all) out) parts
+          (behind_lowered s.found.items later_found s.out.items out c.args.stretch.from in_front out_are
+          c.self.invariant.behind));
       scheduled = tt;
     }
 
@@ -266,7 +297,11 @@ returns-clause-ok c =
     let is : viewed c.keys_from.new.keys ids outcomes s.found.items s.places s.cache.pairs s.cache.capacity s.out.items s.given ≡ old =
     viewed_stays s.keys c.keys_from.new.keys ids outcomes s.found.items s.places s.cache.pairs s.out.items
     c.self.invariant.kept (λ n k stored is. c.keys_from.ensures.stay n k is) s.cache.capacity s.given in
-    rw (← c.sweep.ensures, ← c.self.view_is, room, ids_are, outcomes_are, found_are)
+    let out_are : c.lower_all.new.jobs.items ≡ map (lowered c.args.stretch.from) s.out.items = c.lower_all.ensures in
+    let out_seen : jobs_for c.keys_from.new.keys c.lower_all.new.jobs.items ≡ jobs_for c.keys_from.new.keys s.out.items =
+    ap (jobs_for c.keys_from.new.keys) out_are
+    ∙ jobs_lowered c.keys_from.new.keys c.args.stretch.from s.out.items in
+    rw (← c.sweep.ensures, ← c.self.view_is, room, ids_are, outcomes_are, found_are, out_seen)
     (subst (λ (store : StoreValue). Refits store (ids_with c.args.stretch ids) (outcomes_with c.args.stretch outcomes)
     (viewed c.keys_from.new.keys (ids_with c.args.stretch ids) (outcomes_with c.args.stretch outcomes)
     found c.recount.new.places c.recount.new.cache.pairs s.cache.capacity s.out.items s.given)) is

@@ -1,3 +1,4 @@
+use Rattle.picture_store.proofs.Looked.{looked_stays}
 use Rattle.picture_store.proofs.Stays.{kept_stays, viewed_stays}
 use Rattle.picture_store.proofs.store.PictureStore.sweep.Goals as goal
 
@@ -12,6 +13,10 @@ invariant_of-self c =
       counted = c.self.invariant.counted;
       apart = c.self.invariant.apart;
       settled = c.self.invariant.settled;
+      looked =
+          looked_stays s.keys c.sweep_at.new.keys s.ids.items s.outcomes.items s.found.items s.places s.cache.pairs s.out.items
+          c.self.invariant.kept stay s.looked c.self.invariant.looked;
+      behind = c.self.invariant.behind;
       scheduled = tt;
     }
 
@@ -34,6 +39,10 @@ invariant_of-self-2 c =
       counted = c.self.invariant.counted;
       apart = c.self.invariant.apart;
       settled = c.self.invariant.settled;
+      looked =
+          looked_stays s.keys c.sweep_at.new.keys s.ids.items s.outcomes.items s.found.items s.places s.cache.pairs s.out.items
+          c.self.invariant.kept stay s.looked c.self.invariant.looked;
+      behind = c.self.invariant.behind;
       scheduled = tt;
     }
 

@@ -1,15 +1,24 @@
-use Rattle.std.proofs.Common.{◌≡◌, refl, sym, ap, ◌∙◌, subst, Some, IfSome, length, slice_get, arith}
+use Rattle.std.proofs.Common.{◌≡◌, refl, sym, ◌∙◌, subst, Some, IfSome, length, slice_get}
 use Rattle.std.proofs.lemmas.Option.{slice_get_read}
 use Rattle.std.proofs.lemmas.Result.{err_from_is_err_and}
 use Rattle.std.specs.Prelude.{Err}
 use Rattle.picture_store.specs.Due.{IsDueNumber}
 use Rattle.picture_store.specs.Jobs.{AnswersTake}
 use Rattle.picture_store.specs.Stores.{StoreValue}
+use Rattle.picture_store.proofs.Looked.{later_looked}
 use Rattle.picture_store.proofs.Pended.{due_of, one_out}
 use Rattle.picture_store.proofs.Taken.{none_due, taken}
 use Rattle.picture_store.proofs.TakenFor.{refusal_answered}
 use Rattle.picture_store.proofs.Viewed.{viewed}
 use Rattle.picture_store.proofs.store.PictureStore.take.Goals as goal
+
+pub first_due-due-requires-clause-before : goal.first_due-due-requires-clause-before
+first_due-due-requires-clause-before c =
+    let s = c.self.inside in
+    let settled = rw (c.deref.ensures.value, c.deref-2.ensures.value) at c.first_to_do-settled.ensures in
+    rw (c.deref-3.ensures.value, c.deref-4.ensures.value)
+    (later_looked s.keys s.places s.out.items s.found.items c.first_to_do-settled.result s.looked c.max-from.result
+    c.max-from.ensures settled c.self.invariant.looked)
 
 pub returns-in_default-clause-tells : goal.returns-in_default-clause-tells
 returns-in_default-clause-tells c =

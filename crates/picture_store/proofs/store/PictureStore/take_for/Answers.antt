@@ -36,6 +36,8 @@ invariant_of-self-in_default c =
       counted = c.self.invariant.counted;
       apart = c.self.invariant.apart;
       settled = c.self.invariant.settled;
+      looked = c.self.invariant.looked;
+      behind = c.self.invariant.behind;
       scheduled = rw are.0
           (scheduled_left s.keys (zip s.ids.items s.outcomes.items) s.found.items s.places s.out.items c.args.at
           schedule.dependents.items (heap_items schedule.queue) (heap_items c.earliest_due-due.new.queue) left.ordered left.stay
@@ -55,6 +57,8 @@ invariant_of-self-2 c =
       counted = c.self.invariant.counted;
       apart = c.self.invariant.apart;
       settled = c.self.invariant.settled;
+      looked = c.self.invariant.looked;
+      behind = c.self.invariant.behind;
       scheduled = rw are.0
           (scheduled_left s.keys (zip s.ids.items s.outcomes.items) s.found.items s.places s.out.items c.args.at
           schedule.dependents.items (heap_items schedule.queue) (heap_items c.earliest_due-due.new.queue) left.ordered left.stay

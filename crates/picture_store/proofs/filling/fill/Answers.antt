@@ -1,7 +1,7 @@
 use Rattle.std.proofs.Common.{ap}
 use Rattle.std.specs.Option.{is_some}
 use Rattle.key_slots.proofs.Slots.{used_some}
-use Rattle.picture_store.proofs.store.fill.Goals as goal
+use Rattle.picture_store.proofs.filling.fill.Goals as goal
 
 pub returns-clause-filled : goal.returns-clause-filled
 returns-clause-filled c =

@@ -1,0 +1,186 @@
+-- Up to where no unit is due where a stream changes from a place on.
+use Rattle.std.proofs.Common.{◌≡◌, refl, ap, sym, ◌∙◌, subst, ℕ, zero, suc, ◌<◌, ◌≤◌, List, [], ◌∷◌, ◌++◌, length, map, take, Option, None, Some, IsSome, inl, inr, slice_get, arith}
+use Rattle.std.specs.Prelude.{All, Contains}
+use Rattle.std.specs.List.{zip}
+use Rattle.std.specs.Map.{keys_of as numbers_of}
+use Rattle.std.proofs.lemmas.List.{length-append, length-take-le}
+use Rattle.std.proofs.lemmas.List.Elements.{All-contains, All-map}
+use Rattle.unit_outcomes.specs.declared.outcome.Outcome.{Outcome}
+use Rattle.dep_keys.specs.Trees.Tree.{Bare, Gap, With}
+use Rattle.stand_in_device.specs.declared.picture.Picture.{Picture}
+use Rattle.picture_keys.specs.Keys.{Key}
+use Rattle.picture_keys.specs.Known.{keys_of}
+use Rattle.picture_keys.specs.Numbered.{AllStandFor}
+use Rattle.key_slots.specs.Places.{place_at, numbers_held, uses_at}
+use Rattle.key_slots.proofs.Members.{among_map, All-from_contains}
+use Rattle.key_slots.proofs.Slots.{used_some}
+use Rattle.picture_store.specs.declared.job_out.JobOut.{JobOut}
+use Rattle.picture_store.specs.Places.{PlacesValue, ArePlaced, carried, held_or}
+use Rattle.picture_store.specs.Kept.{Trees, AreRight, jobs_for, keys_for, numbers_out, IsJobRight, IsKept}
+use Rattle.picture_store.specs.Due.{IsDueNumber}
+use Rattle.picture_store.specs.Looked.{AreNotDue, IsBehind, lowered}
+use Rattle.picture_store.specs.Schedules.{IsEntryOf}
+use Rattle.picture_store.specs.Settled.{AreSettled, NeedsNone}
+use Rattle.picture_store.specs.Stores.{IsReady}
+use Rattle.picture_store.proofs.Earlier.{entry_before}
+use Rattle.picture_store.proofs.Looked.{none_before, not_there}
+use Rattle.picture_store.proofs.Ready.{held_key, key_held}
+use Rattle.picture_store.proofs.Refitted.{held_before}
+use Rattle.picture_store.proofs.Settled.{settled_stay}
+use Rattle.picture_store.proofs.Viewed.{seen}
+use Rattle.picture_store.proofs.Waiting.{got_among}
+
+-- what else is said of jobs stays where their places are lowered
+pub map_lowered : {Y : Type 0} (f : JobOut → Y) (from : ℕ) → ((job : JobOut) → f (lowered from job) ≡ f job)
+    → (out : List JobOut) → map f (map (lowered from) out) ≡ map f out
+map_lowered f from same [] = refl
+map_lowered {Y} f from same (job ∷ out) =
+    ap (λ (y : Y). y ∷ map f (map (lowered from) out)) (same job) ∙ ap (λ (ys : List Y). f job ∷ ys) (map_lowered f from same out)
+
+pub numbers_lowered : (from : ℕ) (out : List JobOut) → numbers_out (map (lowered from) out) ≡ numbers_out out
+numbers_lowered from out = map_lowered (λ (job : JobOut). job.key) from (λ job. refl) out
+
+pub jobs_lowered : (keys : Trees) (from : ℕ) (out : List JobOut) → jobs_for keys (map (lowered from) out) ≡ jobs_for keys out
+jobs_lowered keys from out = map_lowered (seen keys) from (λ job. refl) out
+
+-- what is kept
+pub kept_lowered : (keys : Trees) (ids : List ℕ) (outcomes : List Outcome) (found : List (Option ℕ)) (places : PlacesValue)
+    (cached : List (ℕ × Picture)) (out more : List JobOut) (from : ℕ) → more ≡ map (lowered from) out
+    → IsKept keys ids outcomes found places cached out → IsKept keys ids outcomes found places cached more
+kept_lowered keys ids outcomes found places cached out more from is kept = record {
+  right = kept.right;
+  same = kept.same;
+  stand = kept.stand;
+  decodable = kept.decodable;
+  used = kept.used;
+  stored = kept.stored;
+  jobs =
+      subst (All (IsJobRight keys)) (sym is)
+      (All-map (IsJobRight keys) (lowered from) out
+      (All-from_contains out (λ job among. All-contains (IsJobRight keys) out job kept.jobs among)));
+}
+
+-- what needs no job
+pub settled_lowered : (places : PlacesValue) (out more : List JobOut) (from : ℕ) (found : List (Option ℕ)) (count : ℕ)
+    → more ≡ map (lowered from) out → AreSettled places out found count → AreSettled places more found count
+settled_lowered places out more from found count is are =
+    subst (λ jobs. AreSettled places jobs found count) (sym is)
+    (settled_stay places places out (map (lowered from) out) found count stays are)
+  where
+    stays : (number : Option ℕ) → Contains found number → NeedsNone places out number
+        → NeedsNone places (map (lowered from) out) number
+    stays None among needs = needs
+    stays (Some number) among needs = elim needs [
+      | inl held ↦ inl held
+      | inr one ↦ inr (subst (λ numbers. Contains numbers number) (sym (numbers_lowered from out)) one)
+    ]
+
+-- what isn't due
+pub looked_lowered : (keys : Trees) (places : PlacesValue) (out more : List JobOut) (from : ℕ) (found : List (Option ℕ)) (count : ℕ)
+    → more ≡ map (lowered from) out → AreNotDue keys places out found count → AreNotDue keys places more found count
+looked_lowered keys places out more from found count is are =
+    subst (λ jobs. AreNotDue keys places jobs found count) (sym is)
+    (none_before keys places (map (lowered from) out) found count are.0
+    (λ at number below there due. not_there keys places out found count are at number below there (record {
+      awaited = due.awaited;
+      free = λ among. due.free (subst (λ numbers. Contains numbers number) (sym (numbers_lowered from out)) among);
+      key = due.key;
+      tree = due.tree;
+      ready = due.ready;
+    })))
+
+-- what stands at a place in front of another stays where what comes after that one changes
+pub got_front : {X : Type 0} (at from : ℕ) (xs ys : List X) (x : X) → at < from → from ≤ length xs
+    → slice_get (take from xs ++ ys) at ≡ Some x → slice_get xs at ≡ Some x
+got_front at zero xs ys x below within is = absurd (omega (arith, below))
+got_front at (suc from) [] ys x below within is = absurd (omega (arith, within))
+got_front zero (suc from) (first ∷ xs) ys x below within is = is
+got_front (suc at) (suc from) (first ∷ xs) ys x below within is =
+    got_front at from xs ys x (omega (arith, below)) (omega (arith, within)) is
+
+-- no unit before a job's place has its key
+pub behind_lowered : (found later : List (Option ℕ)) (out more : List JobOut) (from : ℕ) → from ≤ length found
+    → more ≡ map (lowered from) out → All (IsBehind found) out → All (IsBehind (take from found ++ later)) more
+behind_lowered found later out more from within is behind =
+    subst (All (IsBehind (take from found ++ later))) (sym is)
+    (All-map (IsBehind (take from found ++ later)) (lowered from) out (All-from_contains out each))
+  where
+    each : (job : JobOut) → Contains out job → IsBehind (take from found ++ later) (lowered from job)
+    each job among = λ at below there.
+        All-contains (IsBehind found) out job behind among at (omega (arith, below))
+        (got_front at from found later (Some job.key) (omega (arith, below)) within there)
+
+-- where a place waits for a picture, it waited before
+awaited_before : (place : Option (Option Picture)) (other : Option Picture) → held_or place other ≡ None → IsSome place
+    → place ≡ Some None
+awaited_before None other none some = absurd cc
+awaited_before (Some None) other none some = refl
+awaited_before (Some (Some picture)) other none some = absurd cc
+
+-- a key is ready where those of its entries that are held now were held
+ready_before : (held more : List Key) (tree : Key) → ((first : Key) → IsEntryOf first tree → Contains more first → Contains held first)
+    → IsReady more tree → IsReady held tree
+ready_before held more (Bare works) each ready = tt
+ready_before held more (Gap rest) each ready = ready_before held more rest each ready
+ready_before held more (With first rest) each ready = (
+  each first (inl refl) ready.0,
+  ready_before held more rest (λ other among. each other (inr among)) ready.1,
+)
+
+inner : (place : Option (Option Picture)) (shown : Option Picture) → place ≡ Some None → place ≡ Some shown → shown ≡ None
+inner place shown none some = cc
+
+unplaced : (place : Option (Option Picture)) → place ≡ None → place ≡ Some None → ⊥
+unplaced place none some = cc
+
+module _ (keys : Trees) (ids : List ℕ) (outcomes : List Outcome) (found : List (Option ℕ)) (places : PlacesValue)
+    (cached : List (ℕ × Picture)) (out : List JobOut) (kept : IsKept keys ids outcomes found places cached out)
+    (apart : (number : ℕ) → 0 < uses_at places number → Contains (numbers_of cached) number → ⊥)
+    (more_ids : List ℕ) (more_outcomes : List Outcome) (more_found : List (Option ℕ)) (more_places : PlacesValue)
+    (stand : AllStandFor keys more_found (keys_of (zip more_ids more_outcomes)))
+    (placed : ArePlaced more_found places cached more_places) (right : AreRight keys more_places) where
+  -- a key in use whose picture is held now was held
+  held_still : (number : ℕ) → Contains found (Some number) → (picture : Picture) → place_at more_places number ≡ Some (Some picture)
+      → place_at places number ≡ Some (Some picture)
+  held_still number used picture is =
+      elim (held_before keys ids outcomes found places cached out kept more_ids more_outcomes more_found more_places stand placed
+      number picture is) [
+        | inl held ↦ held
+        | inr stored ↦
+            absurd (apart number (used_some places number ((kept.used number).1 used))
+            (among_map (λ (pair : ℕ × Picture). pair.0) cached (number, picture) stored))
+      ]
+
+  -- a unit that is due now was due
+  due_still : (at number : ℕ) → slice_get found at ≡ Some (Some number) → IsDueNumber keys more_places out number
+      → IsDueNumber keys places out number
+  due_still at number is due = record {
+    awaited = elim (placed number) [
+      | inl used ↦
+          awaited_before (place_at places number) _ (inner (place_at more_places number) (carried places cached number) due.awaited used.1)
+          ((kept.used number).1 (got_among found at (Some number) is))
+      | inr unused ↦ absurd (unplaced (place_at more_places number) unused.1 due.awaited)
+    ];
+    free = due.free;
+    key = due.key;
+    tree = due.tree;
+    ready = ready_before (keys_for keys (numbers_held places)) (keys_for keys (numbers_held more_places)) due.key each due.ready;
+  }
+    where
+      each : (first : Key) → IsEntryOf first due.key → Contains (keys_for keys (numbers_held more_places)) first
+          → Contains (keys_for keys (numbers_held places)) first
+      each first among held_now =
+          let before = entry_before keys ids outcomes found kept.stand at number due.key first is due.tree among in
+          let held = key_held keys more_places right before.2 first before.4 held_now in
+          held_key keys places kept.right before.2 first before.4
+          (held.0, held_still before.2 (got_among found before.0 (Some before.2) before.3) held.0 held.1)
+
+  -- of the units in front of a place none is due then
+  pub looked_front : (later : List (Option ℕ)) (count from less : ℕ) → less ≤ count → less ≤ from → from ≤ length found
+      → AreNotDue keys places out found count → AreNotDue keys more_places out (take from found ++ later) less
+  looked_front later count from less in_count in_front within are =
+      none_before keys more_places out (take from found ++ later) less
+      (omega (arith, in_front, within, length-append (take from found) later, length-take-le from found within))
+      (λ at number below there due.
+      let is = got_front at from found later (Some number) (omega (arith, below, in_front)) within there in
+      not_there keys places out found count are at number (omega (arith, below, in_count)) is (due_still at number is due))

@@ -1,0 +1,18 @@
+-- How many units, from the first on, aren't due, and where the units of jobs stand.
+use Rattle.std.specs.Prelude.{◌≡◌, ℕ, ◌<◌, ◌≤◌, min, List, length, take, All, Option, Some, slice_get}
+use Rattle.picture_store.specs.declared.job_out.JobOut.{JobOut}
+use Rattle.picture_store.specs.Places.{PlacesValue}
+use Rattle.picture_store.specs.Kept.{Trees}
+use Rattle.picture_store.specs.Due.{IsNotDue}
+
+-- of so many units, from the first on, none is due
+abbrev pub AreNotDue : Trees → PlacesValue → List JobOut → List (Option ℕ) → ℕ → Type 0
+AreNotDue keys places out found count = (count ≤ length found) × All (IsNotDue keys places out) (take count found)
+
+-- no unit before the job's place has its key
+abbrev pub IsBehind : List (Option ℕ) → JobOut → Type 0
+IsBehind found job = (at : ℕ) → at < job.from → slice_get found at ≡ Some (Some job.key) → ⊥
+
+-- the job, with this place or an earlier one
+abbrev pub lowered : ℕ → JobOut → JobOut
+lowered from job = record job { from = min job.from from }

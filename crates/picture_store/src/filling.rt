@@ -1,0 +1,37 @@
+//! What changes where a result lands.
+
+ghost use Rattle.std.specs.Prelude.{◌≡◌, ℕ, ◌≤◌};
+ghost use Rattle.key_slots.specs.Places.{uses_at};
+ghost use Rattle.picture_store.specs.Filling.{IsFilled};
+ghost use Rattle.picture_store.specs.declared.answers.Landing.TheVariants.{Taken};
+
+use crate::answers::Landing;
+use crate::due::is_awaited;
+use dep_keys::KeyId;
+use key_slots::Places;
+use stand_in_device::Picture;
+
+/// Puts the picture of a result into the place of its key, where that waits for one.
+pub(crate) fn fill(places: &mut Places<Picture>, key: KeyId, picture: Picture) -> Landing
+    ensures filled { IsFilled places.old key picture result places.new }
+    ensures uses { (number : ℕ) → uses_at places.new number ≡ uses_at places.old number }
+{
+    if !is_awaited(places, key) {
+        return Landing::Stale;
+    }
+    places.fill(key, picture);
+    Landing::Taken
+}
+
+/// How many units, from the first on, are known not to be due where a result has landed: as many as
+/// before, but for those that may refer to its key where its picture is held now. These stand after
+/// the first unit that has the key, which is at a place or after it.
+pub(crate) fn looked_after(looked: usize, landing: Landing, from: usize) -> usize
+    ensures before { result ≤ looked }
+    ensures front { landing ≡ Taken → result ≤ from }
+{
+    match landing {
+        Landing::Taken => looked.min(from),
+        Landing::Stale | Landing::Foreign => looked,
+    }
+}

@@ -398,7 +398,7 @@ inline close(place, after) {
 /* seat.rt: what a seat calls of a desk; show and last take the lock and wake nobody. */
 active [SEATS] proctype Seat() {
     do
-    :: atomic { SEAT == free ->         /* edit_read, edit_group_read */
+    :: atomic { SEAT == free ->         /* edit_read, edit_group_read; append_read, whose units are a stretch */
         if
         :: edit(1)
         :: edit(2)

@@ -4,3 +4,4 @@ pub mod Batches
 pub mod Seats
 pub mod Finishing
 pub mod Visits
+pub mod Appends

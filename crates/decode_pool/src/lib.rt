@@ -12,6 +12,7 @@
 //! and `Seat::show` reach the desk's own session is known at `finish`, and by tests.
 #![tactic(auto)]
 
+mod appending;
 mod desk;
 mod faults;
 mod finishing;
@@ -24,6 +25,7 @@ mod visiting;
 mod wanting;
 mod working;
 
+pub use appending::Appended;
 pub use desk::Desk;
 pub use faults::{FinishFault, Unfinished};
 pub use finishing::finish;

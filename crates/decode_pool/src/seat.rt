@@ -22,7 +22,7 @@ use std::sync::Wait;
 /// One user of a desk, with the book of what it did and was shown.
 #[derive(Debug, Drop)]
 pub struct Seat {
-    alloc: Global,
+    pub(crate) alloc: Global,
     pub(crate) number: usize,
     pub(crate) book: SeatBook,
 }

@@ -11,6 +11,7 @@ ghost use Rattle.worker_jobs.specs.Wanted.{urgent};
 ghost use Rattle.worker_jobs.specs.Counts.{GivesBackIn, LandsIn, TakesFirstIn, TakesIn};
 ghost use Rattle.decode_pool.specs.Seats.{AnswersDropIn, AnswersEditIn, IsReached, NotesDrop, NotesEdit, NotesGroup, NotesShow};
 
+mod appending;
 mod bringing;
 mod settling;
 mod visiting;

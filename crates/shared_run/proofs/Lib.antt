@@ -1,4 +1,5 @@
 pub mod Judged
+pub mod Appended
 pub mod Numbered
 pub mod Ran
 pub mod Told

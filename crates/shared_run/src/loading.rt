@@ -1,21 +1,24 @@
 //! `load`: the units of a file inserted one after the other, by a seat.
 
-ghost use Rattle.std.specs.Prelude.{◌≡◌, ℕ, List, length, IfErr, IfOk, IfSome, string_bytes};
+ghost use Rattle.std.specs.Prelude.{◌≡◌, ℕ, List, [], length, IfErr, IfOk, IfSome, string_bytes};
 ghost use Rattle.script_run.specs.RunFaults.{IsLoadFault};
-ghost use Rattle.decode_pool.specs.Seats.{IsLastOfOne};
-ghost use Rattle.script_run.specs.Running.{place_after};
-ghost use Rattle.shared_run.specs.Running.{InsertsAll, InsertsLast, Loads};
+ghost use Rattle.decode_pool.specs.Appends.{AppendsSome};
+ghost use Rattle.shared_run.specs.Running.{InsertsAll, Loads};
 
 use access_unit::{MOST_UNITS, ReadFault, read_units};
 use console_io::Source;
 use decode_pool::{Desk, Seat};
-use edit_engine::{EditRefused, Last, Place, ReadEdit, Receipt};
+use edit_engine::EditRefused;
 use picture_keys::{HashedUnit, hash_units};
 use script_run::{LoadedLine, RefusedLine, RunFault, shared_file};
 use std::alloc::{AllocError, Global};
+use std::mem::replace;
 use std::sync::Wait;
 use std::thread::Threads;
 use unit_lines::RefusalLine;
+
+/// How many units are inserted at most while the seat has the desk's lock once.
+const HANDFUL: usize = 32;
 
 /// Inserts the units of the file of this name after the last one, each by an edit of the seat, and
 /// gives the line that says how many; or why the file's stream is refused, or why an edit is, which
@@ -46,8 +49,8 @@ pub(crate) fn load<'a, R: Threads + Wait + Sync, S: Source>(
     }
 }
 
-/// Inserts the units after the last one, and gives the line that says how many, or why one is
-/// refused.
+/// Inserts the units after the last one, a handful at a time, and gives the line that says how
+/// many, or why one is refused.
 fn insert_all<R: Wait>(
     rt: &R,
     alloc: Global,
@@ -59,34 +62,35 @@ fn insert_all<R: Wait>(
         InsertsAll (length units.items) seat.old units.items (string_bytes lines) seat.new) }
 {
     let count = units.len();
+    let mut handful = Vec::new(alloc);
     for unit in units {
-        if let Err(refused) = insert_last(rt, alloc, desk, seat, unit) {
+        handful.push(unit)?;
+        if handful.len() < HANDFUL {
+            continue;
+        }
+        if let Some(refused) = insert_handful(rt, alloc, desk, seat, &mut handful) {
             return RefusedLine(refused).to_string(alloc);
         }
     }
-    LoadedLine(count).to_string(alloc)
+    match insert_handful(rt, alloc, desk, seat, &mut handful) {
+        Some(refused) => RefusedLine(refused).to_string(alloc),
+        None => LoadedLine(count).to_string(alloc),
+    }
 }
 
-/// Inserts a unit after the last one.
-fn insert_last<R: Wait>(
+/// Inserts the units of a handful after the last one, and leaves it empty. Why one of them is
+/// refused, if one is: those behind it aren't inserted.
+fn insert_handful<R: Wait>(
     rt: &R,
     alloc: Global,
     desk: &Desk,
     seat: &mut Seat,
-    unit: HashedUnit,
-) -> Result<Receipt, EditRefused>
-    ensures { InsertsLast seat.old unit result seat.new }
+    handful: &mut Vec<HashedUnit>,
+) -> Option<EditRefused>
+    ensures inserted { (inserted : ℕ)
+        × AppendsSome seat.old handful.old.items (record { inserted = inserted; refused = result }) seat.new }
+    ensures empty { handful.new.items ≡ [] }
 {
-    let place = end_of(seat.last(rt, desk));
-    seat.edit_read(rt, desk, ReadEdit::insertion(alloc, place, unit)?)
-}
-
-/// The place after the last unit.
-fn end_of(last: Last) -> Place
-    ensures { result ≡ place_after last.id }
-{
-    match last.id {
-        Some(id) => Place::After(id),
-        None => Place::First,
-    }
+    let units = replace(handful, Vec::new(alloc));
+    seat.append_read(rt, desk, units).refused
 }

@@ -1,5 +1,5 @@
 -- What is made by one change is an edit, or a group of them.
-use Rattle.std.proofs.Common.{◌≡◌, ℕ, ◌+◌, ◌≤◌, List, [], ◌∷◌, length, sym, subst, arith}
+use Rattle.std.proofs.Common.{◌≡◌, ℕ, List, [], ◌∷◌, length, sym, subst, arith}
 use Rattle.stream_edits.specs.declared.acceptance.AcceptedEdit.{AcceptedEdit}
 use Rattle.stream_edits.specs.declared.acceptance.AcceptedGroup.{AcceptedGroup}
 use Rattle.stream_edits.specs.declared.edits.Edit.{Edit}
@@ -16,14 +16,15 @@ use Rattle.edit_engine.specs.Moves.{Moves}
 use Rattle.edit_engine.proofs.Meetings.{counted_among, few_everywhere}
 
 -- an edit by itself
-pub Edits-moved : (old : Machine) (edit : Edit) (accepted : AcceptedEdit) (steps hashed number : ℕ) (new : Machine)
-    → IsFor old.register edit accepted → Moves old (edit ∷ []) accepted.change accepted.given steps new → number ≡ length new.journal
+pub Edits-moved : (old : Machine) (edit : Edit) (accepted : AcceptedEdit) (steps lost hashed number : ℕ) (new : Machine)
+    → IsFor old.register edit accepted → Moves old (edit ∷ []) accepted.change accepted.given steps lost new → number ≡ length new.journal
     → IsHashedFor edit hashed
-    → Edits old edit (record { number = number; id = accepted.id; steps = steps; hashed = hashed }) new
-Edits-moved old edit accepted steps hashed number new for moves number_is hashes = record {
+    → Edits old edit (record { number = number; id = accepted.id; steps = steps; hashed = hashed; lost_pictures = lost }) new
+Edits-moved old edit accepted steps lost hashed number new for moves number_is hashes = record {
   made = subst (λ register. Makes old.register edit accepted.id register) (sym moves.register_is) for.makes;
   journaled = moves.journaled;
   refits = moves.refits;
+  loses = moves.loses;
   number_is = number_is;
   refolds = record {
     accepted = accepted;
@@ -37,7 +38,7 @@ Edits-moved old edit accepted steps hashed number new for moves number_is hashes
 
 -- a group of edits
 pub EditsAll-moved : (old : Machine) (edits : List Edit) (accepted : AcceptedGroup) (receipt : GroupReceipt) (new : Machine)
-    → HasIds old.register → IsForAll old.register edits accepted → Moves old edits accepted.change accepted.given receipt.steps new
+    → HasIds old.register → IsForAll old.register edits accepted → Moves old edits accepted.change accepted.given receipt.steps receipt.lost_pictures new
     → receipt.number ≡ length new.journal → receipt.ids.items ≡ accepted.ids.items → AreHashedFor edits receipt.hashed
     → EditsAll old edits receipt new
 EditsAll-moved old edits accepted receipt new ids for moves number_is ids_are hashes = record {
@@ -47,6 +48,7 @@ EditsAll-moved old edits accepted receipt new ids for moves number_is ids_are ha
       (subst (λ register. MakesAll old.register edits accepted.ids.items register) (sym moves.register_is) for.makes);
   journaled = moves.journaled;
   refits = moves.refits;
+  loses = moves.loses;
   number_is = number_is;
   few =
       subst (λ (register : Register). AreFewForAll old.register.stream register.stream receipt.steps) (sym moves.register_is)

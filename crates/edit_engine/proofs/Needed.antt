@@ -6,7 +6,7 @@ use Rattle.unit_outcomes.specs.declared.outcome.Outcome.TheVariants.{Plan as Pla
 use Rattle.stand_in_device.specs.Jobs.{JobValue}
 use Rattle.picture_store.specs.declared.refusals.TakeRefused.{TakeRefused}
 use Rattle.picture_store.specs.declared.refusals.TakeRefused.TheVariants.{JobsSpent, Memory}
-use Rattle.picture_store.specs.Jobs.{Gives, most_jobs}
+use Rattle.picture_store.specs.Jobs.{Gives}
 use Rattle.picture_store.specs.Pending.{IsPending, IsAnyDueBy, IsAnyOutBy}
 use Rattle.picture_store.specs.Stores.{StoreValue}
 use Rattle.picture_store.specs.TakingFor as pictures
@@ -14,9 +14,8 @@ use Rattle.stream_edits.specs.declared.edits.Edit.{Edit}
 use Rattle.stream_edits.specs.Edits.{Register}
 use Rattle.stream_edits.specs.Streams.{Stream, ids_of, place_of}
 use Rattle.edit_engine.specs.Kept.{machine_of}
-use Rattle.edit_engine.specs.Machines.{Machine, store_of}
-use Rattle.edit_engine.specs.Needing.{IsPendingIn, IsAnyDueFor, IsAnyOutFor, TakesFor, TellsTakeFor, AnswersDrop}
-use Rattle.edit_engine.specs.declared.showing.Dropping.TheVariants.{Dropped, NotHeld}
+use Rattle.edit_engine.specs.Machines.{store_of}
+use Rattle.edit_engine.specs.Needing.{IsPendingIn, IsAnyDueFor, IsAnyOutFor, TakesFor, TellsTakeFor}
 use Rattle.edit_engine.proofs.Pictured.{IsOf, IsOf-stays, UnitsStay, both_seen, one_seen, same_units, store_is}
 use Rattle.edit_engine.proofs.Told.{within_ids}
 

@@ -16,7 +16,7 @@ use Rattle.picture_store.specs.declared.answers.Landing.TheVariants as landings
 use Rattle.picture_store.specs.declared.answers.Returning.{Returning}
 use Rattle.picture_store.specs.declared.answers.Returning.TheVariants as returnings
 use Rattle.picture_store.specs.Stores.{StoreValue}
-use Rattle.picture_store.specs.Changes.{Refits}
+use Rattle.picture_store.specs.Changes.{RefitsLosing}
 use Rattle.picture_store.specs.Jobs as pictures
 use Rattle.stream_edits.specs.declared.edits.Edit.{Edit}
 use Rattle.stream_edits.specs.Streams.{Stream, ids_of}
@@ -55,15 +55,17 @@ pub one_seen : (Holds : StoreValue → Type 0) (journal : List (List Edit)) (reg
     → IsOf register.stream store → Holds store → Holds (store_of (machine_of journal register store))
 one_seen Holds journal register store is holds = subst Holds (sym (store_is journal register store is)) holds
 
--- the pictures after an edit
-pub RefitsTo-stored : (journal : List (List Edit)) (old : Register) (store : StoreValue) (edited : List (List Edit)) (new : Register) (ids : List ℕ) (outcomes : List Outcome) (after : StoreValue)
-    → IsOf old.stream store → ids ≡ ids_of new.stream → outcomes ≡ outcomes_of new.stream → Refits store ids outcomes after
-    → RefitsTo (store_of (machine_of journal old store)) new.stream (store_of (machine_of edited new after))
-RefitsTo-stored journal old store edited new ids outcomes after is ids_are outcomes_are refits =
-    both_seen (λ (before after : StoreValue). RefitsTo before new.stream after) journal edited old new store after is
-    (record { identified = refits.ids_are ∙ ids_are; folded = refits.outcomes_are ∙ outcomes_are })
-    (subst (λ (other : List ℕ). Refits store other (outcomes_of new.stream) after) ids_are
-    (subst (λ (other : List Outcome). Refits store ids other after) outcomes_are refits))
+-- the pictures after an edit, and how many are lost
+pub RefitsTo-stored : (journal : List (List Edit)) (old : Register) (store : StoreValue) (edited : List (List Edit)) (new : Register) (ids : List ℕ) (outcomes : List Outcome) (after : StoreValue) (lost : ℕ)
+    → IsOf old.stream store → ids ≡ ids_of new.stream → outcomes ≡ outcomes_of new.stream → RefitsLosing store ids outcomes lost after
+    → (refits : RefitsTo (store_of (machine_of journal old store)) new.stream (store_of (machine_of edited new after)))
+    × (refits.lost ≡ lost)
+RefitsTo-stored journal old store edited new ids outcomes after lost is ids_are outcomes_are losing =
+    both_seen (λ (before after : StoreValue). (refits : RefitsTo before new.stream after) × (refits.lost ≡ lost)) journal edited old new
+    store after is
+    (record { identified = losing.0.ids_are ∙ ids_are; folded = losing.0.outcomes_are ∙ outcomes_are })
+    (subst (λ (other : List ℕ). RefitsLosing store other (outcomes_of new.stream) lost after) ids_are
+    (subst (λ (other : List Outcome). RefitsLosing store ids other lost after) outcomes_are losing))
 
 -- the units stay
 pub record UnitsStay (old new : StoreValue) : Type 0 where

@@ -1,5 +1,5 @@
 -- Where an id stands among ids that differ.
-use Rattle.std.proofs.Common.{◌≡◌, ℕ, List, get_or, Some, ap, sym, ◌∙◌, eqb}
+use Rattle.std.proofs.Common.{◌≡◌, ℕ, List, get_or, Some, ap, ◌∙◌, eqb}
 use Rattle.std.specs.Prelude.{slice_get}
 use Rattle.std.proofs.lemmas.Bool.{eqb-true}
 use Rattle.std.proofs.lemmas.List.Quantifiers.{position-Some}

@@ -1,5 +1,5 @@
 -- Runs one command on.
-use Rattle.std.proofs.Common.{◌≡◌, List, [], ◌∷◌, ◌++◌, refl, sym, subst}
+use Rattle.std.proofs.Common.{List, [], ◌∷◌, ◌++◌, refl, sym, subst}
 use Rattle.edit_engine.specs.declared.commands.Command.{Command}
 use Rattle.edit_engine.specs.declared.commands.Command.TheVariants as commands
 use Rattle.edit_engine.specs.declared.replies.Reply.{Reply}

@@ -1,5 +1,5 @@
 -- What is stored after accepted edits.
-use Rattle.std.proofs.Common.{◌≡◌, ℕ, ◌+◌, ◌^◌, ◌<◌, ◌≤◌, List, [], ◌∷◌, ◌++◌, length, take, drop, refl, ap, sym, ◌∙◌, subst, arith, length-append}
+use Rattle.std.proofs.Common.{◌≡◌, ℕ, ◌+◌, ◌^◌, ◌<◌, List, [], ◌∷◌, ◌++◌, length, take, drop, refl, ap, sym, ◌∙◌, subst, arith, length-append}
 use Rattle.std.specs.List.{zip}
 use Rattle.request_core.specs.States.{FoldState, marked_ids}
 use Rattle.request_core.specs.Fold.{outcomes_of}
@@ -9,7 +9,7 @@ use Rattle.stream_fold.specs.Agreement.{becoming}
 use Rattle.stream_fold.proofs.LaterUnits.{depend_on_marked}
 use Rattle.picture_store.specs.Needs.{TellNeeds}
 use Rattle.picture_store.specs.Stores.{StoreValue}
-use Rattle.picture_store.specs.Changes.{Refits}
+use Rattle.picture_store.specs.Changes.{Refits, RefitsLosing}
 use Rattle.picture_store.specs.Stretches.{IsStretch, ids_with, outcomes_with}
 use Rattle.stream_edits.specs.declared.changes.Change.{Change}
 use Rattle.stream_edits.specs.declared.edits.Edit.{Edit}
@@ -22,6 +22,7 @@ use Rattle.stream_fold.specs.Prepared.{steps_in}
 use Rattle.stream_fold.specs.Ordered.{OrderedValue}
 use Rattle.edit_engine.specs.declared.preparing.Prepared.{Prepared}
 use Rattle.edit_engine.specs.Kept.{IsKept, IsPrepared, machine_of}
+use Rattle.edit_engine.specs.Machines.{RefitsTo, store_of}
 use Rattle.edit_engine.specs.Moves.{ComeTo, Moves}
 use Rattle.edit_engine.proofs.Accepted.{decodable-after}
 use Rattle.edit_engine.proofs.Pictured.{IsOf-kept, RefitsTo-stored}
@@ -71,8 +72,11 @@ module _ (journal : List (List Edit)) (old : Register) (store : StoreValue) (edi
       decodable-after journal old edits come.0 new (ids_with prepared.stretch store.ids)
       (outcomes_with prepared.stretch store.outcomes) kept.replayed come.1 ids-prepared outcomes-prepared
 
-  module _ (refit : StoreValue)
-      (refits : Refits store (ids_with prepared.stretch store.ids) (outcomes_with prepared.stretch store.outcomes) refit) where
+  module _ (refit : StoreValue) (lost : ℕ)
+      (losing : RefitsLosing store (ids_with prepared.stretch store.ids) (outcomes_with prepared.stretch store.outcomes) lost refit) where
+    refits : Refits store (ids_with prepared.stretch store.ids) (outcomes_with prepared.stretch store.outcomes) refit
+    refits = losing.0
+
     -- what is prepared may be stored next
     pub IsKept-after : IsKept (journal ++ edits ∷ []) new refit
     IsKept-after = record {
@@ -82,16 +86,21 @@ module _ (journal : List (List Edit)) (old : Register) (store : StoreValue) (edi
       replayed = Replays-entry no_units journal old edits come.0 new kept.replayed come.1;
     }
 
+    seen : (refits : RefitsTo (store_of (machine_of journal old store)) new.stream (store_of (machine_of (journal ++ edits ∷ []) new refit)))
+        × (refits.lost ≡ lost)
+    seen =
+        RefitsTo-stored journal old store (journal ++ edits ∷ []) new (ids_with prepared.stretch store.ids)
+        (outcomes_with prepared.stretch store.outcomes) refit lost (IsOf-kept journal old store kept) ids-prepared outcomes-prepared
+        losing
+
     -- and is what the edits leave
     pub Moves-after : Moves (machine_of journal old store) edits change given (steps_in prepared.change.refolded)
-        (machine_of (journal ++ edits ∷ []) new refit)
+        lost (machine_of (journal ++ edits ∷ []) new refit)
     Moves-after = record {
       register_is = refl;
       journaled = refl;
-      refits =
-          RefitsTo-stored journal old store (journal ++ edits ∷ []) new (ids_with prepared.stretch store.ids)
-          (outcomes_with prepared.stretch store.outcomes) refit (IsOf-kept journal old store kept) ids-prepared outcomes-prepared
-          refits;
+      refits = seen.0;
+      loses = seen.1;
       few = is.few;
       counted = is.counted;
     }

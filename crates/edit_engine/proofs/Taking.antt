@@ -1,9 +1,8 @@
 -- The jobs that a runner has taken stay those that are out.
-use Rattle.std.proofs.Common.{◌≡◌, ℕ, zero, suc, ◌+◌, ◌<◌, ◌≤◌, List, [], ◌∷◌, ◌++◌, length, get_or, take, drop, map, Option, None, Some, refl, ap, sym, ◌∙◌, subst, arith}
-use Rattle.std.specs.Prelude.{remove, slice_get, option_map, Result, Ok, Err}
+use Rattle.std.proofs.Common.{◌≡◌, ℕ, zero, suc, ◌+◌, ◌<◌, ◌≤◌, List, [], ◌∷◌, ◌++◌, length, get_or, take, drop, map, Some, refl, ap, sym, ◌∙◌, subst, arith}
+use Rattle.std.specs.Prelude.{remove, slice_get, option_map, Ok}
 use Rattle.std.proofs.lemmas.List.{length-map, map-append, map_push, take-map, drop-map}
 use Rattle.std.proofs.lemmas.Option.{slice_get-map, slice_get_within, slice_get-get_or}
-use Rattle.h264_controls.specs.declared.work.Work.{Work}
 use Rattle.dep_keys.specs.Trees.Tree.{Bare}
 use Rattle.stand_in_device.specs.Jobs.{JobValue}
 use Rattle.picture_store.specs.declared.answers.Landing.{Landing}
@@ -22,7 +21,7 @@ use Rattle.edit_engine.specs.Kept.{machine_of}
 use Rattle.edit_engine.specs.Machines.{Machine, store_of, Edits}
 use Rattle.edit_engine.specs.Jobs.{AnswersTake, AnswersLand, AnswersGiveBack, KeepsStream}
 use Rattle.edit_engine.specs.Needing.{TakesFor}
-use Rattle.edit_engine.specs.Taken.{as_taken, taken_of, AreRising, AreOut}
+use Rattle.edit_engine.specs.Taken.{as_taken, AreRising, AreOut}
 
 -- a machine is its stream's and its pictures'
 pub same_machine : (old new : Machine) → store_of new ≡ store_of old → KeepsStream old new → new ≡ old

@@ -1,25 +1,22 @@
 -- The unit of a job that is taken.
-use Rattle.std.proofs.Common.{◌≡◌, ℕ, zero, suc, ◌<◌, ◌+◌, List, [], ◌∷◌, ◌++◌, length, get_or, take, Option, None, Some, refl, ap, sym, ◌∙◌, subst, arith}
+use Rattle.std.proofs.Common.{◌≡◌, ℕ, ◌<◌, List, [], ◌∷◌, ◌++◌, length, get_or, take, Option, None, Some, refl, ap, sym, ◌∙◌, subst, arith}
 use Rattle.std.specs.Prelude.{slice_get, slice_index_or, All, Contains, IfSome, Ok}
 use Rattle.std.specs.List.{zip}
 use Rattle.std.proofs.lemmas.List.Elements.{Contains-push}
 use Rattle.std.proofs.lemmas.Option.{slice_get_read}
 use Rattle.unit_outcomes.specs.declared.outcome.Outcome.{Outcome}
 use Rattle.unit_outcomes.specs.declared.outcome.Outcome.TheVariants as outcomes
-use Rattle.unit_outcomes.specs.declared.outcome.Plan.{Plan}
 use Rattle.request_core.specs.Fold.{outcomes_of}
 use Rattle.stand_in_device.specs.Jobs.{JobValue}
 use Rattle.picture_keys.specs.Keys.{Key}
 use Rattle.picture_keys.specs.Known.{Known, key_of, key_of_outcome, known_with, known_after, keys_after, keys_of}
-use Rattle.picture_store.specs.Stores.{OutValue, StoreValue, units_of}
+use Rattle.picture_store.specs.Stores.{OutValue, StoreValue}
 use Rattle.picture_store.specs.Jobs.{IsDue, Takes}
 use Rattle.stream_edits.specs.declared.edits.Edit.{Edit}
 use Rattle.stream_edits.specs.Streams.{Stream, ids_of}
-use Rattle.stream_edits.specs.Edits.{Register}
-use Rattle.edit_engine.specs.Machines.{Machine}
 use Rattle.edit_engine.specs.Kept.{machine_of}
 use Rattle.edit_engine.specs.Showing.{keys_in}
-use Rattle.edit_engine.specs.Jobs.{IsFirstWith, IsUnitOf, TellsTake}
+use Rattle.edit_engine.specs.Jobs.{IsFirstWith, TellsTake}
 use Rattle.edit_engine.proofs.Pictured.{IsOf, take_seen}
 
 -- a unit between those before it and those after it has the key that those before it say

@@ -41,6 +41,7 @@ pub record EditsAll (old : Machine) (edits : List Edit) (receipt : GroupReceipt)
   pub made : MakesAll old.register edits receipt.ids.items new.register
   pub journaled : new.journal ≡ old.journal ++ edits ∷ []
   pub refits : RefitsTo (store_of old) new.register.stream (store_of new)
+  pub loses : refits.lost ≡ receipt.lost_pictures
   pub number_is : receipt.number ≡ length new.journal
   pub few : AreFewForAll old.register.stream new.register.stream receipt.steps
   pub counted : AreCounted old.register.stream new.register.stream receipt.steps

@@ -72,6 +72,7 @@ pub record Edits (old : Machine) (edit : Edit) (receipt : Receipt) (new : Machin
   pub made : Makes old.register edit receipt.id new.register
   pub journaled : new.journal ≡ old.journal ++ (edit ∷ []) ∷ []
   pub refits : RefitsTo (store_of old) new.register.stream (store_of new)
+  pub loses : refits.lost ≡ receipt.lost_pictures
   pub number_is : receipt.number ≡ length new.journal
   pub refolds : Refolds old.register edit receipt.steps new.register
   pub hashes : IsHashedFor edit receipt.hashed

@@ -17,10 +17,11 @@ ComeTo old edits change given = (ids : List ℕ) × MakesAll old edits ids (afte
 abbrev pub MakesFew : Change → Stream → ℕ → Type 0
 MakesFew change stream steps = (count : ℕ) → IsMeeting change stream count → steps ≤ length (units_of change) + count + 63
 
--- the edits are made by the change
-pub record Moves (old : Machine) (edits : List Edit) (change : Change) (given steps : ℕ) (new : Machine) : Type 0 where
+-- the edits are made by the change, in so many steps, and so many pictures are lost
+pub record Moves (old : Machine) (edits : List Edit) (change : Change) (given steps lost : ℕ) (new : Machine) : Type 0 where
   pub register_is : new.register ≡ after change given old.register.stream
   pub journaled : new.journal ≡ old.journal ++ edits ∷ []
   pub refits : RefitsTo (store_of old) new.register.stream (store_of new)
+  pub loses : refits.lost ≡ lost
   pub few : MakesFew change old.register.stream steps
   pub counted : IsCounted change old.register.stream steps

@@ -1,6 +1,6 @@
 -- What a unit of a session needs: pending units, jobs that are taken for one, and pictures that are
 -- dropped.
-use Rattle.std.specs.Prelude.{◌≡◌, ℕ, slice_get, Bool, true, false, Option, None, Some, Result, Ok, Err}
+use Rattle.std.specs.Prelude.{◌≡◌, ℕ, slice_get, true, false, Option, None, Some, Result, Ok, Err}
 use Rattle.stand_in_device.specs.Jobs.{JobValue}
 use Rattle.picture_store.specs.declared.refusals.TakeRefused.{TakeRefused}
 use Rattle.picture_store.specs.declared.refusals.TakeRefused.TheVariants.{JobsSpent, Memory}

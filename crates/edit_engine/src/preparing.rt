@@ -17,6 +17,14 @@ pub(crate) struct Prepared {
     pub(crate) stretch: Stretch,
 }
 
+/// What a change came to: how many steps of the fold it made, and how many pictures are lost, as
+/// their keys went out of use and no memory was found to cache them.
+#[derive(Clone, Copy, Debug)]
+pub(crate) struct ChangeCosts {
+    pub(crate) steps: u64,
+    pub(crate) lost_pictures: u64,
+}
+
 /// Prepares a change of the stream. What the stream answers stays as it was.
 pub(crate) fn prepare(
     alloc: Global,

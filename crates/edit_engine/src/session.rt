@@ -17,7 +17,7 @@ ghost use Rattle.edit_engine.specs.Needing.{AnswersDrop, AnswersTakeFor, IsAnyOu
 mod asking;
 
 use crate::config::{Config, ConfigFault};
-use crate::preparing::prepare;
+use crate::preparing::{ChangeCosts, prepare};
 use crate::showing::Dropping;
 use base_types::Shared;
 use dep_keys::KeyId;
@@ -120,12 +120,13 @@ impl Session {
         let AcceptedEdit { change, id, given } = accepted;
         let hashed = read.hashed();
         let entry = JournalEntry::of_edit(read.into_edit());
-        let steps = self.make(change, given, entry)?;
+        let costs = self.make(change, given, entry)?;
         Ok(Receipt {
             number: self.journal.len() as u64,
             id,
-            steps,
+            steps: costs.steps,
             hashed: hashed as u64,
+            lost_pictures: costs.lost_pictures,
         })
     }
 
@@ -155,31 +156,40 @@ impl Session {
             hashed,
         } = accepted;
         let entry = JournalEntry::of_group(group.into_edits());
-        let steps = self.make(change, given, entry)?;
+        let costs = self.make(change, given, entry)?;
         Ok(GroupReceipt {
             number: self.journal.len() as u64,
             ids,
-            steps,
+            steps: costs.steps,
             hashed: hashed as u64,
+            lost_pictures: costs.lost_pictures,
         })
     }
 
-    /// Makes the change that edits come to, with so many ids given then, and says in how many steps
-    /// of the fold.
-    fn make(&mut self, change: Change, given: u32, edits: JournalEntry) -> Result<u64, AllocError>
+    /// Makes the change that edits come to, with so many ids given then.
+    fn make(
+        &mut self,
+        change: Change,
+        given: u32,
+        edits: JournalEntry,
+    ) -> Result<ChangeCosts, AllocError>
         requires inside { IsInside change self.old.register.stream }
         requires come { ComeTo self.old.register edits change given }
-        ensures ok { IfOk result (λ steps. Moves self.old edits change given steps self.new) }
+        ensures ok { IfOk result (λ costs. Moves self.old edits change given costs.steps
+            costs.lost_pictures self.new) }
         ensures err { OnErr result (self.new ≡ self.old) }
     {
         let prepared = prepare(self.alloc, &mut self.ordered, change)?;
         let steps = prepared.change.refolded().steps();
         self.journal.reserve(1)?;
-        self.store.refit(prepared.stretch, self.ordered.states())?;
+        let lost = self.store.refit(prepared.stretch, self.ordered.states())?;
         self.ordered.commit(prepared.change);
         self.journal.push_reserved(edits);
         self.given = given;
-        Ok(steps)
+        Ok(ChangeCosts {
+            steps,
+            lost_pictures: lost as u64,
+        })
     }
 
     /// Gives a picture to decode: the earliest one of the stream that isn't held and isn't out as a

@@ -1,5 +1,5 @@
 -- Where the needed units that were found name no others that wait, they are all.
-use Rattle.std.proofs.Common.{◌≡◌, refl, ℕ, ◌<◌, List, [], Contains, ◌↔◌, ◌⊎◌, inl, inr, subst, arith}
+use Rattle.std.proofs.Common.{◌≡◌, ℕ, List, [], Contains, ◌⊎◌, inl, inr, subst, arith}
 use Rattle.unit_outcomes.specs.declared.outcome.Outcome.{Outcome}
 use Rattle.key_slots.proofs.Members.{nowhere}
 use Rattle.key_slots.specs.Needed.{IsNeeded, AreNeeded, Names}

@@ -126,13 +126,19 @@ module _ (First Then : ℕ → Type 0) (k : ℕ) (goes : First k) (not : Then k 
             )
       ]
 
--- one key more is put
-pub put_last : (room : ℕ) (gone : List ℕ) (key : ℕ) (cached mid new : List ℕ) → ArePut room gone cached mid
-    → IsPut room key mid new ⊎ (new ≡ mid) → ArePut room (gone ++ key ∷ []) cached new
-put_last room [] key cached mid new are put =
-    (new, subst (λ l. IsPut room key l new ⊎ (new ≡ l)) are put, refl)
-put_last room (first ∷ gone) key cached mid new are put =
-    (are.0, are.1, put_last room gone key are.0 mid new are.2 put)
+-- one key more is put, or lost
+pub put_last : (room : ℕ) (gone : List ℕ) (key : ℕ) (cached mid new : List ℕ) (lost more : ℕ) → ArePut room gone cached mid lost
+    → (IsPut room key mid new × (more ≡ 0)) ⊎ ((new ≡ mid) × (more ≡ 1)) → ArePut room (gone ++ key ∷ []) cached new (lost + more)
+put_last room [] key cached mid new lost more are put =
+    elim put [
+      | inl is ↦ inl (new, subst (λ l. IsPut room key l new) are.0 is.0, (refl, omega (arith, are.1, is.1)))
+      | inr stays ↦ inr (0, omega (arith, are.1, stays.1), (stays.0 ∙ are.0, refl))
+    ]
+put_last room (first ∷ gone) key cached mid new lost more are put =
+    elim are [
+      | inl one ↦ inl (one.0, one.1, put_last room gone key one.0 mid new lost more one.2 put)
+      | inr one ↦ inr (one.0 + more, omega (arith, one.1), put_last room gone key cached mid new one.0 more one.2 put)
+    ]
 
 -- how often a key stands among one more
 pub times_in_more : (keys : List ℕ) (i number key : ℕ) → i < length keys → key ≡ get_or keys i key
@@ -176,22 +182,31 @@ below_it keys i key n rising within is (j, there_j, at_j) =
     get_or_any (x ∷ xs) zero d e less = refl
     get_or_any (x ∷ xs) (suc i) d e less = get_or_any xs i d e (omega (arith, less))
 
--- keys that went so far, put into the cache
-pub record HaveGone {P : Type 0} (held leaving : List ℕ) (i : ℕ) (places : List (Slot P)) (room : ℕ) (cached new : List ℕ) : Type 0 where
+-- of one unit that goes, one picture is lost at most
+pub lost_at_most_one : {P : Type 0} (old : List (Slot P)) (key : ℕ) (cached : List ℕ) (room : ℕ) (new : List (Slot P)) (more : List ℕ)
+    (lost : ℕ) → Goes old key cached room new more lost → lost ≤ 1
+lost_at_most_one old key cached room new more lost goes =
+    elim goes.cache [
+      | inl out ↦ elim out.3 [ inl put ↦ omega (arith, put.1) | inr stays ↦ omega (arith, stays.1) ]
+      | inr stays ↦ omega (arith, stays.2)
+    ]
+
+-- keys that went so far, put into the cache but for those that are lost
+pub record HaveGone {P : Type 0} (held leaving : List ℕ) (i : ℕ) (places : List (Slot P)) (room : ℕ) (cached new : List ℕ) (lost : ℕ) : Type 0 where
   pub gone : List ℕ
   pub left : IsLeft (λ number. IsSome (place_at places number)) held gone
-  pub put : ArePut room gone cached new
+  pub put : ArePut room gone cached new lost
   pub among : (number : ℕ) → Contains gone number → Contains (take i leaving) number
 
 module _ {P : Type 0} (held leaving : List ℕ) (old : List (Slot P)) (before : IsHeldBefore held leaving old) where
   -- none went yet
-  pub none_gone : (room : ℕ) (cached : List ℕ) → HaveGone held leaving 0 old room cached cached
+  pub none_gone : (room : ℕ) (cached : List ℕ) → HaveGone held leaving 0 old room cached cached 0
   none_gone room cached = record {
     gone = [];
     left =
         all_go (λ number. IsSome (place_at old number)) held
         (λ number is. ap is_some_of (before.pictured number is).1);
-    put = refl;
+    put = (refl, refl);
     among = λ number is. absurd (nowhere number is);
   }
     where
@@ -201,8 +216,8 @@ module _ {P : Type 0} (held leaving : List ℕ) (old : List (Slot P)) (before : 
 
   module _ (i key : ℕ) (within : i < length leaving) (is : key ≡ get_or leaving i key) (rising : IsNonDecreasing leaving)
       (mid new : List (Slot P)) (stay : (number : ℕ) → 0 < uses_at mid number → place_at mid number ≡ place_at old number)
-      (used : 0 < uses_at mid key) (room : ℕ) (cached between after : List ℕ) (goes : Goes mid key between room new after)
-      (have : HaveGone held leaving i mid room cached between) where
+      (used : 0 < uses_at mid key) (room : ℕ) (cached between after : List ℕ) (lost more : ℕ)
+      (goes : Goes mid key between room new after more) (have : HaveGone held leaving i mid room cached between lost) where
     later : (number : ℕ) → Contains (take i leaving) number → Contains (take (i + 1) leaving) number
     later number among =
         subst (λ l. Contains l number) (sym (take_more leaving i key within))
@@ -234,7 +249,8 @@ module _ {P : Type 0} (held leaving : List ℕ) (old : List (Slot P)) (before : 
 
     -- the key goes out of use, with a picture
     with_picture : (picture : P) → place_at mid key ≡ Some (Some picture) → uses_at new key ≡ 0
-        → IsPut room key between after ⊎ (after ≡ between) → HaveGone held leaving (i + 1) new room cached after
+        → (IsPut room key between after × (more ≡ 0)) ⊎ ((after ≡ between) × (more ≡ 1))
+        → HaveGone held leaving (i + 1) new room cached after (lost + more)
     with_picture picture place none put = record {
       gone = have.gone ++ key ∷ [];
       left =
@@ -243,7 +259,7 @@ module _ {P : Type 0} (held leaving : List ℕ) (old : List (Slot P)) (before : 
           (λ some. absurd (omega (arith, none, used_some new key some))) as_before fewer held have.gone before.rising
           (before.among key picture (item key) (sym here_old ∙ place))
           (λ n gone. omega (arith, below_it leaving i key n rising within is (have.among n gone), other_than n gone)) have.left;
-      put = put_last room have.gone key cached between after have.put put;
+      put = put_last room have.gone key cached between after lost more have.put put;
       among = λ number gone.
           elim (Contains-push_cases have.gone key number gone) [
             | inl earlier ↦ later number (have.among number earlier)
@@ -261,13 +277,15 @@ module _ {P : Type 0} (held leaving : List ℕ) (old : List (Slot P)) (before : 
 
     -- nothing goes out of use that has a picture
     without_picture : ((picture : P) → place_at mid key ≡ Some (Some picture) → 0 < uses_at new key) → after ≡ between
-        → HaveGone held leaving (i + 1) new room cached after
-    without_picture unless same = record {
+        → more ≡ 0 → HaveGone held leaving (i + 1) new room cached after (lost + more)
+    without_picture unless same none = record {
       gone = have.gone;
       left =
           left_among_same (λ number. IsSome (place_at mid number)) (λ number. IsSome (place_at new number)) held have.gone
           (λ number among some. kept (number == key) number refl among some) (λ number among some. fewer number some) have.left;
-      put = subst (λ l. ArePut room have.gone cached l) (sym same) have.put;
+      put =
+          subst (λ l. ArePut room have.gone cached l (lost + more)) (sym same)
+          (subst (λ n. ArePut room have.gone cached between n) (omega (arith, none)) have.put);
       among = λ number gone. later number (have.among number gone);
     }
       where
@@ -282,9 +300,9 @@ module _ {P : Type 0} (held leaving : List ℕ) (old : List (Slot P)) (before : 
             as_before number (λ same_one. let yes : (number == key) ≡ true = eq-eqb number key same_one in cc) some
 
     -- one unit more goes
-    pub gone_more : HaveGone held leaving (i + 1) new room cached after
+    pub gone_more : HaveGone held leaving (i + 1) new room cached after (lost + more)
     gone_more =
         elim goes.cache [
           | inl goes_out ↦ with_picture goes_out.0 goes_out.1 goes_out.2 goes_out.3
-          | inr stays ↦ without_picture stays.0 stays.1
+          | inr stays ↦ without_picture stays.0 stays.1 stays.2
         ]

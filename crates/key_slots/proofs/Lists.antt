@@ -1,5 +1,5 @@
 -- Places that fall.
-use Rattle.std.proofs.Common.{◌≡◌, sym, subst, ℕ, ◌<◌, List, [], ◌∷◌, ◌++◌, Contains, inl, inr}
+use Rattle.std.proofs.Common.{subst, ℕ, ◌<◌, List, [], ◌∷◌, ◌++◌, Contains, inl, inr}
 use Rattle.std.proofs.lemmas.List.Elements.{Contains-push_cases}
 use Rattle.key_slots.proofs.Members.{here, there, nowhere}
 use Rattle.key_slots.specs.Needed.{AreFalling}

@@ -1,5 +1,5 @@
 -- Units, the numbers of their keys, and the keys that they stand for.
-use Rattle.std.proofs.Common.{◌≡◌, refl, sym, ap, ◌∙◌, subst, ℕ, zero, suc, ◌<◌, List, [], ◌∷◌, length, take, Option, None, Some, IsSome, slice_get, get_or, arith}
+use Rattle.std.proofs.Common.{◌≡◌, refl, sym, ap, ◌∙◌, subst, ℕ, zero, suc, List, [], ◌∷◌, length, take, Option, None, Some, slice_get, arith}
 use Rattle.std.specs.List.{zip}
 use Rattle.std.proofs.lemmas.Option.{none-some, same_Some, slice_get_within}
 use Rattle.h264_controls.specs.declared.work.Work.{Work}
@@ -9,11 +9,11 @@ use Rattle.unit_outcomes.specs.declared.outcome.Plan.{Plan}
 use Rattle.dep_keys.specs.KeyMaps.{KeyMap, IsKeyMap, tree_at}
 use Rattle.key_slots.specs.declared.places.Slot.{Slot}
 use Rattle.stand_in_device.specs.declared.picture.Picture.{Picture}
-use Rattle.picture_keys.specs.Keys.{Key, named_by_all}
+use Rattle.picture_keys.specs.Keys.{Key}
 use Rattle.picture_keys.specs.Known.{Known, key_at, key_of, key_of_outcome, known_with, known_after, keys_after, keys_of}
 use Rattle.picture_keys.specs.Numbered.{StandsFor, AllStandFor}
 use Rattle.key_slots.specs.Held.{IsHeld, IsWaiting}
-use Rattle.key_slots.specs.Needed.{IsValid, Lists, Names}
+use Rattle.key_slots.specs.Needed.{IsValid, Names}
 use Rattle.key_slots.proofs.Lookups.{last_known}
 use Rattle.key_slots.proofs.UnitAt.{IsAt, unit_at}
 

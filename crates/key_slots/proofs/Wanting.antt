@@ -1,10 +1,10 @@
 -- The ids that are wanted of a unit: those at whose entries stand keys whose pictures aren't held.
-use Rattle.std.proofs.Common.{◌≡◌, refl, sym, ap, ◌∙◌, subst, ℕ, zero, suc, ◌<◌, ◌==◌, List, [], ◌∷◌, length, get_or, Option, None, Some, is_some, not, Bool, true, false, Contains, slice_get, arith}
+use Rattle.std.proofs.Common.{◌≡◌, refl, sym, ap, ◌∙◌, ℕ, zero, suc, ◌<◌, ◌==◌, List, [], ◌∷◌, length, get_or, Option, None, Some, is_some, not, Bool, true, false, Contains, slice_get, arith}
 use Rattle.std.specs.Prelude.{Result, Ok, Err, OnOk}
 use Rattle.std.specs.List.{zip}
 use Rattle.std.proofs.Common.{rules}
 use Rattle.std.proofs.lemmas.Bool.{eqb-true}
-use Rattle.std.proofs.lemmas.Option.{none-some, same_Some, slice_get_within, slice_get_read, slice_get-get_or}
+use Rattle.std.proofs.lemmas.Option.{none-some, same_Some, slice_get-get_or}
 use Rattle.h264_controls.specs.declared.request.Request.{Request}
 use Rattle.h264_controls.specs.declared.work.Work.{Work}
 use Rattle.unit_outcomes.specs.declared.outcome.Outcome.{Outcome}
@@ -15,7 +15,7 @@ use Rattle.dep_keys.specs.Nodes.{NodeOf}
 use Rattle.key_slots.specs.declared.places.Slot.{Slot}
 use Rattle.stand_in_device.specs.declared.picture.Picture.{Picture}
 use Rattle.picture_keys.specs.Keys.{Key, named_by_all, works_of}
-use Rattle.picture_keys.specs.Known.{Known, key_at, key_of, key_of_outcome}
+use Rattle.picture_keys.specs.Known.{Known, key_at, key_of}
 use Rattle.key_slots.specs.Held.{AreWanted, IsHeld}
 use Rattle.key_slots.specs.Needed.{IsValid}
 use Rattle.key_slots.proofs.Entries.{entries_many, entry_same}

@@ -7,17 +7,24 @@ ghost use Rattle.key_slots.specs.Left.{IsLeft, IsPut};
 use dep_keys::KeyId;
 use picture_cache::PictureCache;
 
-/// Puts a picture into a cache, if memory is found.
-pub(crate) fn put_in<P: Copy + Drop>(cache: &mut PictureCache<KeyId, P>, key: KeyId, picture: P)
-    ensures puts { IsPut cache.old.capacity key (keys_of cache.old.pairs) (keys_of cache.new.pairs)
-        ⊎ (keys_of cache.new.pairs ≡ keys_of cache.old.pairs) }
+/// Puts a picture into a cache, and says how many are lost: this one, where no memory is found.
+pub(crate) fn put_in<P: Copy + Drop>(
+    cache: &mut PictureCache<KeyId, P>,
+    key: KeyId,
+    picture: P,
+) -> usize
+    ensures puts { (IsPut cache.old.capacity key (keys_of cache.old.pairs) (keys_of cache.new.pairs) × (result ≡ 0))
+        ⊎ ((keys_of cache.new.pairs ≡ keys_of cache.old.pairs) × (result ≡ 1)) }
     ensures room { cache.new.capacity ≡ cache.old.capacity }
     ensures those { (number : ℕ) (other : P) → Contains cache.new.pairs (number, other)
         → Contains cache.old.pairs (number, other) ⊎ ((number ≡ key) × (other ≡ picture)) }
 {
     // no key stands twice, as `len` says
     let _ = cache.len();
-    let _ = cache.put(key, picture);
+    match cache.put(key, picture) {
+        Ok(()) => 0,
+        Err(_) => 1,
+    }
 }
 
 /// Takes the pictures of these keys out of a cache.

@@ -77,12 +77,12 @@ fn take_up<P: Copy + Drop>(
 }
 
 /// Counts the units that go, by their keys in rising order. The picture of a key that goes out of
-/// use is put into the cache, if memory is found.
+/// use is put into the cache. Says how many pictures are lost, as memory ran out for the cache.
 pub fn let_go_all<P: Copy + Drop>(
     places: &mut Places<P>,
     cache: &mut PictureCache<KeyId, P>,
     leaving: &[KeyId],
-)
+) -> usize
     requires enough { (number : ℕ) → times_in number leaving.now ≤ uses_at places.old number }
     requires rising { IsNonDecreasing leaving.now }
     ensures uses { (number : ℕ)
@@ -91,28 +91,35 @@ pub fn let_go_all<P: Copy + Drop>(
         → place_at places.new number ≡ place_at places.old number }
     ensures gone { (held : List ℕ) → IsHeldBefore held leaving.now places.old
         → (gone : List ℕ) × IsLeft (λ number. IsSome (place_at places.new number)) held gone
-        × ArePut cache.old.capacity gone (keys_of cache.old.pairs) (keys_of cache.new.pairs) }
+        × ArePut cache.old.capacity gone (keys_of cache.old.pairs) (keys_of cache.new.pairs) result }
     ensures room { cache.new.capacity ≡ cache.old.capacity }
     ensures those { (number : ℕ) (picture : P) → Contains cache.new.pairs (number, picture)
         → Contains cache.old.pairs (number, picture)
         ⊎ ((place_at places.old number ≡ Some (Some picture)) × (uses_at places.new number ≡ 0)) }
 {
+    let mut lost = 0;
     for key in leaving {
-        let_go(places, cache, *key);
+        lost += let_go(places, cache, *key);
     }
+    lost
 }
 
-/// Counts a unit that goes, by its key.
-fn let_go<P: Copy + Drop>(places: &mut Places<P>, cache: &mut PictureCache<KeyId, P>, key: KeyId)
+/// Counts a unit that goes, by its key, and says how many pictures are lost.
+fn let_go<P: Copy + Drop>(
+    places: &mut Places<P>,
+    cache: &mut PictureCache<KeyId, P>,
+    key: KeyId,
+) -> usize
     requires { 0 < uses_at places.old key }
     ensures goes { Goes places.old key (keys_of cache.old.pairs) cache.old.capacity
-        places.new (keys_of cache.new.pairs) }
+        places.new (keys_of cache.new.pairs) result }
     ensures room { cache.new.capacity ≡ cache.old.capacity }
     ensures those { (number : ℕ) (picture : P) → Contains cache.new.pairs (number, picture)
         → Contains cache.old.pairs (number, picture)
         ⊎ ((number ≡ key) × (place_at places.old key ≡ Some (Some picture)) × (uses_at places.new key ≡ 0)) }
 {
-    if let Some(picture) = places.let_go(key) {
-        put_in(cache, key, picture);
+    match places.let_go(key) {
+        Some(picture) => put_in(cache, key, picture),
+        None => 0,
     }
 }

@@ -1,7 +1,5 @@
 -- What is held where the picture of a key is dropped.
-use Rattle.std.proofs.Common.{◌≡◌, refl, sym, ap, subst, ◌∙◌, ℕ, ◌<◌, List, Option, None, Some, IsSome, Contains, ◌↔◌, Bool, true, false, ◌==◌, if◌then◌else◌}
-use Rattle.std.specs.List.{zip}
-use Rattle.std.specs.Map.{keys_of as numbers_of}
+use Rattle.std.proofs.Common.{◌≡◌, refl, sym, ap, subst, ◌∙◌, ℕ, List, Option, None, Some, IsSome, Contains, ◌↔◌, Bool, true, false, ◌==◌, if◌then◌else◌}
 use Rattle.std.proofs.lemmas.Bool.{eqb-true, eq-eqb}
 use Rattle.unit_outcomes.specs.declared.outcome.Outcome.{Outcome}
 use Rattle.dep_keys.specs.KeyMaps.{tree_at}

@@ -1,16 +1,15 @@
 -- The entries of the node of a picture: one by one the keys of the units that its requests name.
-use Rattle.std.proofs.Common.{◌≡◌, refl, sym, ap, subst, ◌∙◌, ℕ, zero, suc, List, [], ◌∷◌, length, map, Option, Some, None, IsSome, is_some, IfSome, All, slice_get}
+use Rattle.std.proofs.Common.{◌≡◌, sym, ap, subst, ◌∙◌, ℕ, zero, suc, List, [], ◌∷◌, Option, Some, None, IsSome, is_some, IfSome, All, slice_get}
 use Rattle.std.specs.Prelude.{option_and_then}
 use Rattle.std.specs.Option.{option_map}
 use Rattle.std.proofs.lemmas.Option.{none-some, get_or_from_slice_get, slice_get_within}
 use Rattle.std.proofs.lemmas.List.Elements.{All-nil, All-head, All-tail, All-append, All-map, All-weaker, All-get_or}
 use Rattle.h264_controls.specs.declared.request.Request.{Request}
 use Rattle.h264_controls.specs.declared.work.Work.{Work}
-use Rattle.dep_keys.specs.KeyMaps.{tree_from, named, entered}
-use Rattle.dep_keys.specs.Trees.Tree.{Bare}
+use Rattle.dep_keys.specs.KeyMaps.{tree_from, named}
 use Rattle.stand_in_device.specs.declared.picture.Picture.{Picture}
 use Rattle.stand_in_device.specs.Inputs.{entries_of}
-use Rattle.picture_keys.specs.Keys.{Key, unit_named, named_by, named_by_all, tree_with}
+use Rattle.picture_keys.specs.Keys.{unit_named, named_by, named_by_all, tree_with}
 use Rattle.picture_keys.specs.Known.{Known, key_at}
 use Rattle.picture_keys.specs.KeyPictures.{picture_of_key}
 use Rattle.picture_keys.specs.Decodable.{NamesKnown, RequestNamesKnown}

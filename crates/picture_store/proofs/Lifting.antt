@@ -1,5 +1,5 @@
 -- What holds of numbers holds of the keys that they stand for, and which numbers have a picture.
-use Rattle.std.proofs.Common.{◌≡◌, refl, ap, sym, ◌∙◌, subst, ℕ, List, [], ◌∷◌, Option, None, Some, IsSome, inl, inr, ◌⊎◌}
+use Rattle.std.proofs.Common.{◌≡◌, refl, ap, sym, ◌∙◌, subst, ℕ, List, [], ◌∷◌, Option, None, Some, IsSome, inl, inr}
 use Rattle.std.specs.Prelude.{Contains}
 use Rattle.std.specs.Option.{unwrap_or}
 use Rattle.std.proofs.lemmas.List.{take-map}
@@ -58,49 +58,46 @@ one_for keys a b one live_a live_b same =
 
 -- what is cached after a put is live
 live_after : (keys : Trees) (room n : ℕ) (cached next : List ℕ) → IsSome (tree_at keys n)
-    → ((number : ℕ) → Contains cached number → IsSome (tree_at keys number))
-    → IsPut room n cached next ⊎ (next ≡ cached)
+    → ((number : ℕ) → Contains cached number → IsSome (tree_at keys number)) → IsPut room n cached next
     → (number : ℕ) → Contains next number → IsSome (tree_at keys number)
 live_after keys room n cached next live all put number is =
-    elim put [
-      | inl one ↦
-          elim (first_or_among n number one.0
-          (among_take room (n ∷ one.0) number (subst (λ l. Contains l number) one.2 is))) [
-            | inl same ↦ subst (λ m. IsSome (tree_at keys m)) same live
-            | inr later ↦ all number (left_among (λ other. other ≡ n) cached one.0 one.1 number later)
-          ]
-      | inr same ↦ all number (subst (λ l. Contains l number) same is)
+    elim (first_or_among n number put.0 (among_take room (n ∷ put.0) number (subst (λ l. Contains l number) put.2 is))) [
+      | inl same ↦ subst (λ m. IsSome (tree_at keys m)) same live
+      | inr later ↦ all number (left_among (λ other. other ≡ n) cached put.0 put.1 number later)
     ]
 
 -- a number's key is put where the number is
 put_one : (keys : Trees) (room n : ℕ) (cached next : List ℕ) → IsOneToOne keys → IsSome (tree_at keys n)
-    → ((number : ℕ) → Contains cached number → IsSome (tree_at keys number))
-    → IsPut room n cached next ⊎ (next ≡ cached)
+    → ((number : ℕ) → Contains cached number → IsSome (tree_at keys number)) → IsPut room n cached next
     → IsPut room (key_for keys n) (keys_for keys cached) (keys_for keys next)
-    ⊎ (keys_for keys next ≡ keys_for keys cached)
-put_one keys room n cached next one live all put =
-    elim put [
-      | inl is ↦
-          inl (
-            keys_for keys is.0,
-            left_for keys (λ other. other ≡ n) (λ other. other ≡ key_for keys n) cached is.0
-                (λ m among same. ap (key_for keys) same)
-                (λ m among same. one_for keys m n one (all m among) live same) is.1,
-            ap (keys_for keys) is.2 ∙ sym (take-map (key_for keys) room (n ∷ is.0)),
-          )
-      | inr same ↦ inr (ap (keys_for keys) same)
-    ]
+put_one keys room n cached next one live all put = (
+  keys_for keys put.0,
+  left_for keys (λ other. other ≡ n) (λ other. other ≡ key_for keys n) cached put.0
+      (λ m among same. ap (key_for keys) same)
+      (λ m among same. one_for keys m n one (all m among) live same) put.1,
+  ap (keys_for keys) put.2 ∙ sym (take-map (key_for keys) room (n ∷ put.0)),
+)
 
--- the keys are put where their numbers are
-pub put_for : (keys : Trees) (room : ℕ) (numbers cached new : List ℕ) → IsOneToOne keys
+-- the keys are put where their numbers are, and as many are lost
+pub put_for : (keys : Trees) (room : ℕ) (numbers cached new : List ℕ) (lost : ℕ) → IsOneToOne keys
     → ((number : ℕ) → Contains numbers number → IsSome (tree_at keys number))
     → ((number : ℕ) → Contains cached number → IsSome (tree_at keys number))
-    → ArePut room numbers cached new
-    → ArePut room (keys_for keys numbers) (keys_for keys cached) (keys_for keys new)
-put_for keys room [] cached new one live all is = ap (keys_for keys) is
-put_for keys room (n ∷ numbers) cached new one live all is = (
-  keys_for keys is.0,
-  put_one keys room n cached is.0 one (live n (here n numbers)) all is.1,
-  put_for keys room numbers is.0 new one (λ m among. live m (there n m numbers among))
-      (live_after keys room n cached is.0 (live n (here n numbers)) all is.1) is.2,
-)
+    → ArePut room numbers cached new lost
+    → ArePut room (keys_for keys numbers) (keys_for keys cached) (keys_for keys new) lost
+put_for keys room [] cached new lost one live all is = (ap (keys_for keys) is.0, is.1)
+put_for keys room (n ∷ numbers) cached new lost one live all is =
+    elim is [
+      | inl put ↦
+          inl (
+            keys_for keys put.0,
+            put_one keys room n cached put.0 one (live n (here n numbers)) all put.1,
+            put_for keys room numbers put.0 new lost one (λ m among. live m (there n m numbers among))
+                (live_after keys room n cached put.0 (live n (here n numbers)) all put.1) put.2,
+          )
+      | inr gone ↦
+          inr (
+            gone.0,
+            gone.1,
+            put_for keys room numbers cached new gone.0 one (λ m among. live m (there n m numbers among)) all gone.2,
+          )
+    ]

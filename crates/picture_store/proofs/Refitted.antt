@@ -16,7 +16,7 @@ use Rattle.picture_keys.specs.Numbered.{AllStandFor}
 use Rattle.picture_keys.specs.Decodable.{AllCanDecode}
 use Rattle.picture_store.specs.declared.job_out.JobOut.{JobOut}
 use Rattle.key_slots.specs.Left.{IsLeft, ArePut}
-use Rattle.picture_store.specs.Changes.{Refits}
+use Rattle.picture_store.specs.Changes.{Refits, RefitsLosing}
 use Rattle.key_slots.specs.Places.{place_at, numbers_held}
 use Rattle.picture_store.specs.Places.{PlacesValue, carried, held_or, ArePlaced}
 use Rattle.picture_store.specs.Kept.{Trees, key_for, keys_for, IsRight, IsKept}
@@ -200,7 +200,7 @@ module _ (keys : Trees) (ids : List ℕ) (outcomes : List Outcome) (found : List
       (leaves : IsLeft (λ number. Contains more_found (Some number)) (numbers_of cached) (numbers_of left))
       (left_pairs : (number : ℕ) (picture : Picture) → Contains left (number, picture) → Contains cached (number, picture))
       (room : ℕ) (gone : List ℕ) (go : IsLeft (λ number. IsSome (place_at more_places number)) (numbers_held places) gone)
-      (puts : ArePut room gone (numbers_of left) (numbers_of gone_cached))
+      (lost : ℕ) (puts : ArePut room gone (numbers_of left) (numbers_of gone_cached) lost)
       (put_pairs : (number : ℕ) (picture : Picture) → Contains gone_cached (number, picture)
       → Contains left (number, picture) ⊎ (place_at places number ≡ Some (Some picture))) where
     pub cached_leave : IsLeft (λ key. Contains (keys_of (zip more_ids more_outcomes)) (Some key))
@@ -233,9 +233,9 @@ module _ (keys : Trees) (ids : List ℕ) (outcomes : List Outcome) (found : List
         (left_among (λ n. Contains more_found (Some n)) (numbers_of cached) (numbers_of left) leaves number is)).1
 
     pub cached_put : ArePut room (keys_for keys gone) (keys_for keys (numbers_of left))
-        (keys_for keys (numbers_of gone_cached))
+        (keys_for keys (numbers_of gone_cached)) lost
     cached_put =
-        put_for keys room gone (numbers_of left) (numbers_of gone_cached)
+        put_for keys room gone (numbers_of left) (numbers_of gone_cached) lost
         kept.right.one.trees gone_live left_live puts
 
     stored_right : (pair : ℕ × Picture) → Contains gone_cached pair → IsRight keys pair.0 pair.1
@@ -258,9 +258,9 @@ module _ (keys : Trees) (ids : List ℕ) (outcomes : List Outcome) (found : List
       jobs = kept.jobs;
     }
 
-    pub refitted : (given : ℕ) → Refits (viewed keys ids outcomes found places cached room out given) more_ids more_outcomes
+    abbrev refits_so : (given : ℕ) → Refits (viewed keys ids outcomes found places cached room out given) more_ids more_outcomes
         (viewed keys more_ids more_outcomes more_found more_places gone_cached room out given)
-    refitted given = record {
+    refits_so given = record {
       ids_are = refl;
       outcomes_are = refl;
       room_stays = refl;
@@ -274,5 +274,11 @@ module _ (keys : Trees) (ids : List ℕ) (outcomes : List Outcome) (found : List
       leave = cached_leave;
       gone = keys_for keys gone;
       go = held_go;
+      lost = lost;
       cached_are = cached_put;
     }
+
+    pub refitted : (given : ℕ)
+        → RefitsLosing (viewed keys ids outcomes found places cached room out given) more_ids more_outcomes lost
+        (viewed keys more_ids more_outcomes more_found more_places gone_cached room out given)
+    refitted given = (refits_so given, refl)

@@ -89,7 +89,7 @@ module _ (places taken : PlacesValue) (cached : List (ℕ × Picture)) (front go
       (stay : (number : ℕ) → 0 < uses_at new number → place_at new number ≡ place_at taken number)
       (room : ℕ) (more : List (ℕ × Picture)) (gone : List ℕ)
       (go : IsLeft (λ number. IsSome (place_at new number)) (numbers_held places) gone)
-      (puts : ArePut room gone (numbers_of left) (numbers_of more))
+      (lost : ℕ) (puts : ArePut room gone (numbers_of left) (numbers_of more) lost)
       (those : (number : ℕ) (picture : Picture) → Contains more (number, picture)
       → Contains left (number, picture) ⊎ ((place_at taken number ≡ Some (Some picture)) × (uses_at new number ≡ 0))) where
     counted : (number : ℕ) → uses_at new number ≡ times number (front ++ later ++ back)
@@ -166,7 +166,7 @@ module _ (places taken : PlacesValue) (cached : List (ℕ × Picture)) (front go
         used_before number (omega (arith, taken_used, uses number, none, countable.leave number)) in
         place_used (slot_at places number) used ∙ (sym (taken_place number used) ∙ is)
 
-    pub recounted : IsRecounted places cached room (front ++ later ++ back) new more
+    pub recounted : IsRecounted places cached room (front ++ later ++ back) new more lost
     recounted = record {
       counted = counted;
       apart = apart;
@@ -186,9 +186,9 @@ module _ (places taken : PlacesValue) (cached : List (ℕ × Picture)) (front go
 
 -- the same of places whose slots are the same
 pub recounted_same : (old grown : PlacesValue) (cached : List (ℕ × Picture)) (room : ℕ) (found : List (Option ℕ)) (new : PlacesValue)
-    (more : List (ℕ × Picture)) → AreSame old grown → IsRecounted grown cached room found new more
-    → IsRecounted old cached room found new more
-recounted_same old grown cached room found new more same is = record {
+    (more : List (ℕ × Picture)) (lost : ℕ) → AreSame old grown → IsRecounted grown cached room found new more lost
+    → IsRecounted old cached room found new more lost
+recounted_same old grown cached room found new more lost same is = record {
   counted = is.counted;
   apart = is.apart;
   placed = λ number.

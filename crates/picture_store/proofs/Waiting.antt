@@ -1,5 +1,5 @@
 -- A pending unit needs one whose references' pictures are held, so none is stuck.
-use Rattle.std.proofs.Common.{◌≡◌, refl, sym, ap, subst, ◌∙◌, ℕ, zero, suc, ◌<◌, List, [], ◌∷◌, map, take, Option, None, Some, Contains, slice_get, inl, inr, arith}
+use Rattle.std.proofs.Common.{◌≡◌, refl, sym, subst, ℕ, zero, suc, ◌<◌, List, [], ◌∷◌, map, take, Option, None, Some, Contains, slice_get, inl, inr, arith}
 use Rattle.std.specs.Prelude.{option_and_then}
 use Rattle.std.proofs.lemmas.Option.{none-some, slice_get_within, get_or_from_slice_get}
 use Rattle.h264_controls.specs.declared.work.Work.{Work}
@@ -9,7 +9,6 @@ use Rattle.dep_keys.specs.KeyMaps.{entered}
 use Rattle.picture_keys.specs.Keys.{Key, named_by_all, tree_with, works_of}
 use Rattle.picture_keys.specs.Known.{Known, key_at, known_after}
 use Rattle.key_slots.proofs.Members.{here, there}
-use Rattle.key_slots.specs.Needed.{Lists, Names}
 use Rattle.key_slots.specs.Needed.IsNeeded.{itself, named}
 use Rattle.key_slots.proofs.Closing.{needed_waits}
 use Rattle.key_slots.proofs.Lookups.{IsLastOf, known_of}

@@ -6,8 +6,8 @@ use Rattle.key_slots.specs.Left.{IsLeft, ArePut}
 use Rattle.picture_store.specs.Stores.{StoreValue, AreOneToOne, IsInUse}
 
 -- a store takes the units of a changed stream: the keys in use that were held or cached are held,
--- and leave the cache; then those that were held and are no longer in use are put into it; a key
--- that stays in use keeps its number
+-- and leave the cache; then those that were held and are no longer in use are put into it, but for
+-- so many that are lost, as memory ran out; a key that stays in use keeps its number
 pub record Refits (old : StoreValue) (ids : List ℕ) (outcomes : List Outcome) (new : StoreValue) : Type 0 where
   pub ids_are : new.ids ≡ ids
   pub outcomes_are : new.outcomes ≡ outcomes
@@ -21,4 +21,9 @@ pub record Refits (old : StoreValue) (ids : List ℕ) (outcomes : List Outcome) 
   pub leave : IsLeft (IsInUse new) old.cached stay
   pub gone : List Key
   pub go : IsLeft (IsInUse new) old.held gone
-  pub cached_are : ArePut old.room gone stay new.cached
+  pub lost : ℕ
+  pub cached_are : ArePut old.room gone stay new.cached lost
+
+-- a store takes the units, and so many pictures are lost
+abbrev pub RefitsLosing : StoreValue → List ℕ → List Outcome → ℕ → StoreValue → Type 0
+RefitsLosing old ids outcomes lost new = (refits : Refits old ids outcomes new) × (refits.lost ≡ lost)

@@ -1,5 +1,5 @@
 -- Units that are pending, the units that each of them needs, and which of these are due.
-use Rattle.std.specs.Prelude.{◌≡◌, ℕ, map, Contains}
+use Rattle.std.specs.Prelude.{ℕ, map, Contains}
 use Rattle.key_slots.specs.Needed.{IsNeeded}
 use Rattle.picture_keys.specs.Keys.{Key}
 use Rattle.picture_store.specs.Stores.{StoreValue, units_of}

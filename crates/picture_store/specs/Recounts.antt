@@ -17,9 +17,10 @@ pub record IsCountable (places : PlacesValue) (cached : List (ℕ × Picture)) (
   pub leave : (number : ℕ) → times_in number leaving ≡ times number goes
 
 -- so it is where these keys have come: a key in use has the picture that was held or cached, and
--- left the cache, into which those went that were held and whose keys are no longer in use
+-- left the cache, into which those went that were held and whose keys are no longer in use, but for
+-- so many that are lost
 pub record IsRecounted (old : PlacesValue) (cached : List (ℕ × Picture)) (room : ℕ) (found : List (Option ℕ)) (new : PlacesValue)
-    (more : List (ℕ × Picture)) : Type 0 where
+    (more : List (ℕ × Picture)) (lost : ℕ) : Type 0 where
   pub counted : (number : ℕ) → uses_at new number ≡ times number found
   pub apart : (number : ℕ) → 0 < uses_at new number → Contains (numbers_of more) number → ⊥
   pub placed : ArePlaced found old cached new
@@ -28,6 +29,6 @@ pub record IsRecounted (old : PlacesValue) (cached : List (ℕ × Picture)) (roo
   pub left_pairs : (number : ℕ) (picture : Picture) → Contains left (number, picture) → Contains cached (number, picture)
   pub gone : List ℕ
   pub go : IsLeft (λ number. IsSome (place_at new number)) (numbers_held old) gone
-  pub puts : ArePut room gone (numbers_of left) (numbers_of more)
+  pub puts : ArePut room gone (numbers_of left) (numbers_of more) lost
   pub put_pairs : (number : ℕ) (picture : Picture) → Contains more (number, picture)
       → Contains left (number, picture) ⊎ (place_at old number ≡ Some (Some picture))

@@ -58,6 +58,8 @@ pub(crate) fn place_of(jobs: &[JobOut], number: u64, input: &Input) -> Option<us
 }
 
 /// Moves the places of jobs down to one, from which on units have other keys than before.
+// The loop has a function of its own, over a slice: there its contract names each job before and
+// after.
 pub(crate) fn lower_all(jobs: &mut Vec<JobOut>, from: usize)
     ensures { jobs.new.items ≡ map (lowered from) jobs.old.items }
 {

@@ -54,13 +54,13 @@ pub(crate) fn make_ready(
 }
 
 /// Counts the keys of the units that come, for which there is room, and then those of units that
-/// go. Memory runs out for the cache alone.
+/// go. Memory runs out for the cache alone: says how many pictures are lost so.
 pub(crate) fn recount(
     places: &mut Places<Picture>,
     cache: &mut PictureCache<KeyId, Picture>,
     later: &[Option<KeyId>],
     leaving: &[KeyId],
-)
+) -> usize
     requires room { (number : ℕ) → Contains later.now (Some number)
         → number < length places.old }
     requires fits { (number : ℕ) → uses_at places.old number + length later.now < 2 ^ 64 }
@@ -69,10 +69,10 @@ pub(crate) fn recount(
     ensures recounted { (front goes back : List (Option ℕ))
         → IsCountable places.old cache.old.pairs front goes back leaving.now
         → IsRecounted places.old cache.old.pairs cache.old.capacity (front ++ later.now ++ back)
-        places.new cache.new.pairs }
+        places.new cache.new.pairs result }
     ensures room { cache.new.capacity ≡ cache.old.capacity }
 {
     take_up_all(places, cache, later);
     take_out(cache, later);
-    let_go_all(places, cache, leaving);
+    let_go_all(places, cache, leaving)
 }

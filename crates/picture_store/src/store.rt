@@ -5,7 +5,7 @@ ghost use Rattle.std.specs.List.{zip};
 ghost use Rattle.picture_cache.specs.Bounded.{most_room};
 ghost use Rattle.picture_keys.specs.Decodable.{AllCanDecode};
 ghost use Rattle.picture_store.specs.Stores.{empty, AreNumbered, AreOneToOne, IsNumberInUse};
-ghost use Rattle.picture_store.specs.Changes.{Refits};
+ghost use Rattle.picture_store.specs.Changes.{RefitsLosing};
 ghost use Rattle.picture_store.specs.Jobs.{AnswersGiveBack, AnswersLand, TellsTake};
 ghost use Rattle.picture_store.specs.Showing.{IsNumberAt, IsPictureAt};
 ghost use Rattle.picture_store.specs.Needs.{TellNeeds};
@@ -163,19 +163,23 @@ impl PictureStore {
     /// Takes a stretch of units in the place of another one. A picture whose key stays in use stays
     /// held, and one that is cached is held again where its key comes into use. Where memory runs
     /// out, nothing changes; but a picture whose key goes out of use is cached only where memory is
-    /// found for it.
+    /// found for it, and `refit` answers how many were lost so.
     ///
     /// The keys of the units in front of the stretch stay as they are; those of its units and of
     /// the units after it are found anew, as pictures refer to earlier ones, up to the first place
     /// at which a state of the stream as it was is stored and the keys of all frames that it marks
     /// are what they were: from there on they stay too.
-    pub fn refit(&mut self, stretch: Stretch, states: &Checkpoints<State>) -> Result<(), AllocError>
+    pub fn refit(
+        &mut self,
+        stretch: Stretch,
+        states: &Checkpoints<State>,
+    ) -> Result<usize, AllocError>
         requires stretch { IsStretch stretch self.old.ids }
         requires decodable { AllCanDecode []
             (zip (ids_with stretch self.old.ids) (outcomes_with stretch self.old.outcomes)) }
         requires told { TellNeeds states.now.states self.old.ids self.old.outcomes }
-        ensures ok { OnOk result (Refits self.old (ids_with stretch self.old.ids)
-            (outcomes_with stretch self.old.outcomes) self.new) }
+        ensures ok { IfOk result (λ lost. RefitsLosing self.old (ids_with stretch self.old.ids)
+            (outcomes_with stretch self.old.outcomes) lost self.new) }
         ensures err { OnErr result (self.new ≡ self.old) }
     {
         self.sweep()?;
@@ -198,7 +202,7 @@ impl PictureStore {
             past,
             &later,
         )?;
-        recount(&mut self.places, &mut self.cache, &later, &leaving);
+        let lost = recount(&mut self.places, &mut self.cache, &later, &leaving);
         let Stretch {
             from,
             to,
@@ -211,7 +215,7 @@ impl PictureStore {
         self.settled = self.settled.min(from);
         self.looked = self.looked.min(from);
         lower_all(&mut self.out, from);
-        Ok(())
+        Ok(lost)
     }
 
     /// Forgets the keys that are neither stored nor below one that is, where there may be as many

@@ -60,6 +60,7 @@ fn make_several(
         ids,
         steps: _,
         hashed: _,
+        lost_pictures: _,
     } = receipt;
     Ok(ids)
 }

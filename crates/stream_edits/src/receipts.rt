@@ -13,6 +13,9 @@ pub struct Receipt {
     pub steps: u64,
     /// How many bytes were hashed for it: those of the slices of the unit that it brings, once.
     pub hashed: u64,
+    /// How many pictures are lost: their keys went out of use, and no memory was found to cache
+    /// them.
+    pub lost_pictures: u64,
 }
 
 /// What an accepted group of edits answers.
@@ -26,6 +29,8 @@ pub struct GroupReceipt {
     pub steps: u64,
     /// How many bytes were hashed for its edits.
     pub hashed: u64,
+    /// How many pictures are lost, as of an edit.
+    pub lost_pictures: u64,
 }
 
 /// The end of a stream.

@@ -48,17 +48,29 @@ const REPAIRED: Row = Row {
     message: "",
 };
 
-/// The one file that there is.
+/// Two files: one of one unit, and one of so many that no handful holds them.
 #[derive(Drop)]
-struct OneFile;
+struct Files;
 
-impl Source for OneFile {
+impl Source for Files {
     fn whole_file(&mut self, alloc: Global, name: &str) -> Result<Vec<u8>, InputFault> {
-        if name == "one" {
-            return Vec::from_slice(alloc, A).map_err(|_: AllocError| InputFault::Memory);
+        match name {
+            "one" => units(alloc, 1),
+            "seventy" => units(alloc, 70),
+            _ => Err(InputFault::Unread),
         }
-        Err(InputFault::Unread)
     }
+}
+
+/// The bytes of that unit, so often.
+fn units(alloc: Global, count: usize) -> Result<Vec<u8>, InputFault> {
+    let mut bytes = Vec::new(alloc);
+    for _ in 0..count {
+        bytes
+            .extend_from_slice(A)
+            .map_err(|_: AllocError| InputFault::Memory)?;
+    }
+    Ok(bytes)
 }
 
 /// Whether a run ended so, and wrote and told what the row says.

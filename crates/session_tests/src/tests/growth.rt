@@ -4,6 +4,7 @@ ghost use Rattle.edit_engine.specs.Machines.{empty};
 mod acts;
 mod folding;
 mod groups;
+mod lost;
 mod middle;
 mod reading;
 mod runs;

@@ -1,6 +1,5 @@
-use Rattle.std.proofs.Common.{◌≡◌, sym, subst, ℕ, ◌<◌, Some, None, Option, Contains, slice_get, below_more, inl, inr, arith}
+use Rattle.std.proofs.Common.{◌≡◌, subst, Some, Contains, slice_get, below_more, inl, inr, arith}
 use Rattle.std.proofs.lemmas.Option.{slice_get_within}
-use Rattle.key_slots.specs.Held.{IsHeld}
 use Rattle.key_slots.proofs.Entered.{read_is, read_among}
 use Rattle.key_slots.proofs.naming.want_all.Goals as goal
 

@@ -1,4 +1,4 @@
-use Rattle.std.proofs.Common.{◌≡◌, sym, ap, ◌∙◌, subst, ℕ, Some, Contains, inl, inr}
+use Rattle.std.proofs.Common.{sym, ap, ◌∙◌, subst, Some, Contains, inl, inr}
 use Rattle.std.proofs.lemmas.Option.{same_Some}
 use Rattle.std.proofs.lemmas.Result.{on_ok_weaker}
 use Rattle.key_slots.specs.Held.{IsHeld}

@@ -1,4 +1,4 @@
-use Rattle.std.proofs.Common.{◌≡◌, rules, ◌==◌, ℕ, not, sym, subst, Contains, filter, ◌↔◌}
+use Rattle.std.proofs.Common.{◌≡◌, rules, ◌==◌, ℕ, not, sym, subst, Contains, ◌↔◌}
 use Rattle.std.proofs.lemmas.Fn.{filter_same}
 use Rattle.key_slots.proofs.Entered.{left_without}
 use Rattle.key_slots.proofs.scan.forget.Goals as goal

@@ -1,4 +1,4 @@
-use Rattle.std.proofs.Common.{◌≡◌, sym, ap, ◌∙◌, subst, ℕ, ◌+◌, ◌-◌, ◌<◌, [], length, vec_len, inl, inr, arith}
+use Rattle.std.proofs.Common.{◌≡◌, subst, ◌+◌, ◌-◌, [], vec_len, inl, inr, arith}
 use Rattle.std.specs.List.{zip}
 use Rattle.std.proofs.lemmas.List.{nil_from_length}
 use Rattle.key_slots.specs.Held.{IsWaiting}

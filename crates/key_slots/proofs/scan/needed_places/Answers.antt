@@ -1,4 +1,4 @@
-use Rattle.std.proofs.Common.{◌≡◌, subst, ℕ, List, [], ◌∷◌, Contains, inl, inr}
+use Rattle.std.proofs.Common.{subst, ℕ, List, Contains, inl, inr}
 use Rattle.std.specs.List.{zip}
 use Rattle.key_slots.proofs.Members.{nowhere}
 use Rattle.key_slots.specs.Held.{IsWaiting}

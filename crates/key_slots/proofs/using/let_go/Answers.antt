@@ -41,8 +41,8 @@ returns-in-Some-clause-those g c = λ number other is.
       )
     ]
 
-pub returns-in_default-clause-goes : goal.returns-in_default-clause-goes
-returns-in_default-clause-goes g c =
+pub returns-in-None-clause-goes : goal.returns-in-None-clause-goes
+returns-in-None-clause-goes g c =
     let old = c.args.places.now in
     let key = c.args.key in
     let uses : ℕ = uses_at old key - 1 in
@@ -55,9 +55,10 @@ returns-in_default-clause-goes g c =
           inr (
             λ picture place.
                 let not = not_gone (uses_at old key) (slot_at old key).picture c.let_go.result picture c.let_go.ensures.picture
-                c.in_default.is
+                c.in-None.is
                 (same_Some (slot_at old key).picture (Some picture) (sym (place_used (slot_at old key) c.requires) ∙ place)) in
                 omega (arith, uses_left old c.let_go.new.self key uses more new_is, more, c.requires, not),
+            refl,
             refl,
           );
     }

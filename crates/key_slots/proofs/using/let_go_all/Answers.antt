@@ -3,7 +3,7 @@ use Rattle.std.specs.Map.{keys_of}
 use Rattle.std.proofs.lemmas.List.{take_all}
 use Rattle.key_slots.specs.Counting.{times_in}
 use Rattle.key_slots.specs.Places.{uses_at, place_at}
-use Rattle.key_slots.proofs.Going.{none_gone, gone_more, times_in_more, in_use_yet}
+use Rattle.key_slots.proofs.Going.{none_gone, gone_more, times_in_more, in_use_yet, lost_at_most_one}
 use Rattle.key_slots.proofs.using.let_go_all.Goals as goal
 
 pub loop-key-init : goal.loop-key-init
@@ -11,12 +11,13 @@ loop-key-init g c = record {
   uses = λ number. omega arith;
   stay = λ number used. refl;
   gone = λ held before. none_gone held c.args.leaving.now c.args.places.now before c.args.cache.now.capacity (keys_of c.args.cache.now.pairs);
+  few = omega arith;
   room = refl;
   those = λ number picture is. inl is;
 }
 
-pub let_go-requires : goal.let_go-requires
-let_go-requires g c =
+pub let_go-lost-requires : goal.let_go-lost-requires
+let_go-lost-requires g c =
     in_use_yet c.args.leaving.now c.loop-key.key-index c.key-item.result (uses_at c.loop-key.places c.key-item.result)
     (uses_at c.args.places.now c.key-item.result) c.loop-key-test.true c.key-item.is (c.loop-key.invariant.uses c.key-item.result)
     (c.requires.enough c.key-item.result)
@@ -28,11 +29,11 @@ loop-key-preserved g c =
     let key = c.key-item.result in
     let old = c.args.places.now in
     let mid = c.loop-key.places in
-    let new = c.let_go.new.places in
+    let new = c.let_go-lost.new.places in
     let used : 0 < uses_at mid key =
     in_use_yet leaving i key (uses_at mid key) (uses_at old key) c.loop-key-test.true c.key-item.is (c.loop-key.invariant.uses key)
     (c.requires.enough key) in
-    let goes = rw (c.loop-key.invariant.room) at c.let_go.ensures.goes in
+    let goes = rw (c.loop-key.invariant.room) at c.let_go-lost.ensures.goes in
     record {
       uses = λ number.
           omega (
@@ -47,10 +48,17 @@ loop-key-preserved g c =
       gone = λ held before.
           gone_more held leaving old before i key c.loop-key-test.true c.key-item.is c.requires.rising mid new
           c.loop-key.invariant.stay used c.args.cache.now.capacity (keys_of c.args.cache.now.pairs) (keys_of c.loop-key.cache.pairs)
-          (keys_of c.let_go.new.cache.pairs) goes (c.loop-key.invariant.gone held before);
-      room = c.let_go.ensures.room ∙ c.loop-key.invariant.room;
+          (keys_of c.let_go-lost.new.cache.pairs) c.loop-key.lost c.let_go-lost.result goes (c.loop-key.invariant.gone held before);
+      few =
+          omega (
+            arith,
+            c.loop-key.invariant.few,
+            lost_at_most_one mid key (keys_of c.loop-key.cache.pairs) c.args.cache.now.capacity new (keys_of c.let_go-lost.new.cache.pairs)
+                c.let_go-lost.result goes,
+          );
+      room = c.let_go-lost.ensures.room ∙ c.loop-key.invariant.room;
       those = λ number picture is.
-          elim (c.let_go.ensures.those number picture is) [
+          elim (c.let_go-lost.ensures.those number picture is) [
             | inl between ↦
                 elim (c.loop-key.invariant.those number picture between) [
                   | inl before ↦ inl before

@@ -1,4 +1,4 @@
-use Rattle.std.proofs.Common.{◌≡◌, ◌+◌, ◌<◌, ℕ, List, take, Some, ◌⊎◌}
+use Rattle.std.proofs.Common.{◌≡◌, ◌+◌, ◌<◌, ◌≤◌, ℕ, List, take, Some, ◌⊎◌}
 use Rattle.std.specs.Prelude.{Contains}
 use Rattle.std.specs.Map.{keys_of}
 use Rattle.key_slots.specs.Counting.{times_in}
@@ -12,7 +12,8 @@ invariant-loop-key g l = record {
   uses : (number : ℕ) → uses_at l.places number + times_in number (take l.key-index l.leaving) ≡ uses_at l.initial.places number;
   stay : (number : ℕ) → 0 < uses_at l.places number → place_at l.places number ≡ place_at l.initial.places number;
   gone : (held : List ℕ) → IsHeldBefore held l.leaving l.initial.places
-      → HaveGone held l.leaving l.key-index l.places l.initial.cache.capacity (keys_of l.initial.cache.pairs) (keys_of l.cache.pairs);
+      → HaveGone held l.leaving l.key-index l.places l.initial.cache.capacity (keys_of l.initial.cache.pairs) (keys_of l.cache.pairs) l.lost;
+  few : l.lost ≤ l.key-index;
   room : l.cache.capacity ≡ l.initial.cache.capacity;
   those : (number : ℕ) (picture : g.row.P.Denot) → Contains l.cache.pairs (number, picture)
       → Contains l.initial.cache.pairs (number, picture)

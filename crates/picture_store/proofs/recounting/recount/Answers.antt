@@ -17,4 +17,4 @@ returns-clause-recounted c = λ front goes back countable.
     recounted c.args.places.now c.take_up_all.new.places c.args.cache.now.pairs front goes back c.args.later.now
     c.args.leaving.now countable up c.take_out.new.cache.pairs c.take_out.ensures.left c.take_out.ensures.those
     c.let_go_all.new.places c.let_go_all.ensures.uses c.let_go_all.ensures.stay c.args.cache.now.capacity
-    c.let_go_all.new.cache.pairs gone.0 gone.1 gone.2 c.let_go_all.ensures.those
+    c.let_go_all.new.cache.pairs gone.0 gone.1 c.let_go_all.result gone.2 c.let_go_all.ensures.those

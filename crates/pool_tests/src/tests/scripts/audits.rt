@@ -1,13 +1,13 @@
 //! Scripts that are audited: one line at the end.
 
-use super::{OPTIONS, OneFile, Row, is_as};
+use super::{Files, OPTIONS, Row, is_as};
 use console_io::Status;
 use shared_run::audit_with_workers;
 use std::process::Abort;
 use std::sync::Wait;
 use std::thread::Threads;
 
-const ROWS: [Row; 7] = [
+const ROWS: [Row; 8] = [
     Row {
         script: "insert first 000001 6742000ADA79 000001 68CE3880 000001 65888480\n\
         insert after 1 000001 419A23\n\
@@ -31,6 +31,12 @@ const ROWS: [Row; 7] = [
         script: "load one\ninsert after 1 000001 6742000ADA79\nshow 2\nsettle\nshow 2\n",
         status: Status::Success,
         lines: "agreed 2 edits 2 shows\n",
+        message: "",
+    },
+    Row {
+        script: "load seventy\nshow 33\nshow 70\n",
+        status: Status::Success,
+        lines: "agreed 70 edits 2 shows\n",
         message: "",
     },
     Row {
@@ -68,7 +74,7 @@ fn ends_so<R: Abort + AllocGlobal + Threads + Wait + Sync>(rt: &R, row: &Row) ->
         OPTIONS,
         2,
         &mut row.script.as_bytes(),
-        OneFile,
+        Files,
         &mut output,
         &mut errors,
     );

@@ -3,7 +3,7 @@
 
 ghost use Rattle.std.specs.Prelude.{◌≡◌, IfOk, length};
 
-use super::{OPTIONS, OneFile, Row, is_as};
+use super::{Files, OPTIONS, Row, is_as};
 use console_io::Status;
 use decode_pool::Gate;
 use edit_engine::Job;
@@ -63,7 +63,7 @@ fn runs_so<R: Abort + AllocGlobal + Threads + Wait + Sync>(
         OPTIONS,
         gates(rt.alloc())?,
         &mut row.script.as_bytes(),
-        OneFile,
+        Files,
         &mut output,
         &mut errors,
     );
@@ -82,7 +82,7 @@ fn audits_so<R: Abort + AllocGlobal + Threads + Wait + Sync>(
         OPTIONS,
         gates(rt.alloc())?,
         &mut row.script.as_bytes(),
-        OneFile,
+        Files,
         &mut output,
         &mut errors,
     );

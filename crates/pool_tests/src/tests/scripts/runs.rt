@@ -1,13 +1,13 @@
 //! Scripts that a seat runs.
 
-use super::{OPTIONS, OneFile, REPAIRED, Row, is_as};
+use super::{Files, OPTIONS, REPAIRED, Row, is_as};
 use console_io::Status;
 use shared_run::script_with_workers;
 use std::process::Abort;
 use std::sync::Wait;
 use std::thread::Threads;
 
-const ROWS: [Row; 6] = [
+const ROWS: [Row; 7] = [
     REPAIRED,
     Row {
         script: "load one\nsettle\nshow 1\nshow 2\nload none\nshow 1\n",
@@ -39,6 +39,13 @@ const ROWS: [Row; 6] = [
         lines: "settled\n",
         message: "",
     },
+    // The units of a file come after the last one in their order, however many there are.
+    Row {
+        script: "load one\nload seventy\nsettle\nshow 1\nshow 71\nshow 72\ndelete 33\nshow 33\nshow 34\n",
+        status: Status::Success,
+        lines: "loaded 1\nloaded 70\nsettled\nshow 1 ready\nshow 71 ready\nshow 72 none\nedit 72 id 33\nshow 33 none\nshow 34 ready\n",
+        message: "",
+    },
 ];
 
 /// Whether a script ends as its row says, by two workers.
@@ -50,7 +57,7 @@ fn ends_so<R: Abort + AllocGlobal + Threads + Wait + Sync>(rt: &R, row: &Row) ->
         OPTIONS,
         2,
         &mut row.script.as_bytes(),
-        OneFile,
+        Files,
         &mut output,
         &mut errors,
     );

@@ -1,7 +1,7 @@
 //! Writers that take some bytes and then no more: what is written is the front that they take, and
 //! the run ends.
 
-use super::{OPTIONS, OneFile, REPAIRED, Row};
+use super::{Files, OPTIONS, REPAIRED, Row};
 use console_io::{Sink, Status};
 use shared_run::{audit_with_workers, script_with_workers};
 use std::alloc::{AllocError, Global};
@@ -65,7 +65,7 @@ fn writes_front<R: Abort + AllocGlobal + Threads + Wait + Sync>(
         OPTIONS,
         2,
         &mut row.script.as_bytes(),
-        OneFile,
+        Files,
         &mut output,
         &mut errors,
     );
@@ -90,7 +90,7 @@ fn audits_to_front<R: Abort + AllocGlobal + Threads + Wait + Sync>(
         OPTIONS,
         2,
         &mut script.as_bytes(),
-        OneFile,
+        Files,
         &mut output,
         &mut errors,
     );

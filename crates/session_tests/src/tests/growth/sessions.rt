@@ -95,7 +95,7 @@ fn gives_back(rt: &impl Abort, session: &mut Session, number: u64) -> bool {
 }
 
 /// The job of this number is taken, and its result, which is this picture, lands.
-fn lands(
+pub(super) fn lands(
     rt: &(impl Abort + AllocGlobal),
     session: &mut Session,
     number: u64,

@@ -1,5 +1,3 @@
-use Rattle.std.proofs.Common.{◌≡◌, List, [], ◌∷◌, ◌++◌, refl}
-use Rattle.std.proofs.lemmas.Result.{err_from_is_err_and}
 use Rattle.edit_engine.proofs.Stored.{short-prepared, needs-told, stretch-prepared, decodable-prepared, IsKept-after, Moves-after}
 use Rattle.edit_engine.proofs.session.Session.make.Goals as goal
 
@@ -41,7 +39,7 @@ invariant_of-self-2 c =
     rw (c.push_reserved.ensures.items, c.reserve.ensures.items, c.commit.ensures, c.prepare.ensures.kept, c.in_ok-prepared.ensures.ok.change_is)
     (IsKept-after s.journal.items (record { given = s.given; stream = s.ordered.folded.stream }) s.store c.args.edits c.args.change c.args.given
     c.prepare.new.ordered c.in_ok-prepared.prepared c.self.invariant come c.in_ok-prepared.ensures.ok
-    c.refit.new.self c.in_ok-refit.ensures.ok)
+    c.refit.new.self c.in_ok-lost.lost c.in_ok-lost.ensures.ok)
 
 pub returns-clause-ok : goal.returns-clause-ok
 returns-clause-ok c =
@@ -59,4 +57,4 @@ returns-clause-ok c =
     )
     (Moves-after s.journal.items (record { given = s.given; stream = s.ordered.folded.stream }) s.store c.args.edits c.args.change c.args.given
     c.prepare.new.ordered c.in_ok-prepared.prepared c.self.invariant come c.in_ok-prepared.ensures.ok
-    c.refit.new.self c.in_ok-refit.ensures.ok)
+    c.refit.new.self c.in_ok-lost.lost c.in_ok-lost.ensures.ok)

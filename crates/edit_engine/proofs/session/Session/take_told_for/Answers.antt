@@ -1,5 +1,5 @@
-use Rattle.std.proofs.Common.{◌≡◌, ℕ, ◌<◌, List, length, None, Some, sym, subst, ap, ◌∙◌, get_or, refl, arith}
-use Rattle.std.specs.Prelude.{Ok, Err, slice_get}
+use Rattle.std.proofs.Common.{◌≡◌, ℕ, List, length, Some, sym, subst, ap, ◌∙◌, get_or, refl, arith}
+use Rattle.std.specs.Prelude.{Err}
 use Rattle.std.proofs.lemmas.List.{length-map}
 use Rattle.std.proofs.lemmas.Option.{slice_get_read}
 use Rattle.picture_store.specs.Stores.{StoreValue}
@@ -8,7 +8,7 @@ use Rattle.edit_engine.specs.Machines.{Machine}
 use Rattle.edit_engine.specs.Needing.{TellsTakeFor}
 use Rattle.edit_engine.specs.Kept.{machine_of}
 use Rattle.edit_engine.proofs.Pictured.{IsOf, IsOf-kept}
-use Rattle.edit_engine.proofs.Needed.{gives_within, none_seen, none_there, one_waits, refused_seen, takes_seen}
+use Rattle.edit_engine.proofs.Needed.{gives_within, none_seen, one_waits, refused_seen, takes_seen}
 use Rattle.edit_engine.proofs.session.Session.take_told_for.Goals as goal
 use Rattle.edit_engine.proofs.session.Session.take_told_for.Goals.{in-Ok-Some, in-Ok-None, in-Err}
 

@@ -14,7 +14,7 @@ use Rattle.picture_store.specs.declared.job_out.JobOut.{JobOut}
 use Rattle.std.specs.Prelude.{All}
 use Rattle.picture_store.specs.Recounts.{IsRecounted}
 use Rattle.picture_store.specs.Stores.{StoreValue}
-use Rattle.picture_store.specs.Changes.{Refits}
+use Rattle.picture_store.specs.Changes.{RefitsLosing}
 use Rattle.picture_store.specs.Stretches.{IsStretch, ids_with, outcomes_with}
 use Rattle.picture_store.proofs.Viewed.{viewed, on_any_err}
 use Rattle.picture_store.proofs.Landed.{found_length}
@@ -95,12 +95,12 @@ returns-in_err-leaving-clause-err c =
     s.cache.pairs s.out.items s.settled s.looked s.schedule c.self.invariant (λ n k stored is. c.keys_from.ensures.stay n k is)
     (c.keys_from.ensures.one c.self.invariant.kept.right.one) c.make_ready.ensures.same s.cache.capacity s.given))
 
-pub recount-requires-clause-room : goal.recount-requires-clause-room
-recount-requires-clause-room c =
+pub recount-lost-requires-clause-room : goal.recount-lost-requires-clause-room
+recount-lost-requires-clause-room c =
     rw (c.deref-5.ensures.value) (rw (c.deref-4.ensures.value) at c.in_ok-leaving.ensures.room)
 
-pub recount-requires-clause-fits : goal.recount-requires-clause-fits
-recount-requires-clause-fits c =
+pub recount-lost-requires-clause-fits : goal.recount-lost-requires-clause-fits
+recount-lost-requires-clause-fits c =
     let s = c.self.inside in
     let later = c.in_ok-past.later in
     rw (c.deref-5.ensures.value)
@@ -116,8 +116,8 @@ recount-requires-clause-fits c =
       later.small,
     ))
 
-pub recount-requires-clause-enough : goal.recount-requires-clause-enough
-recount-requires-clause-enough c =
+pub recount-lost-requires-clause-enough : goal.recount-lost-requires-clause-enough
+recount-lost-requires-clause-enough c =
     let s = c.self.inside in
     let from = c.args.stretch.from in
     rw (c.deref-6.ensures.value)
@@ -181,13 +181,13 @@ invariant_of-self-2 c =
     ≡ times number (take (past - c.args.stretch.from) (drop c.args.stretch.from s.found.items)) =
     rw (c.deref-6.ensures.value) c.in_ok-leaving.ensures.counted in
     let counted = rw (c.deref-5.ensures.value) at
-    c.recount.ensures.recounted (take c.args.stretch.from s.found.items)
+    c.recount-lost.ensures.recounted (take c.args.stretch.from s.found.items)
     (take (past - c.args.stretch.from) (drop c.args.stretch.from s.found.items)) (drop past s.found.items)
     (countable s.places c.make_ready.new.places s.cache.pairs s.found.items c.args.stretch.from past c.deref-6.result.now ordered
     c.make_ready.ensures.same c.self.invariant.counted c.self.invariant.apart leave) in
-    let recounted : IsRecounted s.places s.cache.pairs s.cache.capacity found c.recount.new.places c.recount.new.cache.pairs =
-    recounted_same s.places c.make_ready.new.places s.cache.pairs s.cache.capacity found c.recount.new.places
-    c.recount.new.cache.pairs c.make_ready.ensures.same counted in
+    let recounted : IsRecounted s.places s.cache.pairs s.cache.capacity found c.recount-lost.new.places c.recount-lost.new.cache.pairs c.recount-lost.result =
+    recounted_same s.places c.make_ready.new.places s.cache.pairs s.cache.capacity found c.recount-lost.new.places
+    c.recount-lost.new.cache.pairs c.recount-lost.result c.make_ready.ensures.same counted in
     let found_are : c.replace_range-3.new.items.items ≡ found = rw (c.make_ready.ensures.found) at c.replace_range-3.ensures.items in
     let ids_are : c.replace_range.new.items.items ≡ ids_with c.args.stretch ids =
     rw (c.make_room.ensures.ids) at c.replace_range.ensures.items in
@@ -204,38 +204,38 @@ invariant_of-self-2 c =
     let later_found : List (Option ℕ) = later.items ++ drop past s.found.items in
     let parts : take c.args.stretch.from s.found.items ++ later_found ≡ found =
     sym (append_assoc (take c.args.stretch.from s.found.items) later.items (drop past s.found.items)) in
-    let placed : ArePlaced (take c.args.stretch.from s.found.items ++ later_found) s.places s.cache.pairs c.recount.new.places =
-    subst (λ all. ArePlaced all s.places s.cache.pairs c.recount.new.places) (sym parts) recounted.placed in
+    let placed : ArePlaced (take c.args.stretch.from s.found.items ++ later_found) s.places s.cache.pairs c.recount-lost.new.places =
+    subst (λ all. ArePlaced all s.places s.cache.pairs c.recount-lost.new.places) (sym parts) recounted.placed in
     let out : List JobOut = c.lower_all.new.jobs.items in
     let out_are : out ≡ map (lowered c.args.stretch.from) s.out.items = c.lower_all.ensures in
     let after =
     kept_after c.keys_from.new.keys ids outcomes s.found.items s.places s.cache.pairs s.out.items kept
     (ids_with c.args.stretch ids) (outcomes_with c.args.stretch outcomes) found
-    c.recount.new.places stand recounted.placed recounted.left c.recount.new.cache.pairs recounted.leaves
-    recounted.left_pairs s.cache.capacity recounted.gone recounted.go recounted.puts recounted.put_pairs
+    c.recount-lost.new.places stand recounted.placed recounted.left c.recount-lost.new.cache.pairs recounted.leaves
+    recounted.left_pairs s.cache.capacity recounted.gone recounted.go c.recount-lost.result recounted.puts recounted.put_pairs
     (same_with ids outcomes kept.same c.args.stretch stretch) decodable in
     record {
       kept =
           rw (ids_are, outcomes_are, found_are)
           (kept_lowered c.keys_from.new.keys (ids_with c.args.stretch ids) (outcomes_with c.args.stretch outcomes) found
-          c.recount.new.places c.recount.new.cache.pairs s.out.items out c.args.stretch.from out_are after);
+          c.recount-lost.new.places c.recount-lost.new.cache.pairs s.out.items out c.args.stretch.from out_are after);
       counted = rw (found_are) recounted.counted;
       apart = recounted.apart;
       settled =
           rw (found_are)
-          (settled_lowered c.recount.new.places s.out.items out c.args.stretch.from found c.min-self-inside.result out_are
-          (subst (λ all. AreSettled c.recount.new.places s.out.items all c.min-self-inside.result) parts
-          (settled_front s.places c.recount.new.places s.cache.pairs s.out.items s.found.items
+          (settled_lowered c.recount-lost.new.places s.out.items out c.args.stretch.from found c.min-self-inside.result out_are
+          (subst (λ all. AreSettled c.recount-lost.new.places s.out.items all c.min-self-inside.result) parts
+          (settled_front s.places c.recount-lost.new.places s.cache.pairs s.out.items s.found.items
           later_found s.settled c.args.stretch.from c.min-self-inside.result (omega (arith, c.min-self-inside.ensures))
           (omega (arith, c.min-self-inside.ensures)) in_front c.self.invariant.settled placed)));
       looked =
           rw (found_are)
-          (looked_lowered c.keys_from.new.keys c.recount.new.places s.out.items out c.args.stretch.from found
+          (looked_lowered c.keys_from.new.keys c.recount-lost.new.places s.out.items out c.args.stretch.from found
           c.min-self-inside-2.result out_are
-          (subst (λ all. AreNotDue c.keys_from.new.keys c.recount.new.places s.out.items all c.min-self-inside-2.result) parts
+          (subst (λ all. AreNotDue c.keys_from.new.keys c.recount-lost.new.places s.out.items all c.min-self-inside-2.result) parts
           (looked_front c.keys_from.new.keys ids outcomes s.found.items s.places s.cache.pairs s.out.items kept
           c.self.invariant.apart (ids_with c.args.stretch ids) (outcomes_with c.args.stretch outcomes) found
-          c.recount.new.places stand recounted.placed after.right later_found s.looked c.args.stretch.from
+          c.recount-lost.new.places stand recounted.placed after.right later_found s.looked c.args.stretch.from
           c.min-self-inside-2.result (omega (arith, c.min-self-inside-2.ensures)) (omega (arith, c.min-self-inside-2.ensures))
           in_front
           (looked_stays s.keys c.keys_from.new.keys s.ids.items s.outcomes.items s.found.items s.places s.cache.pairs s.out.items
@@ -280,19 +280,19 @@ returns-clause-ok c =
     ≡ times number (take (past - c.args.stretch.from) (drop c.args.stretch.from s.found.items)) =
     rw (c.deref-6.ensures.value) c.in_ok-leaving.ensures.counted in
     let counted = rw (c.deref-5.ensures.value) at
-    c.recount.ensures.recounted (take c.args.stretch.from s.found.items)
+    c.recount-lost.ensures.recounted (take c.args.stretch.from s.found.items)
     (take (past - c.args.stretch.from) (drop c.args.stretch.from s.found.items)) (drop past s.found.items)
     (countable s.places c.make_ready.new.places s.cache.pairs s.found.items c.args.stretch.from past c.deref-6.result.now ordered
     c.make_ready.ensures.same c.self.invariant.counted c.self.invariant.apart leave) in
-    let recounted : IsRecounted s.places s.cache.pairs s.cache.capacity found c.recount.new.places c.recount.new.cache.pairs =
-    recounted_same s.places c.make_ready.new.places s.cache.pairs s.cache.capacity found c.recount.new.places
-    c.recount.new.cache.pairs c.make_ready.ensures.same counted in
+    let recounted : IsRecounted s.places s.cache.pairs s.cache.capacity found c.recount-lost.new.places c.recount-lost.new.cache.pairs c.recount-lost.result =
+    recounted_same s.places c.make_ready.new.places s.cache.pairs s.cache.capacity found c.recount-lost.new.places
+    c.recount-lost.new.cache.pairs c.recount-lost.result c.make_ready.ensures.same counted in
     let found_are : c.replace_range-3.new.items.items ≡ found = rw (c.make_ready.ensures.found) at c.replace_range-3.ensures.items in
     let ids_are : c.replace_range.new.items.items ≡ ids_with c.args.stretch ids =
     rw (c.make_room.ensures.ids) at c.replace_range.ensures.items in
     let outcomes_are : c.replace_range-2.new.items.items ≡ outcomes_with c.args.stretch outcomes =
     rw (c.make_room.ensures.outcomes) at c.replace_range-2.ensures.items in
-    let room : c.recount.new.cache.capacity ≡ s.cache.capacity = c.recount.ensures.room in
+    let room : c.recount-lost.new.cache.capacity ≡ s.cache.capacity = c.recount-lost.ensures.room in
     let old : StoreValue = viewed s.keys ids outcomes s.found.items s.places s.cache.pairs s.cache.capacity s.out.items s.given in
     let is : viewed c.keys_from.new.keys ids outcomes s.found.items s.places s.cache.pairs s.cache.capacity s.out.items s.given ≡ old =
     viewed_stays s.keys c.keys_from.new.keys ids outcomes s.found.items s.places s.cache.pairs s.out.items
@@ -302,10 +302,10 @@ returns-clause-ok c =
     ap (jobs_for c.keys_from.new.keys) out_are
     ∙ jobs_lowered c.keys_from.new.keys c.args.stretch.from s.out.items in
     rw (← c.sweep.ensures, ← c.self.view_is, room, ids_are, outcomes_are, found_are, out_seen)
-    (subst (λ (store : StoreValue). Refits store (ids_with c.args.stretch ids) (outcomes_with c.args.stretch outcomes)
+    (subst (λ (store : StoreValue). RefitsLosing store (ids_with c.args.stretch ids) (outcomes_with c.args.stretch outcomes) c.recount-lost.result
     (viewed c.keys_from.new.keys (ids_with c.args.stretch ids) (outcomes_with c.args.stretch outcomes)
-    found c.recount.new.places c.recount.new.cache.pairs s.cache.capacity s.out.items s.given)) is
+    found c.recount-lost.new.places c.recount-lost.new.cache.pairs s.cache.capacity s.out.items s.given)) is
     (refitted c.keys_from.new.keys ids outcomes s.found.items s.places s.cache.pairs s.out.items kept
-    (ids_with c.args.stretch ids) (outcomes_with c.args.stretch outcomes) found c.recount.new.places stand
-    recounted.placed recounted.left c.recount.new.cache.pairs recounted.leaves recounted.left_pairs s.cache.capacity
-    recounted.gone recounted.go recounted.puts recounted.put_pairs s.given))
+    (ids_with c.args.stretch ids) (outcomes_with c.args.stretch outcomes) found c.recount-lost.new.places stand
+    recounted.placed recounted.left c.recount-lost.new.cache.pairs recounted.leaves recounted.left_pairs s.cache.capacity
+    recounted.gone recounted.go c.recount-lost.result recounted.puts recounted.put_pairs s.given))

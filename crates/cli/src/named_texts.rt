@@ -25,10 +25,13 @@ pub(crate) fn named_texts<'a, D: Directory, I: Read + Drop>(
     second: &'a str,
 ) -> Result<(Bytes, Bytes), UnreadText<'a>>
     ensures first { IfOk result (λ texts.
-        IfSome (text_named (D.bytes directory.now) (I.remaining standard) first.now) (λ text. texts.0 ≡ text)) }
+        IfSome (text_named (D.bytes directory.now) (I.remaining standard) first.now)
+        (λ text. texts.0 ≡ text)) }
     ensures second { IfOk result (λ texts.
-        IfSome (text_named (D.bytes directory.now) (I.remaining standard) second.now) (λ text. texts.1 ≡ text)) }
-    ensures unread { IfErr result (λ unread. (unread.name ≡ first.entry) ⊎ (unread.name ≡ second.entry)) }
+        IfSome (text_named (D.bytes directory.now) (I.remaining standard) second.now)
+        (λ text. texts.1 ≡ text)) }
+    ensures unread { IfErr result (λ unread. (unread.name ≡ first.entry)
+        ⊎ (unread.name ≡ second.entry)) }
 {
     match (first == "-", second == "-") {
         (true, true) => {
@@ -60,7 +63,8 @@ fn named<'a>(name: &'a str, text: Result<Bytes, InputFault>) -> Result<Bytes, Un
 
 /// The text of the file of this name.
 fn file_text<D: Directory>(alloc: Global, directory: &D, name: &str) -> Result<Bytes, InputFault>
-    ensures { IfOk result (λ text. IfSome (D.bytes directory.now name.now) (λ bytes. text ≡ bytes)) }
+    ensures { IfOk result (λ text. IfSome (D.bytes directory.now name.now)
+        (λ bytes. text ≡ bytes)) }
 {
     let file = directory.open(name)?;
     input_text(alloc, file)
@@ -74,7 +78,8 @@ fn opened_text<D: Directory, I: Read + Drop>(
     name: &str,
 ) -> Result<Bytes, InputFault>
     ensures { IfOk result (λ text.
-        IfSome (text_named (D.bytes directory.now) (I.remaining standard) name.now) (λ bytes. text ≡ bytes)) }
+        IfSome (text_named (D.bytes directory.now) (I.remaining standard) name.now)
+        (λ bytes. text ≡ bytes)) }
 {
     let input = open_input(directory, standard, name)?;
     input_text(alloc, input)

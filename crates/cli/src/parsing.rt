@@ -82,7 +82,8 @@ fn read_draw<'a>(draw: &ArgMatches<'a>) -> Option<Asked<'a>>
 /// is.
 fn drawing<'a>(file: &'a str, script: Option<&'a str>, from: Option<u32>, units: usize) -> Asked<'a>
     requires { units ≤ 1000 }
-    ensures { wanted_of result ≡ drawing file.entry.now (option_map (λ name. name.now) script.entry) from units }
+    ensures { wanted_of result ≡ drawing file.entry.now
+        (option_map (λ name. name.now) script.entry) from units }
 {
     match script {
         Some(script) => Asked::DrawEdited {

@@ -42,7 +42,8 @@ pub fn run<D: Directory, I: Read + Drop, W: Sink + Send, E: Sink>(
 ) -> Ended
     // At success what the words ask for was done, and nothing was told but of refused edits.
     ensures right { result.status ≡ Status.Success → IsOkAnd words (λ words.
-        Succeeds (D.bytes directory.now) (I.remaining standard) (map string_bytes words.items) result.told
+        Succeeds (D.bytes directory.now) (I.remaining standard)
+        (map string_bytes words.items) result.told
         (W.contents output.old) (W.contents output.new)
         (E.refuses errors.new) (E.contents errors.old) (E.contents errors.new)) }
     ensures fails { result.status ≡ Status.Failure → MatchResult words (λ words.
@@ -227,7 +228,8 @@ fn draw_named<D: Directory, I: Read + Drop, W: Sink, E: Sink>(
 ) -> Ended
     ensures right { result.status ≡ Status.Success
         → IsDone (D.bytes directory.now) (I.remaining standard)
-        (draw name.now choice.from choice.units) result.told (W.contents output.old) (W.contents output.new)
+        (draw name.now choice.from choice.units) result.told (W.contents output.old)
+        (W.contents output.new)
         (E.refuses errors.new) (E.contents errors.old) (E.contents errors.new) }
     ensures fails { result.status ≡ Status.Failure
         → FailsAt (D.bytes directory.now) (I.remaining standard)
@@ -262,7 +264,8 @@ fn draw_edited_named<D: Directory, I: Read + Drop, W: Sink, E: Sink>(
         (E.refuses errors.new) (E.contents errors.old) (E.contents errors.new) }
     ensures fails { result.status ≡ Status.Failure
         → FailsAt (D.bytes directory.now) (I.remaining standard)
-        (draw_edited name.now script.now choice.from choice.units) result.told (W.refuses output.new)
+        (draw_edited name.now script.now choice.from choice.units) result.told
+        (W.refuses output.new)
         (W.contents output.old) (W.contents output.new)
         (E.refuses errors.new) (E.contents errors.old) (E.contents errors.new) }
     ensures usage { result.status ≢ Status.Usage }
@@ -384,7 +387,8 @@ fn answer<W: Sink, E: Sink>(alloc: Global, error: &Error, output: &mut W, errors
         (W.contents output.old) (W.contents output.new)
         (E.refuses errors.new) (E.contents errors.old) (E.contents errors.new)
         ⊎ (IsRequest (kind_of error.now) × WritesPart (W.refuses output.new)
-        (W.contents output.old) (W.contents output.new) (E.contents errors.old) (E.contents errors.new)) }
+        (W.contents output.old) (W.contents output.new) (E.contents errors.old)
+        (E.contents errors.new)) }
 {
     if error.kind() == ErrorKind::OutOfMemory {
         return Ended::failed(say_out_of_memory(errors));

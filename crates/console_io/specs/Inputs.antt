@@ -3,19 +3,19 @@ use Rattle.std.specs.Prelude.{ℕ, Bool, true, false, List, Option, codes, if◌
 use Rattle.std.specs.Str.{bytes_eq}
 use Rattle.std.specs.declared.io.ErrorKind.{ErrorKind}
 use Rattle.std.specs.declared.io.ErrorKind.TheVariants.{OutOfMemory}
-use Rattle.console_io.specs.declared.input.Input.{Input}
-use Rattle.console_io.specs.declared.input.Input.TheVariants.{StandardInput, File}
+use Rattle.console_io.specs.declared.input.NamedInput.{NamedInput}
+use Rattle.console_io.specs.declared.input.NamedInput.TheVariants.{StandardInput, File}
 use Rattle.console_io.specs.declared.input.InputFault.{InputFault}
 use Rattle.console_io.specs.declared.input.InputFault.TheVariants.{Unread, Memory}
 
 module _ {S F : Type 0} where
   -- whether it is the standard input
-  abbrev pub is_standard : Input S F → Bool
+  abbrev pub is_standard : NamedInput S F → Bool
   is_standard (StandardInput input) = true
   is_standard (File file) = false
 
   -- the bytes that it gives from here on, where they are known
-  abbrev pub remaining_of : (S → Option (List ℕ)) → (F → Option (List ℕ)) → Input S F → Option (List ℕ)
+  abbrev pub remaining_of : (S → Option (List ℕ)) → (F → Option (List ℕ)) → NamedInput S F → Option (List ℕ)
   remaining_of standard file (StandardInput input) = standard input
   remaining_of standard file (File opened) = file opened
 

@@ -12,7 +12,7 @@ use std::io::{ErrorKind, Read};
 
 /// What a name stands for: a standard input or a file of these types.
 #[derive(Drop)]
-pub enum Input<S, F> {
+pub enum NamedInput<S, F> {
     StandardInput(S),
     File(F),
 }
@@ -22,25 +22,25 @@ pub fn open_input<D: Directory, S: Read + Drop>(
     directory: &D,
     standard: S,
     name: &str,
-) -> Result<Input<S, D::File>, InputFault>
+) -> Result<NamedInput<S, D::File>, InputFault>
     ensures standard { IfOk result (λ input. is_standard input ≡ bytes_eq name.now (codes "-")) }
     ensures gives { IfOk result (λ input. remaining_of S.remaining D.File.remaining input
         ≡ text_named (D.bytes directory.now) (S.remaining standard) name.now) }
     ensures opened { IsErr result → bytes_eq name.now (codes "-") ≡ false }
 {
     if name == "-" {
-        return Ok(Input::StandardInput(standard));
+        return Ok(NamedInput::StandardInput(standard));
     }
-    Ok(Input::File(directory.open(name)?))
+    Ok(NamedInput::File(directory.open(name)?))
 }
 
-impl<S: Read, F: Read> Read for Input<S, F> {
+impl<S: Read, F: Read> Read for NamedInput<S, F> {
     ghost remaining = { remaining_of S.remaining F.remaining };
 
     fn read(&mut self, buf: &mut [u8]) -> io::Result<usize> {
         match self {
-            Input::StandardInput(stdin) => stdin.read(buf),
-            Input::File(file) => file.read(buf),
+            NamedInput::StandardInput(stdin) => stdin.read(buf),
+            NamedInput::File(file) => file.read(buf),
         }
     }
 }

@@ -1,8 +1,9 @@
 //! Edits.
 
+ghost use Rattle.stream_edits.specs.Streams.{end_of};
 ghost use Rattle.stream_edits.specs.declared.edits.Edit.TheVariants.{Delete, Insert, Replace};
 ghost use Rattle.stream_edits.specs.declared.edits.Place.TheVariants.{After, First};
-ghost use Rattle.session_calls.specs.Editing.{EditsBy, EditsByCopy, end_of};
+ghost use Rattle.session_calls.specs.Editing.{EditsBy, EditsByCopy};
 ghost use Rattle.session_calls.specs.Grouping.{GroupsTo};
 ghost use Rattle.session_calls.specs.Loading.{LoadsTo};
 ghost use Rattle.cupdaisy.specs.Calls.{Does, DoesTwo};
@@ -44,7 +45,8 @@ pub extern "C" fn cupdaisy_insert_after(
     receipt: &mut EditReceipt,
 ) -> u32
     ensures { Does session.old.held.state result receipt.old receipt.new session.new.held.state
-        (λ old new. EditsByCopy old (Insert (After id) text.now) result receipt.old receipt.new new) }
+        (λ old new. EditsByCopy old (Insert (After id) text.now) result receipt.old
+        receipt.new new) }
 {
     let Some(mut runner) = session.take(alloc) else {
         return NO_SESSION;
@@ -69,7 +71,8 @@ pub extern "C" fn cupdaisy_insert_last(
     receipt: &mut EditReceipt,
 ) -> u32
     ensures { Does session.old.held.state result receipt.old receipt.new session.new.held.state
-        (λ old new. EditsByCopy old (Insert (end_of old.register.stream) text.now) result receipt.old receipt.new new) }
+        (λ old new. EditsByCopy old (Insert (end_of old.register.stream) text.now) result
+        receipt.old receipt.new new) }
 {
     let Some(mut runner) = session.take(alloc) else {
         return NO_SESSION;
@@ -128,8 +131,10 @@ pub extern "C" fn cupdaisy_group(
     ids: &mut [u32],
     receipt: &mut GroupTold,
 ) -> u32
-    ensures { DoesTwo session.old.held.state result ids.old ids.new receipt.old receipt.new session.new.held.state
-        (λ old new. GroupsTo old texts.now edits.now result (ids.old, receipt.old) (ids.new, receipt.new) new) }
+    ensures { DoesTwo session.old.held.state result ids.old ids.new receipt.old receipt.new
+        session.new.held.state
+        (λ old new. GroupsTo old texts.now edits.now result (ids.old, receipt.old)
+        (ids.new, receipt.new) new) }
 {
     let Some(mut runner) = session.take(alloc) else {
         return NO_SESSION;

@@ -100,7 +100,8 @@ pub extern "C" fn cupdaisy_job_reference(
     reference: &mut JobReference,
 ) -> u32
     ensures { Asks session.old.held.state result reference.old reference.new session.new.held.state
-        (λ machine. Tells (reference_told (input_of machine job) index) result reference.old reference.new) }
+        (λ machine. Tells (reference_told (input_of machine job) index) result reference.old
+        reference.new) }
 {
     let Some(runner) = session.take(alloc) else {
         return NO_SESSION;

@@ -54,7 +54,8 @@ pub extern "C" fn cupdaisy_journal_edit_at(
     edit: &mut JournalEdit,
 ) -> u32
     ensures { Asks session.old.held.state result edit.old edit.new session.new.held.state
-        (λ machine. Tells (told_as told_journal (edit_in machine entry index)) result edit.old edit.new) }
+        (λ machine. Tells (told_as told_journal (edit_in machine entry index)) result edit.old
+        edit.new) }
 {
     let Some(runner) = session.take(alloc) else {
         return NO_SESSION;
@@ -74,8 +75,10 @@ pub extern "C" fn cupdaisy_journal_text(
     text: &mut [u8],
     needed: &mut usize,
 ) -> u32
-    ensures { AsksTwo session.old.held.state result text.old text.new needed.old needed.new session.new.held.state
-        (λ machine. FillsText (edit_in machine entry index) result text.old text.new needed.old needed.new) }
+    ensures { AsksTwo session.old.held.state result text.old text.new needed.old needed.new
+        session.new.held.state
+        (λ machine. FillsText (edit_in machine entry index) result text.old text.new needed.old
+        needed.new) }
 {
     let Some(runner) = session.take(alloc) else {
         return NO_SESSION;

@@ -74,7 +74,8 @@ pub extern "C" fn cupdaisy_position(
     position: &mut usize,
 ) -> u32
     ensures { Asks session.old.held.state result position.old position.new session.new.held.state
-        (λ machine. Tells (position_told machine.register.stream id) result position.old position.new) }
+        (λ machine. Tells (position_told machine.register.stream id) result position.old
+        position.new) }
 {
     let Some(runner) = session.take(alloc) else {
         return NO_SESSION;
@@ -113,7 +114,8 @@ pub extern "C" fn cupdaisy_outcome_of(
     outcome: &mut UnitOutcome,
 ) -> u32
     ensures { Asks session.old.held.state result outcome.old outcome.new session.new.held.state
-        (λ machine. Tells (outcome_told machine.register.stream id) result outcome.old outcome.new) }
+        (λ machine. Tells (outcome_told machine.register.stream id) result outcome.old
+        outcome.new) }
 {
     let Some(runner) = session.take(alloc) else {
         return NO_SESSION;
@@ -146,7 +148,8 @@ pub extern "C" fn cupdaisy_show(
 #[unsafe(no_mangle)]
 pub extern "C" fn cupdaisy_key(alloc: Global, session: &mut Handle, id: u32, key: &mut u64) -> u32
     ensures { Asks session.old.held.state result key.old key.new session.new.held.state
-        (λ machine. (answer : Result ℕ ℕ) × IsKeyOf machine id answer × Tells answer result key.old key.new) }
+        (λ machine. (answer : Result ℕ ℕ) × IsKeyOf machine id answer
+        × Tells answer result key.old key.new) }
 {
     let Some(runner) = session.take(alloc) else {
         return NO_SESSION;

@@ -19,7 +19,8 @@ pub extern "C" fn cupdaisy_unit_request(
     request: &mut SliceRequest,
 ) -> u32
     ensures { Asks session.old.held.state result request.old request.new session.new.held.state
-        (λ machine. Tells (told_as request_layout (request_of_unit machine id slice)) result request.old request.new) }
+        (λ machine. Tells (told_as request_layout (request_of_unit machine id slice)) result
+        request.old request.new) }
 {
     let Some(runner) = session.take(alloc) else {
         return NO_SESSION;
@@ -39,7 +40,8 @@ pub extern "C" fn cupdaisy_unit_weights(
     weights: &mut PredWeights,
 ) -> u32
     ensures { Asks session.old.held.state result weights.old weights.new session.new.held.state
-        (λ machine. Tells (weights_of (request_of_unit machine id slice)) result weights.old weights.new) }
+        (λ machine. Tells (weights_of (request_of_unit machine id slice)) result weights.old
+        weights.new) }
 {
     let Some(runner) = session.take(alloc) else {
         return NO_SESSION;
@@ -59,8 +61,10 @@ pub extern "C" fn cupdaisy_unit_bytes(
     bytes: &mut [u8],
     needed: &mut usize,
 ) -> u32
-    ensures { AsksTwo session.old.held.state result bytes.old bytes.new needed.old needed.new session.new.held.state
-        (λ machine. FillsFrom (request_of_unit machine id slice) result bytes.old bytes.new needed.old needed.new) }
+    ensures { AsksTwo session.old.held.state result bytes.old bytes.new needed.old needed.new
+        session.new.held.state
+        (λ machine. FillsFrom (request_of_unit machine id slice) result bytes.old bytes.new
+        needed.old needed.new) }
 {
     let Some(runner) = session.take(alloc) else {
         return NO_SESSION;
@@ -80,7 +84,8 @@ pub extern "C" fn cupdaisy_job_request(
     request: &mut SliceRequest,
 ) -> u32
     ensures { Asks session.old.held.state result request.old request.new session.new.held.state
-        (λ machine. Tells (told_as request_layout (request_of_job machine job slice)) result request.old request.new) }
+        (λ machine. Tells (told_as request_layout (request_of_job machine job slice)) result
+        request.old request.new) }
 {
     let Some(runner) = session.take(alloc) else {
         return NO_SESSION;
@@ -100,7 +105,8 @@ pub extern "C" fn cupdaisy_job_weights(
     weights: &mut PredWeights,
 ) -> u32
     ensures { Asks session.old.held.state result weights.old weights.new session.new.held.state
-        (λ machine. Tells (weights_of (request_of_job machine job slice)) result weights.old weights.new) }
+        (λ machine. Tells (weights_of (request_of_job machine job slice)) result weights.old
+        weights.new) }
 {
     let Some(runner) = session.take(alloc) else {
         return NO_SESSION;
@@ -120,8 +126,10 @@ pub extern "C" fn cupdaisy_job_bytes(
     bytes: &mut [u8],
     needed: &mut usize,
 ) -> u32
-    ensures { AsksTwo session.old.held.state result bytes.old bytes.new needed.old needed.new session.new.held.state
-        (λ machine. FillsFrom (request_of_job machine job slice) result bytes.old bytes.new needed.old needed.new) }
+    ensures { AsksTwo session.old.held.state result bytes.old bytes.new needed.old needed.new
+        session.new.held.state
+        (λ machine. FillsFrom (request_of_job machine job slice) result bytes.old bytes.new
+        needed.old needed.new) }
 {
     let Some(runner) = session.take(alloc) else {
         return NO_SESSION;

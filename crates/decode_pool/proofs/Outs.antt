@@ -41,7 +41,7 @@ none_differ room = record {
 }
 
 -- the same jobs
-same_differ : (old new : Machine) → new.out ≡ old.out → new.jobs ≡ old.jobs → JobsDiffer old → JobsDiffer new
+same_differ : (old new : Machine) → new.jobs_out ≡ old.jobs_out → new.jobs ≡ old.jobs → JobsDiffer old → JobsDiffer new
 same_differ old new outs jobs apart = record {
   given = λ at job is.
       let was = apart.given at job (subst (λ (out : List OutValue). slice_get out at ≡ Some job) outs is) in
@@ -55,10 +55,10 @@ same_differ old new outs jobs apart = record {
 -- one more, under the next number and with a key that no other has
 record IsNext (old : Machine) (more : OutValue) : Type 0 where
   number : more.number ≡ old.jobs + 1
-  free : Contains (map (λ (job : OutValue). job.key) old.out) more.key → ⊥
+  free : Contains (map (λ (job : OutValue). job.key) old.jobs_out) more.key → ⊥
 
 given_more : (old : Machine) (more : OutValue) → IsNext old more → JobsDiffer old → (at : ℕ) (job : OutValue)
-    → (slice_get old.out at ≡ Some job) ⊎ ((at ≡ length old.out) × (job ≡ more))
+    → (slice_get old.jobs_out at ≡ Some job) ⊎ ((at ≡ length old.jobs_out) × (job ≡ more))
     → (0 < job.number) × (job.number ≤ old.jobs + 1)
 given_more old more next apart at job (inl there) =
     let was = apart.given at job there in (was.0, omega (arith, was.1))
@@ -69,61 +69,61 @@ given_more old more next apart at job (inr last) =
 
 differ_more : (old : Machine) (more : OutValue) → IsNext old more → JobsDiffer old
     → (at later : ℕ) (job other : OutValue) → at < later
-    → (slice_get old.out at ≡ Some job) ⊎ ((at ≡ length old.out) × (job ≡ more))
-    → (slice_get old.out later ≡ Some other) ⊎ ((later ≡ length old.out) × (other ≡ more))
+    → (slice_get old.jobs_out at ≡ Some job) ⊎ ((at ≡ length old.jobs_out) × (job ≡ more))
+    → (slice_get old.jobs_out later ≡ Some other) ⊎ ((later ≡ length old.jobs_out) × (other ≡ more))
     → (job.number < other.number) × (job.key ≡ other.key → ⊥)
 differ_more old more next apart at later job other low (inl is) (inl so) = apart.differ at later job other low is so
 differ_more old more next apart at later job other low (inl is) (inr so) =
     let was = apart.given at job is in
     let number : more.number ≡ old.jobs + 1 = next.number in
     let last : other.number ≡ more.number = ap (λ (j : OutValue). j.number) so.1 in
-    let keyed : slice_get (map (λ (j : OutValue). j.key) old.out) at ≡ Some job.key =
-    slice_get-map (λ (j : OutValue). j.key) old.out at ∙ ap (option_map (λ (j : OutValue). j.key)) is in (
+    let keyed : slice_get (map (λ (j : OutValue). j.key) old.jobs_out) at ≡ Some job.key =
+    slice_get-map (λ (j : OutValue). j.key) old.jobs_out at ∙ ap (option_map (λ (j : OutValue). j.key)) is in (
       omega (arith, was.1),
       λ same.
           next.free
-          (subst (λ (key : Key). Contains (map (λ (j : OutValue). j.key) old.out) key)
+          (subst (λ (key : Key). Contains (map (λ (j : OutValue). j.key) old.jobs_out) key)
           (same ∙ ap (λ (j : OutValue). j.key) so.1)
-          (among (map (λ (j : OutValue). j.key) old.out) at job.key keyed)),
+          (among (map (λ (j : OutValue). j.key) old.jobs_out) at job.key keyed)),
     )
 differ_more old more next apart at later job other low (inr is) (inl so) =
-    let within : later < length old.out = slice_get_within old.out later other so in
-    let past : at ≡ length old.out = is.0 in absurd (omega arith)
+    let within : later < length old.jobs_out = slice_get_within old.jobs_out later other so in
+    let past : at ≡ length old.jobs_out = is.0 in absurd (omega arith)
 differ_more old more next apart at later job other low (inr is) (inr so) =
-    let here : at ≡ length old.out = is.0 in
-    let there : later ≡ length old.out = so.0 in absurd (omega arith)
+    let here : at ≡ length old.jobs_out = is.0 in
+    let there : later ≡ length old.jobs_out = so.0 in absurd (omega arith)
 
-more_differ : (old new : Machine) (more : OutValue) → IsNext old more → new.out ≡ old.out ++ more ∷ []
+more_differ : (old new : Machine) (more : OutValue) → IsNext old more → new.jobs_out ≡ old.jobs_out ++ more ∷ []
     → new.jobs ≡ more.number → JobsDiffer old → JobsDiffer new
 more_differ old new more next outs jobs apart = record {
   given = λ at job is.
-      let place = get_push old.out more job at (subst (λ (out : List OutValue). slice_get out at ≡ Some job) outs is) in
+      let place = get_push old.jobs_out more job at (subst (λ (out : List OutValue). slice_get out at ≡ Some job) outs is) in
       let was = given_more old more next apart at job place in
       (was.0, omega (arith, was.1, jobs, next.number));
   differ = λ at later job other low is so.
       differ_more old more next apart at later job other low
-      (get_push old.out more job at (subst (λ (out : List OutValue). slice_get out at ≡ Some job) outs is))
-      (get_push old.out more other later (subst (λ (out : List OutValue). slice_get out later ≡ Some other) outs so));
+      (get_push old.jobs_out more job at (subst (λ (out : List OutValue). slice_get out at ≡ Some job) outs is))
+      (get_push old.jobs_out more other later (subst (λ (out : List OutValue). slice_get out later ≡ Some other) outs so));
 }
 
 -- one less
-stood : (old : Machine) (gone at : ℕ) (job : OutValue) → gone < length old.out → (at < gone) ⊎ (gone ≤ at)
-    → slice_get (remove old.out gone) at ≡ Some job → StoodAt old.out gone at job
-stood old gone at job within (inl low) is = get_remove_below old.out gone at job within low is
-stood old gone at job within (inr high) is = get_remove_above old.out gone at job within high is
+stood : (old : Machine) (gone at : ℕ) (job : OutValue) → gone < length old.jobs_out → (at < gone) ⊎ (gone ≤ at)
+    → slice_get (remove old.jobs_out gone) at ≡ Some job → StoodAt old.jobs_out gone at job
+stood old gone at job within (inl low) is = get_remove_below old.jobs_out gone at job within low is
+stood old gone at job within (inr high) is = get_remove_above old.jobs_out gone at job within high is
 
 side : (at gone : ℕ) → (at < gone) ⊎ (gone ≤ at)
 side at gone = cases_lt at gone
 
 moved : (old : Machine) (gone at later : ℕ) (job other : OutValue) → at < later
-    → (a : StoodAt old.out gone at job) (b : StoodAt old.out gone later other)
+    → (a : StoodAt old.jobs_out gone at job) (b : StoodAt old.jobs_out gone later other)
     → (at < gone) ⊎ (gone ≤ at) → (later < gone) ⊎ (gone ≤ later) → a.from < b.from
 moved old gone at later job other low a b (inl left) (inl right) = omega (arith, a.below left, b.below right)
 moved old gone at later job other low a b (inl left) (inr right) = omega (arith, a.below left, b.above right)
 moved old gone at later job other low a b (inr left) (inl right) = absurd (omega arith)
 moved old gone at later job other low a b (inr left) (inr right) = omega (arith, a.above left, b.above right)
 
-less_differ : (old new : Machine) (gone : ℕ) → gone < length old.out → new.out ≡ remove old.out gone
+less_differ : (old new : Machine) (gone : ℕ) → gone < length old.jobs_out → new.jobs_out ≡ remove old.jobs_out gone
     → new.jobs ≡ old.jobs → JobsDiffer old → JobsDiffer new
 less_differ old new gone within outs jobs apart = record {
   given = λ at job is.
@@ -150,16 +150,16 @@ taken_differ old new (Ok (Some job)) answers apart =
       input = job.input;
     } in
     more_differ old new more (record { number = takes.number_is; free = takes.due.free })
-    (ap (λ (store : StoreValue). store.out) takes.new_is) (ap (λ (store : StoreValue). store.given) takes.new_is) apart
+    (ap (λ (store : StoreValue). store.jobs_out) takes.new_is) (ap (λ (store : StoreValue). store.jobs_given) takes.new_is) apart
 taken_differ old new (Ok None) answers apart =
-    same_differ old new (ap (λ (store : StoreValue). store.out) answers.0.1)
-    (ap (λ (store : StoreValue). store.given) answers.0.1) apart
+    same_differ old new (ap (λ (store : StoreValue). store.jobs_out) answers.0.1)
+    (ap (λ (store : StoreValue). store.jobs_given) answers.0.1) apart
 taken_differ old new (Err take.JobsSpent) answers apart =
-    same_differ old new (ap (λ (store : StoreValue). store.out) answers.0.2)
-    (ap (λ (store : StoreValue). store.given) answers.0.2) apart
+    same_differ old new (ap (λ (store : StoreValue). store.jobs_out) answers.0.2)
+    (ap (λ (store : StoreValue). store.jobs_given) answers.0.2) apart
 taken_differ old new (Err take.Memory) answers apart =
-    same_differ old new (ap (λ (store : StoreValue). store.out) answers.0.2)
-    (ap (λ (store : StoreValue). store.given) answers.0.2) apart
+    same_differ old new (ap (λ (store : StoreValue). store.jobs_out) answers.0.2)
+    (ap (λ (store : StoreValue). store.jobs_given) answers.0.2) apart
 
 -- after a worker asks for a job for a unit
 taken_for_differ : (old new : Machine) (id : ℕ) (answer : Result (Option JobValue) TakeRefused)
@@ -172,22 +172,22 @@ taken_for_differ old new id (Ok (Some job)) answers apart =
       input = job.input;
     } in
     more_differ old new more (record { number = gives.number_is; free = gives.due.free })
-    (ap (λ (store : StoreValue). store.out) gives.new_is) (ap (λ (store : StoreValue). store.given) gives.new_is) apart
+    (ap (λ (store : StoreValue). store.jobs_out) gives.new_is) (ap (λ (store : StoreValue). store.jobs_given) gives.new_is) apart
 taken_for_differ old new id (Ok None) answers apart =
-    same_differ old new (ap (λ (machine : Machine). machine.out) answers.1)
+    same_differ old new (ap (λ (machine : Machine). machine.jobs_out) answers.1)
     (ap (λ (machine : Machine). machine.jobs) answers.1) apart
 taken_for_differ old new id (Err take.JobsSpent) answers apart =
-    same_differ old new (ap (λ (machine : Machine). machine.out) answers.2)
+    same_differ old new (ap (λ (machine : Machine). machine.jobs_out) answers.2)
     (ap (λ (machine : Machine). machine.jobs) answers.2) apart
 taken_for_differ old new id (Err take.Memory) answers apart =
-    same_differ old new (ap (λ (machine : Machine). machine.out) answers)
+    same_differ old new (ap (λ (machine : Machine). machine.jobs_out) answers)
     (ap (λ (machine : Machine). machine.jobs) answers) apart
 
 -- after a worker asks for a job for the first of several ids
 first_differ : (old new : Machine) (ids : List ℕ) (answer : Result (Option JobValue) TakeRefused)
     → AnswersTakeFirst old ids answer new → JobsDiffer old → JobsDiffer new
 first_differ old new ids (Ok None) answers apart =
-    same_differ old new (ap (λ (machine : Machine). machine.out) answers.1)
+    same_differ old new (ap (λ (machine : Machine). machine.jobs_out) answers.1)
     (ap (λ (machine : Machine). machine.jobs) answers.1) apart
 first_differ old new ids (Ok (Some job)) answers apart =
     taken_for_differ old new answers.id (Ok (Some job)) answers.answers apart
@@ -203,7 +203,7 @@ took_first_differ old new ids before (Ok false) after takes apart = first_differ
 took_first_differ old new ids before (Err refused) after takes apart =
     elim takes.0 [
       | inl answers ↦ first_differ old new ids (Err refused) answers apart
-      | inr stays ↦ same_differ old new (ap (λ (machine : Machine). machine.out) stays.1)
+      | inr stays ↦ same_differ old new (ap (λ (machine : Machine). machine.jobs_out) stays.1)
           (ap (λ (machine : Machine). machine.jobs) stays.1) apart
     ]
 
@@ -215,7 +215,7 @@ took_differ old new before (Ok false) after takes apart = taken_differ old new (
 took_differ old new before (Err refused) after takes apart =
     elim takes.0 [
       | inl answers ↦ taken_differ old new (Err refused) answers apart
-      | inr stays ↦ same_differ old new (ap (λ (machine : Machine). machine.out) stays.1)
+      | inr stays ↦ same_differ old new (ap (λ (machine : Machine). machine.jobs_out) stays.1)
           (ap (λ (machine : Machine). machine.jobs) stays.1) apart
     ]
 
@@ -223,27 +223,27 @@ took_differ old new before (Err refused) after takes apart =
 pub landed_differ : (old new : Machine) (job : JobValue) (landing : Landing) → AnswersLand old job landing new
     → JobsDiffer old → JobsDiffer new
 landed_differ old new job landings.Foreign answers apart =
-    same_differ old new (ap (λ (store : StoreValue). store.out) answers.0.1)
-    (ap (λ (store : StoreValue). store.given) answers.0.1) apart
+    same_differ old new (ap (λ (store : StoreValue). store.jobs_out) answers.0.1)
+    (ap (λ (store : StoreValue). store.jobs_given) answers.0.1) apart
 landed_differ old new job landings.Stale answers apart =
     let gone = answers.0 in
-    less_differ old new gone.0 (slice_get_within old.out gone.0 gone.1 gone.2.stands)
-    (ap (λ (store : StoreValue). store.out) gone.4) (ap (λ (store : StoreValue). store.given) gone.4) apart
+    less_differ old new gone.0 (slice_get_within old.jobs_out gone.0 gone.1 gone.2.stands)
+    (ap (λ (store : StoreValue). store.jobs_out) gone.4) (ap (λ (store : StoreValue). store.jobs_given) gone.4) apart
 landed_differ old new job landings.Taken answers apart =
     let gone = answers.0 in
-    less_differ old new gone.0 (slice_get_within old.out gone.0 gone.1 gone.2.stands)
-    (ap (λ (store : StoreValue). store.out) gone.6) (ap (λ (store : StoreValue). store.given) gone.6) apart
+    less_differ old new gone.0 (slice_get_within old.jobs_out gone.0 gone.1 gone.2.stands)
+    (ap (λ (store : StoreValue). store.jobs_out) gone.6) (ap (λ (store : StoreValue). store.jobs_given) gone.6) apart
 
 -- after a worker gives a job back
 pub given_back_differ : (old new : Machine) (job : JobValue) (returning : Returning)
     → AnswersGiveBack old job returning new → JobsDiffer old → JobsDiffer new
 given_back_differ old new job returnings.Foreign answers apart =
-    same_differ old new (ap (λ (store : StoreValue). store.out) answers.0.1)
-    (ap (λ (store : StoreValue). store.given) answers.0.1) apart
+    same_differ old new (ap (λ (store : StoreValue). store.jobs_out) answers.0.1)
+    (ap (λ (store : StoreValue). store.jobs_given) answers.0.1) apart
 given_back_differ old new job returnings.Returned answers apart =
     let gone = answers.0 in
-    less_differ old new gone.0 (slice_get_within old.out gone.0 gone.1 gone.2.stands)
-    (ap (λ (store : StoreValue). store.out) gone.3) (ap (λ (store : StoreValue). store.given) gone.3) apart
+    less_differ old new gone.0 (slice_get_within old.jobs_out gone.0 gone.1 gone.2.stands)
+    (ap (λ (store : StoreValue). store.jobs_out) gone.3) (ap (λ (store : StoreValue). store.jobs_given) gone.3) apart
 
 -- after a session edits
 edited_differ : (old new : Machine) (edit : Edit) (answer : Result Receipt EditRefused) → AnswersEdit old edit answer new
@@ -251,7 +251,7 @@ edited_differ : (old new : Machine) (edit : Edit) (answer : Result Receipt EditR
 edited_differ old new edit (Ok receipt) edits apart =
     same_differ old new edits.refits.out_stays edits.refits.given_stays apart
 edited_differ old new edit (Err refused) edits apart =
-    same_differ old new (ap (λ (machine : Machine). machine.out) edits.1)
+    same_differ old new (ap (λ (machine : Machine). machine.jobs_out) edits.1)
     (ap (λ (machine : Machine). machine.jobs) edits.1) apart
 
 -- after a seat edits
@@ -259,7 +259,7 @@ pub seat_differ : (old new : Machine) (edit : Edit) (answer : Result Receipt Edi
     → AnswersEditIn old edit answer new → JobsDiffer old → JobsDiffer new
 seat_differ old new edit answer (inl edits) apart = edited_differ old new edit answer edits apart
 seat_differ old new edit answer (inr stays) apart =
-    same_differ old new (ap (λ (machine : Machine). machine.out) stays.1)
+    same_differ old new (ap (λ (machine : Machine). machine.jobs_out) stays.1)
     (ap (λ (machine : Machine). machine.jobs) stays.1) apart
 
 -- after a seat makes a group
@@ -268,26 +268,26 @@ pub group_differ : (old new : Machine) (edits : List Edit) (answer : Result Grou
 group_differ old new edits (Ok receipt) made apart =
     same_differ old new made.refits.out_stays made.refits.given_stays apart
 group_differ old new edits (Err refused) made apart =
-    same_differ old new (ap (λ (machine : Machine). machine.out) made.1)
+    same_differ old new (ap (λ (machine : Machine). machine.jobs_out) made.1)
     (ap (λ (machine : Machine). machine.jobs) made.1) apart
 
 -- after a seat drops a picture
 pub dropped_differ : (old new : Machine) (id : ℕ) (answer : Result Dropping AllocError)
     → AnswersDropIn old id answer new → JobsDiffer old → JobsDiffer new
 dropped_differ old new id (Ok dropping.Dropped) answers apart =
-    same_differ old new (ap (λ (store : StoreValue). store.out) answers.2.4)
-    (ap (λ (store : StoreValue). store.given) answers.2.4) apart
+    same_differ old new (ap (λ (store : StoreValue). store.jobs_out) answers.2.4)
+    (ap (λ (store : StoreValue). store.jobs_given) answers.2.4) apart
 dropped_differ old new id (Ok dropping.NotHeld) answers apart =
-    same_differ old new (ap (λ (store : StoreValue). store.out) answers.2.1)
-    (ap (λ (store : StoreValue). store.given) answers.2.1) apart
+    same_differ old new (ap (λ (store : StoreValue). store.jobs_out) answers.2.1)
+    (ap (λ (store : StoreValue). store.jobs_given) answers.2.1) apart
 dropped_differ old new id (Ok dropping.NoSuchUnit) answers apart =
-    same_differ old new (ap (λ (machine : Machine). machine.out) answers.1)
+    same_differ old new (ap (λ (machine : Machine). machine.jobs_out) answers.1)
     (ap (λ (machine : Machine). machine.jobs) answers.1) apart
 dropped_differ old new id (Err wanted) answers apart =
-    same_differ old new (ap (λ (machine : Machine). machine.out) answers)
+    same_differ old new (ap (λ (machine : Machine). machine.jobs_out) answers)
     (ap (λ (machine : Machine). machine.jobs) answers) apart
 
 -- after the cache is cleared
 pub cleared_differ : (old new : Machine) → new ≡ record old { cached = [] } → JobsDiffer old → JobsDiffer new
 cleared_differ old new same apart =
-    same_differ old new (ap (λ (machine : Machine). machine.out) same) (ap (λ (machine : Machine). machine.jobs) same) apart
+    same_differ old new (ap (λ (machine : Machine). machine.jobs_out) same) (ap (λ (machine : Machine). machine.jobs) same) apart

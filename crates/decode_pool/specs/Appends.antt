@@ -1,27 +1,20 @@
 -- Units that a seat appends to a session's stream, several while it has the lock.
-use Rattle.std.specs.Prelude.{◌≡◌, ◌⊎◌, ℕ, ◌+◌, List, [], ◌∷◌, length, Option, Some, None, Result, Ok, Err}
+use Rattle.std.specs.Prelude.{◌≡◌, ◌⊎◌, ℕ, ◌+◌, List, [], ◌∷◌, length, Some, None, Result, Ok, Err}
 use Rattle.annexb.specs.ByteStream.{joined}
 use Rattle.stream_edits.specs.declared.edits.Edit.{Edit}
 use Rattle.stream_edits.specs.declared.edits.Edit.TheVariants.{Insert}
-use Rattle.stream_edits.specs.declared.edits.Place.{Place}
-use Rattle.stream_edits.specs.declared.edits.Place.TheVariants.{First, After}
 use Rattle.stream_edits.specs.declared.receipts.Receipt.{Receipt}
 use Rattle.stream_edits.specs.declared.refusals.EditRefused.{EditRefused}
 use Rattle.stream_edits.specs.declared.refusals.EditRefused.TheVariants as refusals
-use Rattle.stream_edits.specs.Streams.{last_of}
+use Rattle.stream_edits.specs.Streams.{end_of}
 use Rattle.edit_engine.specs.Machines.{Machine}
 use Rattle.decode_pool.specs.declared.appending.Appended.{Appended}
 use Rattle.decode_pool.specs.declared.seat.Seat.{Seat}
 use Rattle.decode_pool.specs.Seats.{AnswersEditIn, IsReached, NotesEdit}
 
--- after the unit of this id, or first where there is none
-abbrev pub place_after : Option ℕ → Place
-place_after (Some id) = After id
-place_after None = First
-
 -- the insertion of a unit after the last one of a session
 abbrev pub insertion_into : Machine → List (List ℕ) → Edit
-insertion_into machine part = Insert (place_after (last_of machine.register.stream).id) (joined part)
+insertion_into machine part = Insert (end_of machine.register.stream) (joined part)
 
 -- a seat edits a session that is named, and notes that
 abbrev pub EditsNamed : Machine → Seat → Edit → Result Receipt EditRefused → Machine → Seat → Type 0

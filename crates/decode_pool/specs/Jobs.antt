@@ -5,7 +5,7 @@ use Rattle.edit_engine.specs.Machines.{Machine}
 
 -- the jobs that are out have different numbers, from 1 to how many were given, and different keys
 pub record JobsDiffer (machine : Machine) : Type 0 where
-  pub given : (at : ℕ) (job : OutValue) → slice_get machine.out at ≡ Some job
+  pub given : (at : ℕ) (job : OutValue) → slice_get machine.jobs_out at ≡ Some job
       → (0 < job.number) × (job.number ≤ machine.jobs)
-  pub differ : (at later : ℕ) (job other : OutValue) → at < later → slice_get machine.out at ≡ Some job
-      → slice_get machine.out later ≡ Some other → (job.number < other.number) × (job.key ≡ other.key → ⊥)
+  pub differ : (at later : ℕ) (job other : OutValue) → at < later → slice_get machine.jobs_out at ≡ Some job
+      → slice_get machine.jobs_out later ≡ Some other → (job.number < other.number) × (job.key ≡ other.key → ⊥)

@@ -4,7 +4,7 @@ ghost use Rattle.std.specs.Prelude.{◌≡◌, ◌<◌, ◌≤◌, ◌↔◌, []
 ghost use Rattle.decode_pool.specs.Seats.{AreNew, WaitsForOne, WaitsForUnit};
 
 use crate::seat::Seat;
-use crate::state::{Settled, State};
+use crate::state::{DeskState, Settled};
 use edit_engine::Config;
 use pictures::AuId;
 use std::alloc::{AllocError, Global};
@@ -15,7 +15,7 @@ use worker_jobs::{Tally, TooManyWanted};
 /// it, which is held for a call of the session and no longer.
 #[derive(Drop)]
 pub struct Desk {
-    pub(crate) state: Mutex<State>,
+    pub(crate) state: Mutex<DeskState>,
     /// Told where a job may be due, of which one worker is woken. A worker that takes one tells it
     /// on.
     pub(crate) job_due: Condvar,
@@ -46,7 +46,7 @@ impl Desk {
         ensures books { IfOk result (λ opened. AreNew seats opened.1.items) }
     {
         let desk = Desk {
-            state: Mutex::new(State::open(alloc, config)?),
+            state: Mutex::new(DeskState::open(alloc, config)?),
             job_due: Condvar::new(),
             settled: Condvar::new(),
             changed: Condvar::new(),
@@ -124,7 +124,7 @@ impl Desk {
     }
 
     /// A thread waits no more for the unit of the id. It wakes those for which there was no room.
-    fn want_no_more(&self, state: MutexGuard<'_, State>, id: AuId) {
+    fn want_no_more(&self, state: MutexGuard<'_, DeskState>, id: AuId) {
         let mut state = state;
         let wakes = state.status.wanted.is_full() && state.status.seats.tell_all();
         state.status.wanted.wait_no_more(id);
@@ -155,7 +155,7 @@ impl Desk {
     /// Wakes whom a change of the stream or of what is wanted, or the end of a worker may concern:
     /// a worker that sleeps, as a job may be due; each seat that waits, as what it waits for may be
     /// there; and who waits for news. It lets the lock go first.
-    pub(crate) fn tell(&self, state: MutexGuard<'_, State>) {
+    pub(crate) fn tell(&self, state: MutexGuard<'_, DeskState>) {
         let mut state = state;
         let wakes_worker = state.status.workers.tell_one();
         let wakes_seats = state.status.seats.tell_all();
@@ -174,7 +174,7 @@ impl Desk {
 
     /// A worker comes back, and brings all results that it has in hand. It wakes the seats that
     /// wait for single units, of which one may be there, and who waits for news.
-    pub(crate) fn come_back(&self, state: &mut State, tally: &mut Tally)
+    pub(crate) fn come_back(&self, state: &mut DeskState, tally: &mut Tally)
         ensures results { tally.new.results.items ≡ [] }
         ensures jobs { tally.new.jobs.items ≡ tally.old.jobs.items }
     {

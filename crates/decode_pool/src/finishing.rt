@@ -9,7 +9,7 @@ use crate::desk::Desk;
 use crate::faults::{FinishFault, Unfinished};
 use crate::gathering::{are_all_noted, are_numbered, books_of};
 use crate::seat::Seat;
-use crate::state::State;
+use crate::state::DeskState;
 use edit_engine::{JournalEntry, Session};
 use seat_books::{AuditFault, audit, copy_of_entry};
 use std::alloc::{AllocError, Global};
@@ -40,7 +40,8 @@ impl From<AllocError> for Refusal {
 pub fn finish(alloc: Global, desk: Desk, seats: Vec<Seat>) -> Result<Session, Unfinished>
     ensures ok { IfOk result (λ session. IsFinished desk.seats seats.items session.journal) }
     ensures jobs { IfOk result JobsDiffer }
-    ensures err { IfErr result (λ unfinished. IsFault desk.seats seats.items unfinished.cause (option_map (λ copy. copy.items) unfinished.journal)) }
+    ensures err { IfErr result (λ unfinished. IsFault desk.seats seats.items unfinished.cause
+        (option_map (λ copy. copy.items) unfinished.journal)) }
     ensures seats { IfErr result (λ unfinished. unfinished.seats ≡ seats) }
     ensures desk { IfErr result (λ unfinished. (unfinished.desk.seats ≡ desk.seats)
         × (unfinished.desk.workers ≡ desk.workers) × (unfinished.desk.room ≡ desk.room)) }

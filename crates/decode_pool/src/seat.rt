@@ -85,7 +85,8 @@ impl Seat {
         edits: Vec<Edit>,
     ) -> Result<GroupReceipt, GroupRefused>
         ensures session { AnswersGroup session.old edits.items result session.new }
-        ensures book { NotesGroup self.old edits.items result (length session.new.journal) self.new }
+        ensures book { NotesGroup self.old edits.items result (length session.new.journal)
+            self.new }
     {
         let group = ReadGroup::read(self.alloc, edits)?;
         self.edit_group_read_in(session, group)

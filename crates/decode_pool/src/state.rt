@@ -33,23 +33,23 @@ use worker_jobs::Tally;
 /// different numbers and keys. The session is this module's alone: what a thread does with it is
 /// one of the calls below, each of which is one of the session's own.
 #[derive(Debug, Drop)]
-pub(crate) struct State {
+pub(crate) struct DeskState {
     session: Session,
     pub(crate) status: Status,
     ghost jobs: { JobsDiffer session },
 }
 
-impl State {
+impl DeskState {
     /// An open desk's, before the first edit: its session has an empty stream, and no worker has
     /// ended.
-    pub(crate) fn open(alloc: Global, config: Config) -> Result<State, AllocError>
+    pub(crate) fn open(alloc: Global, config: Config) -> Result<DeskState, AllocError>
         requires { (1 ≤ config.cache) × (config.cache ≤ 4096) }
         ensures session { IfOk result (λ state. state.session ≡ empty config.cache) }
         ensures open { IfOk result (λ state. state.status.closed ≡ false) }
         ensures ended { IfOk result (λ state. state.status.ended ≡ 0) }
     {
         match Session::new(alloc, config) {
-            Ok(session) => Ok(State {
+            Ok(session) => Ok(DeskState {
                 session,
                 status: Status::new(),
             }),
@@ -157,7 +157,8 @@ impl State {
     /// one: whether it has one more in hand.
     pub(crate) fn take_first(&mut self, tally: &mut Tally) -> Result<bool, TakeRefused>
         requires { tally.old.count < 2 ^ 63 }
-        ensures session { TakesFirstIn self.old.session (urgent self.old.status.wanted) tally.old result self.new.session tally.new }
+        ensures session { TakesFirstIn self.old.session (urgent self.old.status.wanted)
+            tally.old result self.new.session tally.new }
         ensures status { self.new.status ≡ self.old.status }
     {
         tally.take_first_in(&self.status.wanted, &mut self.session)

@@ -25,7 +25,8 @@ impl Sleepers {
 
     /// One falls asleep.
     pub(crate) fn fall_asleep(&mut self)
-        ensures asleep { self.old.asleep < 18446744073709551615 → self.new.asleep ≡ self.old.asleep + 1 }
+        ensures asleep { self.old.asleep < 18446744073709551615
+            → self.new.asleep ≡ self.old.asleep + 1 }
         ensures told { self.new.told ≡ self.old.told }
     {
         self.asleep = self.asleep.saturating_add(1);
@@ -57,7 +58,8 @@ impl Sleepers {
 
     /// Whether some sleep whom nobody told to wake up. All count as told then.
     pub(crate) fn tell_all(&mut self) -> bool
-        ensures some { MatchBool result (self.old.told < self.old.asleep) (self.old.told ≡ self.old.asleep) }
+        ensures some { MatchBool result (self.old.told < self.old.asleep)
+            (self.old.told ≡ self.old.asleep) }
         ensures told { self.new.told ≡ self.old.asleep }
         ensures asleep { self.new.asleep ≡ self.old.asleep }
     {

@@ -43,14 +43,14 @@ loaded-more parts old new unit place receipt loaded stands accepted edits =
     }
 
 -- the stream stays that of the text where only pictures change
-pub loaded-kept : (text : List ℕ) (old new : Machine) → IsLoaded text old → new.register ≡ old.register → new.out ≡ [] → IsLoaded text new
+pub loaded-kept : (text : List ℕ) (old new : Machine) → IsLoaded text old → new.register ≡ old.register → new.jobs_out ≡ [] → IsLoaded text new
 loaded-kept text old new is same none = record {
   parts = is.parts;
   stream = is.stream;
   bounded = is.bounded;
   loaded = record {
     stream_is = ap (λ (r : Register). r.stream) same ∙ is.loaded.stream_is;
-    given_is = ap (λ (r : Register). r.given) same ∙ is.loaded.given_is;
+    given_is = ap (λ (r : Register). r.ids_given) same ∙ is.loaded.given_is;
     none_out = none;
   };
 }

@@ -23,12 +23,12 @@ none_among key (zero, below, is) = absurd (omega arith)
 none_among key (suc k, below, is) = absurd (omega arith)
 
 -- where no job is out, no unit waits for one
-none_out : (machine : Machine) (id : ℕ) → machine.out ≡ [] → IsAnyOutFor machine id → ⊥
+none_out : (machine : Machine) (id : ℕ) → machine.jobs_out ≡ [] → IsAnyOutFor machine id → ⊥
 none_out machine id none (at, stands, (needed, is_needed, (key, has, out))) =
     none_among key (subst (λ (jobs : List OutValue). Contains (map (λ job. job.key) jobs) key) none out)
 
 -- where none is due either, none is pending
-pub all-held : (old new : Machine) → old.out ≡ [] → AnswersTake old (Ok None) new
+pub all-held : (old new : Machine) → old.jobs_out ≡ [] → AnswersTake old (Ok None) new
     → ((id : ℕ) → IsPendingIn old id → IsAnyOutFor old id) → HoldsAll new
 all-held old new none answers waits = λ id pending.
     let store : store_of new ≡ store_of old = answers.0.1 in
@@ -47,30 +47,30 @@ only_place : (out job : OutValue) (at : ℕ) → slice_get (job ∷ []) at ≡ S
 only_place out job zero is = refl
 only_place out job (suc at) is = absurd (nothing_there at out is)
 
-landed : (between new : Machine) (job : JobValue) (only : OutValue) (answer : Landing) → between.out ≡ only ∷ []
-    → IsOf job only → AnswersLand between job answer new → new.out ≡ []
+landed : (between new : Machine) (job : JobValue) (only : OutValue) (answer : Landing) → between.jobs_out ≡ only ∷ []
+    → IsOf job only → AnswersLand between job answer new → new.jobs_out ≡ []
 landed between new job only landings.Foreign outs is lands =
     absurd (All-head (λ (out : OutValue). IsOf job out → ⊥) only []
     (subst (λ (l : List OutValue). All (λ (out : OutValue). IsOf job out → ⊥) l) outs lands.0.0) is)
 landed between new job only landings.Stale outs is lands =
     let at = lands.0.0 in
     let out = lands.0.1 in
-    let stands : slice_get between.out at ≡ Some out = lands.0.2.stands in
-    ap (λ (s : StoreValue). s.out) lands.0.4 ∙ (ap (λ (l : List OutValue). remove l at) outs
+    let stands : slice_get between.jobs_out at ≡ Some out = lands.0.2.stands in
+    ap (λ (s : StoreValue). s.jobs_out) lands.0.4 ∙ (ap (λ (l : List OutValue). remove l at) outs
     ∙ only_place out only at (subst (λ (l : List OutValue). slice_get l at ≡ Some out) outs stands))
 landed between new job only landings.Taken outs is lands =
     let at = lands.0.0 in
     let out = lands.0.1 in
-    let stands : slice_get between.out at ≡ Some out = lands.0.2.stands in
-    ap (λ (s : StoreValue). s.out) lands.0.6 ∙ (ap (λ (l : List OutValue). remove l at) outs
+    let stands : slice_get between.jobs_out at ≡ Some out = lands.0.2.stands in
+    ap (λ (s : StoreValue). s.jobs_out) lands.0.6 ∙ (ap (λ (l : List OutValue). remove l at) outs
     ∙ only_place out only at (subst (λ (l : List OutValue). slice_get l at ≡ Some out) outs stands))
 
 -- the job that is out alone lands
-pub out-landed : (old between new : Machine) (job : JobValue) (answer : Landing) → old.out ≡ []
-    → AnswersTake old (Ok (Some job)) between → AnswersLand between job answer new → new.out ≡ []
+pub out-landed : (old between new : Machine) (job : JobValue) (answer : Landing) → old.jobs_out ≡ []
+    → AnswersTake old (Ok (Some job)) between → AnswersLand between job answer new → new.jobs_out ≡ []
 out-landed old between new job answer none takes lands =
     let key = key_of (known_after [] takes.0.before) takes.0.plan.requests in
     let only : OutValue = record { number = job.number; key = key; input = job.input } in
     landed between new job only answer
-    (ap (λ (s : StoreValue). s.out) takes.0.new_is ∙ ap (λ (l : List OutValue). l ++ only ∷ []) none)
+    (ap (λ (s : StoreValue). s.jobs_out) takes.0.new_is ∙ ap (λ (l : List OutValue). l ++ only ∷ []) none)
     (refl, refl) lands

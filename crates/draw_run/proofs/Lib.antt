@@ -3,7 +3,6 @@ pub mod DrawnTitles
 pub mod FoldSteps
 pub mod Gathers
 pub mod Windows
-mod Ends
 mod Inserted
 mod Landed
 mod Opened

@@ -10,8 +10,8 @@ use Rattle.draw_run.specs.declared.fault.EditsFault.TheVariants.{Script, Refused
 -- the stream of the session has these units, whose ids are 1, 2, 3 and so on, and no job is out
 pub record HasLoaded (parts : List (List (List ℕ))) (machine : Machine) : Type 0 where
   pub stream_is : machine.register.stream ≡ numbered_from 1 parts
-  pub given_is : machine.register.given ≡ length parts
-  pub none_out : machine.out ≡ []
+  pub given_is : machine.register.ids_given ≡ length parts
+  pub none_out : machine.jobs_out ≡ []
 
 -- the session has the stream of the text
 pub record IsLoaded (text : List ℕ) (machine : Machine) : Type 0 where

@@ -61,7 +61,8 @@ fn document_of(
         → AreOfBoth stream edited.entry.after.now.register.stream edited.entry.keys.now.before.items edited.entry.keys.now.after.items
         → IfOk result (λ document. (openings : List (List ℕ))
         × AreOpenedAs stream edited.entry.after.now
-        (chosen_ids choice.from choice.units (ids_of edited.entry.after.now.register.stream)) openings
+        (chosen_ids choice.from choice.units
+        (ids_of edited.entry.after.now.register.stream)) openings
         × HasParts openings document.items) }
 {
     let ids = edited.after.ids();

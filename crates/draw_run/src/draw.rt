@@ -33,7 +33,8 @@ pub fn draw_on<R: Read, W: Sink, E: Sink>(
         → Keeps (E.contents errors.old) (E.contents errors.new) }
     // At success the text that was read is a stream, and one document is written.
     ensures drawn { result.status ≡ Status.Success → IfSome (R.remaining reader.old) (λ text.
-        WritesDrawing choice.from choice.units text (W.contents writer.old) (W.contents writer.new)) }
+        WritesDrawing choice.from choice.units text (W.contents writer.old)
+        (W.contents writer.new)) }
     // At a failure it is what the fault that is told leaves of it.
     ensures ends { result.status ≡ Status.Failure → (fault : PlanFault)
         × IfSome (R.remaining reader.old) (λ text.
@@ -57,7 +58,8 @@ fn draw<R: Read, W: Sink>(
     writer: &mut W,
 ) -> Result<(), PlanFault>
     ensures drawn { OnOk result (IfSome (R.remaining reader.old) (λ text.
-        WritesDrawing choice.from choice.units text (W.contents writer.old) (W.contents writer.new))) }
+        WritesDrawing choice.from choice.units text (W.contents writer.old)
+        (W.contents writer.new))) }
     ensures ends { IfErr result (λ fault. IfSome (R.remaining reader.old) (λ text.
         EndsBy choice.from choice.units text fault (W.refuses writer.new)
         (W.contents writer.old) (W.contents writer.new))) }

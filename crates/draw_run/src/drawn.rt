@@ -38,7 +38,8 @@ pub(crate) fn captions_of(
     positions: &[Option<usize>],
 ) -> Result<Vec<Caption>, AllocError>
     ensures count { IfOk result (λ captions. vec_len captions ≡ length kept.now) }
-    ensures lines { IfOk result (λ captions. map lines_of captions.items ≡ map (kept_lines positions.now) kept.now) }
+    ensures lines { IfOk result (λ captions. map lines_of captions.items
+        ≡ map (kept_lines positions.now) kept.now) }
 {
     let mut captions = Vec::new(alloc);
     for unit in kept {

@@ -37,7 +37,8 @@ pub fn draw_edited<W: Sink, E: Sink>(
     ensures done { result.status ≡ Status.Success → (told : List ℕ)
         × WritesEdited choice.from choice.units text.now script.now told
         (W.contents writer.old) (W.contents writer.new)
-        × Tells result.told (E.refuses errors.new) (E.contents errors.old) (E.contents errors.new) told }
+        × Tells result.told (E.refuses errors.new) (E.contents errors.old)
+        (E.contents errors.new) told }
     // At a failure it is what the fault that is told leaves of it.
     ensures ends { result.status ≡ Status.Failure → (fault : Fault)
         × EndsBy choice.from choice.units text.now script.now fault (W.refuses writer.new)
@@ -103,7 +104,8 @@ fn write_edited<W: Sink>(
         → IfOk result (λ told. WritesEdited choice.from choice.units text script (string_bytes told)
         (W.contents writer.old) (W.contents writer.new)) }
     ensures ends { (text script : List ℕ) → IsHeld text session → IsEditScript script commands.items
-        → IfErr result (λ fault. EndsBy choice.from choice.units text script fault (W.refuses writer.new)
+        → IfErr result (λ fault. EndsBy choice.from choice.units text script fault
+        (W.refuses writer.new)
         (W.contents writer.old) (W.contents writer.new)) }
 {
     let drawing = edited_drawing(alloc, choice, session, commands)?;
@@ -115,7 +117,8 @@ fn write_edited<W: Sink>(
 
 /// Prints why the stream is refused.
 fn print_refused<W: Sink>(alloc: Global, refusal: Refusal, writer: &mut W) -> EditsFault
-    ensures { (from : Option ℕ) (units : ℕ) (text script : List ℕ) → IsLoadFault text (Fault.Refused refusal)
+    ensures { (from : Option ℕ) (units : ℕ) (text script : List ℕ)
+        → IsLoadFault text (Fault.Refused refusal)
         → EndsBy from units text script result (W.refuses writer.new)
         (W.contents writer.old) (W.contents writer.new) }
 {

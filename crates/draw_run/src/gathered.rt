@@ -110,7 +110,8 @@ impl Gathered {
     /// Takes an access unit that is refused.
     fn refuse(&mut self, refused: Refused) -> Result<(), AllocError>
         ensures choice { self.new.folded.choice ≡ self.old.folded.choice }
-        ensures gathered { (text left front rest : List ℕ) → 0 < length left → IsFront left front rest
+        ensures gathered { (text left front rest : List ℕ) → 0 < length left
+            → IsFront left front rest
             → IsFrontRefused front refused
             → IsGathered text left self.old → OnOk result (IsGathered text rest self.new) }
     {
@@ -124,7 +125,8 @@ impl Gathered {
     fn note(&mut self, refused: Refused) -> Result<(), AllocError>
         requires { refused ≢ Refused.Memory }
         ensures choice { self.new.folded.choice ≡ self.old.folded.choice }
-        ensures gathered { (text left front rest : List ℕ) → 0 < length left → IsFront left front rest
+        ensures gathered { (text left front rest : List ℕ) → 0 < length left
+            → IsFront left front rest
             → IsFrontRefused front refused
             → IsGathered text left self.old → OnOk result (IsGathered text rest self.new) }
     {

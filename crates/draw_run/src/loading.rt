@@ -7,7 +7,7 @@ ghost use Rattle.stream_edits.specs.Streams.{start_of};
 use crate::fault::EditsFault;
 use access_unit::{MOST_UNITS, ReadFault, read_units};
 use bytes::Bytes;
-use edit_engine::{Config, Place, ReadEdit, Session};
+use edit_engine::{Config, ReadEdit, Session};
 use picture_keys::{HashedUnit, hash_units};
 use std::alloc::{AllocError, Global};
 use std::thread::Threads;
@@ -50,22 +50,10 @@ fn insert_last(alloc: Global, unit: HashedUnit, session: &mut Session) -> Result
     ensures { (parts : List (List (List ℕ))) → HasLoaded parts session.old
         → OnOk result (HasLoaded (parts ++ unit ∷ []) session.new) }
 {
-    let place = end_of(session);
+    let place = session.end();
     match session.edit_read(ReadEdit::insertion(alloc, place, unit)?) {
         Ok(_) => Ok(()),
         // The stream has room and ids are left, so that memory ran out.
         Err(_) => Err(AllocError),
-    }
-}
-
-/// The place after the last unit.
-fn end_of(session: &Session) -> Place
-    ensures { start_of session.now.register.stream result ≡ Some (length session.now.register.stream) }
-{
-    // Its ids differ, since edits led to the stream.
-    let _ = session.journal();
-    match session.last().id {
-        Some(id) => Place::After(id),
-        None => Place::First,
     }
 }

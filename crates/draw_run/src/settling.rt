@@ -9,9 +9,9 @@ use std::alloc::{AllocError, Global};
 
 /// Takes jobs and lands their results, one after the other, until no picture is due.
 pub(crate) fn settle(alloc: Global, session: &mut Session) -> Result<(), AllocError>
-    requires { session.old.out ≡ [] }
+    requires { session.old.jobs_out ≡ [] }
     ensures held { OnOk result (HoldsAll session.new) }
-    ensures out { OnOk result (session.new.out ≡ []) }
+    ensures out { OnOk result (session.new.jobs_out ≡ []) }
     ensures stream { OnOk result (session.new.register ≡ session.old.register) }
 {
     let mut device = Device::new(alloc);
@@ -26,8 +26,8 @@ pub(crate) fn settle(alloc: Global, session: &mut Session) -> Result<(), AllocEr
 
 /// Takes the job of the picture that is due, if one is, and lands its result. Whether one was due.
 fn land_next(alloc: Global, session: &mut Session, device: &mut Device) -> Result<bool, AllocError>
-    requires { session.old.out ≡ [] }
-    ensures out { OnOk result (session.new.out ≡ []) }
+    requires { session.old.jobs_out ≡ [] }
+    ensures out { OnOk result (session.new.jobs_out ≡ []) }
     ensures stream { OnOk result (session.new.register ≡ session.old.register) }
     ensures held { IfOk result (λ was_due. was_due ≡ false → HoldsAll session.new) }
 {

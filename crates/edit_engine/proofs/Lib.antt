@@ -1,4 +1,5 @@
 pub mod Placed
+pub mod Ends
 pub mod Looked
 pub mod Stretched
 pub mod Ran
@@ -6,7 +7,7 @@ pub mod Accepted
 pub mod Pictured
 pub mod Stored
 pub mod Seen
-pub mod Taking
+pub mod ByNumber
 pub mod Told
 pub mod Needed
 pub mod Meetings

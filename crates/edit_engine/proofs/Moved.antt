@@ -17,7 +17,7 @@ use Rattle.edit_engine.proofs.Meetings.{counted_among, few_everywhere}
 
 -- an edit by itself
 pub Edits-moved : (old : Machine) (edit : Edit) (accepted : AcceptedEdit) (steps lost hashed number : ℕ) (new : Machine)
-    → IsFor old.register edit accepted → Moves old (edit ∷ []) accepted.change accepted.given steps lost new → number ≡ length new.journal
+    → IsFor old.register edit accepted → Moves old (edit ∷ []) accepted.change accepted.ids_given steps lost new → number ≡ length new.journal
     → IsHashedFor edit hashed
     → Edits old edit (record { number = number; id = accepted.id; steps = steps; hashed = hashed; lost_pictures = lost }) new
 Edits-moved old edit accepted steps lost hashed number new for moves number_is hashes = record {
@@ -38,7 +38,7 @@ Edits-moved old edit accepted steps lost hashed number new for moves number_is h
 
 -- a group of edits
 pub EditsAll-moved : (old : Machine) (edits : List Edit) (accepted : AcceptedGroup) (receipt : GroupReceipt) (new : Machine)
-    → HasIds old.register → IsForAll old.register edits accepted → Moves old edits accepted.change accepted.given receipt.steps receipt.lost_pictures new
+    → HasIds old.register → IsForAll old.register edits accepted → Moves old edits accepted.change accepted.ids_given receipt.steps receipt.lost_pictures new
     → receipt.number ≡ length new.journal → receipt.ids.items ≡ accepted.ids.items → AreHashedFor edits receipt.hashed
     → EditsAll old edits receipt new
 EditsAll-moved old edits accepted receipt new ids for moves number_is ids_are hashes = record {
@@ -53,7 +53,7 @@ EditsAll-moved old edits accepted receipt new ids for moves number_is ids_are ha
   few =
       subst (λ (register : Register). AreFewForAll old.register.stream register.stream receipt.steps) (sym moves.register_is)
       (few_everywhere accepted.change old.register.stream receipt.steps for.inside moves.few for.front for.rest ids.once
-      (HasIds-all old.register edits accepted.ids.items (after accepted.change accepted.given old.register.stream) ids for.makes).once);
+      (HasIds-all old.register edits accepted.ids.items (after accepted.change accepted.ids_given old.register.stream) ids for.makes).once);
   counted =
       subst (λ (register : Register). AreCounted old.register.stream register.stream receipt.steps) (sym moves.register_is)
       (counted_among accepted.change old.register.stream receipt.steps for.inside moves.few for.front for.rest moves.counted);

@@ -23,7 +23,7 @@ use Rattle.stream_edits.specs.Streams.{Stream, ids_of}
 use Rattle.stream_edits.specs.Edits.{Register}
 use Rattle.edit_engine.specs.Machines.{store_of, RefitsTo}
 use Rattle.edit_engine.specs.Kept.{IsKept, machine_of}
-use Rattle.edit_engine.specs.Jobs.{AnswersTake, AnswersLand, AnswersGiveBack}
+use Rattle.edit_engine.specs.Jobs.{AnswersTake, AnswersLand, AnswersGiveBack, AnswersGiveBackOf}
 
 -- what is stored of a stream is of that stream
 pub record IsOf (stream : Stream) (store : StoreValue) : Type 0 where
@@ -100,6 +100,12 @@ pub UnitsStay-give_back : (old : StoreValue) (job : JobValue) (answer : Returnin
 UnitsStay-give_back old job returnings.Foreign new is = same_units old new old is.1 refl refl
 UnitsStay-give_back old job returnings.Returned new is = same_units old new _ is.3 refl refl
 
+-- also by its number
+pub UnitsStay-give_back_of : (old : StoreValue) (number : ℕ) (answer : Returning) (new : StoreValue)
+    → pictures.AnswersGiveBackOf old number answer new → UnitsStay old new
+UnitsStay-give_back_of old number returnings.Foreign new is = same_units old new old is.1 refl refl
+UnitsStay-give_back_of old number returnings.Returned new is = same_units old new _ is.4 refl refl
+
 -- a store whose units stay is still of the stream
 pub IsOf-stays : (stream : Stream) (old new : StoreValue) → IsOf stream old → UnitsStay old new → IsOf stream new
 IsOf-stays stream old new is stay = record {
@@ -132,6 +138,15 @@ module _ (journal : List (List Edit)) (register : Register) (old new : StoreValu
   give_back_seen job answer answers = (
     both_seen (λ (before after : StoreValue). pictures.AnswersGiveBack before job answer after) journal journal register register old new is
         (IsOf-stays register.stream old new is (UnitsStay-give_back old job answer new answers)) answers,
+    (refl, refl),
+  )
+
+  -- also by its number
+  pub give_back_of_seen : (number : ℕ) (answer : Returning) → pictures.AnswersGiveBackOf old number answer new
+      → AnswersGiveBackOf (machine_of journal register old) number answer (machine_of journal register new)
+  give_back_of_seen number answer answers = (
+    both_seen (λ (before after : StoreValue). pictures.AnswersGiveBackOf before number answer after) journal journal register register old new is
+        (IsOf-stays register.stream old new is (UnitsStay-give_back_of old number answer new answers)) answers,
     (refl, refl),
   )
 

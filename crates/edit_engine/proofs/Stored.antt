@@ -15,15 +15,19 @@ use Rattle.stream_edits.specs.declared.changes.Change.{Change}
 use Rattle.stream_edits.specs.declared.edits.Edit.{Edit}
 use Rattle.stream_edits.specs.Edits.{Register, no_units}
 use Rattle.stream_edits.specs.Changes.{after, at_of, rest_from, units_of}
-use Rattle.stream_edits.specs.Streams.{ids_of}
+use Rattle.stream_edits.specs.Streams.{Stream, ids_of}
 use Rattle.stream_edits.proofs.Grouped.{Replays-entry, length-all}
 use Rattle.stream_fold.specs.Kept.{ArePast}
-use Rattle.stream_fold.specs.Prepared.{steps_in}
+use Rattle.stream_fold.specs.Meeting.{IsCounted}
+use Rattle.stream_fold.specs.OrderedChange as ordering
+use Rattle.stream_fold.specs.Prepared.{change_in, steps_in}
 use Rattle.stream_fold.specs.Ordered.{OrderedValue}
-use Rattle.edit_engine.specs.declared.preparing.Prepared.{Prepared}
+use Rattle.picture_store.specs.declared.stretch.Stretch.{Stretch}
+use Rattle.stream_fold.specs.declared.prepared_change.PreparedChange.{PreparedChange}
 use Rattle.edit_engine.specs.Kept.{IsKept, IsPrepared, machine_of}
 use Rattle.edit_engine.specs.Machines.{RefitsTo, store_of}
-use Rattle.edit_engine.specs.Moves.{ComeTo, Moves}
+use Rattle.edit_engine.specs.Moves.{ComeTo, MakesFew, Moves}
+use Rattle.edit_engine.specs.Stretches.{IsStretchOf}
 use Rattle.edit_engine.proofs.Accepted.{decodable-after}
 use Rattle.edit_engine.proofs.Pictured.{IsOf-kept, RefitsTo-stored}
 
@@ -49,32 +53,48 @@ short-prepared journal old store edits change given kept come =
       length-append (take (at_of change) old.stream) (units_of change),
     )
 
+-- what the fold has prepared, with the stretch of it
+pub prepared-with : (change : Change) (stream : Stream) (ordered : OrderedValue) (prepared : PreparedChange) (stretch : Stretch)
+    → ordered.folded.stream ≡ stream → ordering.IsPrepared ordered prepared → change_in prepared.refolded ≡ change
+    → IsStretchOf (change_in prepared.refolded) ordered.folded.stream stretch
+    → MakesFew change stream (steps_in prepared.refolded) → IsCounted change stream (steps_in prepared.refolded)
+    → IsPrepared change stream ordered prepared stretch
+prepared-with change stream ordered prepared stretch kept ready change_is stretch_is few counted = record {
+  change_is = change_is;
+  ready = ready;
+  stretch_is =
+      subst (λ change. IsStretchOf change stream stretch) change_is
+      (subst (λ stream. IsStretchOf (change_in prepared.refolded) stream stretch) kept stretch_is);
+  few = few;
+  counted = counted;
+}
+
 module _ (journal : List (List Edit)) (old : Register) (store : StoreValue) (edits : List Edit) (change : Change) (given : ℕ)
-    (ordered : OrderedValue) (prepared : Prepared) (kept : IsKept journal old store) (come : ComeTo old edits change given)
-    (is : IsPrepared change old.stream ordered prepared) where
+    (ordered : OrderedValue) (prepared : PreparedChange) (stretch : Stretch) (kept : IsKept journal old store) (come : ComeTo old edits change given)
+    (is : IsPrepared change old.stream ordered prepared stretch) where
   abbrev new : Register
   new = after change given old.stream
 
   -- its stretch is one of what is stored
-  pub stretch-prepared : IsStretch prepared.stretch store.ids
-  stretch-prepared = subst (IsStretch prepared.stretch) (sym kept.identified) is.stretch_is.is_stretch
+  pub stretch-prepared : IsStretch stretch store.ids
+  stretch-prepared = subst (IsStretch stretch) (sym kept.identified) is.stretch_is.is_stretch
 
-  ids-prepared : ids_with prepared.stretch store.ids ≡ ids_of new.stream
-  ids-prepared = ap (ids_with prepared.stretch) kept.identified ∙ is.stretch_is.ids_are
+  ids-prepared : ids_with stretch store.ids ≡ ids_of new.stream
+  ids-prepared = ap (ids_with stretch) kept.identified ∙ is.stretch_is.ids_are
 
-  outcomes-prepared : outcomes_with prepared.stretch store.outcomes ≡ outcomes_of new.stream
-  outcomes-prepared = ap (outcomes_with prepared.stretch) kept.folded ∙ is.stretch_is.outcomes_are
+  outcomes-prepared : outcomes_with stretch store.outcomes ≡ outcomes_of new.stream
+  outcomes-prepared = ap (outcomes_with stretch) kept.folded ∙ is.stretch_is.outcomes_are
 
   -- with it each unit can be decoded
   pub decodable-prepared : AllCanDecode []
-      (zip (ids_with prepared.stretch store.ids) (outcomes_with prepared.stretch store.outcomes))
+      (zip (ids_with stretch store.ids) (outcomes_with stretch store.outcomes))
   decodable-prepared =
-      decodable-after journal old edits come.0 new (ids_with prepared.stretch store.ids)
-      (outcomes_with prepared.stretch store.outcomes) kept.replayed come.1 ids-prepared outcomes-prepared
+      decodable-after journal old edits come.0 new (ids_with stretch store.ids)
+      (outcomes_with stretch store.outcomes) kept.replayed come.1 ids-prepared outcomes-prepared
 
   module _ (refit : StoreValue) (lost : ℕ)
-      (losing : RefitsLosing store (ids_with prepared.stretch store.ids) (outcomes_with prepared.stretch store.outcomes) lost refit) where
-    refits : Refits store (ids_with prepared.stretch store.ids) (outcomes_with prepared.stretch store.outcomes) refit
+      (losing : RefitsLosing store (ids_with stretch store.ids) (outcomes_with stretch store.outcomes) lost refit) where
+    refits : Refits store (ids_with stretch store.ids) (outcomes_with stretch store.outcomes) refit
     refits = losing.0
 
     -- what is prepared may be stored next
@@ -89,12 +109,12 @@ module _ (journal : List (List Edit)) (old : Register) (store : StoreValue) (edi
     seen : (refits : RefitsTo (store_of (machine_of journal old store)) new.stream (store_of (machine_of (journal ++ edits ∷ []) new refit)))
         × (refits.lost ≡ lost)
     seen =
-        RefitsTo-stored journal old store (journal ++ edits ∷ []) new (ids_with prepared.stretch store.ids)
-        (outcomes_with prepared.stretch store.outcomes) refit lost (IsOf-kept journal old store kept) ids-prepared outcomes-prepared
+        RefitsTo-stored journal old store (journal ++ edits ∷ []) new (ids_with stretch store.ids)
+        (outcomes_with stretch store.outcomes) refit lost (IsOf-kept journal old store kept) ids-prepared outcomes-prepared
         losing
 
     -- and is what the edits leave
-    pub Moves-after : Moves (machine_of journal old store) edits change given (steps_in prepared.change.refolded)
+    pub Moves-after : Moves (machine_of journal old store) edits change given (steps_in prepared.refolded)
         lost (machine_of (journal ++ edits ∷ []) new refit)
     Moves-after = record {
       register_is = refl;

@@ -101,15 +101,15 @@ module _ (stream : Stream) (old : StoreValue) (is : IsOf stream old) (job : JobV
 
   -- the job goes out, and its unit is told
   pub told_seen : (journal : List (List Edit)) (given : ℕ) (id : ℕ) → slice_get (ids_of stream) (length takes.before) ≡ Some id
-      → TellsTake (machine_of journal (record { given = given; stream = stream }) old) (Ok (Some (id, job)))
-      (machine_of journal (record { given = given; stream = stream }) new)
+      → TellsTake (machine_of journal (record { ids_given = given; stream = stream }) old) (Ok (Some (id, job)))
+      (machine_of journal (record { ids_given = given; stream = stream }) new)
   told_seen journal given id stands = (
-    take_seen journal (record { given = given; stream = stream }) old new is (Ok (Some job)) takes,
+    take_seen journal (record { ids_given = given; stream = stream }) old new is (Ok (Some job)) takes,
     (
       record { number = job.number; key = key; input = job.input },
       subst (λ (out : List OutValue). Contains out (record { number = job.number; key = key; input = job.input }))
-          (sym (ap (λ (store : StoreValue). store.out) takes.new_is))
-          (Contains-push old.out (record { number = job.number; key = key; input = job.input })),
+          (sym (ap (λ (store : StoreValue). store.jobs_out) takes.new_is))
+          (Contains-push old.jobs_out (record { number = job.number; key = key; input = job.input })),
       refl,
       first_with id stands,
     ),

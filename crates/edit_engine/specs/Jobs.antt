@@ -29,7 +29,7 @@ pub record IsFirstWith (stream : Stream) (key : Key) (id : ℕ) : Type 0 where
 -- the unit of the id is that of the job of the number: the first that has the job's key
 abbrev pub IsUnitOf : Machine → ℕ → ℕ → Type 0
 IsUnitOf machine number id =
-    (job : OutValue) × Contains machine.out job × (job.number ≡ number)
+    (job : OutValue) × Contains machine.jobs_out job × (job.number ≡ number)
     × IsFirstWith machine.register.stream job.key id
 
 -- an answer to one who asks for a job and its unit
@@ -46,3 +46,8 @@ AnswersLand old job answer new = pictures.AnswersLand (store_of old) job answer 
 abbrev pub AnswersGiveBack : Machine → JobValue → Returning → Machine → Type 0
 AnswersGiveBack old job answer new =
     pictures.AnswersGiveBack (store_of old) job answer (store_of new) × KeepsStream old new
+
+-- an answer to a job that is given back by its number
+abbrev pub AnswersGiveBackOf : Machine → ℕ → Returning → Machine → Type 0
+AnswersGiveBackOf old number answer new =
+    pictures.AnswersGiveBackOf (store_of old) number answer (store_of new) × KeepsStream old new

@@ -2,7 +2,8 @@
 use Rattle.std.specs.Prelude.{◌≡◌, ◌≤◌, List, length}
 use Rattle.request_core.specs.Fold.{outcomes_of}
 use Rattle.stream_edits.specs.declared.edits.Edit.{Edit}
-use Rattle.edit_engine.specs.declared.preparing.Prepared.{Prepared}
+use Rattle.picture_store.specs.declared.stretch.Stretch.{Stretch}
+use Rattle.stream_fold.specs.declared.prepared_change.PreparedChange.{PreparedChange}
 use Rattle.stream_edits.specs.declared.changes.Change.{Change}
 use Rattle.stream_edits.specs.Journals.{edits_of}
 use Rattle.stream_fold.specs.Meeting.{IsCounted}
@@ -26,8 +27,8 @@ machine_of journal register store = record {
   numbers = store.numbers;
   held = store.held;
   cached = store.cached;
-  out = store.out;
-  jobs = store.given;
+  jobs_out = store.jobs_out;
+  jobs = store.jobs_given;
 }
 
 -- ids and outcomes are those of the stream, which is what the accepted edits lead to
@@ -39,9 +40,10 @@ pub record IsKept (journal : List (List Edit)) (register : Register) (store : St
 
 -- what is prepared is the change, in few steps, each of them counted, and the stretch that this
 -- makes anew
-pub record IsPrepared (change : Change) (stream : Stream) (ordered : OrderedValue) (prepared : Prepared) : Type 0 where
-  pub change_is : change_in prepared.change.refolded ≡ change
-  pub ready : ordering.IsPrepared ordered prepared.change
-  pub stretch_is : IsStretchOf change stream prepared.stretch
-  pub few : MakesFew change stream (steps_in prepared.change.refolded)
-  pub counted : IsCounted change stream (steps_in prepared.change.refolded)
+pub record IsPrepared (change : Change) (stream : Stream) (ordered : OrderedValue) (prepared : PreparedChange) (stretch : Stretch)
+    : Type 0 where
+  pub change_is : change_in prepared.refolded ≡ change
+  pub ready : ordering.IsPrepared ordered prepared
+  pub stretch_is : IsStretchOf change stream stretch
+  pub few : MakesFew change stream (steps_in prepared.refolded)
+  pub counted : IsCounted change stream (steps_in prepared.refolded)

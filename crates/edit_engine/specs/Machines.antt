@@ -27,13 +27,13 @@ pub record Machine : Type 0 where
   pub numbers : List (Option ℕ)
   pub held : List Key
   pub cached : List Key
-  pub out : List OutValue
+  pub jobs_out : List OutValue
   pub jobs : ℕ
 
 -- before the first edit
 abbrev pub empty : ℕ → Machine
 empty room =
-    record { room = room; journal = []; register = no_units; numbers = []; held = []; cached = []; out = []; jobs = 0 }
+    record { room = room; journal = []; register = no_units; numbers = []; held = []; cached = []; jobs_out = []; jobs = 0 }
 
 -- the pictures of the units, as they are stored: those of the stream's ids and of each unit's
 -- outcome
@@ -45,8 +45,8 @@ store_of machine = record {
   room = machine.room;
   held = machine.held;
   cached = machine.cached;
-  out = machine.out;
-  given = machine.jobs;
+  jobs_out = machine.jobs_out;
+  jobs_given = machine.jobs;
 }
 
 -- the pictures after the stream has changed to this one
@@ -63,7 +63,7 @@ AreFew change stream steps = (count : ℕ) → IsMeeting change stream count →
 pub record Refolds (old : Register) (edit : Edit) (steps : ℕ) (new : Register) : Type 0 where
   pub accepted : AcceptedEdit
   pub comes_to : IsFor old edit accepted
-  pub leaves : new ≡ after accepted.change accepted.given old.stream
+  pub leaves : new ≡ after accepted.change accepted.ids_given old.stream
   pub few : AreFew accepted.change old.stream steps
   pub counted : IsCounted accepted.change old.stream steps
 

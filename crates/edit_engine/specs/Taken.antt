@@ -1,5 +1,5 @@
--- The jobs that a runner has taken.
-use Rattle.std.specs.Prelude.{◌≡◌, ℕ, ◌<◌, ◌≤◌, ◌==◌, List, [], ◌∷◌, Option, map, position, slice_get, option_and_then}
+-- The jobs that are out, as they were taken.
+use Rattle.std.specs.Prelude.{ℕ, ◌==◌, List, Option, map, position, slice_get, option_and_then}
 use Rattle.std.specs.Option.{option_map}
 use Rattle.stand_in_device.specs.Inputs.{InputValue}
 use Rattle.stand_in_device.specs.Jobs.{JobValue}
@@ -12,7 +12,7 @@ as_taken job = record { number = job.number; input = job.input }
 
 -- the jobs that are out, as they were taken
 abbrev pub taken_of : Machine → List JobValue
-taken_of machine = map as_taken machine.out
+taken_of machine = map as_taken machine.jobs_out
 
 -- what the job of the number is made of, if it is among these
 abbrev pub input_among : List JobValue → ℕ → Option InputValue
@@ -23,13 +23,3 @@ input_among jobs number =
 -- what the job of the number is made of, as it was taken, if it is out
 abbrev pub input_of : Machine → ℕ → Option InputValue
 input_of machine number = input_among (taken_of machine) number
-
--- the numbers of jobs rise: the first is above one number, and the last isn't above another
-abbrev pub AreRising : ℕ → List JobValue → ℕ → Type 0
-AreRising least [] most = least ≤ most
-AreRising least (job ∷ jobs) most = (least < job.number) × AreRising job.number jobs most
-
--- a runner has the jobs that are out, whose numbers rise
-pub record AreOut (jobs : List JobValue) (machine : Machine) : Type 0 where
-  pub same : jobs ≡ taken_of machine
-  pub rising : AreRising 0 jobs machine.jobs

@@ -10,11 +10,10 @@
 //! anew what an edit changes, and picture_store, which keeps the pictures; above, the program.
 #![tactic(auto)]
 
+mod change_costs;
 mod commands;
 mod config;
-mod held_job;
 mod jobs;
-mod preparing;
 mod refusals;
 mod replies;
 mod runner;

@@ -11,8 +11,7 @@ ghost use Rattle.stand_in_device.specs.Inputs.{is_whole};
 
 use crate::commands::Command;
 use crate::config::{Config, ConfigFault};
-use crate::held_job::HeldJob;
-use crate::jobs::{give_back, input_among, land, take, take_for};
+use crate::jobs::{give_back, land, take, take_for};
 use crate::refusals::NoSuchUnit;
 use crate::replies::{Reply, UnitReport};
 use crate::session::Session;
@@ -23,12 +22,11 @@ use std::alloc::{AllocError, Global};
 use std::marker::Model;
 use stream_edits::{EditRefused, GroupReceipt, GroupRefused, ReadEdit, ReadGroup, Receipt};
 
-/// A session that follows commands, one at a time, with the jobs that are out and a device that
-/// decodes them. Clauses see it as the session.
+/// A session that follows commands, one at a time, with a device that decodes its jobs. Clauses see
+/// it as the session, which knows the jobs that are out.
 pub struct Runner {
     alloc: Global,
     session: Session,
-    jobs: Vec<HeldJob>,
     device: Device,
 }
 
@@ -38,7 +36,6 @@ impl Drop for Runner {
         let Runner {
             alloc: _,
             session: _,
-            jobs: _,
             device: _,
         } = self;
     }
@@ -54,11 +51,7 @@ impl Model for Runner {
 
     ghost coded = { Prim.hlevel (codes, tree_code works.the_row.coded) };
 
-    ghost use Rattle.edit_engine.specs.Taken.{AreOut};
-
     ghost view = { λ runner. runner.session };
-
-    ghost invariant = { λ runner. AreOut runner.jobs.items runner.session };
 }
 
 impl Runner {
@@ -71,7 +64,6 @@ impl Runner {
         Ok(Runner {
             alloc,
             session: Session::new(alloc, config)?,
-            jobs: Vec::new(alloc),
             device: Device::new(alloc),
         })
     }
@@ -86,19 +78,14 @@ impl Runner {
             Command::Edit(edit) => Ok(Reply::Edit(self.session.edit(edit))),
             Command::Group(edits) => Ok(Reply::Group(self.session.edit_group(edits))),
             Command::Unit(id) => Ok(Reply::Unit(report(self.alloc, &self.session, id)?)),
-            Command::Take => Ok(Reply::Take(take(&mut self.session, &mut self.jobs)?)),
-            Command::TakeFor(id) => {
-                let taken = take_for(&mut self.session, &mut self.jobs, id)?;
-                Ok(Reply::TakeFor(taken))
-            }
+            Command::Take => Ok(Reply::Take(take(&mut self.session)?)),
+            Command::TakeFor(id) => Ok(Reply::TakeFor(take_for(&mut self.session, id)?)),
             Command::Land(number) => {
-                let (session, jobs) = (&mut self.session, &mut self.jobs);
-                let landed = land(self.alloc, session, jobs, &mut self.device, number)?;
+                let landed = land(self.alloc, &mut self.session, &mut self.device, number)?;
                 Ok(Reply::Land(landed))
             }
             Command::GiveBack(number) => {
-                let given = give_back(&mut self.session, &mut self.jobs, number);
-                Ok(Reply::GiveBack(given))
+                Ok(Reply::GiveBack(give_back(&mut self.session, number)))
             }
             Command::Show(id) => Ok(Reply::Show(self.session.show(id))),
             Command::Drop(id) => Ok(Reply::Dropped(self.session.drop_picture(id))),
@@ -147,7 +134,7 @@ impl Runner {
             (λ input. input_of self.now number ≡ Some input.now) }
         ensures whole { IfSome result (λ input. IsTrue (is_whole input.now)) }
     {
-        input_among(&self.jobs, number)
+        self.session.job_input(number)
     }
 
     /// The session as it is, to be looked at without a copy.

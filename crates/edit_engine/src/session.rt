@@ -11,14 +11,15 @@ ghost use Rattle.stream_edits.specs.Edits.{no_units, Replays};
 ghost use Rattle.edit_engine.specs.Grouping.{AnswersGroup};
 ghost use Rattle.edit_engine.specs.Machines.{empty, AnswersEdit, store_of};
 ghost use Rattle.edit_engine.specs.Moves.{ComeTo, Moves};
-ghost use Rattle.edit_engine.specs.Jobs.{AnswersGiveBack, AnswersLand, AnswersTake, TellsTake};
+ghost use Rattle.edit_engine.specs.Jobs.{AnswersGiveBack, AnswersGiveBackOf, AnswersLand, AnswersTake, TellsTake};
 ghost use Rattle.edit_engine.specs.Needing.{AnswersDrop, AnswersTakeFor, IsAnyOutFor, IsPendingIn, TellsTakeFor};
 
 mod asking;
 
+use crate::change_costs::ChangeCosts;
 use crate::config::{Config, ConfigFault};
-use crate::preparing::{ChangeCosts, prepare};
 use crate::showing::Dropping;
+use crate::stretches::stretch_of;
 use base_types::Shared;
 use dep_keys::KeyId;
 use picture_keys::HashedOutcome;
@@ -40,7 +41,7 @@ use stream_fold::OrderedFold;
 pub struct Session {
     alloc: Global,
     journal: Vec<JournalEntry>,
-    given: u32,
+    ids_given: u32,
     ordered: OrderedFold,
     store: PictureStore,
 }
@@ -51,7 +52,7 @@ impl Drop for Session {
         let Session {
             alloc: _,
             journal: _,
-            given: _,
+            ids_given: _,
             ordered: _,
             store: _,
         } = self;
@@ -70,10 +71,11 @@ impl Model for Session {
 
     ghost use Rattle.edit_engine.specs.Kept.{IsKept, machine_of};
 
-    ghost view = { λ s. machine_of s.journal.items (record { given = s.given; stream = s.ordered.folded.stream }) s.store };
+    ghost view = { λ s. machine_of s.journal.items
+        (record { ids_given = s.ids_given; stream = s.ordered.folded.stream }) s.store };
 
     ghost invariant = { λ s. IsKept s.journal.items
-        (record { given = s.given; stream = s.ordered.folded.stream })
+        (record { ids_given = s.ids_given; stream = s.ordered.folded.stream })
         s.store };
 }
 
@@ -90,7 +92,7 @@ impl Session {
         Ok(Session {
             alloc,
             journal: Vec::new(alloc),
-            given: 0,
+            ids_given: 0,
             ordered: OrderedFold::new(alloc)?,
             store: PictureStore::new(alloc, config.cache)?,
         })
@@ -116,11 +118,15 @@ impl Session {
         ensures { AnswersEdit self.old read result self.new }
     {
         let (units, ids) = (self.ordered.units(), self.store.ids());
-        let accepted = change_of(self.alloc, units, ids, self.given, &read)?;
-        let AcceptedEdit { change, id, given } = accepted;
+        let accepted = change_of(self.alloc, units, ids, self.ids_given, &read)?;
+        let AcceptedEdit {
+            change,
+            id,
+            ids_given,
+        } = accepted;
         let hashed = read.hashed();
         let entry = JournalEntry::of_edit(read.into_edit());
-        let costs = self.make(change, given, entry)?;
+        let costs = self.make(change, ids_given, entry)?;
         Ok(Receipt {
             number: self.journal.len() as u64,
             id,
@@ -148,15 +154,15 @@ impl Session {
         ensures { AnswersGroup self.old group result self.new }
     {
         let (units, ids) = (self.ordered.units(), self.store.ids());
-        let accepted = change_of_group(self.alloc, units, ids, self.given, &group)?;
+        let accepted = change_of_group(self.alloc, units, ids, self.ids_given, &group)?;
         let AcceptedGroup {
             change,
             ids,
-            given,
+            ids_given,
             hashed,
         } = accepted;
         let entry = JournalEntry::of_group(group.into_edits());
-        let costs = self.make(change, given, entry)?;
+        let costs = self.make(change, ids_given, entry)?;
         Ok(GroupReceipt {
             number: self.journal.len() as u64,
             ids,
@@ -170,22 +176,24 @@ impl Session {
     fn make(
         &mut self,
         change: Change,
-        given: u32,
+        ids_given: u32,
         edits: JournalEntry,
     ) -> Result<ChangeCosts, AllocError>
         requires inside { IsInside change self.old.register.stream }
-        requires come { ComeTo self.old.register edits change given }
-        ensures ok { IfOk result (λ costs. Moves self.old edits change given costs.steps
+        requires come { ComeTo self.old.register edits change ids_given }
+        ensures ok { IfOk result (λ costs. Moves self.old edits change ids_given costs.steps
             costs.lost_pictures self.new) }
         ensures err { OnErr result (self.new ≡ self.old) }
     {
-        let prepared = prepare(self.alloc, &mut self.ordered, change)?;
-        let steps = prepared.change.refolded().steps();
+        let outcomes = self.store.outcomes();
+        let prepared = self.ordered.prepare(self.alloc, change, outcomes)?;
+        let stretch = stretch_of(self.alloc, &self.ordered, &prepared)?;
+        let steps = prepared.refolded().steps();
         self.journal.reserve(1)?;
-        let lost = self.store.refit(prepared.stretch, self.ordered.states())?;
-        self.ordered.commit(prepared.change);
+        let lost = self.store.refit(stretch, self.ordered.states())?;
+        self.ordered.commit(prepared);
         self.journal.push_reserved(edits);
-        self.given = given;
+        self.ids_given = ids_given;
         Ok(ChangeCosts {
             steps,
             lost_pictures: lost as u64,
@@ -271,6 +279,13 @@ impl Session {
         ensures { AnswersGiveBack self.old job result self.new }
     {
         self.store.give_back(job)
+    }
+
+    /// Takes the job of this number back, as `give_back` does, from whoever spent it.
+    pub(crate) fn give_back_number(&mut self, number: u64) -> Returning
+        ensures { AnswersGiveBackOf self.old number result self.new }
+    {
+        self.store.give_back_number(number)
     }
 
     /// Drops the picture of the unit that has the id, and with it that of each unit that has the

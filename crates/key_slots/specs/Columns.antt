@@ -8,8 +8,8 @@ use Rattle.picture_keys.specs.Known.{keys_of}
 use Rattle.picture_keys.specs.Numbered.{AllStandFor}
 
 -- there are as many of each, no key has two numbers, and the numbers are those of the units' keys
-pub record AreColumns (keys : KeyMap (List Work)) (ids : List ℕ) (outcomes : List Outcome) (found : List (Option ℕ)) : Type 0 where
+pub record AreColumns (keys : KeyMap (List Work)) (ids : List ℕ) (outcomes : List Outcome) (numbers : List (Option ℕ)) : Type 0 where
   pub outcomes_many : length outcomes ≡ length ids
-  pub found_many : length found ≡ length ids
+  pub found_many : length numbers ≡ length ids
   pub one : IsKeyMap keys
-  pub stand : AllStandFor keys found (keys_of (zip ids outcomes))
+  pub stand : AllStandFor keys numbers (keys_of (zip ids outcomes))

@@ -10,7 +10,7 @@ IsHeld places number = (picture : Picture) × (place_at places number ≡ Some (
 
 -- the unit at a place is valid, and the picture of its key isn't held
 abbrev pub IsWaiting : List (Option ℕ) → List (Slot Picture) → ℕ → Type 0
-IsWaiting found places at = (number : ℕ) × (slice_get found at ≡ Some (Some number)) × (IsHeld places number → ⊥)
+IsWaiting numbers places at = (number : ℕ) × (slice_get numbers at ≡ Some (Some number)) × (IsHeld places number → ⊥)
 
 -- each id is there at whose entry stands a key whose picture isn't held
 abbrev pub AreWanted : List (Slot Picture) → List (Option ℕ) → List (Option ℕ) → List ℕ → Type 0

@@ -13,7 +13,8 @@ pub(crate) fn put_in<P: Copy + Drop>(
     key: KeyId,
     picture: P,
 ) -> usize
-    ensures puts { (IsPut cache.old.capacity key (keys_of cache.old.pairs) (keys_of cache.new.pairs) × (result ≡ 0))
+    ensures puts { (IsPut cache.old.capacity key (keys_of cache.old.pairs) (keys_of cache.new.pairs)
+        × (result ≡ 0))
         ⊎ ((keys_of cache.new.pairs ≡ keys_of cache.old.pairs) × (result ≡ 1)) }
     ensures room { cache.new.capacity ≡ cache.old.capacity }
     ensures those { (number : ℕ) (other : P) → Contains cache.new.pairs (number, other)

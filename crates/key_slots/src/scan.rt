@@ -32,10 +32,10 @@ pub fn needed_places<F: Fingerprint<Works>>(
     target: usize,
 ) -> Result<Vec<usize>, AllocError>
     requires columns { AreColumns units.now.keys.now units.now.ids.now units.now.outcomes.now
-        units.now.found.now }
+        units.now.numbers.now }
     requires within { target < length units.now.ids.now }
     ensures { IfOk result (λ places. AreNeeded (zip units.now.ids.now units.now.outcomes.now)
-        (IsWaiting units.now.found.now units.now.places.now) target places.items) }
+        (IsWaiting units.now.numbers.now units.now.places.now) target places.items) }
 {
     let Some(key) = waiting_key(units, target) else {
         return Ok(Vec::new(alloc));
@@ -51,13 +51,13 @@ pub fn needed_places<F: Fingerprint<Works>>(
 
 /// The key of the unit at a place, where its picture isn't held.
 fn waiting_key<F: Fingerprint<Works>>(units: &Units<'_, F>, at: usize) -> Option<KeyId>
-    requires { at < length units.now.found.now }
+    requires { at < length units.now.numbers.now }
     ensures { MatchOption result
-        (IsWaiting units.now.found.now units.now.places.now at → ⊥)
-        (λ key. (slice_get units.now.found.now at ≡ Some (Some key))
+        (IsWaiting units.now.numbers.now units.now.places.now at → ⊥)
+        (λ key. (slice_get units.now.numbers.now at ≡ Some (Some key))
         × (IsHeld units.now.places.now key → ⊥)) }
 {
-    let key = units.found[at]?;
+    let key = units.numbers[at]?;
     if is_held(units.places, key) {
         return None;
     }
@@ -73,14 +73,14 @@ fn go_down<F: Fingerprint<Works>>(
     scan: &mut Scan,
 ) -> Result<(), AllocError>
     requires columns { AreColumns units.now.keys.now units.now.ids.now units.now.outcomes.now
-        units.now.found.now }
+        units.now.numbers.now }
     requires within { from < length units.now.ids.now }
     ensures { OnOk result ((target : ℕ)
         → IsScanned (zip units.now.ids.now units.now.outcomes.now)
-        (IsWaiting units.now.found.now units.now.places.now) target from
+        (IsWaiting units.now.numbers.now units.now.places.now) target from
         scan.old.wanted.items scan.old.needed.items
         → AreNeeded (zip units.now.ids.now units.now.outcomes.now)
-        (IsWaiting units.now.found.now units.now.places.now) target
+        (IsWaiting units.now.numbers.now units.now.places.now) target
         scan.new.needed.items) }
 {
     let mut at = from;
@@ -99,18 +99,18 @@ fn meet<F: Fingerprint<Works>>(
     scan: &mut Scan,
 ) -> Result<(), AllocError>
     requires columns { AreColumns units.now.keys.now units.now.ids.now units.now.outcomes.now
-        units.now.found.now }
+        units.now.numbers.now }
     requires within { at < length units.now.ids.now }
     ensures { OnOk result ((target : ℕ)
         → IsScanned (zip units.now.ids.now units.now.outcomes.now)
-        (IsWaiting units.now.found.now units.now.places.now) target (at + 1)
+        (IsWaiting units.now.numbers.now units.now.places.now) target (at + 1)
         scan.old.wanted.items scan.old.needed.items
         → IsScanned (zip units.now.ids.now units.now.outcomes.now)
-        (IsWaiting units.now.found.now units.now.places.now) target at
+        (IsWaiting units.now.numbers.now units.now.places.now) target at
         scan.new.wanted.items scan.new.needed.items) }
 {
     let id = units.ids[at];
-    if units.found[at].is_none() || !is_among(&scan.wanted, id) {
+    if units.numbers[at].is_none() || !is_among(&scan.wanted, id) {
         return Ok(());
     }
     forget(&mut scan.wanted, id);
@@ -129,9 +129,9 @@ fn find<F: Fingerprint<Works>>(
     scan: &mut Scan,
 ) -> Result<(), AllocError>
     requires columns { AreColumns units.now.keys.now units.now.ids.now units.now.outcomes.now
-        units.now.found.now }
+        units.now.numbers.now }
     requires within { at < length units.now.ids.now }
-    requires key { slice_get units.now.found.now at ≡ Some (Some key) }
+    requires key { slice_get units.now.numbers.now at ≡ Some (Some key) }
     ensures found { OnOk result (scan.new.needed.items ≡ scan.old.needed.items ++ at ∷ []) }
     ensures stay { OnOk result ((id : ℕ) → Contains scan.old.wanted.items id
         → Contains scan.new.wanted.items id) }
@@ -140,7 +140,7 @@ fn find<F: Fingerprint<Works>>(
         ⊎ Lists (zip units.now.ids.now units.now.outcomes.now) at id) }
     ensures all { OnOk result ((other : ℕ)
         → (names : Names (zip units.now.ids.now units.now.outcomes.now) at other)
-        → IsWaiting units.now.found.now units.now.places.now other
+        → IsWaiting units.now.numbers.now units.now.places.now other
         → Contains scan.new.wanted.items names.id) }
 {
     scan.needed.push(at)?;

@@ -15,5 +15,5 @@ pub struct Units<'a, F: Fingerprint<Works>> {
     pub places: &'a Places<Picture>,
     pub ids: &'a [AuId],
     pub outcomes: &'a [Shared<HashedOutcome>],
-    pub found: &'a [Option<KeyId>],
+    pub numbers: &'a [Option<KeyId>],
 }

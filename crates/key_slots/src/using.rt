@@ -91,7 +91,8 @@ pub fn let_go_all<P: Copy + Drop>(
         → place_at places.new number ≡ place_at places.old number }
     ensures gone { (held : List ℕ) → IsHeldBefore held leaving.now places.old
         → (gone : List ℕ) × IsLeft (λ number. IsSome (place_at places.new number)) held gone
-        × ArePut cache.old.capacity gone (keys_of cache.old.pairs) (keys_of cache.new.pairs) result }
+        × ArePut cache.old.capacity gone (keys_of cache.old.pairs)
+        (keys_of cache.new.pairs) result }
     ensures room { cache.new.capacity ≡ cache.old.capacity }
     ensures those { (number : ℕ) (picture : P) → Contains cache.new.pairs (number, picture)
         → Contains cache.old.pairs (number, picture)
@@ -116,7 +117,8 @@ fn let_go<P: Copy + Drop>(
     ensures room { cache.new.capacity ≡ cache.old.capacity }
     ensures those { (number : ℕ) (picture : P) → Contains cache.new.pairs (number, picture)
         → Contains cache.old.pairs (number, picture)
-        ⊎ ((number ≡ key) × (place_at places.old key ≡ Some (Some picture)) × (uses_at places.new key ≡ 0)) }
+        ⊎ ((number ≡ key) × (place_at places.old key ≡ Some (Some picture))
+        × (uses_at places.new key ≡ 0)) }
 {
     match places.let_go(key) {
         Some(picture) => put_in(cache, key, picture),

@@ -34,14 +34,14 @@ module _ (known : Known) (works : List Work) (first : Key) where
   entry_known (None ∷ units) among = entry_known units among
   entry_known (Some id ∷ units) among = by_key id units (entry_known units) (key_at known id) refl among
 
-module _ (keys : Trees) (ids : List ℕ) (outcomes : List Outcome) (found : List (Option ℕ))
-    (stand : AllStandFor keys found (keys_of (zip ids outcomes))) where
+module _ (keys : Trees) (ids : List ℕ) (outcomes : List Outcome) (numbers : List (Option ℕ))
+    (stand : AllStandFor keys numbers (keys_of (zip ids outcomes))) where
   -- a key at an entry of a unit's key is that of an earlier unit
-  pub entry_before : (at number : ℕ) (tree first : Key) → slice_get found at ≡ Some (Some number)
+  pub entry_before : (at number : ℕ) (tree first : Key) → slice_get numbers at ≡ Some (Some number)
       → tree_at keys number ≡ Some tree → IsEntryOf first tree
-      → (place : ℕ) × (place < at) × (n : ℕ) × (slice_get found place ≡ Some (Some n)) × (tree_at keys n ≡ Some first)
+      → (place : ℕ) × (place < at) × (n : ℕ) × (slice_get numbers place ≡ Some (Some n)) × (tree_at keys n ≡ Some first)
   entry_before at number tree first is tree_is among =
-      let valid = valid_of_found keys ids outcomes found stand at number is in
+      let valid = valid_of_found keys ids outcomes numbers stand at number is in
       let known : Known = known_after [] (take at (zip ids outcomes)) in
       let same : tree ≡ key_of known valid.1.requests =
       same_Some tree (key_of known valid.1.requests) (sym tree_is ∙ valid.3) in
@@ -49,16 +49,16 @@ module _ (keys : Trees) (ids : List ℕ) (outcomes : List Outcome) (found : List
       (subst (IsEntryOf first) same among) in
       elim (known_of [] (zip ids outcomes) at named.0 first named.1) [
         | inl last ↦
-            let number = number_there keys found (keys_of (zip ids outcomes)) stand last.at (Some first) last.key_is in
+            let number = number_there keys numbers (keys_of (zip ids outcomes)) stand last.at (Some first) last.key_is in
             let has = number_of_key keys number.0 first
-            (stands_at keys found (keys_of (zip ids outcomes)) stand last.at number.0 (Some first) number.1 last.key_is) in
+            (stands_at keys numbers (keys_of (zip ids outcomes)) stand last.at number.0 (Some first) number.1 last.key_is) in
             (last.at, last.before, has.0, number.1 ∙ ap Some has.1, has.2)
         | inr before ↦ absurd (none-some first before.0)
       ]
 
   -- so a unit that refers to the key of a number stands after one that has it
-  pub refers_later : IsKeyMap keys → (at entry : ℕ) → RefersTo keys found at entry
-      → (place : ℕ) × (place < at) × (slice_get found place ≡ Some (Some entry))
+  pub refers_later : IsKeyMap keys → (at entry : ℕ) → RefersTo keys numbers at entry
+      → (place : ℕ) × (place < at) × (slice_get numbers place ≡ Some (Some entry))
   refers_later one at entry refers =
       let before = entry_before at refers.number refers.tree refers.first refers.stands refers.tree_is refers.among in
       let same : before.2 ≡ entry = one.trees before.2 entry refers.first before.4 refers.first_is in

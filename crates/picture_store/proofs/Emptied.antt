@@ -14,8 +14,8 @@ use Rattle.picture_store.specs.Kept.{Trees, key_for, keys_for, IsRight, IsKept}
 use Rattle.picture_store.proofs.Lifting.{for_contains, contains_for}
 use Rattle.picture_store.proofs.Stays.{key_is}
 
-module _ (keys : Trees) (ids : List ℕ) (outcomes : List Outcome) (found : List (Option ℕ)) (places more : PlacesValue)
-    (cached : List (ℕ × Picture)) (out : List JobOut) (kept : IsKept keys ids outcomes found places cached out) (number : ℕ)
+module _ (keys : Trees) (ids : List ℕ) (outcomes : List Outcome) (numbers : List (Option ℕ)) (places more : PlacesValue)
+    (cached : List (ℕ × Picture)) (out : List JobOut) (kept : IsKept keys ids outcomes numbers places cached out) (number : ℕ)
     (held : IsHeld places number)
     (emptied : (other : ℕ) → place_at more other ≡ (if number == other then Some None else place_at places other)) where
   -- a picture that is held afterwards was held, and is of another key
@@ -51,7 +51,7 @@ module _ (keys : Trees) (ids : List ℕ) (outcomes : List Outcome) (found : List
       by_same false same = (λ some. some, λ some. some)
 
   -- what is kept then
-  pub kept_emptied : IsKept keys ids outcomes found more cached out
+  pub kept_emptied : IsKept keys ids outcomes numbers more cached out
   kept_emptied = record {
     right = record {
       one = kept.right.one;

@@ -30,10 +30,10 @@ module _ (keys : Trees) (one : IsKeyMap keys) (entry : ℕ) (first : Key) (first
       by_first number entries (tree_at keys number) refl live.0 (entry_among entries live.1) is
 
 -- that to which the key of a unit refers stands among its entries
-pub refers_among : (keys : Trees) → IsKeyMap keys → (found : List (Option ℕ)) (at entry number : ℕ) (node : NodeOf (List Work))
-    → slice_get found at ≡ Some (Some number) → IsNodeOf keys number node → RefersTo keys found at entry
+pub refers_among : (keys : Trees) → IsKeyMap keys → (numbers : List (Option ℕ)) (at entry number : ℕ) (node : NodeOf (List Work))
+    → slice_get numbers at ≡ Some (Some number) → IsNodeOf keys number node → RefersTo keys numbers at entry
     → Contains node.entries (Some entry)
-refers_among keys one found at entry number node is is_node refers =
+refers_among keys one numbers at entry number node is is_node refers =
     let same_number : refers.number ≡ number =
     same_Some refers.number number (same_Some (Some refers.number) (Some number) (sym refers.stands ∙ is)) in
     let same_tree : refers.tree ≡ tree_of keys node =

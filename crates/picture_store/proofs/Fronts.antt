@@ -34,40 +34,40 @@ keys_append known (unit ∷ units) more =
     (keys_append (known_with known unit.0 (key_of_outcome known unit.1)) units more)
 
 -- numbers and more stand for keys and more
-pub stand_append : (keys : Trees) (found later : List (Option ℕ)) (trees more : List (Option Key))
-    → AllStandFor keys found trees → AllStandFor keys later more → AllStandFor keys (found ++ later) (trees ++ more)
+pub stand_append : (keys : Trees) (numbers later : List (Option ℕ)) (trees more : List (Option Key))
+    → AllStandFor keys numbers trees → AllStandFor keys later more → AllStandFor keys (numbers ++ later) (trees ++ more)
 stand_append keys [] later [] more all others = others
 stand_append keys [] later (tree ∷ trees) more all others = absurd all
-stand_append keys (number ∷ found) later [] more all others = absurd all
-stand_append keys (number ∷ found) later (tree ∷ trees) more all others =
-    (all.0, stand_append keys found later trees more all.1 others)
+stand_append keys (number ∷ numbers) later [] more all others = absurd all
+stand_append keys (number ∷ numbers) later (tree ∷ trees) more all others =
+    (all.0, stand_append keys numbers later trees more all.1 others)
 
 -- the numbers of the first units stand for their keys
-pub stand_front : (keys : Trees) (known : Known) (n : ℕ) (found : List (Option ℕ)) (ids : List ℕ) (outcomes : List Outcome)
-    → AllStandFor keys found (keys_after known (zip ids outcomes))
-    → AllStandFor keys (take n found) (keys_after known (zip (take n ids) (take n outcomes)))
-stand_front keys known zero found ids outcomes all = tt
+pub stand_front : (keys : Trees) (known : Known) (n : ℕ) (numbers : List (Option ℕ)) (ids : List ℕ) (outcomes : List Outcome)
+    → AllStandFor keys numbers (keys_after known (zip ids outcomes))
+    → AllStandFor keys (take n numbers) (keys_after known (zip (take n ids) (take n outcomes)))
+stand_front keys known zero numbers ids outcomes all = tt
 stand_front keys known (suc n) [] [] outcomes all = tt
 stand_front keys known (suc n) [] (id ∷ ids) [] all = tt
 stand_front keys known (suc n) [] (id ∷ ids) (outcome ∷ outcomes) all = absurd all
-stand_front keys known (suc n) (number ∷ found) [] outcomes all = absurd all
-stand_front keys known (suc n) (number ∷ found) (id ∷ ids) [] all = absurd all
-stand_front keys known (suc n) (number ∷ found) (id ∷ ids) (outcome ∷ outcomes) all =
-    (all.0, stand_front keys (known_with known id (key_of_outcome known outcome)) n found ids outcomes all.1)
+stand_front keys known (suc n) (number ∷ numbers) [] outcomes all = absurd all
+stand_front keys known (suc n) (number ∷ numbers) (id ∷ ids) [] all = absurd all
+stand_front keys known (suc n) (number ∷ numbers) (id ∷ ids) (outcome ∷ outcomes) all =
+    (all.0, stand_front keys (known_with known id (key_of_outcome known outcome)) n numbers ids outcomes all.1)
 
 -- and those of the others, after the first ones
-pub stand_behind : (keys : Trees) (known : Known) (n : ℕ) (found : List (Option ℕ)) (ids : List ℕ) (outcomes : List Outcome)
-    → AllStandFor keys found (keys_after known (zip ids outcomes)) → length ids ≡ length outcomes
-    → AllStandFor keys (drop n found)
+pub stand_behind : (keys : Trees) (known : Known) (n : ℕ) (numbers : List (Option ℕ)) (ids : List ℕ) (outcomes : List Outcome)
+    → AllStandFor keys numbers (keys_after known (zip ids outcomes)) → length ids ≡ length outcomes
+    → AllStandFor keys (drop n numbers)
     (keys_after (known_after known (zip (take n ids) (take n outcomes))) (zip (drop n ids) (drop n outcomes)))
-stand_behind keys known zero found ids outcomes all same = all
+stand_behind keys known zero numbers ids outcomes all same = all
 stand_behind keys known (suc n) [] [] outcomes all same = tt
 stand_behind keys known (suc n) [] (id ∷ ids) [] all same = absurd (omega (arith, same))
 stand_behind keys known (suc n) [] (id ∷ ids) (outcome ∷ outcomes) all same = absurd all
-stand_behind keys known (suc n) (number ∷ found) [] outcomes all same = absurd all
-stand_behind keys known (suc n) (number ∷ found) (id ∷ ids) [] all same = absurd all
-stand_behind keys known (suc n) (number ∷ found) (id ∷ ids) (outcome ∷ outcomes) all same =
-    stand_behind keys (known_with known id (key_of_outcome known outcome)) n found ids outcomes all.1 (omega (arith, same))
+stand_behind keys known (suc n) (number ∷ numbers) [] outcomes all same = absurd all
+stand_behind keys known (suc n) (number ∷ numbers) (id ∷ ids) [] all same = absurd all
+stand_behind keys known (suc n) (number ∷ numbers) (id ∷ ids) (outcome ∷ outcomes) all same =
+    stand_behind keys (known_with known id (key_of_outcome known outcome)) n numbers ids outcomes all.1 (omega (arith, same))
 
 -- the units from a place on, pair by pair
 pub zip_behind : {A B : Type 0} (n : ℕ) (xs : List A) (ys : List B) → length xs ≡ length ys
@@ -79,15 +79,15 @@ zip_behind (suc n) (x ∷ xs) [] same = absurd (omega (arith, same))
 zip_behind (suc n) (x ∷ xs) (y ∷ ys) same = zip_behind n xs ys (omega (arith, same))
 
 -- as many numbers as units
-pub stand_length : (keys : Trees) (known : Known) (found : List (Option ℕ)) (ids : List ℕ) (outcomes : List Outcome)
-    → AllStandFor keys found (keys_after known (zip ids outcomes)) → length ids ≡ length outcomes → length found ≡ length ids
+pub stand_length : (keys : Trees) (known : Known) (numbers : List (Option ℕ)) (ids : List ℕ) (outcomes : List Outcome)
+    → AllStandFor keys numbers (keys_after known (zip ids outcomes)) → length ids ≡ length outcomes → length numbers ≡ length ids
 stand_length keys known [] [] outcomes all same = refl
 stand_length keys known [] (id ∷ ids) [] all same = absurd (omega (arith, same))
 stand_length keys known [] (id ∷ ids) (outcome ∷ outcomes) all same = absurd all
-stand_length keys known (number ∷ found) [] outcomes all same = absurd all
-stand_length keys known (number ∷ found) (id ∷ ids) [] all same = absurd all
-stand_length keys known (number ∷ found) (id ∷ ids) (outcome ∷ outcomes) all same =
-    ap suc (stand_length keys (known_with known id (key_of_outcome known outcome)) found ids outcomes all.1 (omega (arith, same)))
+stand_length keys known (number ∷ numbers) [] outcomes all same = absurd all
+stand_length keys known (number ∷ numbers) (id ∷ ids) [] all same = absurd all
+stand_length keys known (number ∷ numbers) (id ∷ ids) (outcome ∷ outcomes) all same =
+    ap suc (stand_length keys (known_with known id (key_of_outcome known outcome)) numbers ids outcomes all.1 (omega (arith, same)))
 
 zip_none : (ids : List ℕ) → ◌≡◌ {A = List (ℕ × Outcome)} (zip ids []) []
 zip_none [] = refl

@@ -51,29 +51,29 @@ pub foreign_for : (keys : Trees) (out : List JobOut) (job : JobValue)
 foreign_for keys out job none = All-map (λ other. IsOf job other → ⊥) (seen keys) out none
 
 -- without a job that is out
-pub seen_without : (keys : Trees) (ids : List ℕ) (outcomes : List Outcome) (found : List (Option ℕ)) (places : PlacesValue)
+pub seen_without : (keys : Trees) (ids : List ℕ) (outcomes : List Outcome) (numbers : List (Option ℕ)) (places : PlacesValue)
     (cached : List (ℕ × Picture)) (room : ℕ) (out more : List JobOut) (given at : ℕ) → more ≡ remove out at
-    → viewed keys ids outcomes found places cached room more given
-    ≡ without (viewed keys ids outcomes found places cached room out given) at
-seen_without keys ids outcomes found places cached room out more given at is =
-    ap (λ (jobs : List OutValue). record (viewed keys ids outcomes found places cached room out given) { out = jobs })
+    → viewed keys ids outcomes numbers places cached room more given
+    ≡ without (viewed keys ids outcomes numbers places cached room out given) at
+seen_without keys ids outcomes numbers places cached room out more given at is =
+    ap (λ (jobs : List OutValue). record (viewed keys ids outcomes numbers places cached room out given) { jobs_out = jobs })
     (ap (jobs_for keys) is ∙ map_remove (seen keys) out at)
 
 -- the job at a place is out
-pub out_seen : (keys : Trees) (ids : List ℕ) (outcomes : List Outcome) (found : List (Option ℕ)) (places : PlacesValue)
+pub out_seen : (keys : Trees) (ids : List ℕ) (outcomes : List Outcome) (numbers : List (Option ℕ)) (places : PlacesValue)
     (cached : List (ℕ × Picture)) (room : ℕ) (out : List JobOut) (given at : ℕ) (job : JobValue) (other : JobOut)
     → at < length out → other ≡ slice_index_or out at other
     → ((d : JobOut) → (slice_index_or out at d).number ≡ job.number)
     → ((d : JobOut) → (slice_index_or out at d).input ≡ job.input)
-    → IsOut (viewed keys ids outcomes found places cached room out given) job at (seen keys other)
-out_seen keys ids outcomes found places cached room out given at job other within is number input = record {
+    → IsOut (viewed keys ids outcomes numbers places cached room out given) job at (seen keys other)
+out_seen keys ids outcomes numbers places cached room out given at job other within is number input = record {
   stands = got_at (seen keys) out at other within is;
   is = (ap (λ (j : JobOut). j.number) is ∙ number other, ap (λ (j : JobOut). j.input) is ∙ input other);
 }
 
-module _ (keys : Trees) (ids : List ℕ) (outcomes : List Outcome) (found : List (Option ℕ)) (places : PlacesValue)
-    (cached : List (ℕ × Picture)) (out : List JobOut) (kept : IsKept keys ids outcomes found places cached out) where
-  pub kept_without : (at : ℕ) → IsKept keys ids outcomes found places cached (remove out at)
+module _ (keys : Trees) (ids : List ℕ) (outcomes : List Outcome) (numbers : List (Option ℕ)) (places : PlacesValue)
+    (cached : List (ℕ × Picture)) (out : List JobOut) (kept : IsKept keys ids outcomes numbers places cached out) where
+  pub kept_without : (at : ℕ) → IsKept keys ids outcomes numbers places cached (remove out at)
   kept_without at = record {
     right = kept.right;
     same = kept.same;
@@ -87,11 +87,11 @@ module _ (keys : Trees) (ids : List ℕ) (outcomes : List Outcome) (found : List
   module _ (number : ℕ) (key : Key) (live : tree_at keys number ≡ Some key) where
     place_of_use : Contains (keys_of (zip ids outcomes)) (Some (key_for keys number)) → IsSome (place_at places number)
     place_of_use is =
-        let unit : (n : ℕ) × Contains found (Some n) × (tree_at keys n ≡ Some key) =
-        stand_number keys found (keys_of (zip ids outcomes)) kept.stand key
+        let unit : (n : ℕ) × Contains numbers (Some n) × (tree_at keys n ≡ Some key) =
+        stand_number keys numbers (keys_of (zip ids outcomes)) kept.stand key
         (subst (λ (k : Key). Contains (keys_of (zip ids outcomes)) (Some k)) (key_is keys number key live) is) in
         (kept.used number).1
-        (subst (λ n. Contains found (Some n)) (kept.right.one.trees unit.0 number key unit.2 live) unit.1)
+        (subst (λ n. Contains numbers (Some n)) (kept.right.one.trees unit.0 number key unit.2 live) unit.1)
 
     -- a key without a place isn't in use
     pub unused_for : place_at places number ≡ None
@@ -109,7 +109,7 @@ module _ (keys : Trees) (ids : List ℕ) (outcomes : List Outcome) (found : List
         → Contains (keys_of (zip ids outcomes)) (Some (key_for keys number))
     used_for_place picture is =
         let unit : (k : Key) × (tree_at keys number ≡ Some k) × Contains (keys_of (zip ids outcomes)) (Some k) =
-        stand_live keys found (keys_of (zip ids outcomes)) kept.stand number ((kept.used number).0 (ap is_some is)) in
+        stand_live keys numbers (keys_of (zip ids outcomes)) kept.stand number ((kept.used number).0 (ap is_some is)) in
         subst (λ (k : Key). Contains (keys_of (zip ids outcomes)) (Some k)) (sym (key_is keys number unit.0 unit.1)) unit.2
 
     two_places : (o : Option (Option Picture)) (picture : Picture) → o ≡ Some (Some picture) → o ≡ Some None → ⊥
@@ -166,7 +166,7 @@ module _ (keys : Trees) (ids : List ℕ) (outcomes : List Outcome) (found : List
           ap is_some (subst (λ n. place_at places n ≡ Some None) (eqb-true number other (sym is)) awaited)
       there_before false other is some = some
 
-      used_then : (other : ℕ) → IsSome (place_at more other) ↔ Contains found (Some other)
+      used_then : (other : ℕ) → IsSome (place_at more other) ↔ Contains numbers (Some other)
       used_then other = (
         λ is. (kept.used other).0 (there_before (number == other) other refl (subst IsSome (put other) is)),
         λ is. subst IsSome (sym (put other))
@@ -181,7 +181,7 @@ module _ (keys : Trees) (ids : List ℕ) (outcomes : List Outcome) (found : List
             | inr before ↦ kept.right.held other shown before
           ]
 
-      pub kept_landed : IsKept keys ids outcomes found more cached out
+      pub kept_landed : IsKept keys ids outcomes numbers more cached out
       kept_landed = record {
         right = record { one = kept.right.one; held = right_then };
         same = kept.same;
@@ -224,24 +224,24 @@ module _ (keys : Trees) (ids : List ℕ) (outcomes : List Outcome) (found : List
       )
 
 -- what stands at the place of a unit
-got_keys : (keys : Trees) (found : List (Option ℕ)) (trees : List (Option Key)) → AllStandFor keys found trees
-    → (at : ℕ) (number : Option ℕ) → at < length found → number ≡ slice_index_or found at number
+got_keys : (keys : Trees) (numbers : List (Option ℕ)) (trees : List (Option Key)) → AllStandFor keys numbers trees
+    → (at : ℕ) (number : Option ℕ) → at < length numbers → number ≡ slice_index_or numbers at number
     → (tree : Option Key) × (slice_get trees at ≡ Some tree) × StandsFor keys number tree
 got_keys keys [] [] all at number within is = absurd (omega (arith, within))
 got_keys keys [] (tree ∷ trees) all at number within is = absurd all
-got_keys keys (first ∷ found) [] all at number within is = absurd all
-got_keys keys (first ∷ found) (tree ∷ trees) all zero number within is =
+got_keys keys (first ∷ numbers) [] all at number within is = absurd all
+got_keys keys (first ∷ numbers) (tree ∷ trees) all zero number within is =
     (tree, refl, subst (λ (n : Option ℕ). StandsFor keys n tree) (sym is) all.0)
-got_keys keys (first ∷ found) (tree ∷ trees) all (suc at) number within is =
-    got_keys keys found trees all.1 at number (omega (arith, within)) is
+got_keys keys (first ∷ numbers) (tree ∷ trees) all (suc at) number within is =
+    got_keys keys numbers trees all.1 at number (omega (arith, within)) is
 
 -- there is a number for each key
-pub stand_length : (keys : Trees) (found : List (Option ℕ)) (trees : List (Option Key)) → AllStandFor keys found trees
-    → length found ≡ length trees
+pub stand_length : (keys : Trees) (numbers : List (Option ℕ)) (trees : List (Option Key)) → AllStandFor keys numbers trees
+    → length numbers ≡ length trees
 stand_length keys [] [] all = refl
 stand_length keys [] (tree ∷ trees) all = absurd all
-stand_length keys (first ∷ found) [] all = absurd all
-stand_length keys (first ∷ found) (tree ∷ trees) all = ap suc (stand_length keys found trees all.1)
+stand_length keys (first ∷ numbers) [] all = absurd all
+stand_length keys (first ∷ numbers) (tree ∷ trees) all = ap suc (stand_length keys numbers trees all.1)
 
 -- there is a key, or nothing, for each unit
 length-keys_after : (known : Known) (units : List (ℕ × Outcome)) → length (keys_after known units) ≡ length units
@@ -255,17 +255,17 @@ length-zip_same [] (y ∷ ys) same = refl
 length-zip_same (x ∷ xs) [] same = absurd (omega (arith, same))
 length-zip_same (x ∷ xs) (y ∷ ys) same = ap suc (length-zip_same xs ys (omega (arith, same)))
 
-module _ (keys : Trees) (ids : List ℕ) (outcomes : List Outcome) (found : List (Option ℕ)) (places : PlacesValue)
+module _ (keys : Trees) (ids : List ℕ) (outcomes : List Outcome) (numbers : List (Option ℕ)) (places : PlacesValue)
     (cached : List (ℕ × Picture)) (room : ℕ) (out : List JobOut) (given : ℕ)
-    (kept : IsKept keys ids outcomes found places cached out) where
+    (kept : IsKept keys ids outcomes numbers places cached out) where
   -- each unit has a number, or nothing
-  pub found_length : length found ≡ length ids
+  pub found_length : length numbers ≡ length ids
   found_length =
-      stand_length keys found (keys_of (zip ids outcomes)) kept.stand
+      stand_length keys numbers (keys_of (zip ids outcomes)) kept.stand
       ∙ length-keys_after [] (zip ids outcomes)
       ∙ length-zip_same ids outcomes kept.same
 
-  module _ (at : ℕ) (within : at < length found) where
+  module _ (at : ℕ) (within : at < length numbers) where
     no_key : (tree : Option Key) → slice_get (keys_of (zip ids outcomes)) at ≡ Some tree → tree ≡ None
         → (key : Key) → slice_get (keys_of (zip ids outcomes)) at ≡ Some (Some key) → ⊥
     no_key tree is none key has = cc
@@ -280,24 +280,24 @@ module _ (keys : Trees) (ids : List ℕ) (outcomes : List Outcome) (found : List
     some_key number (Some key) stands = (key, refl, stands)
 
     -- a unit without a key shows no picture
-    pub shows_none : None ≡ slice_index_or found at None
-        → IsPictureAt (viewed keys ids outcomes found places cached room out given) at None
+    pub shows_none : None ≡ slice_index_or numbers at None
+        → IsPictureAt (viewed keys ids outcomes numbers places cached room out given) at None
     shows_none is key has held =
         let got : (tree : Option Key) × (slice_get (keys_of (zip ids outcomes)) at ≡ Some tree) × StandsFor keys None tree =
-        got_keys keys found (keys_of (zip ids outcomes)) kept.stand at None within is in
+        got_keys keys numbers (keys_of (zip ids outcomes)) kept.stand at None within is in
         no_key got.0 got.1 got.2 key has
 
-    module _ (number : ℕ) (is : Some number ≡ slice_index_or found at (Some number)) where
+    module _ (number : ℕ) (is : Some number ≡ slice_index_or numbers at (Some number)) where
       pub keyed : (key : Key) × (slice_get (keys_of (zip ids outcomes)) at ≡ Some (Some key)) × (tree_at keys number ≡ Some key)
       keyed =
           let got : (tree : Option Key) × (slice_get (keys_of (zip ids outcomes)) at ≡ Some tree) × StandsFor keys (Some number) tree =
-          got_keys keys found (keys_of (zip ids outcomes)) kept.stand at (Some number) within is in
+          got_keys keys numbers (keys_of (zip ids outcomes)) kept.stand at (Some number) within is in
           let some : (key : Key) × (got.0 ≡ Some key) × (tree_at keys number ≡ Some key) = some_key number got.0 got.2 in
           (some.0, got.1 ∙ ap Some some.1, some.2)
 
       -- a picture that is held is shown
       pub shows_held : (picture : Picture) → place_at places number ≡ Some (Some picture)
-          → IsPictureAt (viewed keys ids outcomes found places cached room out given) at (Some picture)
+          → IsPictureAt (viewed keys ids outcomes numbers places cached room out given) at (Some picture)
       shows_held picture held =
           let right : IsRight keys number picture = kept.right.held number picture held in
           let same : key_for keys number ≡ keyed.0 = key_is keys number keyed.0 keyed.2 in (
@@ -310,7 +310,7 @@ module _ (keys : Trees) (ids : List ℕ) (outcomes : List Outcome) (found : List
 
       -- else none is
       pub shows_waited : ((picture : Picture) → place_at places number ≡ Some (Some picture) → ⊥)
-          → IsPictureAt (viewed keys ids outcomes found places cached room out given) at None
+          → IsPictureAt (viewed keys ids outcomes numbers places cached room out given) at None
       shows_waited not key has held =
           let same : keyed.0 ≡ key = one_key keyed.0 key keyed.1 has in
           let source : (n : ℕ) × Contains (numbers_held places) n × (key_for keys n ≡ key) =
@@ -331,11 +331,11 @@ module _ (keys : Trees) (ids : List ℕ) (outcomes : List Outcome) (found : List
 
       -- what stands at the key's place is shown
       pub shows_place : (shown : Option Picture) → place_at places number ≡ Some shown
-          → IsPictureAt (viewed keys ids outcomes found places cached room out given) at shown
+          → IsPictureAt (viewed keys ids outcomes numbers places cached room out given) at shown
       shows_place None is = shows_waited (λ picture held. no_inner (place_at places number) picture is held)
       shows_place (Some picture) is = shows_held picture is
 
       -- where the key has no place, none is
       pub shows_unused : place_at places number ≡ None
-          → IsPictureAt (viewed keys ids outcomes found places cached room out given) at None
+          → IsPictureAt (viewed keys ids outcomes numbers places cached room out given) at None
       shows_unused is = shows_waited (λ picture held. no_picture (place_at places number) picture is held)

@@ -16,6 +16,7 @@ pub mod Stays
 pub mod Using
 pub mod Refitted
 pub mod Landed
+pub mod ByNumber
 pub mod Filled
 pub mod Taken
 pub mod Waiting

@@ -52,58 +52,58 @@ there_taken (first ∷ xs) (suc count) x among =
           (suc rest.0, omega (arith, rest.1), rest.2)
     ]
 
-module _ (keys : Trees) (places : PlacesValue) (out : List JobOut) (found : List (Option ℕ)) where
+module _ (keys : Trees) (places : PlacesValue) (out : List JobOut) (numbers : List (Option ℕ)) where
   -- a unit before a place before which none is due isn't
-  pub not_there : (count : ℕ) → AreNotDue keys places out found count → (at number : ℕ) → at < count
-      → slice_get found at ≡ Some (Some number) → IsDueNumber keys places out number → ⊥
+  pub not_there : (count : ℕ) → AreNotDue keys places out numbers count → (at number : ℕ) → at < count
+      → slice_get numbers at ≡ Some (Some number) → IsDueNumber keys places out number → ⊥
   not_there count are at number below is =
-      All-contains (IsNotDue keys places out) (take count found) (Some number) are.1
-      (taken_there found count at (Some number) below is)
+      All-contains (IsNotDue keys places out) (take count numbers) (Some number) are.1
+      (taken_there numbers count at (Some number) below is)
 
   -- where none of so many units is due, none is due before there
-  pub none_before : (count : ℕ) → count ≤ length found
-      → ((at number : ℕ) → at < count → slice_get found at ≡ Some (Some number) → IsDueNumber keys places out number → ⊥)
-      → AreNotDue keys places out found count
-  none_before count within none = (within, All-from_contains (take count found) each)
+  pub none_before : (count : ℕ) → count ≤ length numbers
+      → ((at number : ℕ) → at < count → slice_get numbers at ≡ Some (Some number) → IsDueNumber keys places out number → ⊥)
+      → AreNotDue keys places out numbers count
+  none_before count within none = (within, All-from_contains (take count numbers) each)
     where
-      each : (number : Option ℕ) → Contains (take count found) number → IsNotDue keys places out number
+      each : (number : Option ℕ) → Contains (take count numbers) number → IsNotDue keys places out number
       each None among = search rules
       each (Some number) among =
-          let is = there_taken found count (Some number) among in
+          let is = there_taken numbers count (Some number) among in
           none is.0 number is.1 is.2
 
   -- none is due before the first unit
-  pub none_looked : AreNotDue keys places out found 0
+  pub none_looked : AreNotDue keys places out numbers 0
   none_looked = (omega arith, λ k d within. absurd (omega (arith, within)))
 
   -- nor is one of fewer units
-  pub fewer_looked : (count less : ℕ) → less ≤ count → AreNotDue keys places out found count → AreNotDue keys places out found less
+  pub fewer_looked : (count less : ℕ) → less ≤ count → AreNotDue keys places out numbers count → AreNotDue keys places out numbers less
   fewer_looked count less below are =
       none_before less (omega (arith, below, are.0))
       (λ at number under. not_there count are at number (omega (arith, under, below)))
 
   -- nor one of all units, where none is
-  pub all_looked : (count : ℕ) → count ≡ length found → All (IsNotDue keys places out) found
-      → AreNotDue keys places out found count
+  pub all_looked : (count : ℕ) → count ≡ length numbers → All (IsNotDue keys places out) numbers
+      → AreNotDue keys places out numbers count
   all_looked count is none =
       none_before count (omega (arith, is))
-      (λ at number below there. All-contains (IsNotDue keys places out) found (Some number) none (among at number below there))
+      (λ at number below there. All-contains (IsNotDue keys places out) numbers (Some number) none (among at number below there))
     where
-      among : (at number : ℕ) → at < count → slice_get found at ≡ Some (Some number) → Contains found (Some number)
+      among : (at number : ℕ) → at < count → slice_get numbers at ≡ Some (Some number) → Contains numbers (Some number)
       among at number below there =
-          subst (λ xs. Contains xs (Some number)) (take_all count found (omega (arith, is)))
-          (taken_there found count at (Some number) below there)
+          subst (λ xs. Contains xs (Some number)) (take_all count numbers (omega (arith, is)))
+          (taken_there numbers count at (Some number) below there)
 
   -- nor before the later of two places before which none is
-  pub later_looked : (settled looked from : ℕ) → from ≡ max settled looked → AreSettled places out found settled
-      → AreNotDue keys places out found looked → AreNotDue keys places out found from
+  pub later_looked : (settled looked from : ℕ) → from ≡ max settled looked → AreSettled places out numbers settled
+      → AreNotDue keys places out numbers looked → AreNotDue keys places out numbers from
   later_looked settled looked from is are not =
       none_before from (omega (arith, is, are.0, not.0)) each
     where
-      first : AreNotDue keys places out found settled
-      first = (are.0, none_due_before keys places out found settled are)
+      first : AreNotDue keys places out numbers settled
+      first = (are.0, none_due_before keys places out numbers settled are)
 
-      by_place : (at number : ℕ) → (at < settled) ⊎ (at < looked) → slice_get found at ≡ Some (Some number)
+      by_place : (at number : ℕ) → (at < settled) ⊎ (at < looked) → slice_get numbers at ≡ Some (Some number)
           → IsDueNumber keys places out number → ⊥
       by_place at number (inl below) there = not_there settled first at number below there
       by_place at number (inr below) there = not_there looked not at number below there
@@ -117,30 +117,30 @@ module _ (keys : Trees) (places : PlacesValue) (out : List JobOut) (found : List
         | inr other ↦ inr (omega (arith, other))
       ]
 
-      each : (at number : ℕ) → at < from → slice_get found at ≡ Some (Some number) → IsDueNumber keys places out number → ⊥
+      each : (at number : ℕ) → at < from → slice_get numbers at ≡ Some (Some number) → IsDueNumber keys places out number → ⊥
       each at number below = by_place at number (either at settled looked (omega (arith, below, is)))
 
   -- a key that is due is that of no unit before a place before which none is
-  pub behind_given : (count : ℕ) → AreNotDue keys places out found count → (job : JobOut) → job.from ≡ count
-      → IsDueNumber keys places out job.key → IsBehind found job
+  pub behind_given : (count : ℕ) → AreNotDue keys places out numbers count → (job : JobOut) → job.first_place ≡ count
+      → IsDueNumber keys places out job.key → IsBehind numbers job
   behind_given count are job from due =
       λ at below is. not_there count are at job.key (omega (arith, below, from)) is due
 
   -- so each job is behind its place where one is given
-  pub behind_more : (count : ℕ) → AreNotDue keys places out found count → (job : JobOut) (more : List JobOut)
-      → more ≡ out ++ job ∷ [] → job.from ≡ count → IsDueNumber keys places out job.key → All (IsBehind found) out
-      → All (IsBehind found) more
+  pub behind_more : (count : ℕ) → AreNotDue keys places out numbers count → (job : JobOut) (more : List JobOut)
+      → more ≡ out ++ job ∷ [] → job.first_place ≡ count → IsDueNumber keys places out job.key → All (IsBehind numbers) out
+      → All (IsBehind numbers) more
   behind_more count are job more is from due behind =
-      subst (All (IsBehind found)) (sym is) (All-push (IsBehind found) out job behind (behind_given count are job from due))
+      subst (All (IsBehind numbers)) (sym is) (All-push (IsBehind numbers) out job behind (behind_given count are job from due))
 
 -- nor is one of them due where a job more is out
-pub looked_more : (keys : Trees) (places : PlacesValue) (out : List JobOut) (found : List (Option ℕ)) (job : JobOut)
-    (more : List JobOut) → more ≡ out ++ job ∷ [] → (count : ℕ) → AreNotDue keys places out found count
-    → AreNotDue keys places more found count
-looked_more keys places out found job more is count are =
-    none_before keys places more found count are.0
+pub looked_more : (keys : Trees) (places : PlacesValue) (out : List JobOut) (numbers : List (Option ℕ)) (job : JobOut)
+    (more : List JobOut) → more ≡ out ++ job ∷ [] → (count : ℕ) → AreNotDue keys places out numbers count
+    → AreNotDue keys places more numbers count
+looked_more keys places out numbers job more is count are =
+    none_before keys places more numbers count are.0
     (λ at number below there due.
-    not_there keys places out found count are at number below there (due_given keys places out more stay number due))
+    not_there keys places out numbers count are at number below there (due_given keys places out more stay number due))
   where
     stay : (number : ℕ) → Contains (numbers_out out) number → Contains (numbers_out more) number
     stay number among =
@@ -149,12 +149,12 @@ looked_more keys places out found job more is count are =
         (Contains-append_left (numbers_out out) (numbers_out (job ∷ [])) number among))
 
 -- what isn't due where the keys that are stored stay
-module _ (keys more : Trees) (ids : List ℕ) (outcomes : List Outcome) (found : List (Option ℕ)) (places : PlacesValue)
-    (cached : List (ℕ × Picture)) (out : List JobOut) (kept : IsKept keys ids outcomes found places cached out)
-    (stay : KeepsStored found cached out keys more) where
-  due_stays : (number : ℕ) → Contains found (Some number) → IsDueNumber more places out number → IsDueNumber keys places out number
+module _ (keys more : Trees) (ids : List ℕ) (outcomes : List Outcome) (numbers : List (Option ℕ)) (places : PlacesValue)
+    (cached : List (ℕ × Picture)) (out : List JobOut) (kept : IsKept keys ids outcomes numbers places cached out)
+    (stay : KeepsStored numbers cached out keys more) where
+  due_stays : (number : ℕ) → Contains numbers (Some number) → IsDueNumber more places out number → IsDueNumber keys places out number
   due_stays number among due =
-      let live = stand_live keys found (keys_of (zip ids outcomes)) kept.stand number among in
+      let live = stand_live keys numbers (keys_of (zip ids outcomes)) kept.stand number among in
       let same : due.key ≡ live.0 = same_Some due.key live.0 (sym due.tree ∙ stay number live.0 (inl among) live.1) in
       record {
         awaited = due.awaited;
@@ -162,21 +162,21 @@ module _ (keys more : Trees) (ids : List ℕ) (outcomes : List Outcome) (found :
         key = due.key;
         tree = live.1 ∙ ap (λ (k : Key). Some k) (sym same);
         ready =
-            subst (λ held. IsReady held due.key) (held_stay keys more ids outcomes found places cached out kept stay) due.ready;
+            subst (λ held. IsReady held due.key) (held_stay keys more ids outcomes numbers places cached out kept stay) due.ready;
       }
 
-  pub looked_stays : (count : ℕ) → AreNotDue keys places out found count → AreNotDue more places out found count
+  pub looked_stays : (count : ℕ) → AreNotDue keys places out numbers count → AreNotDue more places out numbers count
   looked_stays count are =
-      none_before more places out found count are.0
-      (λ at number below is due. not_there keys places out found count are at number below is (due_stays number (got_among found at (Some number) is) due))
+      none_before more places out numbers count are.0
+      (λ at number below is due. not_there keys places out numbers count are at number below is (due_stays number (got_among numbers at (Some number) is) due))
 
 -- what isn't due where the slots of keys are the same
 module _ (places grown : PlacesValue) (same : AreSame places grown) where
-  pub looked_same : (keys : Trees) (out : List JobOut) (found : List (Option ℕ)) (count : ℕ) → AreNotDue keys places out found count
-      → AreNotDue keys grown out found count
-  looked_same keys out found count are =
-      none_before keys grown out found count are.0
-      (λ at number below is due. not_there keys places out found count are at number below is (record {
+  pub looked_same : (keys : Trees) (out : List JobOut) (numbers : List (Option ℕ)) (count : ℕ) → AreNotDue keys places out numbers count
+      → AreNotDue keys grown out numbers count
+  looked_same keys out numbers count are =
+      none_before keys grown out numbers count are.0
+      (λ at number below is due. not_there keys places out numbers count are at number below is (record {
         awaited = sym (ap place_of (same.slots number)) ∙ due.awaited;
         free = due.free;
         key = due.key;
@@ -184,43 +184,43 @@ module _ (places grown : PlacesValue) (same : AreSame places grown) where
         ready = subst (λ held. IsReady (keys_for keys held) due.key) same.held due.ready;
       }))
 
-module _ (keys : Trees) (ids : List ℕ) (outcomes : List Outcome) (found : List (Option ℕ)) (places : PlacesValue)
-    (cached : List (ℕ × Picture)) (out : List JobOut) (kept : IsKept keys ids outcomes found places cached out) where
+module _ (keys : Trees) (ids : List ℕ) (outcomes : List Outcome) (numbers : List (Option ℕ)) (places : PlacesValue)
+    (cached : List (ℕ × Picture)) (out : List JobOut) (kept : IsKept keys ids outcomes numbers places cached out) where
   -- where a result lands, units become due that refer to its key; they stand behind its job's place
   module _ (at : ℕ) (within : at < length out) (other : JobOut) (stands : other ≡ slice_index_or out at other) where
     right : IsRight keys other.key (picture_of other.input)
     right =
-        subst (IsJobRight keys) (sym stands) (All-get_or (IsJobRight keys) out at other within kept.jobs)
+        (subst (IsJobRight keys) (sym stands) (All-get_or (IsJobRight keys) out at other within kept.jobs)).0
 
-    behind : All (IsBehind found) out → IsBehind found other
-    behind all = subst (IsBehind found) (sym stands) (All-get_or (IsBehind found) out at other within all)
+    behind : All (IsBehind numbers) out → IsBehind numbers other
+    behind all = subst (IsBehind numbers) (sym stands) (All-get_or (IsBehind numbers) out at other within all)
 
     pub looked_landed : (picture : Picture) (landing : Landing) (more : PlacesValue) (left : List JobOut) (count less : ℕ)
         → left ≡ remove out at → IsFilled places other.key picture landing more → less ≤ count
-        → (landing ≡ Taken → less ≤ other.from) → All (IsBehind found) out
-        → AreNotDue keys places out found count → AreNotDue keys more left found less
+        → (landing ≡ Taken → less ≤ other.first_place) → All (IsBehind numbers) out
+        → AreNotDue keys places out numbers count → AreNotDue keys more left numbers less
     looked_landed picture Foreign more left count less gone filled below front all are = absurd filled
     looked_landed picture Stale more left count less gone filled below front all are =
-        subst (λ jobs. AreNotDue keys more jobs found less) (sym gone)
-        (subst (λ p. AreNotDue keys p (remove out at) found less) (sym filled.1)
-        (none_before keys places (remove out at) found less (omega (arith, below, are.0))
-        (λ place number under is due. not_there keys places out found count are place number (omega (arith, under, below)) is
+        subst (λ jobs. AreNotDue keys more jobs numbers less) (sym gone)
+        (subst (λ p. AreNotDue keys p (remove out at) numbers less) (sym filled.1)
+        (none_before keys places (remove out at) numbers less (omega (arith, below, are.0))
+        (λ place number under is due. not_there keys places out numbers count are place number (omega (arith, under, below)) is
         (due_stale keys places out at other stands filled.0 number due))))
     looked_landed picture Taken more left count less gone filled below front all are =
-        subst (λ jobs. AreNotDue keys more jobs found less) (sym gone)
-        (none_before keys more (remove out at) found less (omega (arith, below, are.0)) none)
+        subst (λ jobs. AreNotDue keys more jobs numbers less) (sym gone)
+        (none_before keys more (remove out at) numbers less (omega (arith, below, are.0)) none)
       where
-        none : (place number : ℕ) → place < less → slice_get found place ≡ Some (Some number)
+        none : (place number : ℕ) → place < less → slice_get numbers place ≡ Some (Some number)
             → IsDueNumber keys more (remove out at) number → ⊥
         none place number under is due =
-            elim (due_or keys ids outcomes found places cached out kept at other stands picture more filled.0 filled.1 right.0
+            elim (due_or keys ids outcomes numbers places cached out kept at other stands picture more filled.0 filled.1 right.0
             right.1 place (number, is, due)) [
               | inl was ↦
-                  not_there keys places out found count are place was.0 (omega (arith, under, below)) was.1 was.2
+                  not_there keys places out numbers count are place was.0 (omega (arith, under, below)) was.1 was.2
               | inr refers ↦
-                  let before = refers_later keys ids outcomes found kept.stand kept.right.one place other.key refers in
+                  let before = refers_later keys ids outcomes numbers kept.stand kept.right.one place other.key refers in
                   behind all before.0 (omega (arith, before.1, under, front refl)) before.2
             ]
 
-    pub behind_left : (left : List JobOut) → left ≡ remove out at → All (IsBehind found) out → All (IsBehind found) left
-    behind_left left gone all = subst (All (IsBehind found)) (sym gone) (all_without (IsBehind found) out at all)
+    pub behind_left : (left : List JobOut) → left ≡ remove out at → All (IsBehind numbers) out → All (IsBehind numbers) left
+    behind_left left gone all = subst (All (IsBehind numbers)) (sym gone) (all_without (IsBehind numbers) out at all)

@@ -34,12 +34,12 @@ module _ {X : Type 0} where
   )
 
 -- the keys of units, where the next one is added
-pub added_more : (old new : List ℕ) (found : List (Option ℕ)) (i key : ℕ) (item : Option ℕ) → i < length found
-    → item ≡ get_or found i item → item ≡ Some key → new ≡ old ++ key ∷ []
-    → ((number : ℕ) → Contains (take i found) (Some number) → Contains old number)
-    → (number : ℕ) → Contains (take (i + 1) found) (Some number) → Contains new number
-added_more old new found i key item within is some pushed before number there =
-    elim (in_more found i item (Some number) within there) [
+pub added_more : (old new : List ℕ) (numbers : List (Option ℕ)) (i key : ℕ) (item : Option ℕ) → i < length numbers
+    → item ≡ get_or numbers i item → item ≡ Some key → new ≡ old ++ key ∷ []
+    → ((number : ℕ) → Contains (take i numbers) (Some number) → Contains old number)
+    → (number : ℕ) → Contains (take (i + 1) numbers) (Some number) → Contains new number
+added_more old new numbers i key item within is some pushed before number there =
+    elim (in_more numbers i item (Some number) within there) [
       | inl earlier ↦ subst (λ xs. Contains xs number) (sym pushed) (Contains-append_left old (key ∷ []) number (before number earlier))
       | inr here ↦
           let e : key ≡ number = cc in
@@ -47,12 +47,12 @@ added_more old new found i key item within is some pushed before number there =
     ]
 
 -- the keys of units, where the next one has none
-pub added_none : (old : List ℕ) (found : List (Option ℕ)) (i : ℕ) (item : Option ℕ) → i < length found
-    → item ≡ get_or found i item → item ≡ None
-    → ((number : ℕ) → Contains (take i found) (Some number) → Contains old number)
-    → (number : ℕ) → Contains (take (i + 1) found) (Some number) → Contains old number
-added_none old found i item within is none before number there =
-    elim (in_more found i item (Some number) within there) [
+pub added_none : (old : List ℕ) (numbers : List (Option ℕ)) (i : ℕ) (item : Option ℕ) → i < length numbers
+    → item ≡ get_or numbers i item → item ≡ None
+    → ((number : ℕ) → Contains (take i numbers) (Some number) → Contains old number)
+    → (number : ℕ) → Contains (take (i + 1) numbers) (Some number) → Contains old number
+added_none old numbers i item within is none before number there =
+    elim (in_more numbers i item (Some number) within there) [
       | inl earlier ↦ before number earlier
       | inr here ↦ cc
     ]

@@ -44,10 +44,10 @@ pub jobs_lowered : (keys : Trees) (from : ℕ) (out : List JobOut) → jobs_for 
 jobs_lowered keys from out = map_lowered (seen keys) from (λ job. refl) out
 
 -- what is kept
-pub kept_lowered : (keys : Trees) (ids : List ℕ) (outcomes : List Outcome) (found : List (Option ℕ)) (places : PlacesValue)
+pub kept_lowered : (keys : Trees) (ids : List ℕ) (outcomes : List Outcome) (numbers : List (Option ℕ)) (places : PlacesValue)
     (cached : List (ℕ × Picture)) (out more : List JobOut) (from : ℕ) → more ≡ map (lowered from) out
-    → IsKept keys ids outcomes found places cached out → IsKept keys ids outcomes found places cached more
-kept_lowered keys ids outcomes found places cached out more from is kept = record {
+    → IsKept keys ids outcomes numbers places cached out → IsKept keys ids outcomes numbers places cached more
+kept_lowered keys ids outcomes numbers places cached out more from is kept = record {
   right = kept.right;
   same = kept.same;
   stand = kept.stand;
@@ -61,13 +61,13 @@ kept_lowered keys ids outcomes found places cached out more from is kept = recor
 }
 
 -- what needs no job
-pub settled_lowered : (places : PlacesValue) (out more : List JobOut) (from : ℕ) (found : List (Option ℕ)) (count : ℕ)
-    → more ≡ map (lowered from) out → AreSettled places out found count → AreSettled places more found count
-settled_lowered places out more from found count is are =
-    subst (λ jobs. AreSettled places jobs found count) (sym is)
-    (settled_stay places places out (map (lowered from) out) found count stays are)
+pub settled_lowered : (places : PlacesValue) (out more : List JobOut) (from : ℕ) (numbers : List (Option ℕ)) (count : ℕ)
+    → more ≡ map (lowered from) out → AreSettled places out numbers count → AreSettled places more numbers count
+settled_lowered places out more from numbers count is are =
+    subst (λ jobs. AreSettled places jobs numbers count) (sym is)
+    (settled_stay places places out (map (lowered from) out) numbers count stays are)
   where
-    stays : (number : Option ℕ) → Contains found number → NeedsNone places out number
+    stays : (number : Option ℕ) → Contains numbers number → NeedsNone places out number
         → NeedsNone places (map (lowered from) out) number
     stays None among needs = needs
     stays (Some number) among needs = elim needs [
@@ -76,12 +76,12 @@ settled_lowered places out more from found count is are =
     ]
 
 -- what isn't due
-pub looked_lowered : (keys : Trees) (places : PlacesValue) (out more : List JobOut) (from : ℕ) (found : List (Option ℕ)) (count : ℕ)
-    → more ≡ map (lowered from) out → AreNotDue keys places out found count → AreNotDue keys places more found count
-looked_lowered keys places out more from found count is are =
-    subst (λ jobs. AreNotDue keys places jobs found count) (sym is)
-    (none_before keys places (map (lowered from) out) found count are.0
-    (λ at number below there due. not_there keys places out found count are at number below there (record {
+pub looked_lowered : (keys : Trees) (places : PlacesValue) (out more : List JobOut) (from : ℕ) (numbers : List (Option ℕ)) (count : ℕ)
+    → more ≡ map (lowered from) out → AreNotDue keys places out numbers count → AreNotDue keys places more numbers count
+looked_lowered keys places out more from numbers count is are =
+    subst (λ jobs. AreNotDue keys places jobs numbers count) (sym is)
+    (none_before keys places (map (lowered from) out) numbers count are.0
+    (λ at number below there due. not_there keys places out numbers count are at number below there (record {
       awaited = due.awaited;
       free = λ among. due.free (subst (λ numbers. Contains numbers number) (sym (numbers_lowered from out)) among);
       key = due.key;
@@ -99,16 +99,16 @@ got_front (suc at) (suc from) (first ∷ xs) ys x below within is =
     got_front at from xs ys x (omega (arith, below)) (omega (arith, within)) is
 
 -- no unit before a job's place has its key
-pub behind_lowered : (found later : List (Option ℕ)) (out more : List JobOut) (from : ℕ) → from ≤ length found
-    → more ≡ map (lowered from) out → All (IsBehind found) out → All (IsBehind (take from found ++ later)) more
-behind_lowered found later out more from within is behind =
-    subst (All (IsBehind (take from found ++ later))) (sym is)
-    (All-map (IsBehind (take from found ++ later)) (lowered from) out (All-from_contains out each))
+pub behind_lowered : (numbers later : List (Option ℕ)) (out more : List JobOut) (from : ℕ) → from ≤ length numbers
+    → more ≡ map (lowered from) out → All (IsBehind numbers) out → All (IsBehind (take from numbers ++ later)) more
+behind_lowered numbers later out more from within is behind =
+    subst (All (IsBehind (take from numbers ++ later))) (sym is)
+    (All-map (IsBehind (take from numbers ++ later)) (lowered from) out (All-from_contains out each))
   where
-    each : (job : JobOut) → Contains out job → IsBehind (take from found ++ later) (lowered from job)
+    each : (job : JobOut) → Contains out job → IsBehind (take from numbers ++ later) (lowered from job)
     each job among = λ at below there.
-        All-contains (IsBehind found) out job behind among at (omega (arith, below))
-        (got_front at from found later (Some job.key) (omega (arith, below)) within there)
+        All-contains (IsBehind numbers) out job behind among at (omega (arith, below))
+        (got_front at from numbers later (Some job.key) (omega (arith, below)) within there)
 
 -- where a place waits for a picture, it waited before
 awaited_before : (place : Option (Option Picture)) (other : Option Picture) → held_or place other ≡ None → IsSome place
@@ -133,17 +133,17 @@ inner place shown none some = cc
 unplaced : (place : Option (Option Picture)) → place ≡ None → place ≡ Some None → ⊥
 unplaced place none some = cc
 
-module _ (keys : Trees) (ids : List ℕ) (outcomes : List Outcome) (found : List (Option ℕ)) (places : PlacesValue)
-    (cached : List (ℕ × Picture)) (out : List JobOut) (kept : IsKept keys ids outcomes found places cached out)
+module _ (keys : Trees) (ids : List ℕ) (outcomes : List Outcome) (numbers : List (Option ℕ)) (places : PlacesValue)
+    (cached : List (ℕ × Picture)) (out : List JobOut) (kept : IsKept keys ids outcomes numbers places cached out)
     (apart : (number : ℕ) → 0 < uses_at places number → Contains (numbers_of cached) number → ⊥)
     (more_ids : List ℕ) (more_outcomes : List Outcome) (more_found : List (Option ℕ)) (more_places : PlacesValue)
     (stand : AllStandFor keys more_found (keys_of (zip more_ids more_outcomes)))
     (placed : ArePlaced more_found places cached more_places) (right : AreRight keys more_places) where
   -- a key in use whose picture is held now was held
-  held_still : (number : ℕ) → Contains found (Some number) → (picture : Picture) → place_at more_places number ≡ Some (Some picture)
+  held_still : (number : ℕ) → Contains numbers (Some number) → (picture : Picture) → place_at more_places number ≡ Some (Some picture)
       → place_at places number ≡ Some (Some picture)
   held_still number used picture is =
-      elim (held_before keys ids outcomes found places cached out kept more_ids more_outcomes more_found more_places stand placed
+      elim (held_before keys ids outcomes numbers places cached out kept more_ids more_outcomes more_found more_places stand placed
       number picture is) [
         | inl held ↦ held
         | inr stored ↦
@@ -152,13 +152,13 @@ module _ (keys : Trees) (ids : List ℕ) (outcomes : List Outcome) (found : List
       ]
 
   -- a unit that is due now was due
-  due_still : (at number : ℕ) → slice_get found at ≡ Some (Some number) → IsDueNumber keys more_places out number
+  due_still : (at number : ℕ) → slice_get numbers at ≡ Some (Some number) → IsDueNumber keys more_places out number
       → IsDueNumber keys places out number
   due_still at number is due = record {
     awaited = elim (placed number) [
       | inl used ↦
           awaited_before (place_at places number) _ (inner (place_at more_places number) (carried places cached number) due.awaited used.1)
-          ((kept.used number).1 (got_among found at (Some number) is))
+          ((kept.used number).1 (got_among numbers at (Some number) is))
       | inr unused ↦ absurd (unplaced (place_at more_places number) unused.1 due.awaited)
     ];
     free = due.free;
@@ -170,17 +170,17 @@ module _ (keys : Trees) (ids : List ℕ) (outcomes : List Outcome) (found : List
       each : (first : Key) → IsEntryOf first due.key → Contains (keys_for keys (numbers_held more_places)) first
           → Contains (keys_for keys (numbers_held places)) first
       each first among held_now =
-          let before = entry_before keys ids outcomes found kept.stand at number due.key first is due.tree among in
+          let before = entry_before keys ids outcomes numbers kept.stand at number due.key first is due.tree among in
           let held = key_held keys more_places right before.2 first before.4 held_now in
           held_key keys places kept.right before.2 first before.4
-          (held.0, held_still before.2 (got_among found before.0 (Some before.2) before.3) held.0 held.1)
+          (held.0, held_still before.2 (got_among numbers before.0 (Some before.2) before.3) held.0 held.1)
 
   -- of the units in front of a place none is due then
-  pub looked_front : (later : List (Option ℕ)) (count from less : ℕ) → less ≤ count → less ≤ from → from ≤ length found
-      → AreNotDue keys places out found count → AreNotDue keys more_places out (take from found ++ later) less
+  pub looked_front : (later : List (Option ℕ)) (count from less : ℕ) → less ≤ count → less ≤ from → from ≤ length numbers
+      → AreNotDue keys places out numbers count → AreNotDue keys more_places out (take from numbers ++ later) less
   looked_front later count from less in_count in_front within are =
-      none_before keys more_places out (take from found ++ later) less
-      (omega (arith, in_front, within, length-append (take from found) later, length-take-le from found within))
+      none_before keys more_places out (take from numbers ++ later) less
+      (omega (arith, in_front, within, length-append (take from numbers) later, length-take-le from numbers within))
       (λ at number below there due.
-      let is = got_front at from found later (Some number) (omega (arith, below, in_front)) within there in
-      not_there keys places out found count are at number (omega (arith, below, in_count)) is (due_still at number is due))
+      let is = got_front at from numbers later (Some number) (omega (arith, below, in_front)) within there in
+      not_there keys places out numbers count are at number (omega (arith, below, in_count)) is (due_still at number is due))

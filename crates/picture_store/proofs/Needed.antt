@@ -43,14 +43,14 @@ module _ (keys : Trees) (before after : Numbers) (known other : Known) (first : 
       (subst (λ number. StandsFor keys number (key_at known frame.id)) same (first frame.id)) (second frame.id))
       (frames_alike frames rest)
 
-module _ (keys : Trees) (ids : List ℕ) (outcomes : List Outcome) (found : List (Option ℕ)) (same : length ids ≡ length outcomes)
-    (stand : AllStandFor keys found (keys_of (zip ids outcomes))) (states : List (ℕ × FoldState))
+module _ (keys : Trees) (ids : List ℕ) (outcomes : List Outcome) (numbers : List (Option ℕ)) (same : length ids ≡ length outcomes)
+    (stand : AllStandFor keys numbers (keys_of (zip ids outcomes))) (states : List (ℕ × FoldState))
     (told : TellNeeds states ids outcomes) (past : ℕ) where
-  pub numbered_front : AreNumbered keys (numbers_over [] (take past ids) (take past found))
+  pub numbered_front : AreNumbered keys (numbers_over [] (take past ids) (take past numbers))
       (known_after [] (zip (take past ids) (take past outcomes)))
   numbered_front =
-      numbered_over keys [] [] (take past ids) (take past found) (take past outcomes) (λ id. refl)
-      (stand_front keys [] past found ids outcomes stand) (taken past ids outcomes same)
+      numbered_over keys [] [] (take past ids) (take past numbers) (take past outcomes) (λ id. refl)
+      (stand_front keys [] past numbers ids outcomes stand) (taken past ids outcomes same)
     where
       taken : {A B : Type 0} (n : ℕ) (xs : List A) (ys : List B) → length xs ≡ length ys → length (take n xs) ≡ length (take n ys)
       taken zero xs ys same = refl
@@ -60,44 +60,44 @@ module _ (keys : Trees) (ids : List ℕ) (outcomes : List Outcome) (found : List
       taken (suc n) (x ∷ xs) (y ∷ ys) same = ap suc (taken n xs ys (omega (arith, same)))
 
   module _ (after : Numbers) (known : Known) (numbered : AreNumbered keys after known) where
-    agreed : AgreeAt states past (numbers_over [] (take past ids) (take past found)) after
-        → AllStandFor keys (drop past found) (keys_after known (zip (drop past ids) (drop past outcomes)))
+    agreed : AgreeAt states past (numbers_over [] (take past ids) (take past numbers)) after
+        → AllStandFor keys (drop past numbers) (keys_after known (zip (drop past ids) (drop past outcomes)))
     agreed agree =
         let was : Known = known_after [] (zip (take past ids) (take past outcomes)) in
         let needs : DependOn (marked_ids agree.0) (zip (drop past ids) (drop past outcomes)) =
         subst (DependOn (marked_ids agree.0)) (zip_behind past ids outcomes same) (told past agree.0 agree.1) in
-        subst (AllStandFor keys (drop past found))
+        subst (AllStandFor keys (drop past numbers))
         (needs was known
-        (frames_alike keys (numbers_over [] (take past ids) (take past found)) after was known numbered_front numbered
+        (frames_alike keys (numbers_over [] (take past ids) (take past numbers)) after was known numbered_front numbered
         agree.0.marks.frames agree.2))
-        (stand_behind keys [] past found ids outcomes stand same)
+        (stand_behind keys [] past numbers ids outcomes stand same)
 
     ended : past ≡ length ids
-        → AllStandFor keys (drop past found) (keys_after known (zip (drop past ids) (drop past outcomes)))
+        → AllStandFor keys (drop past numbers) (keys_after known (zip (drop past ids) (drop past outcomes)))
     ended end =
-        let long : length found ≡ length ids = stand_length keys [] found ids outcomes stand same in
-        let no_found : drop past found ≡ [] = drop_all past found (omega (arith, end, long)) in
+        let long : length numbers ≡ length ids = stand_length keys [] numbers ids outcomes stand same in
+        let no_found : drop past numbers ≡ [] = drop_all past numbers (omega (arith, end, long)) in
         let no_ids : drop past ids ≡ [] = drop_all past ids (omega (arith, end)) in
         rw (no_found, no_ids) tt
 
     -- the numbers of the units from there on stand for their keys
-    pub behind_stand : (past ≡ length ids) ⊎ AgreeAt states past (numbers_over [] (take past ids) (take past found)) after
-        → AllStandFor keys (drop past found) (keys_after known (zip (drop past ids) (drop past outcomes)))
+    pub behind_stand : (past ≡ length ids) ⊎ AgreeAt states past (numbers_over [] (take past ids) (take past numbers)) after
+        → AllStandFor keys (drop past numbers) (keys_after known (zip (drop past ids) (drop past outcomes)))
     behind_stand (inl end) = ended end
     behind_stand (inr agree) = agreed agree
 
   -- and so those of all from a changed stretch on
   pub anew_stand : (known : Known) (units : List (ℕ × Outcome)) (to : ℕ) (after : UnitNumbers) → to ≤ past
       → Follow keys known (units ++ between to past ids outcomes) after
-      → (past ≡ length ids) ⊎ AgreeAt states past (numbers_over [] (take past ids) (take past found)) after.numbers
-      → AllStandFor keys (after.found ++ drop past found) (keys_after known (units ++ zip (drop to ids) (drop to outcomes)))
+      → (past ≡ length ids) ⊎ AgreeAt states past (numbers_over [] (take past ids) (take past numbers)) after.numbers
+      → AllStandFor keys (after.found ++ drop past numbers) (keys_after known (units ++ zip (drop to ids) (drop to outcomes)))
   anew_stand known units to after below follow agree =
       let front : List (ℕ × Outcome) = units ++ between to past ids outcomes in
       let rest : List (ℕ × Outcome) = zip (drop past ids) (drop past outcomes) in
       let parts : front ++ rest ≡ units ++ zip (drop to ids) (drop to outcomes) =
       append_assoc units (between to past ids outcomes) rest
       ∙ ap (λ more. units ++ more) (sym (between_rest to past ids outcomes below same)) in
-      subst (λ all. AllStandFor keys (after.found ++ drop past found) (keys_after known all)) parts
-      (subst (AllStandFor keys (after.found ++ drop past found)) (sym (keys_append known front rest))
-      (stand_append keys after.found (drop past found) (keys_after known front) (keys_after (known_after known front) rest)
+      subst (λ all. AllStandFor keys (after.found ++ drop past numbers) (keys_after known all)) parts
+      (subst (AllStandFor keys (after.found ++ drop past numbers)) (sym (keys_append known front rest))
+      (stand_append keys after.found (drop past numbers) (keys_after known front) (keys_after (known_after known front) rest)
       follow.stand (behind_stand after.numbers (known_after known front) follow.numbered agree)))

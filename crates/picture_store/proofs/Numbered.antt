@@ -16,15 +16,15 @@ one_value : {X : Type 0} (o : Option X) (a b : X) → o ≡ Some a → o ≡ Som
 one_value o a b first second = cc
 
 -- what stands for what at a place
-pub stands_at : (keys : Trees) (found : List (Option ℕ)) (trees : List (Option Key)) → AllStandFor keys found trees
-    → (at : ℕ) (number : Option ℕ) → slice_get found at ≡ Some number
+pub stands_at : (keys : Trees) (numbers : List (Option ℕ)) (trees : List (Option Key)) → AllStandFor keys numbers trees
+    → (at : ℕ) (number : Option ℕ) → slice_get numbers at ≡ Some number
     → (tree : Option Key) × (slice_get trees at ≡ Some tree) × StandsFor keys number tree
 stands_at keys [] trees all at number is = absurd (nothing_there at number is)
-stands_at keys (first ∷ found) [] all at number is = absurd all
-stands_at keys (first ∷ found) (tree ∷ trees) all zero number is =
+stands_at keys (first ∷ numbers) [] all at number is = absurd all
+stands_at keys (first ∷ numbers) (tree ∷ trees) all zero number is =
     let same : first ≡ number = cc in
     (tree, refl, subst (λ (n : Option ℕ). StandsFor keys n tree) same all.0)
-stands_at keys (first ∷ found) (tree ∷ trees) all (suc at) number is = stands_at keys found trees all.1 at number is
+stands_at keys (first ∷ numbers) (tree ∷ trees) all (suc at) number is = stands_at keys numbers trees all.1 at number is
 
 stands_some : (keys : Trees) (number : ℕ) (tree : Option Key) (key : Key) → StandsFor keys (Some number) tree → tree ≡ Some key
     → tree_at keys number ≡ Some key
@@ -32,25 +32,25 @@ stands_some keys number None key stands is = absurd stands
 stands_some keys number (Some other) key stands is = stands ∙ is
 
 -- the number of a key is that under which its tree is kept
-pub number_kept : (keys : Trees) (found : List (Option ℕ)) (trees : List (Option Key)) → AllStandFor keys found trees
-    → (at number : ℕ) (key : Key) → slice_get trees at ≡ Some (Some key) → slice_get found at ≡ Some (Some number)
+pub number_kept : (keys : Trees) (numbers : List (Option ℕ)) (trees : List (Option Key)) → AllStandFor keys numbers trees
+    → (at number : ℕ) (key : Key) → slice_get trees at ≡ Some (Some key) → slice_get numbers at ≡ Some (Some number)
     → tree_at keys number ≡ Some key
-number_kept keys found trees all at number key tree_is number_is =
+number_kept keys numbers trees all at number key tree_is number_is =
     let stands : (tree : Option Key) × (slice_get trees at ≡ Some tree) × StandsFor keys (Some number) tree =
-    stands_at keys found trees all at (Some number) number_is in
+    stands_at keys numbers trees all at (Some number) number_is in
     stands_some keys number stands.0 key stands.2
     (one_value (slice_get trees at) stands.0 (Some key) stands.1 tree_is)
 
 -- numbers that stand for keys of one map are equal exactly where the keys are
-pub one_to_one : (keys : Trees) → IsKeyMap keys → (found : List (Option ℕ)) (trees : List (Option Key))
+pub one_to_one : (keys : Trees) → IsKeyMap keys → (numbers : List (Option ℕ)) (trees : List (Option Key))
     (more_found : List (Option ℕ)) (more_trees : List (Option Key))
-    → AllStandFor keys found trees → AllStandFor keys more_found more_trees
+    → AllStandFor keys numbers trees → AllStandFor keys more_found more_trees
     → (key other : Key) (number another : ℕ)
-    → ((at : ℕ) × (slice_get trees at ≡ Some (Some key)) × (slice_get found at ≡ Some (Some number)))
+    → ((at : ℕ) × (slice_get trees at ≡ Some (Some key)) × (slice_get numbers at ≡ Some (Some number)))
     → ((at : ℕ) × (slice_get more_trees at ≡ Some (Some other)) × (slice_get more_found at ≡ Some (Some another)))
     → (number ≡ another) ↔ (key ≡ other)
-one_to_one keys one found trees more_found more_trees all more_all key other number another first second =
-    let here : tree_at keys number ≡ Some key = number_kept keys found trees all first.0 number key first.1 first.2 in
+one_to_one keys one numbers trees more_found more_trees all more_all key other number another first second =
+    let here : tree_at keys number ≡ Some key = number_kept keys numbers trees all first.0 number key first.1 first.2 in
     let there : tree_at keys another ≡ Some other =
     number_kept keys more_found more_trees more_all second.0 another other second.1 second.2 in (
       λ same. one_value (tree_at keys number) key other here (ap (tree_at keys) same ∙ there),
@@ -95,16 +95,16 @@ number_of_some keys None tree key stands is = absurd (cc)
 number_of_some keys (Some n) tree key stands is = (n, refl)
 
 -- a unit that has a key has a number
-key_numbered : (keys : Trees) (found : List (Option ℕ)) (trees : List (Option Key)) → AllStandFor keys found trees
-    → (at : ℕ) (key : Key) → slice_get trees at ≡ Some (Some key) → (n : ℕ) × (slice_get found at ≡ Some (Some n))
+key_numbered : (keys : Trees) (numbers : List (Option ℕ)) (trees : List (Option Key)) → AllStandFor keys numbers trees
+    → (at : ℕ) (key : Key) → slice_get trees at ≡ Some (Some key) → (n : ℕ) × (slice_get numbers at ≡ Some (Some n))
 key_numbered keys [] [] all at key is = absurd (nothing_there at (Some key) is)
 key_numbered keys [] (tree ∷ trees) all at key is = absurd all
-key_numbered keys (first ∷ found) [] all at key is = absurd all
-key_numbered keys (first ∷ found) (tree ∷ trees) all zero key is =
+key_numbered keys (first ∷ numbers) [] all at key is = absurd all
+key_numbered keys (first ∷ numbers) (tree ∷ trees) all zero key is =
     let same : tree ≡ Some key = cc in
     let some : (n : ℕ) × (first ≡ Some n) = number_of_some keys first tree key all.0 same in
     (some.0, ap (λ (number : Option ℕ). Some number) some.1)
-key_numbered keys (first ∷ found) (tree ∷ trees) all (suc at) key is = key_numbered keys found trees all.1 at key is
+key_numbered keys (first ∷ numbers) (tree ∷ trees) all (suc at) key is = key_numbered keys numbers trees all.1 at key is
 
 -- so each key in use has one
 pub all_numbered : (keys : Trees) (store : StoreValue) → AllStandFor keys store.numbers (unit_keys store) → AreNumbered store

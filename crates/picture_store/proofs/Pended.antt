@@ -64,65 +64,65 @@ held_or_not places number = by_place (place_at places number) refl
     by_place (Some None) is = inr (λ held. apart_empty held.0 (sym is ∙ held.1))
     by_place (Some (Some picture)) is = inl (picture, is)
 
-module _ (keys : Trees) (ids : List ℕ) (outcomes : List Outcome) (found : List (Option ℕ)) (places : PlacesValue)
+module _ (keys : Trees) (ids : List ℕ) (outcomes : List Outcome) (numbers : List (Option ℕ)) (places : PlacesValue)
     (cached : List (ℕ × Picture)) (room : ℕ) (out : List JobOut) (given : ℕ)
-    (kept : IsKept keys ids outcomes found places cached out) where
+    (kept : IsKept keys ids outcomes numbers places cached out) where
   -- the store as contracts see it
   abbrev store : StoreValue
-  store = viewed keys ids outcomes found places cached room out given
+  store = viewed keys ids outcomes numbers places cached room out given
 
   -- the number of a unit's key
   pub number_at_place : (at : ℕ) (key : Key) → HasKey store at key
-      → (n : ℕ) × (slice_get found at ≡ Some (Some n)) × (tree_at keys n ≡ Some key)
+      → (n : ℕ) × (slice_get numbers at ≡ Some (Some n)) × (tree_at keys n ≡ Some key)
   number_at_place at key has =
-      let number = number_there keys found (keys_of (zip ids outcomes)) kept.stand at (Some key) has in
+      let number = number_there keys numbers (keys_of (zip ids outcomes)) kept.stand at (Some key) has in
       let is = number_of_key keys number.0 key
-      (stands_at keys found (keys_of (zip ids outcomes)) kept.stand at number.0 (Some key) number.1 has) in
+      (stands_at keys numbers (keys_of (zip ids outcomes)) kept.stand at number.0 (Some key) number.1 has) in
       (is.0, number.1 ∙ ap Some is.1, is.2)
 
   -- the key of a unit's number
-  pub key_at_place : (at n : ℕ) → slice_get found at ≡ Some (Some n) → (key : Key) × HasKey store at key × (tree_at keys n ≡ Some key)
+  pub key_at_place : (at n : ℕ) → slice_get numbers at ≡ Some (Some n) → (key : Key) × HasKey store at key × (tree_at keys n ≡ Some key)
   key_at_place at n is =
-      let tree = tree_there keys found (keys_of (zip ids outcomes)) kept.stand at (Some n) is in
+      let tree = tree_there keys numbers (keys_of (zip ids outcomes)) kept.stand at (Some n) is in
       let key = key_of_number keys n tree.0
-      (stands_at keys found (keys_of (zip ids outcomes)) kept.stand at (Some n) tree.0 is tree.1) in
+      (stands_at keys numbers (keys_of (zip ids outcomes)) kept.stand at (Some n) tree.0 is tree.1) in
       (key.0, tree.1 ∙ ap Some key.1, key.2)
 
   -- a unit that waits is pending, and the other way round
-  pub pending_of : (at : ℕ) → IsWaiting found places at → IsPending store at
+  pub pending_of : (at : ℕ) → IsWaiting numbers places at → IsPending store at
   pending_of at (n, is, not) =
       let key = key_at_place at n is in
       (key.0, key.1, λ held. not (key_held keys places kept.right n key.0 key.2 held))
 
-  pub waiting_of : (at : ℕ) → IsPending store at → IsWaiting found places at
+  pub waiting_of : (at : ℕ) → IsPending store at → IsWaiting numbers places at
   waiting_of at (key, has, not) =
       let number = number_at_place at key has in
       (number.0, number.1, λ held. not (held_key keys places kept.right number.0 key number.2 held))
 
   -- so are the needed units one by one
-  pub needed_of : (target at : ℕ) → IsNeeded (zip ids outcomes) (IsWaiting found places) target at → IsNeededBy store target at
+  pub needed_of : (target at : ℕ) → IsNeeded (zip ids outcomes) (IsWaiting numbers places) target at → IsNeededBy store target at
   needed_of target at needed =
-      needed_more (zip ids outcomes) (IsWaiting found places) (IsPending store) target pending_of at needed
+      needed_more (zip ids outcomes) (IsWaiting numbers places) (IsPending store) target pending_of at needed
 
-  pub needed_from : (target at : ℕ) → IsNeededBy store target at → IsNeeded (zip ids outcomes) (IsWaiting found places) target at
+  pub needed_from : (target at : ℕ) → IsNeededBy store target at → IsNeeded (zip ids outcomes) (IsWaiting numbers places) target at
   needed_from target at needed =
-      needed_more (zip ids outcomes) (IsPending store) (IsWaiting found places) target waiting_of at needed
+      needed_more (zip ids outcomes) (IsPending store) (IsWaiting numbers places) target waiting_of at needed
 
   -- a unit whose number is due is due, and the other way round
-  pub due_of : (at : ℕ) → IsDueThere keys places out found at → IsDueAt store at
+  pub due_of : (at : ℕ) → IsDueThere keys places out numbers at → IsDueAt store at
   due_of at (n, is, due) =
       let key = key_at_place at n is in
-      (key.0, key.1, due_for keys ids outcomes found places cached room out given kept n key.0 key.2 (got_among found at (Some n) is) due)
+      (key.0, key.1, due_for keys ids outcomes numbers places cached room out given kept n key.0 key.2 (got_among numbers at (Some n) is) due)
 
-  pub due_there : (at : ℕ) → IsDueAt store at → IsDueThere keys places out found at
+  pub due_there : (at : ℕ) → IsDueAt store at → IsDueThere keys places out numbers at
   due_there at (key, has, due) =
       let number = number_at_place at key has in
-      let from = due_from keys ids outcomes found places cached room out given kept key due in
+      let from = due_from keys ids outcomes numbers places cached room out given kept key due in
       let same : from.0 ≡ number.0 = kept.right.one.trees from.0 number.0 key from.2 number.2 in
       (number.0, number.1, subst (IsDueNumber keys places out) same from.3)
 
   -- the number of a unit that is due is
-  pub due_number : (at number : ℕ) → slice_get found at ≡ Some (Some number) → IsDueAt store at
+  pub due_number : (at number : ℕ) → slice_get numbers at ≡ Some (Some number) → IsDueAt store at
       → IsDueNumber keys places out number
   due_number at number is due =
       let there = due_there at due in
@@ -143,7 +143,7 @@ module _ (keys : Trees) (ids : List ℕ) (outcomes : List Outcome) (found : List
       decide : (key : Key) → Contains (keys_of (zip ids outcomes)) (Some key) → (Contains store.held key → IsAnyOutBy store target)
           → ((Contains store.held key → ⊥) → IsAnyOutBy store target) → IsAnyOutBy store target
       decide key used if_held if_not =
-          let number = stand_number keys found (keys_of (zip ids outcomes)) kept.stand key used in
+          let number = stand_number keys numbers (keys_of (zip ids outcomes)) kept.stand key used in
           by_held key number.0 number.2 if_held if_not (held_or_not places number.0)
 
       by_out : (at : ℕ) (key : Key) → IsNeededBy store target at → HasKey store at key
@@ -156,7 +156,7 @@ module _ (keys : Trees) (ids : List ℕ) (outcomes : List Outcome) (found : List
           key,
           has,
           subst (Contains (map (λ (job : OutValue). job.key) (jobs_for keys out))) (key_is keys n key tree)
-              (out_seen_key keys ids outcomes found places cached room out given kept n among),
+              (out_seen_key keys ids outcomes numbers places cached room out given kept n among),
         ),
       )
       by_out at key needed has not is_ready n tree (inr free) =
@@ -166,7 +166,7 @@ module _ (keys : Trees) (ids : List ℕ) (outcomes : List Outcome) (found : List
             record {
               in_use = got_among (keys_of (zip ids outcomes)) at (Some key) has;
               awaited = not;
-              free = λ is. free (seen_out_key keys ids outcomes found places cached room out given kept n key tree is);
+              free = λ is. free (seen_out_key keys ids outcomes numbers places cached room out given kept n key tree is);
               ready = is_ready;
             },
           ))
@@ -178,13 +178,13 @@ module _ (keys : Trees) (ids : List ℕ) (outcomes : List Outcome) (found : List
           by_out at key needed has not is_ready number.0 number.2 (among_or_not (numbers_out out) number.0)
 
   -- a unit without a key has none that is held
-  pub no_key : (at : ℕ) → None ≡ get_or found at None → (key : Key) → HasKey store at key → Contains store.held key → ⊥
+  pub no_key : (at : ℕ) → None ≡ get_or numbers at None → (key : Key) → HasKey store at key → Contains store.held key → ⊥
   no_key at none key has held =
       let number = number_at_place at key has in
-      none_is_not_some number.0 (sym (get_or_from_slice_get found at (Some number.0) None number.1) ∙ sym none)
+      none_is_not_some number.0 (sym (get_or_from_slice_get numbers at (Some number.0) None number.1) ∙ sym none)
 
   -- nor has one whose number isn't held
-  pub not_held : (at n : ℕ) → slice_get found at ≡ Some (Some n) → (IsHeld places n → ⊥) → (key : Key) → HasKey store at key
+  pub not_held : (at n : ℕ) → slice_get numbers at ≡ Some (Some n) → (IsHeld places n → ⊥) → (key : Key) → HasKey store at key
       → Contains store.held key → ⊥
   not_held at n is not key has held =
       let number = number_at_place at key has in
@@ -192,7 +192,7 @@ module _ (keys : Trees) (ids : List ℕ) (outcomes : List Outcome) (found : List
       not (key_held keys places kept.right n key (subst (λ m. tree_at keys m ≡ Some key) same number.2) held)
 
   -- and one whose number is held has a key that is
-  pub held_key_at : (at n : ℕ) → slice_get found at ≡ Some (Some n) → IsHeld places n
+  pub held_key_at : (at n : ℕ) → slice_get numbers at ≡ Some (Some n) → IsHeld places n
       → (key : Key) × HasKey store at key × (tree_at keys n ≡ Some key) × Contains store.held key
   held_key_at at n is held =
       let key = key_at_place at n is in

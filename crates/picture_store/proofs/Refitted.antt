@@ -57,8 +57,8 @@ none_is_some o x none some = cc
 inner : {X : Type 0} (o : Option X) (a b : X) → o ≡ Some a → o ≡ Some b → a ≡ b
 inner o a b first second = cc
 
-module _ (keys : Trees) (ids : List ℕ) (outcomes : List Outcome) (found : List (Option ℕ)) (places : PlacesValue)
-    (cached : List (ℕ × Picture)) (out : List JobOut) (kept : IsKept keys ids outcomes found places cached out)
+module _ (keys : Trees) (ids : List ℕ) (outcomes : List Outcome) (numbers : List (Option ℕ)) (places : PlacesValue)
+    (cached : List (ℕ × Picture)) (out : List JobOut) (kept : IsKept keys ids outcomes numbers places cached out)
     (more_ids : List ℕ) (more_outcomes : List Outcome) (more_found : List (Option ℕ)) (more_places : PlacesValue)
     (stand : AllStandFor keys more_found (keys_of (zip more_ids more_outcomes)))
     (placed : ArePlaced more_found places cached more_places) where
@@ -258,7 +258,7 @@ module _ (keys : Trees) (ids : List ℕ) (outcomes : List Outcome) (found : List
       jobs = kept.jobs;
     }
 
-    abbrev refits_so : (given : ℕ) → Refits (viewed keys ids outcomes found places cached room out given) more_ids more_outcomes
+    abbrev refits_so : (given : ℕ) → Refits (viewed keys ids outcomes numbers places cached room out given) more_ids more_outcomes
         (viewed keys more_ids more_outcomes more_found more_places gone_cached room out given)
     refits_so given = record {
       ids_are = refl;
@@ -267,7 +267,7 @@ module _ (keys : Trees) (ids : List ℕ) (outcomes : List Outcome) (found : List
       out_stays = refl;
       given_stays = refl;
       numbers_stay =
-          one_to_one keys kept.right.one found (keys_of (zip ids outcomes)) more_found (keys_of (zip more_ids more_outcomes))
+          one_to_one keys kept.right.one numbers (keys_of (zip ids outcomes)) more_found (keys_of (zip more_ids more_outcomes))
           kept.stand stand;
       held_are = held_same;
       stay = keys_for keys (numbers_of left);
@@ -279,6 +279,6 @@ module _ (keys : Trees) (ids : List ℕ) (outcomes : List Outcome) (found : List
     }
 
     pub refitted : (given : ℕ)
-        → RefitsLosing (viewed keys ids outcomes found places cached room out given) more_ids more_outcomes lost
+        → RefitsLosing (viewed keys ids outcomes numbers places cached room out given) more_ids more_outcomes lost
         (viewed keys more_ids more_outcomes more_found more_places gone_cached room out given)
     refitted given = (refits_so given, refl)

@@ -19,9 +19,9 @@ module _ (places grown : PlacesValue) (same : AreSame places grown) where
   pub place_same : (number : ℕ) → place_at grown number ≡ place_at places number
   place_same number = ap place_of (same.slots number)
 
-  kept_same : (keys : Trees) (ids : List ℕ) (outcomes : List Outcome) (found : List (Option ℕ)) (cached : List (ℕ × Picture))
-      (out : List JobOut) → IsKept keys ids outcomes found places cached out → IsKept keys ids outcomes found grown cached out
-  kept_same keys ids outcomes found cached out kept = record {
+  kept_same : (keys : Trees) (ids : List ℕ) (outcomes : List Outcome) (numbers : List (Option ℕ)) (cached : List (ℕ × Picture))
+      (out : List JobOut) → IsKept keys ids outcomes numbers places cached out → IsKept keys ids outcomes numbers grown cached out
+  kept_same keys ids outcomes numbers cached out kept = record {
     right = record {
       one = kept.right.one;
       held = λ number picture is. kept.right.held number picture (sym (place_same number) ∙ is);
@@ -42,36 +42,36 @@ module _ (places grown : PlacesValue) (same : AreSame places grown) where
   needs_same out (Some number) needs =
       elim needs [ inl held ↦ inl (held.0, place_same number ∙ held.1) | inr one ↦ inr one ]
 
-  settled_same : (out : List JobOut) (found : List (Option ℕ)) (count : ℕ) → AreSettled places out found count
-      → AreSettled grown out found count
-  settled_same out found count are =
-      settled_stay places grown out out found count (λ number among needs. needs_same out number needs) are
+  settled_same : (out : List JobOut) (numbers : List (Option ℕ)) (count : ℕ) → AreSettled places out numbers count
+      → AreSettled grown out numbers count
+  settled_same out numbers count are =
+      settled_stay places grown out out numbers count (λ number among needs. needs_same out number needs) are
 
-module _ (keys more : Trees) (ids : List ℕ) (outcomes : List Outcome) (found : List (Option ℕ)) (places grown : PlacesValue)
+module _ (keys more : Trees) (ids : List ℕ) (outcomes : List Outcome) (numbers : List (Option ℕ)) (places grown : PlacesValue)
     (cached : List (ℕ × Picture)) (out : List JobOut) (count passed : ℕ) (schedule : Option Schedule)
-    (stored : IsStored keys ids outcomes found places cached out count passed schedule) (stay : KeepsStored found cached out keys more)
+    (stored : IsStored keys ids outcomes numbers places cached out count passed schedule) (stay : KeepsStored numbers cached out keys more)
     (one : IsKeyMap more) (same : AreSame places grown) where
-  pub kept_still : IsKept more ids outcomes found grown cached out
+  pub kept_still : IsKept more ids outcomes numbers grown cached out
   kept_still =
-      kept_same places grown same more ids outcomes found cached out
-      (kept_stays keys more ids outcomes found places cached out stored.kept stay one)
+      kept_same places grown same more ids outcomes numbers cached out
+      (kept_stays keys more ids outcomes numbers places cached out stored.kept stay one)
 
-  pub stored_still : IsStored more ids outcomes found grown cached out count passed None
+  pub stored_still : IsStored more ids outcomes numbers grown cached out count passed None
   stored_still = record {
     kept = kept_still;
     counted = λ number. ap (λ slot. slot.uses) (same.slots number) ∙ stored.counted number;
     apart = λ number used. stored.apart number (subst (λ n. 0 < n) (ap (λ slot. slot.uses) (same.slots number)) used);
-    settled = settled_same places grown same out found count stored.settled;
+    settled = settled_same places grown same out numbers count stored.settled;
     looked =
-        looked_same places grown same more out found passed
-        (looked_stays keys more ids outcomes found places cached out stored.kept stay passed stored.looked);
+        looked_same places grown same more out numbers passed
+        (looked_stays keys more ids outcomes numbers places cached out stored.kept stay passed stored.looked);
     behind = stored.behind;
     scheduled = tt;
   }
 
   -- what contracts see stays
-  pub viewed_still : (room given : ℕ) → viewed more ids outcomes found grown cached room out given
-      ≡ viewed keys ids outcomes found places cached room out given
+  pub viewed_still : (room given : ℕ) → viewed more ids outcomes numbers grown cached room out given
+      ≡ viewed keys ids outcomes numbers places cached room out given
   viewed_still room given =
-      ap (λ held. record (viewed more ids outcomes found places cached room out given) { held = keys_for more held }) same.held
-      ∙ viewed_stays keys more ids outcomes found places cached out stored.kept stay room given
+      ap (λ held. record (viewed more ids outcomes numbers places cached room out given) { held = keys_for more held }) same.held
+      ∙ viewed_stays keys more ids outcomes numbers places cached out stored.kept stay room given

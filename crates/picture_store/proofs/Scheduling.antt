@@ -39,12 +39,12 @@ use Rattle.picture_store.proofs.Settled.{out_still}
 use Rattle.picture_store.proofs.Stays.{key_is}
 
 -- where no more keys are due than were, a schedule stays right
-pub scheduled_fewer : (keys : Trees) (units : List (ℕ × Outcome)) (found : List (Option ℕ)) (places : PlacesValue)
+pub scheduled_fewer : (keys : Trees) (units : List (ℕ × Outcome)) (numbers : List (Option ℕ)) (places : PlacesValue)
     (out more : List JobOut) (schedule : Option Schedule)
     → ((number : ℕ) → IsDueNumber keys places more number → IsDueNumber keys places out number)
-    → IsScheduled keys units found places out schedule → IsScheduled keys units found places more schedule
-scheduled_fewer keys units found places out more None fewer are = tt
-scheduled_fewer keys units found places out more (Some s) fewer are = record {
+    → IsScheduled keys units numbers places out schedule → IsScheduled keys units numbers places more schedule
+scheduled_fewer keys units numbers places out more None fewer are = tt
+scheduled_fewer keys units numbers places out more (Some s) fewer are = record {
   by_entry = are.by_entry;
   ordered = are.ordered;
   due = λ at needed due. are.due at needed (due.0, due.1, fewer due.0 due.2);
@@ -54,13 +54,13 @@ scheduled_fewer keys units found places out more (Some s) fewer are = record {
 }
 
 -- so it does where places leave the queue whose units aren't due
-pub scheduled_left : (keys : Trees) (units : List (ℕ × Outcome)) (found : List (Option ℕ)) (places : PlacesValue)
+pub scheduled_left : (keys : Trees) (units : List (ℕ × Outcome)) (numbers : List (Option ℕ)) (places : PlacesValue)
     (out : List JobOut) (target : ℕ) (dependents : List Dependent) (queue after : List (Reverse ℕ)) → IsQueue after
-    → ((at : ℕ) → IsQueued queue at → IsDueThere keys places out found at → IsQueued after at)
+    → ((at : ℕ) → IsQueued queue at → IsDueThere keys places out numbers at → IsQueued after at)
     → ((at : ℕ) → IsQueued after at → IsQueued queue at)
-    → AreScheduled keys units found places out target dependents queue
-    → AreScheduled keys units found places out target dependents after
-scheduled_left keys units found places out target dependents queue after ordered stay only are = record {
+    → AreScheduled keys units numbers places out target dependents queue
+    → AreScheduled keys units numbers places out target dependents after
+scheduled_left keys units numbers places out target dependents queue after ordered stay only are = record {
   by_entry = are.by_entry;
   ordered = ordered;
   due = λ at needed due. stay at (are.due at needed due) due;
@@ -82,11 +82,11 @@ due_given keys places out more stay number due = record {
 }
 
 -- so it stays right where a job is given
-pub scheduled_given : (keys : Trees) (units : List (ℕ × Outcome)) (found : List (Option ℕ)) (places : PlacesValue)
+pub scheduled_given : (keys : Trees) (units : List (ℕ × Outcome)) (numbers : List (Option ℕ)) (places : PlacesValue)
     (out : List JobOut) (job : JobOut) (more : List JobOut) → more ≡ out ++ job ∷ [] → (schedule : Option Schedule)
-    → IsScheduled keys units found places out schedule → IsScheduled keys units found places more schedule
-scheduled_given keys units found places out job more is schedule are =
-    scheduled_fewer keys units found places out more schedule
+    → IsScheduled keys units numbers places out schedule → IsScheduled keys units numbers places more schedule
+scheduled_given keys units numbers places out job more is schedule are =
+    scheduled_fewer keys units numbers places out more schedule
     (due_given keys places out more (λ number among. subst (λ jobs. Contains (numbers_out jobs) number) (sym is)
     (subst (λ numbers. Contains numbers number) (sym (map-append (λ (j : JobOut). j.key) out (job ∷ [])))
     (Contains-append_left (numbers_out out) (numbers_out (job ∷ [])) number among)))) are
@@ -134,20 +134,20 @@ ready_split held more key only (With first rest) ready =
       | inr new ↦ inr (inl new)
     ]
 
-module _ (keys : Trees) (ids : List ℕ) (outcomes : List Outcome) (found : List (Option ℕ)) (places : PlacesValue)
-    (cached : List (ℕ × Picture)) (out : List JobOut) (kept : IsKept keys ids outcomes found places cached out) where
+module _ (keys : Trees) (ids : List ℕ) (outcomes : List Outcome) (numbers : List (Option ℕ)) (places : PlacesValue)
+    (cached : List (ℕ × Picture)) (out : List JobOut) (kept : IsKept keys ids outcomes numbers places cached out) where
   abbrev units : List (ℕ × Outcome)
   units = zip ids outcomes
 
   -- a unit whose references' pictures are held names none that waits
-  ready_names : (at number : ℕ) (key : Key) → slice_get found at ≡ Some (Some number) → tree_at keys number ≡ Some key
+  ready_names : (at number : ℕ) (key : Key) → slice_get numbers at ≡ Some (Some number) → tree_at keys number ≡ Some key
       → IsReady (keys_for keys (numbers_held places)) key → (other : ℕ) → Names units at other
-      → IsWaiting found places other → ⊥
+      → IsWaiting numbers places other → ⊥
   ready_names at number key is tree ready other names waits =
       let one = kept.right.one in
-      let name = named_key keys ids outcomes found kept.stand one places at number is other names waits in
-      let known = known_there keys ids outcomes found kept.stand one places at number is other names waits in
-      let own = own_key keys ids outcomes found kept.stand one places at number is other names waits
+      let name = named_key keys ids outcomes numbers kept.stand one places at number is other names waits in
+      let known = known_there keys ids outcomes numbers kept.stand one places at number is other names waits in
+      let own = own_key keys ids outcomes numbers kept.stand one places at number is other names waits
       names.listed.0 names.listed.1 names.listed.2 in
       let plan = names.listed.1 in
       let same = same_Some key _ (sym tree ∙ own) in
@@ -192,12 +192,12 @@ module _ (keys : Trees) (ids : List ℕ) (outcomes : List Outcome) (found : List
       | inr was ↦ inr (held.0, was)
     ]
 
-    waits_before : (place : ℕ) → IsWaiting found more place → IsWaiting found places place
+    waits_before : (place : ℕ) → IsWaiting numbers more place → IsWaiting numbers places place
     waits_before place waits = (waits.0, waits.1, λ held. waits.2 (held_still waits.0 held))
 
-    needed_before : (target place : ℕ) → IsNeededHere units found more target place → IsNeededHere units found places target place
+    needed_before : (target place : ℕ) → IsNeededHere units numbers more target place → IsNeededHere units numbers places target place
     needed_before target place needed =
-        needed_more units (IsWaiting found more) (IsWaiting found places) target waits_before place needed
+        needed_more units (IsWaiting numbers more) (IsWaiting numbers places) target waits_before place needed
 
     awaited_before : (number : ℕ) → place_at more number ≡ Some None → place_at places number ≡ Some None
     awaited_before number is = elim (place_then number None is) [
@@ -227,8 +227,8 @@ module _ (keys : Trees) (ids : List ℕ) (outcomes : List Outcome) (found : List
         ]
 
     -- a unit that is due then was due, or refers to the key
-    pub due_or : (place : ℕ) → IsDueThere keys more (remove out at) found place
-        → IsDueThere keys places out found place ⊎ RefersTo keys found place other.key
+    pub due_or : (place : ℕ) → IsDueThere keys more (remove out at) numbers place
+        → IsDueThere keys places out numbers place ⊎ RefersTo keys numbers place other.key
     due_or place (number, is, due) =
         elim (ready_split (keys_for keys (numbers_held places)) (keys_for keys (numbers_held more)) key held_then due.key due.ready) [
           | inl was ↦ inl (
@@ -256,8 +256,8 @@ module _ (keys : Trees) (ids : List ℕ) (outcomes : List Outcome) (found : List
     -- whose references' pictures are held
     module _ (ready : IsReady (keys_for keys (numbers_held places)) key) where
       -- a needed unit that names one that waits still waits itself
-      names_waits : (place next : ℕ) → IsWaiting found places place → Names units place next → IsWaiting found places next
-          → IsWaiting found more place
+      names_waits : (place next : ℕ) → IsWaiting numbers places place → Names units place next → IsWaiting numbers places next
+          → IsWaiting numbers more place
       names_waits place next waits names next_waits = (
         waits.0,
         waits.1,
@@ -269,17 +269,17 @@ module _ (keys : Trees) (ids : List ℕ) (outcomes : List Outcome) (found : List
       )
 
       -- what was needed and waits still is needed still
-      needed_stays : (target place : ℕ) → IsNeededHere units found places target place → IsWaiting found more place
-          → IsNeededHere units found more target place
+      needed_stays : (target place : ℕ) → IsNeededHere units numbers places target place → IsWaiting numbers more place
+          → IsNeededHere units numbers more target place
       needed_stays target place (itself waits) now = itself now
       needed_stays target place (named above below needed names waits) now =
           named above below
           (needed_stays target above needed
-          (names_waits above below (needed_waits units (IsWaiting found places) target above needed) names waits)) names now
+          (names_waits above below (needed_waits units (IsWaiting numbers places) target above needed) names waits)) names now
 
       -- so a schedule goes on with the units that become due, or nothing is left of it
-      scheduled_on : (old new : Option Schedule) → IsScheduled keys units found places out old
-          → GoesOn keys more (remove out at) found other.key old new → IsScheduled keys units found more (remove out at) new
+      scheduled_on : (old new : Option Schedule) → IsScheduled keys units numbers places out old
+          → GoesOn keys more (remove out at) numbers other.key old new → IsScheduled keys units numbers more (remove out at) new
       scheduled_on old None are goes = tt
       scheduled_on None (Some new) are goes = absurd goes
       scheduled_on (Some old) (Some new) are goes = rw (goes.0, goes.1) (record {
@@ -301,32 +301,32 @@ module _ (keys : Trees) (ids : List ℕ) (outcomes : List Outcome) (found : List
       })
 
   -- what is left of a schedule where the references' pictures aren't held
-  scheduled_if : (kept_one : Option Schedule) (old : Option Schedule) (number : ℕ) → IsScheduled keys units found places out old
+  scheduled_if : (kept_one : Option Schedule) (old : Option Schedule) (number : ℕ) → IsScheduled keys units numbers places out old
       → ((s : Schedule) → kept_one ≡ Some s → (old ≡ Some s) × IsReadyNumber keys places number)
-      → IsScheduled keys units found places out kept_one
+      → IsScheduled keys units numbers places out kept_one
   scheduled_if None old number are if_ready = tt
   scheduled_if (Some s) old number are if_ready =
-      subst (IsScheduled keys units found places out) (if_ready s refl).0 are
+      subst (IsScheduled keys units numbers places out) (if_ready s refl).0 are
 
   -- a result lands
   pub scheduled_landed : (at : ℕ) (other : JobOut) → other ≡ slice_index_or out at other → (picture : Picture) (landing : Landing)
       (more : PlacesValue) (left : List JobOut) → left ≡ remove out at → IsFilled places other.key picture landing more
-      → (old kept_one new : Option Schedule) → IsScheduled keys units found places out old
+      → (old kept_one new : Option Schedule) → IsScheduled keys units numbers places out old
       → ((s : Schedule) → kept_one ≡ Some s → (old ≡ Some s) × IsReadyNumber keys places other.key)
-      → FollowsLanding keys more left found other.key landing kept_one new
-      → IsScheduled keys units found more left new
+      → FollowsLanding keys more left numbers other.key landing kept_one new
+      → IsScheduled keys units numbers more left new
   scheduled_landed at other stands picture Foreign more left gone filled old kept_one new are if_ready follows = absurd filled
   scheduled_landed at other stands picture Stale more left gone filled old kept_one new are if_ready follows =
-      subst (λ p. IsScheduled keys units found p left new) (sym filled.1)
-      (subst (IsScheduled keys units found places left) (sym follows)
-      (subst (λ jobs. IsScheduled keys units found places jobs kept_one) (sym gone)
-      (scheduled_fewer keys units found places out (remove out at) kept_one
+      subst (λ p. IsScheduled keys units numbers p left new) (sym filled.1)
+      (subst (IsScheduled keys units numbers places left) (sym follows)
+      (subst (λ jobs. IsScheduled keys units numbers places jobs kept_one) (sym gone)
+      (scheduled_fewer keys units numbers places out (remove out at) kept_one
       (due_stale keys places out at other stands filled.0) (scheduled_if kept_one old other.key are if_ready))))
   scheduled_landed at other stands picture Taken more left gone filled old None None are if_ready follows = tt
   scheduled_landed at other stands picture Taken more left gone filled old None (Some new) are if_ready follows = absurd follows
   scheduled_landed at other stands picture Taken more left gone filled old (Some s) new are if_ready follows =
       let its = if_ready s refl in
-      subst (λ jobs. IsScheduled keys units found more jobs new) (sym gone)
+      subst (λ jobs. IsScheduled keys units numbers more jobs new) (sym gone)
       (scheduled_on at other stands picture more filled.0 filled.1 its.1.0 its.1.1 its.1.2 (Some s) new
-      (subst (IsScheduled keys units found places out) its.0 are)
-      (subst (λ jobs. GoesOn keys more jobs found other.key (Some s) new) gone follows))
+      (subst (IsScheduled keys units numbers places out) its.0 are)
+      (subst (λ jobs. GoesOn keys more jobs numbers other.key (Some s) new) gone follows))

@@ -31,22 +31,22 @@ not_due keys places out (Some number) needs = λ due. elim needs [
 ]
 
 -- so none of those that are settled is
-pub none_due_before : (keys : Trees) (places : PlacesValue) (out : List JobOut) (found : List (Option ℕ)) (count : ℕ)
-    → AreSettled places out found count → All (IsNotDue keys places out) (take count found)
-none_due_before keys places out found count are = λ k d within. not_due keys places out _ (are.1 k d within)
+pub none_due_before : (keys : Trees) (places : PlacesValue) (out : List JobOut) (numbers : List (Option ℕ)) (count : ℕ)
+    → AreSettled places out numbers count → All (IsNotDue keys places out) (take count numbers)
+none_due_before keys places out numbers count are = λ k d within. not_due keys places out _ (are.1 k d within)
 
 -- none is settled before the first unit
-pub none_settled : (places : PlacesValue) (out : List JobOut) (found : List (Option ℕ)) → AreSettled places out found 0
-none_settled places out found = (omega arith, λ k d within. absurd (omega (arith, within)))
+pub none_settled : (places : PlacesValue) (out : List JobOut) (numbers : List (Option ℕ)) → AreSettled places out numbers 0
+none_settled places out numbers = (omega arith, λ k d within. absurd (omega (arith, within)))
 
 -- what needs no job needs none where it stays so for each unit
-pub settled_stay : (places more : PlacesValue) (out left : List JobOut) (found : List (Option ℕ)) (count : ℕ)
-    → ((number : Option ℕ) → Contains found number → NeedsNone places out number → NeedsNone more left number)
-    → AreSettled places out found count → AreSettled more left found count
-settled_stay places more out left found count stays are = (
+pub settled_stay : (places more : PlacesValue) (out left : List JobOut) (numbers : List (Option ℕ)) (count : ℕ)
+    → ((number : Option ℕ) → Contains numbers number → NeedsNone places out number → NeedsNone more left number)
+    → AreSettled places out numbers count → AreSettled more left numbers count
+settled_stay places more out left numbers count stays are = (
   are.0,
   λ k d within.
-      stays _ (Contains-take found count _ (Contains-get_or (take count found) k d within)) (are.1 k d within),
+      stays _ (Contains-take numbers count _ (Contains-get_or (take count numbers) k d within)) (are.1 k d within),
 )
   where
     Contains-take : (xs : List (Option ℕ)) (n : ℕ) (x : Option ℕ) → Contains (take n xs) x → Contains xs x
@@ -87,12 +87,12 @@ not_same a b differ same =
     cc
 
 -- a job more
-pub settled_more : (places : PlacesValue) (out : List JobOut) (job : JobOut) (more : List JobOut) (found : List (Option ℕ)) (count : ℕ)
-    → more ≡ out ++ job ∷ [] → AreSettled places out found count → AreSettled places more found count
-settled_more places out job more found count is are =
-    subst (λ jobs. AreSettled places jobs found count) (sym is) (settled_stay places places out (out ++ job ∷ []) found count stays are)
+pub settled_more : (places : PlacesValue) (out : List JobOut) (job : JobOut) (more : List JobOut) (numbers : List (Option ℕ)) (count : ℕ)
+    → more ≡ out ++ job ∷ [] → AreSettled places out numbers count → AreSettled places more numbers count
+settled_more places out job more numbers count is are =
+    subst (λ jobs. AreSettled places jobs numbers count) (sym is) (settled_stay places places out (out ++ job ∷ []) numbers count stays are)
   where
-    stays : (number : Option ℕ) → Contains found number → NeedsNone places out number → NeedsNone places (out ++ job ∷ []) number
+    stays : (number : Option ℕ) → Contains numbers number → NeedsNone places out number → NeedsNone places (out ++ job ∷ []) number
     stays None among needs = search rules
     stays (Some number) among needs = elim needs [
       | inl held ↦ inl held
@@ -101,40 +101,40 @@ settled_more places out job more found count is are =
           (Contains-append_left (numbers_out out) (numbers_out (job ∷ [])) number one))
     ]
 
-module _ (keys : Trees) (ids : List ℕ) (outcomes : List Outcome) (found : List (Option ℕ)) (places : PlacesValue)
-    (cached : List (ℕ × Picture)) (out : List JobOut) (kept : IsKept keys ids outcomes found places cached out)
+module _ (keys : Trees) (ids : List ℕ) (outcomes : List Outcome) (numbers : List (Option ℕ)) (places : PlacesValue)
+    (cached : List (ℕ × Picture)) (out : List JobOut) (kept : IsKept keys ids outcomes numbers places cached out)
     (at : ℕ) (other : JobOut) (stands : other ≡ slice_index_or out at other) where
   module _ (more : PlacesValue) (holds : (number : ℕ) → IsHeld places number → IsHeld more number)
-      (new : Contains found (Some other.key) → IsHeld more other.key) where
-    stays_there : (b : Bool) (number : ℕ) → b ≡ (other.key == number) → Contains found (Some number)
+      (new : Contains numbers (Some other.key) → IsHeld more other.key) where
+    stays_there : (b : Bool) (number : ℕ) → b ≡ (other.key == number) → Contains numbers (Some number)
         → IsHeld places number ⊎ Contains (numbers_out out) number
         → IsHeld more number ⊎ Contains (numbers_out (remove out at)) number
     stays_there true number same among needs =
         let one : other.key ≡ number = eqb-true other.key number (sym same) in
-        inl (subst (IsHeld more) one (new (subst (λ n. Contains found (Some n)) (sym one) among)))
+        inl (subst (IsHeld more) one (new (subst (λ n. Contains numbers (Some n)) (sym one) among)))
     stays_there false number same among needs = elim needs [
       | inl held ↦ inl (holds number held)
       | inr one ↦ inr (out_still out at number other stands (not_same other.key number same) one)
     ]
 
-    stays : (number : Option ℕ) → Contains found number → NeedsNone places out number → NeedsNone more (remove out at) number
+    stays : (number : Option ℕ) → Contains numbers number → NeedsNone places out number → NeedsNone more (remove out at) number
     stays None among needs = search rules
     stays (Some number) among needs = stays_there (other.key == number) number refl among needs
 
   -- a job that lands
   pub settled_landed : (picture : Picture) (landing : Landing) (more : PlacesValue) (left : List JobOut) (count : ℕ)
       → left ≡ remove out at → IsFilled places other.key picture landing more
-      → AreSettled places out found count → AreSettled more left found count
+      → AreSettled places out numbers count → AreSettled more left numbers count
   settled_landed picture Foreign more left count gone filled are = absurd filled
   settled_landed picture Stale more left count gone filled are =
-      subst (λ jobs. AreSettled more jobs found count) (sym gone)
-      (subst (λ p. AreSettled p (remove out at) found count) (sym filled.1)
-      (settled_stay places places out (remove out at) found count
+      subst (λ jobs. AreSettled more jobs numbers count) (sym gone)
+      (subst (λ p. AreSettled p (remove out at) numbers count) (sym filled.1)
+      (settled_stay places places out (remove out at) numbers count
       (stays places (λ number held. held)
       (λ among. held_place (place_at places other.key) ((kept.used other.key).1 among) filled.0)) are))
   settled_landed picture Taken more left count gone filled are =
-      subst (λ jobs. AreSettled more jobs found count) (sym gone)
-      (settled_stay places more out (remove out at) found count
+      subst (λ jobs. AreSettled more jobs numbers count) (sym gone)
+      (settled_stay places more out (remove out at) numbers count
       (stays more
       (λ number held.
       let still : (p : Picture) × ((if other.key == number then Some (Some picture) else place_at places number) ≡ Some (Some p)) =
@@ -156,22 +156,22 @@ take_front (suc m) (suc n) (x ∷ xs) ys below within =
 
 -- of the units in front of a place as many need none as before, where pictures that were held stay
 -- held
-pub settled_front : (places more : PlacesValue) (cached : List (ℕ × Picture)) (out : List JobOut) (found later : List (Option ℕ))
-    (count from least : ℕ) → least ≤ count → least ≤ from → from ≤ length found → AreSettled places out found count
-    → ArePlaced (take from found ++ later) places cached more → AreSettled more out (take from found ++ later) least
-settled_front places more cached out found later count from least in_count in_front within are placed =
-    settled_stay places more out out (take from found ++ later) least stays
-    (omega (arith, in_front, within, length-append (take from found) later, length-take-le from found within), still)
+pub settled_front : (places more : PlacesValue) (cached : List (ℕ × Picture)) (out : List JobOut) (numbers later : List (Option ℕ))
+    (count from least : ℕ) → least ≤ count → least ≤ from → from ≤ length numbers → AreSettled places out numbers count
+    → ArePlaced (take from numbers ++ later) places cached more → AreSettled more out (take from numbers ++ later) least
+settled_front places more cached out numbers later count from least in_count in_front within are placed =
+    settled_stay places more out out (take from numbers ++ later) least stays
+    (omega (arith, in_front, within, length-append (take from numbers) later, length-take-le from numbers within), still)
   where
-    fewer : All (NeedsNone places out) (take least (take count found ++ []))
+    fewer : All (NeedsNone places out) (take least (take count numbers ++ []))
     fewer =
-        All-take (NeedsNone places out) least (take count found ++ [])
-        (subst (All (NeedsNone places out)) (sym (append-nil (take count found))) are.1)
+        All-take (NeedsNone places out) least (take count numbers ++ [])
+        (subst (All (NeedsNone places out)) (sym (append-nil (take count numbers))) are.1)
 
-    still : All (NeedsNone places out) (take least (take from found ++ later))
+    still : All (NeedsNone places out) (take least (take from numbers ++ later))
     still =
         subst (All (NeedsNone places out))
-        (take_front least count found [] in_count are.0 ∙ sym (take_front least from found later in_front within)) fewer
+        (take_front least count numbers [] in_count are.0 ∙ sym (take_front least from numbers later in_front within)) fewer
 
     carries : (place other : Option (Option Picture)) (cached : Option Picture) (held : Picture) → place ≡ Some (Some held)
         → other ≡ Some (held_or place cached) → (picture : Picture) × (other ≡ Some (Some picture))
@@ -179,7 +179,7 @@ settled_front places more cached out found later count from least in_count in_fr
     carries (Some None) other cached held is carried = absurd cc
     carries (Some (Some picture)) other cached held is carried = (picture, carried)
 
-    stays : (number : Option ℕ) → Contains (take from found ++ later) number → NeedsNone places out number
+    stays : (number : Option ℕ) → Contains (take from numbers ++ later) number → NeedsNone places out number
         → NeedsNone more out number
     stays None among needs = search rules
     stays (Some number) among needs = elim needs [

@@ -36,40 +36,40 @@ stands_here keys number None trees stands = absurd stands
 stands_here keys number (Some key) trees stands = (key, stands, here (Some key) trees)
 
 -- the number of a unit has a tree, which is the key of a unit
-pub stand_live : (keys : Trees) (found : List (Option ℕ)) (trees : List (Option Key)) → AllStandFor keys found trees
-    → (number : ℕ) → Contains found (Some number)
+pub stand_live : (keys : Trees) (numbers : List (Option ℕ)) (trees : List (Option Key)) → AllStandFor keys numbers trees
+    → (number : ℕ) → Contains numbers (Some number)
     → (key : Key) × (tree_at keys number ≡ Some key) × Contains trees (Some key)
 stand_live keys [] [] all number is = absurd (nowhere (Some number) is)
 stand_live keys [] (tree ∷ trees) all number is = absurd all
-stand_live keys (first ∷ found) [] all number is = absurd all
-stand_live keys (first ∷ found) (tree ∷ trees) all number is =
-    elim (first_or_among first (Some number) found is) [
+stand_live keys (first ∷ numbers) [] all number is = absurd all
+stand_live keys (first ∷ numbers) (tree ∷ trees) all number is =
+    elim (first_or_among first (Some number) numbers is) [
       | inl same ↦ stands_here keys number tree trees (subst (λ (n : Option ℕ). StandsFor keys n tree) same all.0)
       | inr later ↦
           let rest : (key : Key) × (tree_at keys number ≡ Some key) × Contains trees (Some key) =
-          stand_live keys found trees all.1 number later in
+          stand_live keys numbers trees all.1 number later in
           (rest.0, rest.1, there tree (Some rest.0) trees rest.2)
     ]
 
-number_here : (keys : Trees) (first : Option ℕ) (found : List (Option ℕ)) (key : Key) → StandsFor keys first (Some key)
-    → (number : ℕ) × Contains (first ∷ found) (Some number) × (tree_at keys number ≡ Some key)
-number_here keys None found key stands = absurd (none_is_not_some key stands)
-number_here keys (Some number) found key stands = (number, here (Some number) found, stands)
+number_here : (keys : Trees) (first : Option ℕ) (numbers : List (Option ℕ)) (key : Key) → StandsFor keys first (Some key)
+    → (number : ℕ) × Contains (first ∷ numbers) (Some number) × (tree_at keys number ≡ Some key)
+number_here keys None numbers key stands = absurd (none_is_not_some key stands)
+number_here keys (Some number) numbers key stands = (number, here (Some number) numbers, stands)
 
 -- the key of a unit has a number, which is a unit's
-pub stand_number : (keys : Trees) (found : List (Option ℕ)) (trees : List (Option Key)) → AllStandFor keys found trees
+pub stand_number : (keys : Trees) (numbers : List (Option ℕ)) (trees : List (Option Key)) → AllStandFor keys numbers trees
     → (key : Key) → Contains trees (Some key)
-    → (number : ℕ) × Contains found (Some number) × (tree_at keys number ≡ Some key)
+    → (number : ℕ) × Contains numbers (Some number) × (tree_at keys number ≡ Some key)
 stand_number keys [] [] all key is = absurd (nowhere (Some key) is)
 stand_number keys [] (tree ∷ trees) all key is = absurd all
-stand_number keys (first ∷ found) [] all key is = absurd all
-stand_number keys (first ∷ found) (tree ∷ trees) all key is =
+stand_number keys (first ∷ numbers) [] all key is = absurd all
+stand_number keys (first ∷ numbers) (tree ∷ trees) all key is =
     elim (first_or_among tree (Some key) trees is) [
-      | inl same ↦ number_here keys first found key (subst (λ (t : Option Key). StandsFor keys first t) same all.0)
+      | inl same ↦ number_here keys first numbers key (subst (λ (t : Option Key). StandsFor keys first t) same all.0)
       | inr later ↦
-          let rest : (number : ℕ) × Contains found (Some number) × (tree_at keys number ≡ Some key) =
-          stand_number keys found trees all.1 key later in
-          (rest.0, there first (Some rest.0) found rest.1, rest.2)
+          let rest : (number : ℕ) × Contains numbers (Some number) × (tree_at keys number ≡ Some key) =
+          stand_number keys numbers trees all.1 key later in
+          (rest.0, there first (Some rest.0) numbers rest.1, rest.2)
     ]
 
 stand_stays_here : (keys more : Trees) (number : Option ℕ) (tree : Option Key)
@@ -80,17 +80,17 @@ stand_stays_here keys more (Some n) None stays stands = stands
 stand_stays_here keys more (Some n) (Some key) stays stands = stays n key refl stands
 
 -- numbers stand for their keys where these stay
-pub stand_stays : (keys more : Trees) (found : List (Option ℕ)) (trees : List (Option Key))
-    → ((number : ℕ) (key : Key) → Contains found (Some number) → tree_at keys number ≡ Some key → tree_at more number ≡ Some key)
-    → AllStandFor keys found trees → AllStandFor more found trees
+pub stand_stays : (keys more : Trees) (numbers : List (Option ℕ)) (trees : List (Option Key))
+    → ((number : ℕ) (key : Key) → Contains numbers (Some number) → tree_at keys number ≡ Some key → tree_at more number ≡ Some key)
+    → AllStandFor keys numbers trees → AllStandFor more numbers trees
 stand_stays keys more [] [] stays all = tt
 stand_stays keys more [] (tree ∷ trees) stays all = absurd all
-stand_stays keys more (first ∷ found) [] stays all = absurd all
-stand_stays keys more (first ∷ found) (tree ∷ trees) stays all = (
+stand_stays keys more (first ∷ numbers) [] stays all = absurd all
+stand_stays keys more (first ∷ numbers) (tree ∷ trees) stays all = (
   stand_stays_here keys more first tree
-      (λ n key is. stays n key (subst (λ (o : Option ℕ). Contains (o ∷ found) (Some n)) (sym is) (here (Some n) found)))
+      (λ n key is. stays n key (subst (λ (o : Option ℕ). Contains (o ∷ numbers) (Some n)) (sym is) (here (Some n) numbers)))
       all.0,
-  stand_stays keys more found trees (λ n key is. stays n key (there first (Some n) found is)) all.1,
+  stand_stays keys more numbers trees (λ n key is. stays n key (there first (Some n) numbers is)) all.1,
 )
 
 -- the key of a number stays
@@ -98,21 +98,21 @@ pub key_stays : (keys more : Trees) (number : ℕ) (key : Key) → tree_at keys 
     → tree_at more number ≡ Some key → key_for more number ≡ key_for keys number
 key_stays keys more number key old new = key_is more number key new ∙ sym (key_is keys number key old)
 
-module _ (keys more : Trees) (ids : List ℕ) (outcomes : List Outcome) (found : List (Option ℕ)) (places : PlacesValue)
-    (cached : List (ℕ × Picture)) (out : List JobOut) (kept : IsKept keys ids outcomes found places cached out)
-    (stay : KeepsStored found cached out keys more) where
-  right_stays : (number : ℕ) (picture : Picture) → IsStored found cached out number → IsRight keys number picture
+module _ (keys more : Trees) (ids : List ℕ) (outcomes : List Outcome) (numbers : List (Option ℕ)) (places : PlacesValue)
+    (cached : List (ℕ × Picture)) (out : List JobOut) (kept : IsKept keys ids outcomes numbers places cached out)
+    (stay : KeepsStored numbers cached out keys more) where
+  right_stays : (number : ℕ) (picture : Picture) → IsStored numbers cached out number → IsRight keys number picture
       → IsRight more number picture
   right_stays number picture stored right = (right.0, stay number right.0 stored right.1, right.2)
 
-  for_stays : (number : ℕ) (picture : Picture) → IsStored found cached out number → IsRight keys number picture
+  for_stays : (number : ℕ) (picture : Picture) → IsStored numbers cached out number → IsRight keys number picture
       → key_for more number ≡ key_for keys number
   for_stays number picture stored right =
       key_stays keys more number right.0 right.1 (stay number right.0 stored right.1)
 
   -- a place is that of a unit's key
   place_stored : (number : ℕ) (picture : Option Picture) → place_at places number ≡ Some picture
-      → IsStored found cached out number
+      → IsStored numbers cached out number
   place_stored number picture is = inl ((kept.used number).0 (ap is_some is))
 
   pub held_stay : keys_for more (numbers_held places) ≡ keys_for keys (numbers_held places)
@@ -135,7 +135,7 @@ module _ (keys more : Trees) (ids : List ℕ) (outcomes : List Outcome) (found :
       let right : (picture : Picture) × IsRight keys number picture = stored_right number is in
       for_stays number right.0 (inr (inl is)) right.1)
 
-  job_stored : (job : JobOut) → Contains out job → IsStored found cached out job.key
+  job_stored : (job : JobOut) → Contains out job → IsStored numbers cached out job.key
   job_stored job is = inr (inr (among_map (λ (j : JobOut). j.key) out job is))
 
   pub out_stay : jobs_for more out ≡ jobs_for keys out
@@ -144,9 +144,9 @@ module _ (keys more : Trees) (ids : List ℕ) (outcomes : List Outcome) (found :
       (λ (job : JobOut). record { number = job.number; key = key_for more job.key; input = job.input }) out
       (λ job is. ap (λ (key : Key). record { number = job.number; key = key; input = job.input })
       (for_stays job.key (picture_of job.input) (job_stored job is)
-      (All-contains (IsJobRight keys) out job kept.jobs is)))
+      (All-contains (IsJobRight keys) out job kept.jobs is).0))
 
-  pub kept_stays : IsKeyMap more → IsKept more ids outcomes found places cached out
+  pub kept_stays : IsKeyMap more → IsKept more ids outcomes numbers places cached out
   kept_stays one = record {
     right = record {
       one = one;
@@ -154,18 +154,20 @@ module _ (keys more : Trees) (ids : List ℕ) (outcomes : List Outcome) (found :
           right_stays number picture (place_stored number (Some picture) is) (kept.right.held number picture is);
     };
     same = kept.same;
-    stand = stand_stays keys more found (keys_of (zip ids outcomes)) (λ number key is. stay number key (inl is)) kept.stand;
+    stand = stand_stays keys more numbers (keys_of (zip ids outcomes)) (λ number key is. stay number key (inl is)) kept.stand;
     decodable = kept.decodable;
     used = kept.used;
     stored =
         All-from_contains cached (λ pair is. right_stays pair.0 pair.1 (inr (inl (among_map (λ (p : ℕ × Picture). p.0) cached pair is)))
         (All-contains (λ pair. IsRight keys pair.0 pair.1) cached pair kept.stored is));
     jobs =
-        All-from_contains out (λ job is. right_stays job.key (picture_of job.input) (job_stored job is)
-        (All-contains (IsJobRight keys) out job kept.jobs is));
+        All-from_contains {P = IsJobRight more} out (λ job is. (
+          right_stays job.key (picture_of job.input) (job_stored job is) (All-contains (IsJobRight keys) out job kept.jobs is).0,
+          (All-contains (IsJobRight keys) out job kept.jobs is).1,
+        ));
   }
 
   -- what contracts see stays
-  pub viewed_stays : (room given : ℕ) → viewed more ids outcomes found places cached room out given
-      ≡ viewed keys ids outcomes found places cached room out given
+  pub viewed_stays : (room given : ℕ) → viewed more ids outcomes numbers places cached room out given
+      ≡ viewed keys ids outcomes numbers places cached room out given
   viewed_stays room given = rw (held_stay, cached_stay, out_stay) refl

@@ -49,19 +49,19 @@ module _ (ids : List ℕ) (outcomes : List Outcome) (same : length ids ≡ lengt
       (zip_append stretch.ids.items (drop stretch.to ids) stretch.outcomes.items (drop stretch.to outcomes) is.same)))
 
   -- the numbers stand for the keys of its units
-  pub stand_with : (keys : Trees) (found later : List (Option ℕ)) → AllStandFor keys found (keys_of (zip ids outcomes))
+  pub stand_with : (keys : Trees) (numbers later : List (Option ℕ)) → AllStandFor keys numbers (keys_of (zip ids outcomes))
       → AllStandFor keys later
       (keys_after (known_after [] (zip (take stretch.from ids) (take stretch.from outcomes)))
       (zip stretch.ids.items stretch.outcomes.items ++ zip (drop stretch.to ids) (drop stretch.to outcomes)))
-      → AllStandFor keys (take stretch.from found ++ later) (keys_of (zip (ids_with stretch ids) (outcomes_with stretch outcomes)))
-  stand_with keys found later stand anew =
+      → AllStandFor keys (take stretch.from numbers ++ later) (keys_of (zip (ids_with stretch ids) (outcomes_with stretch outcomes)))
+  stand_with keys numbers later stand anew =
       rw (
         units_with,
         keys_append [] (zip (take stretch.from ids) (take stretch.from outcomes))
             (zip stretch.ids.items stretch.outcomes.items ++ zip (drop stretch.to ids) (drop stretch.to outcomes)),
       )
-      (stand_append keys (take stretch.from found) later
+      (stand_append keys (take stretch.from numbers) later
       (keys_of (zip (take stretch.from ids) (take stretch.from outcomes)))
       (keys_after (known_after [] (zip (take stretch.from ids) (take stretch.from outcomes)))
       (zip stretch.ids.items stretch.outcomes.items ++ zip (drop stretch.to ids) (drop stretch.to outcomes)))
-      (stand_front keys [] stretch.from found ids outcomes stand) anew)
+      (stand_front keys [] stretch.from numbers ids outcomes stand) anew)

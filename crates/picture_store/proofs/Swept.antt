@@ -40,18 +40,18 @@ some_in number (key ∷ keys) is =
     ]
 
 -- a key that was added is that of a unit
-pub only_added : (old new : List ℕ) (found : List (Option ℕ)) (number : ℕ)
-    → times_in number new ≡ times_in number old + times number found → Contains new number
-    → Contains old number ⊎ Contains found (Some number)
-only_added old new found number counted among =
+pub only_added : (old new : List ℕ) (numbers : List (Option ℕ)) (number : ℕ)
+    → times_in number new ≡ times_in number old + times number numbers → Contains new number
+    → Contains old number ⊎ Contains numbers (Some number)
+only_added old new numbers number counted among =
     let some : 0 < times_in number new = counted_in number new among in
-    elim (cases_lt 0 (times number found)) [
-      | inl unit ↦ inr (some_counted number found unit)
+    elim (cases_lt 0 (times number numbers)) [
+      | inl unit ↦ inr (some_counted number numbers unit)
       | inr none ↦ inl (some_in number old (omega (arith, some, counted, none)))
     ]
 
-pub swept_all : (r : Result (Unit {0}) AllocError) (found : List (Option ℕ)) (cached : List (ℕ × Picture)) (out : List JobOut)
-    (old new : Trees) (roots : List ℕ) → ((number : ℕ) → Contains roots number ↔ IsStored found cached out number)
-    → OnOk r (IsSwept old roots new) → OnOk r (AreSwept found cached out old new)
-swept_all (Ok x) found cached out old new roots are swept = record { roots = roots; are = are; swept = swept }
-swept_all (Err e) found cached out old new roots are swept = swept
+pub swept_all : (r : Result (Unit {0}) AllocError) (numbers : List (Option ℕ)) (cached : List (ℕ × Picture)) (out : List JobOut)
+    (old new : Trees) (roots : List ℕ) → ((number : ℕ) → Contains roots number ↔ IsStored numbers cached out number)
+    → OnOk r (IsSwept old roots new) → OnOk r (AreSwept numbers cached out old new)
+swept_all (Ok x) numbers cached out old new roots are swept = record { roots = roots; are = are; swept = swept }
+swept_all (Err e) numbers cached out old new roots are swept = swept

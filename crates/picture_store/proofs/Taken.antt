@@ -36,9 +36,9 @@ take_front : {X : Type 0} (xs ys : List X) → take (length xs) (xs ++ ys) ≡ x
 take_front [] ys = refl
 take_front (x ∷ xs) ys = ap (λ rest. x ∷ rest) (take_front xs ys)
 
-module _ (keys : Trees) (ids : List ℕ) (outcomes : List Outcome) (found : List (Option ℕ)) (places : PlacesValue)
+module _ (keys : Trees) (ids : List ℕ) (outcomes : List Outcome) (numbers : List (Option ℕ)) (places : PlacesValue)
     (cached : List (ℕ × Picture)) (room : ℕ) (out : List JobOut) (given : ℕ)
-    (kept : IsKept keys ids outcomes found places cached out) where
+    (kept : IsKept keys ids outcomes numbers places cached out) where
   -- a job's key is among those of the jobs that are seen
   pub out_seen_key : (number : ℕ) → Contains (numbers_out out) number
       → Contains (map (λ (job : OutValue). job.key) (jobs_for keys out)) (key_for keys number)
@@ -57,7 +57,8 @@ module _ (keys : Trees) (ids : List ℕ) (outcomes : List Outcome) (found : List
       among_source (λ (job : OutValue). job.key) (jobs_for keys out) key is in
       let inner : (job : JobOut) × Contains out job × (seen keys job ≡ outer.0) =
       among_source (seen keys) out outer.0 outer.1 in
-      let right : IsJobRight keys inner.0 = All-contains (IsJobRight keys) out inner.0 kept.jobs inner.1 in
+      let right : IsRight keys inner.0.key (picture_of inner.0.input) =
+      (All-contains (IsJobRight keys) out inner.0 kept.jobs inner.1).0 in
       let same : key_for keys inner.0.key ≡ key = ap (λ (job : OutValue). job.key) inner.2 ∙ outer.2 in
       let tree : tree_at keys inner.0.key ≡ Some key =
       right.1 ∙ ap Some (sym (key_is keys inner.0.key right.0 right.1) ∙ same) in
@@ -65,19 +66,19 @@ module _ (keys : Trees) (ids : List ℕ) (outcomes : List Outcome) (found : List
       (among_map (λ (job : JobOut). job.key) out inner.0 inner.1)
 
   -- a number that is due is that of a key that is
-  pub due_for : (number : ℕ) (key : Key) → tree_at keys number ≡ Some key → Contains found (Some number)
+  pub due_for : (number : ℕ) (key : Key) → tree_at keys number ≡ Some key → Contains numbers (Some number)
       → IsDueNumber keys places out number
-      → IsDue (viewed keys ids outcomes found places cached room out given) key
+      → IsDue (viewed keys ids outcomes numbers places cached room out given) key
   due_for number key live unit due =
       let same : key_for keys number ≡ key = key_is keys number key live in
       let tree : (k : Key) × (tree_at keys number ≡ Some k) × Contains (keys_of (zip ids outcomes)) (Some k) =
-      stand_live keys found (keys_of (zip ids outcomes)) kept.stand number unit in
+      stand_live keys numbers (keys_of (zip ids outcomes)) kept.stand number unit in
       record {
         in_use =
             subst (λ (k : Key). Contains (keys_of (zip ids outcomes)) (Some k))
             (sym (key_is keys number tree.0 tree.1) ∙ same) tree.2;
         awaited = λ held.
-            awaited_for keys ids outcomes found places cached out kept number key live due.awaited
+            awaited_for keys ids outcomes numbers places cached out kept number key live due.awaited
             (subst (Contains (keys_for keys (numbers_held places))) (sym same) held);
         free = λ is. due.free (seen_out_key number key live is);
         ready =
@@ -93,15 +94,15 @@ module _ (keys : Trees) (ids : List ℕ) (outcomes : List Outcome) (found : List
   awaits number key live not (Some (Some picture)) same some =
       absurd (not
       (subst (Contains (keys_for keys (numbers_held places))) (key_is keys number key live)
-      (held_for keys ids outcomes found places cached out kept number key live picture (sym same))))
+      (held_for keys ids outcomes numbers places cached out kept number key live picture (sym same))))
 
   -- a key that is due has a number that is
-  pub due_from : (key : Key) → IsDue (viewed keys ids outcomes found places cached room out given) key
-      → (number : ℕ) × Contains found (Some number) × (tree_at keys number ≡ Some key)
+  pub due_from : (key : Key) → IsDue (viewed keys ids outcomes numbers places cached room out given) key
+      → (number : ℕ) × Contains numbers (Some number) × (tree_at keys number ≡ Some key)
       × IsDueNumber keys places out number
   due_from key due =
-      let unit : (n : ℕ) × Contains found (Some n) × (tree_at keys n ≡ Some key) =
-      stand_number keys found (keys_of (zip ids outcomes)) kept.stand key due.in_use in (
+      let unit : (n : ℕ) × Contains numbers (Some n) × (tree_at keys n ≡ Some key) =
+      stand_number keys numbers (keys_of (zip ids outcomes)) kept.stand key due.in_use in (
         unit.0,
         unit.1,
         unit.2,
@@ -118,20 +119,20 @@ module _ (keys : Trees) (ids : List ℕ) (outcomes : List Outcome) (found : List
       )
 
   -- where no unit's number is due, no key is
-  pub none_due : All (IsNotDue keys places out) found
-      → IsAnyDue (viewed keys ids outcomes found places cached room out given) → ⊥
+  pub none_due : All (IsNotDue keys places out) numbers
+      → IsAnyDue (viewed keys ids outcomes numbers places cached room out given) → ⊥
   none_due none any =
-      let from : (number : ℕ) × Contains found (Some number) × (tree_at keys number ≡ Some any.0)
+      let from : (number : ℕ) × Contains numbers (Some number) × (tree_at keys number ≡ Some any.0)
       × IsDueNumber keys places out number = due_from any.0 any.1 in
-      All-contains (IsNotDue keys places out) found (Some from.0) none from.1 from.3
+      All-contains (IsNotDue keys places out) numbers (Some from.0) none from.1 from.3
 
-  module _ (at : ℕ) (within : at < length found) (number : ℕ) (is : Some number ≡ slice_index_or found at (Some number))
+  module _ (at : ℕ) (within : at < length numbers) (number : ℕ) (is : Some number ≡ slice_index_or numbers at (Some number))
       (due : IsDueNumber keys places out number) where
     in_units : at < length (zip ids outcomes)
     in_units = omega (
       arith,
       within,
-      found_length keys ids outcomes found places cached room out given kept,
+      found_length keys ids outcomes numbers places cached room out given kept,
       length-zip_same ids outcomes kept.same,
     )
 
@@ -151,7 +152,7 @@ module _ (keys : Trees) (ids : List ℕ) (outcomes : List Outcome) (found : List
     tree_is : tree_at keys number ≡ key_of_outcome known unit.0.1
     tree_is =
         let has : (key : Key) × (slice_get (keys_of (zip ids outcomes)) at ≡ Some (Some key)) × (tree_at keys number ≡ Some key) =
-        keyed keys ids outcomes found places cached room out given kept at within number is in
+        keyed keys ids outcomes numbers places cached room out given kept at within number is in
         has.2 ∙ one_key has.0 (key_of_outcome known unit.0.1) has.1 unit.1.key
 
     pub has_known : (outcome : Outcome) → unit.0.1 ≡ outcome → HasKnown keys outcome number known
@@ -159,35 +160,35 @@ module _ (keys : Trees) (ids : List ℕ) (outcomes : List Outcome) (found : List
         subst (λ o. HasKnown keys o number known) same
         (record { tree = tree_is; decodes = unit.1.can kept.decodable })
 
-    contained : Contains found (Some number)
+    contained : Contains numbers (Some number)
     contained = (at, within, sym is)
 
     -- some key is due
-    pub any_due : IsAnyDue (viewed keys ids outcomes found places cached room out given)
+    pub any_due : IsAnyDue (viewed keys ids outcomes numbers places cached room out given)
     any_due = (due.key, due_for number due.key due.tree contained due)
 
-    none_before : All (IsNotDue keys places out) (take at found) → (key : Option Key)
+    none_before : All (IsNotDue keys places out) (take at numbers) → (key : Option Key)
         → Contains (keys_after [] (take at (zip ids outcomes))) key
-        → IfSome key (λ k. IsDue (viewed keys ids outcomes found places cached room out given) k → ⊥)
+        → IfSome key (λ k. IsDue (viewed keys ids outcomes numbers places cached room out given) k → ⊥)
     none_before none None among = search rules
     none_before none (Some key) among = λ key_due.
-        let before : AllStandFor keys (take at found) (keys_after [] (take at (zip ids outcomes))) =
-        subst (AllStandFor keys (take at found)) unit.1.before
-        (stand_take keys found (keys_of (zip ids outcomes)) at kept.stand) in
-        let first : (n : ℕ) × Contains (take at found) (Some n) × (tree_at keys n ≡ Some key) =
-        stand_number keys (take at found) (keys_after [] (take at (zip ids outcomes))) before key among in
-        let from : (n : ℕ) × Contains found (Some n) × (tree_at keys n ≡ Some key) × IsDueNumber keys places out n =
+        let before : AllStandFor keys (take at numbers) (keys_after [] (take at (zip ids outcomes))) =
+        subst (AllStandFor keys (take at numbers)) unit.1.before
+        (stand_take keys numbers (keys_of (zip ids outcomes)) at kept.stand) in
+        let first : (n : ℕ) × Contains (take at numbers) (Some n) × (tree_at keys n ≡ Some key) =
+        stand_number keys (take at numbers) (keys_after [] (take at (zip ids outcomes))) before key among in
+        let from : (n : ℕ) × Contains numbers (Some n) × (tree_at keys n ≡ Some key) × IsDueNumber keys places out n =
         due_from key key_due in
         let same : from.0 ≡ first.0 = kept.right.one.trees from.0 first.0 key from.2 first.2 in
-        All-contains (IsNotDue keys places out) (take at found) (Some first.0) none first.1
+        All-contains (IsNotDue keys places out) (take at numbers) (Some first.0) none first.1
         (subst (IsDueNumber keys places out) same from.3)
 
     -- the job of the unit is given
     pub given_job : (outcome : Outcome) → unit.0.1 ≡ outcome
         → (input : InputValue) → IsInputOf known outcome input → (next from : ℕ) → next ≡ given + 1
-        → (more : List JobOut) → more ≡ out ++ (record { number = next; key = number; input = input; from = from }) ∷ []
-        → Gives (viewed keys ids outcomes found places cached room out given) at (record { number = next; input = input })
-        (viewed keys ids outcomes found places cached room more next)
+        → (more : List JobOut) → more ≡ out ++ (record { number = next; key = number; input = input; first_place = from }) ∷ []
+        → Gives (viewed keys ids outcomes numbers places cached room out given) at (record { number = next; input = input })
+        (viewed keys ids outcomes numbers places cached room more next)
     given_job (Faulty fault) same input made next from next_is more more_is = absurd made
     given_job Empty same input made next from next_is more more_is = absurd made
     given_job (Planned plan) same input made next from next_is more more_is =
@@ -209,17 +210,17 @@ module _ (keys : Trees) (ids : List ℕ) (outcomes : List Outcome) (found : List
           requests_are = made.0;
           shows = made.1;
           new_is =
-              ap (λ (jobs : List OutValue). record (viewed keys ids outcomes found places cached room out given) { out = jobs; given = next })
+              ap (λ (jobs : List OutValue). record (viewed keys ids outcomes numbers places cached room out given) { jobs_out = jobs; jobs_given = next })
               (ap (jobs_for keys) more_is
-              ∙ map-append (seen keys) out ((record { number = next; key = number; input = input; from = from }) ∷ [])
+              ∙ map-append (seen keys) out ((record { number = next; key = number; input = input; first_place = from }) ∷ [])
               ∙ ap (λ (key : Key). jobs_for keys out ++ (record { number = next; key = key; input = input }) ∷ []) key_same);
         }
 
     -- where no unit before it is due, its job is taken
     pub taken : (job : JobValue) (new : StoreValue)
-        → Gives (viewed keys ids outcomes found places cached room out given) at job new
-        → All (IsNotDue keys places out) (take at found)
-        → (takes : Takes (viewed keys ids outcomes found places cached room out given) job new) × (at ≡ length takes.before)
+        → Gives (viewed keys ids outcomes numbers places cached room out given) at job new
+        → All (IsNotDue keys places out) (take at numbers)
+        → (takes : Takes (viewed keys ids outcomes numbers places cached room out given) job new) × (at ≡ length takes.before)
     taken job new gives none = (
       record {
         before = gives.before;
@@ -230,7 +231,7 @@ module _ (keys : Trees) (ids : List ℕ) (outcomes : List Outcome) (found : List
         due = gives.due;
         earliest =
             subst (λ (units : List (ℕ × Outcome)). All (λ key. IfSome key
-            (λ k. IsDue (viewed keys ids outcomes found places cached room out given) k → ⊥)) (keys_of units)) before_is
+            (λ k. IsDue (viewed keys ids outcomes numbers places cached room out given) k → ⊥)) (keys_of units)) before_is
             (All-from_contains (keys_after [] (take at (zip ids outcomes))) (none_before none));
         number_is = gives.number_is;
         requests_are = gives.requests_are;
@@ -249,8 +250,8 @@ module _ (keys : Trees) (ids : List ℕ) (outcomes : List Outcome) (found : List
     -- what is stored then
     pub kept_taken : (outcome : Outcome) → unit.0.1 ≡ outcome → (input : InputValue) → IsInputOf known outcome input
         → (next from : ℕ) (more : List JobOut)
-        → more ≡ out ++ (record { number = next; key = number; input = input; from = from }) ∷ []
-        → IsKept keys ids outcomes found places cached more
+        → more ≡ out ++ (record { number = next; key = number; input = input; first_place = from }) ∷ []
+        → IsKept keys ids outcomes numbers places cached more
     kept_taken (Faulty fault) same input made next from more more_is = absurd made
     kept_taken Empty same input made next from more more_is = absurd made
     kept_taken (Planned plan) same input made next from more more_is =
@@ -261,7 +262,7 @@ module _ (keys : Trees) (ids : List ℕ) (outcomes : List Outcome) (found : List
           tree,
           shows_its_key known input made.1 ∙ ap (λ requests. picture_of_key (key_of known requests)) made.0,
         ) in
-        subst (IsKept keys ids outcomes found places cached) (sym more_is)
+        subst (IsKept keys ids outcomes numbers places cached) (sym more_is)
         (record {
           right = kept.right;
           same = kept.same;
@@ -269,14 +270,14 @@ module _ (keys : Trees) (ids : List ℕ) (outcomes : List Outcome) (found : List
           decodable = kept.decodable;
           used = kept.used;
           stored = kept.stored;
-          jobs = All-push (IsJobRight keys) out (record { number = next; key = number; input = input; from = from }) kept.jobs right;
+          jobs = All-push (IsJobRight keys) out (record { number = next; key = number; input = input; first_place = from }) kept.jobs (right, made.2);
         })
 
     -- the unit's outcome is what is stored at its place
     pub outcome_same : (outcome : Outcome) → outcome ≡ slice_index_or outcomes at outcome → unit.0.1 ≡ outcome
     outcome_same outcome there =
         second_at ids outcomes at unit.0 outcome unit.1.got there
-        (omega (arith, within, found_length keys ids outcomes found places cached room out given kept, kept.same))
+        (omega (arith, within, found_length keys ids outcomes numbers places cached room out given kept, kept.same))
 
     -- what a job is given is whole
     pub whole_of : (outcome : Outcome) (input : InputValue) → IsInputOf known outcome input → IsTrue (is_whole input)

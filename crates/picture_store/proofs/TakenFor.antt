@@ -27,36 +27,36 @@ pub refusal_told : (old : StoreValue) (target place : ℕ) (refused : TakeRefuse
 refusal_told old target place JobsSpent new needed due told = ((place, needed, due), told.0, told.1)
 refusal_told old target place Memory new needed due told = told.1
 
-module _ (keys : Trees) (ids : List ℕ) (outcomes : List Outcome) (found : List (Option ℕ)) (places : PlacesValue)
+module _ (keys : Trees) (ids : List ℕ) (outcomes : List Outcome) (numbers : List (Option ℕ)) (places : PlacesValue)
     (cached : List (ℕ × Picture)) (room : ℕ) (out : List JobOut) (given : ℕ)
-    (kept : IsKept keys ids outcomes found places cached out) (target : ℕ) (dependents : List Dependent) (queue : List (Reverse ℕ))
-    (are : AreScheduled keys (zip ids outcomes) found places out target dependents queue) where
+    (kept : IsKept keys ids outcomes numbers places cached out) (target : ℕ) (dependents : List Dependent) (queue : List (Reverse ℕ))
+    (are : AreScheduled keys (zip ids outcomes) numbers places out target dependents queue) where
   -- the store as contracts see it
   abbrev store : StoreValue
-  store = viewed keys ids outcomes found places cached room out given
+  store = viewed keys ids outcomes numbers places cached room out given
 
   -- where none in the queue is due, no needed unit is
-  pub none_needed_due : ((at : ℕ) → IsQueued queue at → IsDueThere keys places out found at → ⊥) → (at : ℕ)
+  pub none_needed_due : ((at : ℕ) → IsQueued queue at → IsDueThere keys places out numbers at → ⊥) → (at : ℕ)
       → IsNeededBy store target at → IsDueAt store at → ⊥
   none_needed_due none at is due =
-      let there = due_there keys ids outcomes found places cached room out given kept at due in
-      none at (are.due at (needed_from keys ids outcomes found places cached room out given kept target at is) there) there
+      let there = due_there keys ids outcomes numbers places cached room out given kept at due in
+      none at (are.due at (needed_from keys ids outcomes numbers places cached room out given kept target at is) there) there
 
   -- and while the unit is pending, one is out
-  pub one_needed_out : ((at : ℕ) → IsQueued queue at → IsDueThere keys places out found at → ⊥) → IsPending store target
+  pub one_needed_out : ((at : ℕ) → IsQueued queue at → IsDueThere keys places out numbers at → ⊥) → IsPending store target
       → IsAnyOutBy store target
   one_needed_out none pending =
-      one_out keys ids outcomes found places cached room out given kept target (none_needed_due none) pending
+      one_out keys ids outcomes numbers places cached room out given kept target (none_needed_due none) pending
 
-  module _ (place number : ℕ) (is : IsEarliestDue keys places out found queue place number) where
+  module _ (place number : ℕ) (is : IsEarliestDue keys places out numbers queue place number) where
     -- the unit at the place is needed, and due
     pub is_needed : IsNeededBy store target place
     is_needed =
-        needed_of keys ids outcomes found places cached room out given kept target place
+        needed_of keys ids outcomes numbers places cached room out given kept target place
         (are.queued place is.queued (number, is.number_is, λ held. let both = sym held.1 ∙ is.due.awaited in cc))
 
     pub is_due : IsDueAt store place
-    is_due = due_of keys ids outcomes found places cached room out given kept place (number, is.number_is, is.due)
+    is_due = due_of keys ids outcomes numbers places cached room out given kept place (number, is.number_is, is.due)
 
     -- its job is taken
     pub job_told : (told : JobAt) (new : StoreValue) → TellsGiven store place (Ok told) new → TakesFor store target told new
@@ -64,9 +64,9 @@ module _ (keys : Trees) (ids : List ℕ) (outcomes : List Outcome) (found : List
       gives = subst (λ p. Gives store p told.job new) (sym gives.0) gives.1;
       needed = subst (IsNeededBy store target) (sym gives.0) is_needed;
       earliest = λ at below other due.
-          let there = due_there keys ids outcomes found places cached room out given kept at due in
+          let there = due_there keys ids outcomes numbers places cached room out given kept at due in
           let least = is.earliest at
-          (are.due at (needed_from keys ids outcomes found places cached room out given kept target at other) there) there in
+          (are.due at (needed_from keys ids outcomes numbers places cached room out given kept target at other) there) there in
           omega (arith, least, subst (λ p. at < p) gives.0 below);
     }
 

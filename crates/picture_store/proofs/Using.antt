@@ -37,10 +37,10 @@ in_three from to xs ordered =
     ∙ (ap (λ rest. take from xs ++ (take (to - from) (drop from xs) ++ rest)) last
     ∙ sym (append_assoc (take from xs) (take (to - from) (drop from xs)) (drop to xs))))
 
-kept_held : (place : Option (Option Picture)) (found : Option Picture) → (IsSome place → found ≡ None) → kept_or place found ≡ held_or place found
-kept_held None found none = refl
-kept_held (Some None) found none = sym (none refl)
-kept_held (Some (Some picture)) found none = refl
+kept_held : (place : Option (Option Picture)) (numbers : Option Picture) → (IsSome place → numbers ≡ None) → kept_or place numbers ≡ held_or place numbers
+kept_held None numbers none = refl
+kept_held (Some None) numbers none = sym (none refl)
+kept_held (Some (Some picture)) numbers none = refl
 
 not_found : {X : Type 0} (o : Option X) → ((x : X) → o ≡ Some x → ⊥) → o ≡ None
 not_found None none = refl
@@ -185,10 +185,10 @@ module _ (places taken : PlacesValue) (cached : List (ℕ × Picture)) (front go
     }
 
 -- the same of places whose slots are the same
-pub recounted_same : (old grown : PlacesValue) (cached : List (ℕ × Picture)) (room : ℕ) (found : List (Option ℕ)) (new : PlacesValue)
-    (more : List (ℕ × Picture)) (lost : ℕ) → AreSame old grown → IsRecounted grown cached room found new more lost
-    → IsRecounted old cached room found new more lost
-recounted_same old grown cached room found new more lost same is = record {
+pub recounted_same : (old grown : PlacesValue) (cached : List (ℕ × Picture)) (room : ℕ) (numbers : List (Option ℕ)) (new : PlacesValue)
+    (more : List (ℕ × Picture)) (lost : ℕ) → AreSame old grown → IsRecounted grown cached room numbers new more lost
+    → IsRecounted old cached room numbers new more lost
+recounted_same old grown cached room numbers new more lost same is = record {
   counted = is.counted;
   apart = is.apart;
   placed = λ number.
@@ -216,15 +216,15 @@ recounted_same old grown cached room found new more lost same is = record {
 }
 
 -- the same slots count what is found in its parts
-pub countable : (places grown : PlacesValue) (cached : List (ℕ × Picture)) (found : List (Option ℕ)) (from to : ℕ) (leaving : List ℕ)
-    → from ≤ to → AreSame places grown → ((number : ℕ) → uses_at places number ≡ times number found)
+pub countable : (places grown : PlacesValue) (cached : List (ℕ × Picture)) (numbers : List (Option ℕ)) (from to : ℕ) (leaving : List ℕ)
+    → from ≤ to → AreSame places grown → ((number : ℕ) → uses_at places number ≡ times number numbers)
     → ((number : ℕ) → 0 < uses_at places number → Contains (numbers_of cached) number → ⊥)
-    → ((number : ℕ) → times_in number leaving ≡ times number (take (to - from) (drop from found)))
-    → IsCountable grown cached (take from found) (take (to - from) (drop from found)) (drop to found) leaving
-countable places grown cached found from to leaving ordered same counted apart leave = record {
+    → ((number : ℕ) → times_in number leaving ≡ times number (take (to - from) (drop from numbers)))
+    → IsCountable grown cached (take from numbers) (take (to - from) (drop from numbers)) (drop to numbers) leaving
+countable places grown cached numbers from to leaving ordered same counted apart leave = record {
   counted = λ number.
       ap (λ slot. slot.uses) (same.slots number)
-      ∙ (counted number ∙ ap (times number) (in_three from to found ordered));
+      ∙ (counted number ∙ ap (times number) (in_three from to numbers ordered));
   apart = λ number used. apart number (subst (λ n. 0 < n) (ap (λ slot. slot.uses) (same.slots number)) used);
   leave = leave;
 }

@@ -16,15 +16,15 @@ seen keys job = record { number = job.number; key = key_for keys job.key; input 
 -- a store as contracts see it
 abbrev pub viewed : Trees → List ℕ → List Outcome → List (Option ℕ) → PlacesValue → List (ℕ × Picture) → ℕ → List JobOut → ℕ
     → StoreValue
-viewed keys ids outcomes found places cached room out given = record {
+viewed keys ids outcomes numbers places cached room out given = record {
   ids = ids;
   outcomes = outcomes;
-  numbers = found;
+  numbers = numbers;
   room = room;
   held = keys_for keys (numbers_held places);
   cached = keys_for keys (numbers_of cached);
-  out = jobs_for keys out;
-  given = given;
+  jobs_out = jobs_for keys out;
+  jobs_given = given;
 }
 
 -- what holds anyhow holds where a call ran out of memory

@@ -12,8 +12,8 @@ pub record Refits (old : StoreValue) (ids : List ℕ) (outcomes : List Outcome) 
   pub ids_are : new.ids ≡ ids
   pub outcomes_are : new.outcomes ≡ outcomes
   pub room_stays : new.room ≡ old.room
-  pub out_stays : new.out ≡ old.out
-  pub given_stays : new.given ≡ old.given
+  pub out_stays : new.jobs_out ≡ old.jobs_out
+  pub given_stays : new.jobs_given ≡ old.jobs_given
   pub numbers_stay : AreOneToOne old new
   pub held_are : (key : Key)
       → Contains new.held key ↔ (IsInUse new key × (Contains old.held key ⊎ Contains old.cached key))

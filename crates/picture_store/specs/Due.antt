@@ -30,8 +30,8 @@ IsNotDue keys places out number = IfSome number (λ n. IsDueNumber keys places o
 
 -- the key of the unit at a place is due
 abbrev pub IsDueThere : Trees → PlacesValue → List JobOut → List (Option ℕ) → ℕ → Type 0
-IsDueThere keys places out found at =
-    (number : ℕ) × (slice_get found at ≡ Some (Some number)) × IsDueNumber keys places out number
+IsDueThere keys places out numbers at =
+    (number : ℕ) × (slice_get numbers at ≡ Some (Some number)) × IsDueNumber keys places out number
 
 -- the pictures at the own entries of the key of a number are held
 abbrev pub IsReadyNumber : Trees → PlacesValue → ℕ → Type 0

@@ -1,8 +1,10 @@
 -- Jobs that are taken, that land, and that are given back.
-use Rattle.std.specs.Prelude.{◌≡◌, ℕ, ◌+◌, ◌<◌, List, [], ◌∷◌, ◌++◌, ◌↔◌, ◌⊎◌, length, map, remove, slice_get, All, Contains, Option, None, Some, IfSome, Result, Ok, Err}
+use Rattle.std.specs.Prelude.{◌≡◌, ℕ, ◌+◌, ◌<◌, List, [], ◌∷◌, ◌++◌, ◌↔◌, ◌⊎◌, ◌==◌, length, map, position, remove, slice_get, option_and_then, All, Contains, Option, None, Some, IfSome, Result, Ok, Err}
+use Rattle.std.specs.Option.{option_map}
 use Rattle.unit_outcomes.specs.declared.outcome.Outcome.{Outcome}
 use Rattle.unit_outcomes.specs.declared.outcome.Outcome.TheVariants as outcomes
 use Rattle.unit_outcomes.specs.declared.outcome.Plan.{Plan}
+use Rattle.stand_in_device.specs.Inputs.{InputValue}
 use Rattle.stand_in_device.specs.Jobs.{JobValue}
 use Rattle.picture_keys.specs.Keys.{Key}
 use Rattle.picture_keys.specs.Known.{key_of, keys_of, known_after}
@@ -25,7 +27,7 @@ most_jobs = 18446744073709551615
 pub record IsDue (store : StoreValue) (key : Key) : Type 0 where
   pub in_use : IsInUse store key
   pub awaited : Contains store.held key → ⊥
-  pub free : Contains (map (λ job. job.key) store.out) key → ⊥
+  pub free : Contains (map (λ job. job.key) store.jobs_out) key → ⊥
   pub ready : IsReady store.held key
 
 -- some key is due
@@ -42,16 +44,16 @@ pub record Takes (old : StoreValue) (job : JobValue) (new : StoreValue) : Type 0
   pub stands : units_of old ≡ before ++ (id, outcomes.Plan plan) ∷ after
   pub due : IsDue old (key_of (known_after [] before) plan.requests)
   pub earliest : All (λ key. IfSome key (λ key. IsDue old key → ⊥)) (keys_of before)
-  pub number_is : job.number ≡ old.given + 1
+  pub number_is : job.number ≡ old.jobs_given + 1
   pub requests_are : job.input.requests ≡ plan.requests
   pub shows : ShowsKnown (known_after [] before) job.input
   pub new_is : new ≡ record old {
-    out = old.out ++ (record {
+    jobs_out = old.jobs_out ++ (record {
       number = job.number;
       key = key_of (known_after [] before) plan.requests;
       input = job.input;
     }) ∷ [];
-    given = job.number;
+    jobs_given = job.number;
   }
 
 -- the job of the unit at a place, which is due, is given: under the next number, with the requests
@@ -64,24 +66,24 @@ pub record Gives (old : StoreValue) (at : ℕ) (job : JobValue) (new : StoreValu
   pub stands : units_of old ≡ before ++ (id, outcomes.Plan plan) ∷ after
   pub at_is : at ≡ length before
   pub due : IsDue old (key_of (known_after [] before) plan.requests)
-  pub number_is : job.number ≡ old.given + 1
+  pub number_is : job.number ≡ old.jobs_given + 1
   pub requests_are : job.input.requests ≡ plan.requests
   pub shows : ShowsKnown (known_after [] before) job.input
   pub new_is : new ≡ record old {
-    out = old.out ++ (record {
+    jobs_out = old.jobs_out ++ (record {
       number = job.number;
       key = key_of (known_after [] before) plan.requests;
       input = job.input;
     }) ∷ [];
-    given = job.number;
+    jobs_given = job.number;
   }
 
 -- what `take` answers: a job, that none is due, or why none is given though one is due
 abbrev pub AnswersTake : StoreValue → Result (Option JobValue) TakeRefused → StoreValue → Type 0
 AnswersTake old (Ok (Some job)) new = Takes old job new
 AnswersTake old (Ok None) new = (IsAnyDue old → ⊥) × (new ≡ old)
-AnswersTake old (Err JobsSpent) new = IsAnyDue old × (old.given ≡ most_jobs) × (new ≡ old)
-AnswersTake old (Err Memory) new = IsAnyDue old × (old.given < most_jobs) × (new ≡ old)
+AnswersTake old (Err JobsSpent) new = IsAnyDue old × (old.jobs_given ≡ most_jobs) × (new ≡ old)
+AnswersTake old (Err Memory) new = IsAnyDue old × (old.jobs_given < most_jobs) × (new ≡ old)
 
 -- what `take` tells: what it answers, and of a job at which place its unit stands
 abbrev pub TellsTake : StoreValue → Result (Option JobAt) TakeRefused → StoreValue → Type 0
@@ -95,16 +97,16 @@ IsOf job out = (out.number ≡ job.number) × (out.input ≡ job.input)
 
 -- no job that is out is this one
 abbrev pub IsForeign : StoreValue → JobValue → Type 0
-IsForeign store job = All (λ out. IsOf job out → ⊥) store.out
+IsForeign store job = All (λ out. IsOf job out → ⊥) store.jobs_out
 
 -- this job is out, at a place among them
 pub record IsOut (store : StoreValue) (job : JobValue) (at : ℕ) (out : OutValue) : Type 0 where
-  pub stands : slice_get store.out at ≡ Some out
+  pub stands : slice_get store.jobs_out at ≡ Some out
   pub is : IsOf job out
 
 -- without the job at the place
 abbrev pub without : StoreValue → ℕ → StoreValue
-without store at = record store { out = remove store.out at }
+without store at = record store { jobs_out = remove store.jobs_out at }
 
 -- a result lands: that of no job that is out changes nothing; else the job is out no more, and its
 -- picture is held where its key is in use and waits for it
@@ -124,3 +126,16 @@ abbrev pub AnswersGiveBack : StoreValue → JobValue → Returning → StoreValu
 AnswersGiveBack old job returnings.Foreign new = IsForeign old job × (new ≡ old)
 AnswersGiveBack old job returnings.Returned new =
     (at : ℕ) × (out : OutValue) × IsOut old job at out × (new ≡ without old at)
+
+-- what the first job of the number was given to decode, if one of these has it
+abbrev pub input_of : List OutValue → ℕ → Option InputValue
+input_of jobs number =
+    option_map (λ job. job.input)
+    (option_and_then (slice_get jobs) (position (λ job. job.number == number) jobs))
+
+-- the job of the number is given back: where none that is out has it nothing changes; else it is
+-- out no more
+abbrev pub AnswersGiveBackOf : StoreValue → ℕ → Returning → StoreValue → Type 0
+AnswersGiveBackOf old number returnings.Foreign new = All (λ out. out.number ≡ number → ⊥) old.jobs_out × (new ≡ old)
+AnswersGiveBackOf old number returnings.Returned new =
+    (at : ℕ) × (out : OutValue) × (slice_get old.jobs_out at ≡ Some out) × (out.number ≡ number) × (new ≡ without old at)

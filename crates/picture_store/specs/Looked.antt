@@ -7,12 +7,12 @@ use Rattle.picture_store.specs.Due.{IsNotDue}
 
 -- of so many units, from the first on, none is due
 abbrev pub AreNotDue : Trees → PlacesValue → List JobOut → List (Option ℕ) → ℕ → Type 0
-AreNotDue keys places out found count = (count ≤ length found) × All (IsNotDue keys places out) (take count found)
+AreNotDue keys places out numbers count = (count ≤ length numbers) × All (IsNotDue keys places out) (take count numbers)
 
 -- no unit before the job's place has its key
 abbrev pub IsBehind : List (Option ℕ) → JobOut → Type 0
-IsBehind found job = (at : ℕ) → at < job.from → slice_get found at ≡ Some (Some job.key) → ⊥
+IsBehind numbers job = (at : ℕ) → at < job.first_place → slice_get numbers at ≡ Some (Some job.key) → ⊥
 
 -- the job, with this place or an earlier one
 abbrev pub lowered : ℕ → JobOut → JobOut
-lowered from job = record job { from = min job.from from }
+lowered from job = record job { first_place = min job.first_place from }

@@ -22,7 +22,7 @@ IsDueAt store at = (key : Key) × HasKey store at key × IsDue store key
 
 -- the key of the unit at a place is out
 abbrev pub IsOutAt : StoreValue → ℕ → Type 0
-IsOutAt store at = (key : Key) × HasKey store at key × Contains (map (λ job. job.key) store.out) key
+IsOutAt store at = (key : Key) × HasKey store at key × Contains (map (λ job. job.key) store.jobs_out) key
 
 -- some needed unit of that at a place is due
 abbrev pub IsAnyDueBy : StoreValue → ℕ → Type 0

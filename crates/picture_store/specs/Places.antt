@@ -21,7 +21,7 @@ carried places cached number = held_or (place_at places number) (lookup (λ othe
 -- there is a place for each key of the units, with the picture that was held or cached, and no
 -- other place
 abbrev pub ArePlaced : List (Option ℕ) → PlacesValue → List (ℕ × Picture) → PlacesValue → Type 0
-ArePlaced found old cached places =
+ArePlaced numbers old cached places =
     (number : ℕ)
-    → (Contains found (Some number) × (place_at places number ≡ Some (carried old cached number)))
-    ⊎ ((Contains found (Some number) → ⊥) × (place_at places number ≡ None))
+    → (Contains numbers (Some number) × (place_at places number ≡ Some (carried old cached number)))
+    ⊎ ((Contains numbers (Some number) → ⊥) × (place_at places number ≡ None))

@@ -19,13 +19,13 @@ pub record IsCountable (places : PlacesValue) (cached : List (ℕ × Picture)) (
 -- so it is where these keys have come: a key in use has the picture that was held or cached, and
 -- left the cache, into which those went that were held and whose keys are no longer in use, but for
 -- so many that are lost
-pub record IsRecounted (old : PlacesValue) (cached : List (ℕ × Picture)) (room : ℕ) (found : List (Option ℕ)) (new : PlacesValue)
+pub record IsRecounted (old : PlacesValue) (cached : List (ℕ × Picture)) (room : ℕ) (numbers : List (Option ℕ)) (new : PlacesValue)
     (more : List (ℕ × Picture)) (lost : ℕ) : Type 0 where
-  pub counted : (number : ℕ) → uses_at new number ≡ times number found
+  pub counted : (number : ℕ) → uses_at new number ≡ times number numbers
   pub apart : (number : ℕ) → 0 < uses_at new number → Contains (numbers_of more) number → ⊥
-  pub placed : ArePlaced found old cached new
+  pub placed : ArePlaced numbers old cached new
   pub left : List (ℕ × Picture)
-  pub leaves : IsLeft (λ number. Contains found (Some number)) (numbers_of cached) (numbers_of left)
+  pub leaves : IsLeft (λ number. Contains numbers (Some number)) (numbers_of cached) (numbers_of left)
   pub left_pairs : (number : ℕ) (picture : Picture) → Contains left (number, picture) → Contains cached (number, picture)
   pub gone : List ℕ
   pub go : IsLeft (λ number. IsSome (place_at new number)) (numbers_held old) gone

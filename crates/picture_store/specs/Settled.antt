@@ -21,17 +21,17 @@ NeedsNone places out number = IfSome number (λ n. IsHeld places n ⊎ Contains 
 
 -- so many units, from the first on, need none
 abbrev pub AreSettled : PlacesValue → List JobOut → List (Option ℕ) → ℕ → Type 0
-AreSettled places out found count = (count ≤ length found) × All (NeedsNone places out) (take count found)
+AreSettled places out numbers count = (count ≤ length numbers) × All (NeedsNone places out) (take count numbers)
 
 -- what is stored: what is kept of the stream, where each place counts the units that use its key
 -- and no key in use is cached; how many units are known to need no job, and how many not to be due;
 -- no unit before a job's place has its key; and the schedule of the units that one needs
-pub record IsStored (keys : Trees) (ids : List ℕ) (outcomes : List Outcome) (found : List (Option ℕ))
+pub record IsStored (keys : Trees) (ids : List ℕ) (outcomes : List Outcome) (numbers : List (Option ℕ))
     (places : PlacesValue) (cached : List (ℕ × Picture)) (out : List JobOut) (count passed : ℕ) (schedule : Option Schedule) : Type 0 where
-  pub kept : IsKept keys ids outcomes found places cached out
-  pub counted : (number : ℕ) → uses_at places number ≡ times number found
+  pub kept : IsKept keys ids outcomes numbers places cached out
+  pub counted : (number : ℕ) → uses_at places number ≡ times number numbers
   pub apart : (number : ℕ) → 0 < uses_at places number → Contains (numbers_of cached) number → ⊥
-  pub settled : AreSettled places out found count
-  pub looked : AreNotDue keys places out found passed
-  pub behind : All (IsBehind found) out
-  pub scheduled : IsScheduled keys (zip ids outcomes) found places out schedule
+  pub settled : AreSettled places out numbers count
+  pub looked : AreNotDue keys places out numbers passed
+  pub behind : All (IsBehind numbers) out
+  pub scheduled : IsScheduled keys (zip ids outcomes) numbers places out schedule

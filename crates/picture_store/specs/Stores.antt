@@ -23,12 +23,12 @@ pub record StoreValue : Type 0 where
   pub room : ℕ
   pub held : List Key
   pub cached : List Key
-  pub out : List OutValue
-  pub given : ℕ
+  pub jobs_out : List OutValue
+  pub jobs_given : ℕ
 
 -- before the first unit
 abbrev pub empty : ℕ → StoreValue
-empty room = record { ids = []; outcomes = []; numbers = []; room = room; held = []; cached = []; out = []; given = 0 }
+empty room = record { ids = []; outcomes = []; numbers = []; room = room; held = []; cached = []; jobs_out = []; jobs_given = 0 }
 
 -- the units, each with its id and its outcome
 abbrev pub units_of : StoreValue → List (ℕ × Outcome)

@@ -20,14 +20,14 @@ pub record TakesFor (old : StoreValue) (target : ℕ) (told : JobAt) (new : Stor
 abbrev pub TellsTakeFor : StoreValue → ℕ → Result (Option JobAt) TakeRefused → StoreValue → Type 0
 TellsTakeFor old target (Ok (Some told)) new = TakesFor old target told new
 TellsTakeFor old target (Ok None) new = (IsAnyDueBy old target → ⊥) × (new ≡ old)
-TellsTakeFor old target (Err JobsSpent) new = IsAnyDueBy old target × (old.given ≡ most_jobs) × (new ≡ old)
+TellsTakeFor old target (Err JobsSpent) new = IsAnyDueBy old target × (old.jobs_given ≡ most_jobs) × (new ≡ old)
 TellsTakeFor old target (Err Memory) new = new ≡ old
 
 -- what comes of giving the job of the unit at a place, which is due
 abbrev pub TellsGiven : StoreValue → ℕ → Result JobAt TakeRefused → StoreValue → Type 0
 TellsGiven old at (Ok told) new = (told.at ≡ at) × Gives old at told.job new
-TellsGiven old at (Err JobsSpent) new = (old.given ≡ most_jobs) × (new ≡ old)
-TellsGiven old at (Err Memory) new = (old.given < most_jobs) × (new ≡ old)
+TellsGiven old at (Err JobsSpent) new = (old.jobs_given ≡ most_jobs) × (new ≡ old)
+TellsGiven old at (Err Memory) new = (old.jobs_given < most_jobs) × (new ≡ old)
 
 -- whether the picture of the unit at a place is dropped: its key is held no more, where it was
 abbrev pub AnswersDrop : StoreValue → ℕ → Bool → StoreValue → Type 0

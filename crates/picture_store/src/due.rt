@@ -18,18 +18,18 @@ use stand_in_device::Picture;
 pub(crate) fn first_to_do(
     places: &Places<Picture>,
     out: &[JobOut],
-    found: &[Option<KeyId>],
+    numbers: &[Option<KeyId>],
     settled: usize,
 ) -> usize
-    requires { AreSettled places.now out.now found.now settled }
-    ensures { AreSettled places.now out.now found.now result }
+    requires { AreSettled places.now out.now numbers.now settled }
+    ensures { AreSettled places.now out.now numbers.now result }
 {
-    for at in settled..found.len() {
-        if !needs_none(places, out, found[at]) {
+    for at in settled..numbers.len() {
+        if !needs_none(places, out, numbers[at]) {
             return at;
         }
     }
-    found.len()
+    numbers.len()
 }
 
 /// Whether a unit has no key, or one whose picture is held or that of a job that is out.
@@ -47,20 +47,20 @@ pub(crate) fn first_due<F: Fingerprint<Works>>(
     keys: &Keys<Works, F>,
     places: &Places<Picture>,
     out: &[JobOut],
-    found: &[Option<KeyId>],
+    numbers: &[Option<KeyId>],
     from: usize,
 ) -> Option<usize>
     requires right { AreRight keys.now places.now }
-    requires before { AreNotDue keys.now places.now out.now found.now from }
-    ensures { MatchOption result (All (IsNotDue keys.now places.now out.now) found.now)
-        (λ at. (at < length found.now)
+    requires before { AreNotDue keys.now places.now out.now numbers.now from }
+    ensures { MatchOption result (All (IsNotDue keys.now places.now out.now) numbers.now)
+        (λ at. (at < length numbers.now)
         × ((other : Option ℕ)
-        → IfSome (slice_index_or found.now at other) (IsDueNumber keys.now places.now out.now))
-        × All (IsNotDue keys.now places.now out.now) (take at found.now)
-        × ((other : Option ℕ) → IsSome (slice_index_or found.now at other))) }
+        → IfSome (slice_index_or numbers.now at other) (IsDueNumber keys.now places.now out.now))
+        × All (IsNotDue keys.now places.now out.now) (take at numbers.now)
+        × ((other : Option ℕ) → IsSome (slice_index_or numbers.now at other))) }
 {
-    for at in from..found.len() {
-        if has_due(keys, places, out, found[at]) {
+    for at in from..numbers.len() {
+        if has_due(keys, places, out, numbers[at]) {
             return Some(at);
         }
     }
@@ -68,11 +68,11 @@ pub(crate) fn first_due<F: Fingerprint<Works>>(
 }
 
 /// The key of the unit at a place.
-pub(crate) fn key_at(found: &[Option<KeyId>], at: usize) -> Option<KeyId>
+pub(crate) fn key_at(numbers: &[Option<KeyId>], at: usize) -> Option<KeyId>
     ensures { (number : ℕ) → result ≡ Some number
-        ↔ (slice_get found.now at ≡ Some (Some number)) }
+        ↔ (slice_get numbers.now at ≡ Some (Some number)) }
 {
-    match found.get(at) {
+    match numbers.get(at) {
         Some(key) => *key,
         None => None,
     }

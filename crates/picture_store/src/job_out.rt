@@ -1,6 +1,6 @@
 //! Jobs that are out.
 
-ghost use Rattle.std.specs.Prelude.{◌≡◌, ◌<◌, ◌==◌, ◌↔◌, length, map, All, Contains, IsTrue, MatchOption, slice_index_or};
+ghost use Rattle.std.specs.Prelude.{◌≡◌, ◌<◌, ◌==◌, ◌↔◌, length, map, position, All, Contains, IfSome, IsTrue, MatchOption, slice_index_or};
 ghost use Rattle.picture_store.specs.declared.job_out.JobOut.{JobOut as Out};
 ghost use Rattle.picture_store.specs.Kept.{numbers_out};
 ghost use Rattle.picture_store.specs.Looked.{lowered};
@@ -15,7 +15,7 @@ pub(crate) struct JobOut {
     pub(crate) number: u64,
     pub(crate) key: KeyId,
     pub(crate) input: Input,
-    pub(crate) from: usize,
+    pub(crate) first_place: usize,
 }
 
 // By hand, so that whoever drops one is proved over one call.
@@ -25,7 +25,7 @@ impl Drop for JobOut {
             number: _,
             key: _,
             input: _,
-            from: _,
+            first_place: _,
         } = self;
     }
 }
@@ -57,6 +57,18 @@ pub(crate) fn place_of(jobs: &[JobOut], number: u64, input: &Input) -> Option<us
     None
 }
 
+/// The place of the first job of this number.
+pub(crate) fn first_numbered(jobs: &[JobOut], number: u64) -> Option<usize>
+    ensures value { result ≡ position (λ job. job.number == number) jobs.now }
+    ensures inside { IfSome result (λ at. at < length jobs.now) }
+{
+    jobs.iter().position(
+        |job: &JobOut| -> bool
+            ensures { result ≡ (job.now.number == number) }
+        { job.number == number },
+    )
+}
+
 /// Moves the places of jobs down to one, from which on units have other keys than before.
 // The loop has a function of its own, over a slice: there its contract names each job before and
 // after.
@@ -71,6 +83,6 @@ fn lower_each(jobs: &mut [JobOut], from: usize)
     ensures { jobs.new ≡ map (lowered from) jobs.old }
 {
     for job in jobs.iter_mut() {
-        job.from = job.from.min(from);
+        job.first_place = job.first_place.min(from);
     }
 }

@@ -7,7 +7,7 @@ ghost use Rattle.key_slots.specs.Counting.{times, times_in};
 ghost use Rattle.key_slots.specs.Places.{AreSame, uses_at};
 ghost use Rattle.picture_store.specs.Recounts.{IsCountable, IsRecounted};
 
-use crate::refitting::add_found;
+use crate::refitting::add_numbers;
 use dep_keys::KeyId;
 use key_slots::{Places, let_go_all, make_places, take_out, take_up_all};
 use picture_cache::PictureCache;
@@ -15,13 +15,13 @@ use stand_in_device::Picture;
 use std::alloc::{AllocError, Global};
 
 /// The keys of units, in rising order of their numbers.
-fn leaving(alloc: Global, found: &[Option<KeyId>]) -> Result<Vec<KeyId>, AllocError>
+fn leaving(alloc: Global, numbers: &[Option<KeyId>]) -> Result<Vec<KeyId>, AllocError>
     ensures counted { IfOk result (λ keys. (number : ℕ)
-        → times_in number keys.items ≡ times number found.now) }
+        → times_in number keys.items ≡ times number numbers.now) }
     ensures rising { IfOk result (λ keys. IsNonDecreasing keys.items) }
 {
     let mut keys = Vec::new(alloc);
-    add_found(&mut keys, found)?;
+    add_numbers(&mut keys, numbers)?;
     keys.sort_unstable();
     Ok(keys)
 }
@@ -30,25 +30,26 @@ fn leaving(alloc: Global, found: &[Option<KeyId>]) -> Result<Vec<KeyId>, AllocEr
 /// places, and gives the keys of these. The places stay.
 pub(crate) fn make_ready(
     alloc: Global,
-    found: &mut Vec<Option<KeyId>>,
+    numbers: &mut Vec<Option<KeyId>>,
     places: &mut Places<Picture>,
     from: usize,
     to: usize,
     later: &[Option<KeyId>],
 ) -> Result<Vec<KeyId>, AllocError>
     requires ordered { from ≤ to }
-    requires inside { to ≤ length found.old.items }
-    ensures found { found.new.items ≡ found.old.items }
+    requires inside { to ≤ length numbers.old.items }
+    ensures numbers { numbers.new.items ≡ numbers.old.items }
     ensures same { AreSame places.old places.new }
-    ensures found_room { OnOk result (vec_len found.new + length later.now ≤ vec_capacity found.new) }
+    ensures found_room { OnOk result
+        (vec_len numbers.new + length later.now ≤ vec_capacity numbers.new) }
     ensures room { OnOk result ((number : ℕ) → Contains later.now (Some number)
         → number < length places.new) }
     ensures counted { IfOk result (λ keys. (number : ℕ) → times_in number keys.items
-        ≡ times number (take (to - from) (drop from found.old.items))) }
+        ≡ times number (take (to - from) (drop from numbers.old.items))) }
     ensures rising { IfOk result (λ keys. IsNonDecreasing keys.items) }
 {
-    let leaving = leaving(alloc, &found[from..to])?;
-    found.reserve(later.len())?;
+    let leaving = leaving(alloc, &numbers[from..to])?;
+    numbers.reserve(later.len())?;
     make_places(places, later)?;
     Ok(leaving)
 }

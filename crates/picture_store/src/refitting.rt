@@ -36,7 +36,7 @@ pub fn numbers_of<F: Fingerprint<Works>>(
     requires same { length ids.now ≡ length outcomes.now }
     ensures stay { Extends keys.old keys.new }
     ensures one { IsKeyMap keys.old → IsKeyMap keys.new }
-    ensures ok { IfOk result (λ found. AllStandFor keys.new found.items
+    ensures ok { IfOk result (λ numbers. AllStandFor keys.new numbers.items
         (keys_of (zip ids.now outcomes.now))) }
 {
     let mut units = UnitKeys::after(alloc, KeyNumbers::new(alloc));
@@ -73,18 +73,18 @@ fn go_over<F: Fingerprint<Works>>(
 struct Columns<'a> {
     ids: &'a [AuId],
     outcomes: &'a [Shared<HashedOutcome>],
-    found: &'a [Option<KeyId>],
+    numbers: &'a [Option<KeyId>],
 }
 
 impl<'a> Columns<'a> {
     /// The numbers of the keys of so many units, from the first on.
     fn numbers_up_to(&self, alloc: Global, count: usize) -> KeyNumbers<'a>
         requires ids { count ≤ length self.now.ids.now }
-        requires found { count ≤ length self.now.found.now }
+        requires numbers { count ≤ length self.now.numbers.now }
         ensures { result
-            ≡ numbers_over [] (take count self.now.ids.now) (take count self.now.found.now) }
+            ≡ numbers_over [] (take count self.now.ids.now) (take count self.now.numbers.now) }
     {
-        KeyNumbers::over(alloc, &self.ids[..count], &self.found[..count])
+        KeyNumbers::over(alloc, &self.ids[..count], &self.numbers[..count])
     }
 }
 
@@ -95,19 +95,19 @@ pub(crate) fn keys_from<F: Fingerprint<Works>>(
     keys: &mut Keys<Works, F>,
     ids: &[AuId],
     outcomes: &[Shared<HashedOutcome>],
-    found: &[Option<KeyId>],
+    numbers: &[Option<KeyId>],
     states: &Checkpoints<State>,
     stretch: &Stretch,
 ) -> Result<(usize, Vec<Option<KeyId>>), AllocError>
     requires stretch { IsStretch stretch.now ids.now }
     requires same { length ids.now ≡ length outcomes.now }
-    requires stand { AllStandFor keys.old found.now (keys_of (zip ids.now outcomes.now)) }
+    requires stand { AllStandFor keys.old numbers.now (keys_of (zip ids.now outcomes.now)) }
     requires told { TellNeeds states.now.states ids.now outcomes.now }
     ensures stay { Extends keys.old keys.new }
     ensures one { IsKeyMap keys.old → IsKeyMap keys.new }
     ensures behind { IfOk result (λ made. (stretch.now.to ≤ made.0) × (made.0 ≤ length ids.now)) }
     ensures stand { IfOk result (λ made. AllStandFor keys.new
-        (made.1.items ++ drop made.0 found.now)
+        (made.1.items ++ drop made.0 numbers.now)
         (keys_after (known_after []
         (zip (take stretch.now.from ids.now) (take stretch.now.from outcomes.now)))
         (zip stretch.now.ids.items stretch.now.outcomes.items
@@ -116,7 +116,7 @@ pub(crate) fn keys_from<F: Fingerprint<Works>>(
     let units = Columns {
         ids,
         outcomes,
-        found,
+        numbers,
     };
     let mut after = UnitKeys::after(alloc, units.numbers_up_to(alloc, stretch.from));
     go_over(alloc, keys, &mut after, &stretch.ids, &stretch.outcomes)?;
@@ -136,7 +136,7 @@ fn go_on<F: Fingerprint<Works>>(
 ) -> Result<usize, AllocError>
     requires within { to ≤ length units.now.ids.now }
     requires outcomes { length units.now.ids.now ≡ length units.now.outcomes.now }
-    requires found { length units.now.ids.now ≡ length units.now.found.now }
+    requires numbers { length units.now.ids.now ≡ length units.now.numbers.now }
     requires some { AreNumberedSome keys.old after.old.numbers }
     ensures stay { Extends keys.old keys.new }
     ensures one { IsKeyMap keys.old → IsKeyMap keys.new }
@@ -147,7 +147,7 @@ fn go_on<F: Fingerprint<Works>>(
         (before ++ between to past units.now.ids.now units.now.outcomes.now) after.new) }
     ensures agree { IfOk result (λ past. (past ≡ length units.now.ids.now)
         ⊎ AgreeAt states.now.states past
-        (numbers_over [] (take past units.now.ids.now) (take past units.now.found.now))
+        (numbers_over [] (take past units.now.ids.now) (take past units.now.numbers.now))
         after.new.numbers) }
 {
     let mut before = units.numbers_up_to(alloc, to);
@@ -155,7 +155,7 @@ fn go_on<F: Fingerprint<Works>>(
         if agree_at(states, at, &mut before, after)? {
             return Ok(at);
         }
-        before.note(units.ids[at], units.found[at])?;
+        before.note(units.ids[at], units.numbers[at])?;
         after.add(alloc, keys, units.ids[at], &units.outcomes[at])?;
     }
     Ok(units.ids.len())
@@ -219,16 +219,16 @@ pub(crate) fn make_room(
 pub(crate) fn sweep<F: Fingerprint<Works>>(
     alloc: Global,
     keys: &mut Keys<Works, F>,
-    found: &[Option<KeyId>],
+    numbers: &[Option<KeyId>],
     cache: &PictureCache<KeyId, Picture>,
     out: &[JobOut],
 ) -> Result<(), AllocError>
-    ensures stay { KeepsStored found.now cache.now.pairs out.now keys.old keys.new }
+    ensures stay { KeepsStored numbers.now cache.now.pairs out.now keys.old keys.new }
     ensures one { IsKeyMap keys.old → IsKeyMap keys.new }
     ensures swept { OnOk result
-        (AreSwept found.now cache.now.pairs out.now keys.old keys.new) }
+        (AreSwept numbers.now cache.now.pairs out.now keys.old keys.new) }
 {
-    let roots = roots(alloc, found, cache, out)?;
+    let roots = roots(alloc, numbers, cache, out)?;
     keys.sweep(&roots)
 }
 
@@ -236,51 +236,55 @@ pub(crate) fn sweep<F: Fingerprint<Works>>(
 /// the next time: twice as many as are left, and some more.
 pub(crate) fn sweep_at<F: Fingerprint<Works>>(
     alloc: Global,
-    enough: usize,
+    sweep_threshold: usize,
     keys: &mut Keys<Works, F>,
-    found: &[Option<KeyId>],
+    numbers: &[Option<KeyId>],
     cache: &PictureCache<KeyId, Picture>,
     out: &[JobOut],
 ) -> Result<usize, AllocError>
-    ensures stay { KeepsStored found.now cache.now.pairs out.now keys.old keys.new }
+    ensures stay { KeepsStored numbers.now cache.now.pairs out.now keys.old keys.new }
     ensures one { IsKeyMap keys.old → IsKeyMap keys.new }
-    ensures few { IfOk result (λ next. (length keys.new < enough)
-        ⊎ AreSwept found.now cache.now.pairs out.now keys.old keys.new) }
-    ensures next { IfOk result (λ next. (next ≡ enough) ⊎ (next ≤ 2 * length keys.new + 64)) }
+    ensures few { IfOk result (λ next. (length keys.new < sweep_threshold)
+        ⊎ AreSwept numbers.now cache.now.pairs out.now keys.old keys.new) }
+    ensures next { IfOk result (λ next. (next ≡ sweep_threshold)
+        ⊎ (next ≤ 2 * length keys.new + 64)) }
 {
-    if keys.len() < enough {
-        return Ok(enough);
+    if keys.len() < sweep_threshold {
+        return Ok(sweep_threshold);
     }
-    sweep(alloc, keys, found, cache, out)?;
+    sweep(alloc, keys, numbers, cache, out)?;
     Ok(keys.len().saturating_mul(2).saturating_add(64))
 }
 
 /// The keys that are stored.
 fn roots(
     alloc: Global,
-    found: &[Option<KeyId>],
+    numbers: &[Option<KeyId>],
     cache: &PictureCache<KeyId, Picture>,
     out: &[JobOut],
 ) -> Result<Vec<KeyId>, AllocError>
     ensures { IfOk result (λ roots. (number : ℕ)
-        → Contains roots.items number ↔ IsStored found.now cache.now.pairs out.now number) }
+        → Contains roots.items number ↔ IsStored numbers.now cache.now.pairs out.now number) }
 {
     let mut roots = cache.keys(alloc)?;
-    add_found(&mut roots, found)?;
+    add_numbers(&mut roots, numbers)?;
     add_out(&mut roots, out)?;
     Ok(roots)
 }
 
 /// Adds the keys of units.
-pub(crate) fn add_found(roots: &mut Vec<KeyId>, found: &[Option<KeyId>]) -> Result<(), AllocError>
+pub(crate) fn add_numbers(
+    roots: &mut Vec<KeyId>,
+    numbers: &[Option<KeyId>],
+) -> Result<(), AllocError>
     ensures old { OnOk result ((number : ℕ) → Contains roots.old.items number
         → Contains roots.new.items number) }
-    ensures added { OnOk result ((number : ℕ) → Contains found.now (Some number)
+    ensures added { OnOk result ((number : ℕ) → Contains numbers.now (Some number)
         → Contains roots.new.items number) }
     ensures counted { OnOk result ((number : ℕ) → times_in number roots.new.items
-        ≡ times_in number roots.old.items + times number found.now) }
+        ≡ times_in number roots.old.items + times number numbers.now) }
 {
-    for key in found {
+    for key in numbers {
         if let Some(key) = key {
             roots.push(*key)?;
         }

@@ -43,17 +43,17 @@ pub(crate) fn after_landing<F: Fingerprint<Works>>(
     keys: &Keys<Works, F>,
     places: &Places<Picture>,
     out: &[JobOut],
-    found: &[Option<KeyId>],
+    numbers: &[Option<KeyId>],
     schedule: Option<Schedule>,
     key: KeyId,
     landing: Landing,
 ) -> Option<Schedule>
     requires right { AreRight keys.now places.now }
     requires by_entry { IfSome schedule (λ s. AreByEntry s.dependents.items) }
-    ensures { FollowsLanding keys.now places.now out.now found.now key landing schedule result }
+    ensures { FollowsLanding keys.now places.now out.now numbers.now key landing schedule result }
 {
     match landing {
-        Landing::Taken => with_held(keys, places, out, found, schedule, key),
+        Landing::Taken => with_held(keys, places, out, numbers, schedule, key),
         Landing::Stale | Landing::Foreign => schedule,
     }
 }
@@ -64,13 +64,13 @@ fn with_held<F: Fingerprint<Works>>(
     keys: &Keys<Works, F>,
     places: &Places<Picture>,
     out: &[JobOut],
-    found: &[Option<KeyId>],
+    numbers: &[Option<KeyId>],
     schedule: Option<Schedule>,
     key: KeyId,
 ) -> Option<Schedule>
     requires right { AreRight keys.now places.now }
     requires by_entry { IfSome schedule (λ s. AreByEntry s.dependents.items) }
-    ensures { GoesOn keys.now places.now out.now found.now key schedule result }
+    ensures { GoesOn keys.now places.now out.now numbers.now key schedule result }
 {
     let Schedule {
         target,
@@ -81,7 +81,7 @@ fn with_held<F: Fingerprint<Works>>(
     if queue.capacity() < queue.len().saturating_add(freed.len()) {
         return None;
     }
-    enqueue_all_due(keys, places, out, found, freed, &mut queue).ok()?;
+    enqueue_all_due(keys, places, out, numbers, freed, &mut queue).ok()?;
     Some(Schedule {
         target,
         dependents,
@@ -105,17 +105,17 @@ fn enqueue_all_due<F: Fingerprint<Works>>(
     keys: &Keys<Works, F>,
     places: &Places<Picture>,
     out: &[JobOut],
-    found: &[Option<KeyId>],
+    numbers: &[Option<KeyId>],
     freed: &[Dependent],
     queue: &mut BinaryHeap<Reverse<usize>>,
 ) -> Result<(), AllocError>
     requires { AreRight keys.now places.now }
-    ensures { OnOk result (AddsDue keys.now places.now out.now found.now
+    ensures { OnOk result (AddsDue keys.now places.now out.now numbers.now
         (λ at. (entry : ℕ) × WaitsFor freed.now at entry)
         (heap_items queue.old) (heap_items queue.new)) }
 {
     for dependent in freed {
-        enqueue_due(keys, places, out, found, dependent.at, queue)?;
+        enqueue_due(keys, places, out, numbers, dependent.at, queue)?;
     }
     Ok(())
 }

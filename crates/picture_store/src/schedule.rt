@@ -50,14 +50,14 @@ pub(crate) fn schedule_for<F: Fingerprint<Works>>(
     target: usize,
 ) -> Result<Schedule, AllocError>
     requires columns { AreColumns units.now.keys.now units.now.ids.now units.now.outcomes.now
-        units.now.found.now }
+        units.now.numbers.now }
     requires right { AreRight units.now.keys.now units.now.places.now }
     requires within { target < length units.now.ids.now }
     requires kept { IfSome kept (λ s. AreScheduled units.now.keys.now
-        (zip units.now.ids.now units.now.outcomes.now) units.now.found.now units.now.places.now
+        (zip units.now.ids.now units.now.outcomes.now) units.now.numbers.now units.now.places.now
         out.now s.target s.dependents.items (heap_items s.queue)) }
     ensures { IfOk result (λ s. (s.target ≡ target) × AreScheduled units.now.keys.now
-        (zip units.now.ids.now units.now.outcomes.now) units.now.found.now units.now.places.now
+        (zip units.now.ids.now units.now.outcomes.now) units.now.numbers.now units.now.places.now
         out.now target s.dependents.items (heap_items s.queue)) }
 {
     match kept {
@@ -74,11 +74,11 @@ fn new_schedule<F: Fingerprint<Works>>(
     target: usize,
 ) -> Result<Schedule, AllocError>
     requires columns { AreColumns units.now.keys.now units.now.ids.now units.now.outcomes.now
-        units.now.found.now }
+        units.now.numbers.now }
     requires right { AreRight units.now.keys.now units.now.places.now }
     requires within { target < length units.now.ids.now }
     ensures { IfOk result (λ s. (s.target ≡ target) × AreScheduled units.now.keys.now
-        (zip units.now.ids.now units.now.outcomes.now) units.now.found.now units.now.places.now
+        (zip units.now.ids.now units.now.outcomes.now) units.now.numbers.now units.now.places.now
         out.now target s.dependents.items (heap_items s.queue)) }
 {
     let needed = needed_places(alloc, units, target)?;
@@ -100,7 +100,7 @@ fn dependents_of<F: Fingerprint<Works>>(
     requires { AreRight units.now.keys.now units.now.places.now }
     ensures by_entry { IfOk result (λ dependents. AreByEntry dependents.items) }
     ensures listed { IfOk result (λ dependents. (at entry : ℕ) → Contains needed.now at
-        → RefersTo units.now.keys.now units.now.found.now at entry
+        → RefersTo units.now.keys.now units.now.numbers.now at entry
         → (IsHeld units.now.places.now entry → ⊥) → WaitsFor dependents.items at entry) }
     ensures those { IfOk result (λ dependents. (at entry : ℕ)
         → WaitsFor dependents.items at entry → Contains needed.now at) }
@@ -125,10 +125,10 @@ fn add_unit<F: Fingerprint<Works>>(
     ensures only { OnOk result ((place entry : ℕ) → WaitsFor dependents.new.items place entry
         → WaitsFor dependents.old.items place entry ⊎ (at ≡ place)) }
     ensures all { OnOk result ((entry : ℕ)
-        → RefersTo units.now.keys.now units.now.found.now at entry
+        → RefersTo units.now.keys.now units.now.numbers.now at entry
         → (IsHeld units.now.places.now entry → ⊥) → WaitsFor dependents.new.items at entry) }
 {
-    let Some(key) = key_at(units.found, at) else {
+    let Some(key) = key_at(units.numbers, at) else {
         return Ok(());
     };
     match units.keys.node(key) {
@@ -191,14 +191,21 @@ fn queue_of<F: Fingerprint<Works>>(
     requires { AreRight units.now.keys.now units.now.places.now }
     ensures ordered { IfOk result (λ queue. IsQueue (heap_items queue)) }
     ensures due { IfOk result (λ queue. (at : ℕ) → Contains needed.now at
-        → IsDueThere units.now.keys.now units.now.places.now out.now units.now.found.now at
+        → IsDueThere units.now.keys.now units.now.places.now out.now units.now.numbers.now at
         → IsQueued (heap_items queue) at) }
     ensures those { IfOk result (λ queue. (at : ℕ) → IsQueued (heap_items queue) at
         → Contains needed.now at) }
 {
     let mut queue = BinaryHeap::with_capacity(alloc, needed.len().saturating_add(more))?;
     for at in needed {
-        enqueue_due(units.keys, units.places, out, units.found, *at, &mut queue)?;
+        enqueue_due(
+            units.keys,
+            units.places,
+            out,
+            units.numbers,
+            *at,
+            &mut queue,
+        )?;
     }
     Ok(queue)
 }
@@ -208,15 +215,15 @@ pub(crate) fn enqueue_due<F: Fingerprint<Works>>(
     keys: &Keys<Works, F>,
     places: &Places<Picture>,
     out: &[JobOut],
-    found: &[Option<KeyId>],
+    numbers: &[Option<KeyId>],
     at: usize,
     queue: &mut BinaryHeap<Reverse<usize>>,
 ) -> Result<(), AllocError>
     requires { AreRight keys.now places.now }
-    ensures { OnOk result (AddsDue keys.now places.now out.now found.now (λ place. at ≡ place)
+    ensures { OnOk result (AddsDue keys.now places.now out.now numbers.now (λ place. at ≡ place)
         (heap_items queue.old) (heap_items queue.new)) }
 {
-    if due_key(keys, places, out, key_at(found, at)).is_some() {
+    if due_key(keys, places, out, key_at(numbers, at)).is_some() {
         queue.push(Reverse(at))?;
     }
     Ok(())
@@ -227,25 +234,26 @@ pub(crate) fn earliest_due<F: Fingerprint<Works>>(
     keys: &Keys<Works, F>,
     places: &Places<Picture>,
     out: &[JobOut],
-    found: &[Option<KeyId>],
+    numbers: &[Option<KeyId>],
     queue: &mut BinaryHeap<Reverse<usize>>,
 ) -> Option<(usize, KeyId)>
     requires right { AreRight keys.now places.now }
     requires ordered { IsQueue (heap_items queue.old) }
     ensures ordered { IsQueue (heap_items queue.new) }
     ensures stay { (at : ℕ) → IsQueued (heap_items queue.old) at
-        → IsDueThere keys.now places.now out.now found.now at → IsQueued (heap_items queue.new) at }
+        → IsDueThere keys.now places.now out.now numbers.now at
+        → IsQueued (heap_items queue.new) at }
     ensures only { (at : ℕ) → IsQueued (heap_items queue.new) at
         → IsQueued (heap_items queue.old) at }
     ensures due { MatchOption result
         ((at : ℕ) → IsQueued (heap_items queue.old) at
-        → IsDueThere keys.now places.now out.now found.now at → ⊥)
-        (λ due. IsEarliestDue keys.now places.now out.now found.now (heap_items queue.old)
+        → IsDueThere keys.now places.now out.now numbers.now at → ⊥)
+        (λ due. IsEarliestDue keys.now places.now out.now numbers.now (heap_items queue.old)
         due.0 due.1) }
 {
     while let Some(top) = queue.peek() {
         let at = top.0;
-        if let Some(key) = due_key(keys, places, out, key_at(found, at)) {
+        if let Some(key) = due_key(keys, places, out, key_at(numbers, at)) {
             return Some((at, key));
         }
         queue.pop();

@@ -6,16 +6,18 @@ ghost use Rattle.picture_cache.specs.Bounded.{most_room};
 ghost use Rattle.picture_keys.specs.Decodable.{AllCanDecode};
 ghost use Rattle.picture_store.specs.Stores.{empty, AreNumbered, AreOneToOne, IsNumberInUse};
 ghost use Rattle.picture_store.specs.Changes.{RefitsLosing};
-ghost use Rattle.picture_store.specs.Jobs.{AnswersGiveBack, AnswersLand, TellsTake};
+ghost use Rattle.picture_store.specs.Jobs.{AnswersLand, TellsTake};
 ghost use Rattle.picture_store.specs.Showing.{IsNumberAt, IsPictureAt};
 ghost use Rattle.picture_store.specs.Needs.{TellNeeds};
 ghost use Rattle.picture_store.specs.Pending.{IsAnyOutBy, IsDueAt, IsPending};
 ghost use Rattle.picture_store.specs.TakingFor.{AnswersDrop, TellsGiven, TellsTakeFor};
 ghost use Rattle.picture_store.specs.Stretches.{IsStretch, ids_with, outcomes_with};
 
+mod columns;
 mod counts;
+mod returning;
 
-use crate::answers::{JobAt, Landing, Returning};
+use crate::answers::{JobAt, Landing};
 use crate::due::{first_due, first_to_do};
 use crate::filling::{fill, looked_after};
 use crate::inputs::input_of;
@@ -47,17 +49,17 @@ pub struct PictureStore {
     keys: Keys<Works, Sha256Fingerprint>,
     ids: Vec<AuId>,
     outcomes: Vec<Shared<HashedOutcome>>,
-    found: Vec<Option<KeyId>>,
+    numbers: Vec<Option<KeyId>>,
     // How many keys there are where it is time to forget those that aren't needed.
-    enough: usize,
+    sweep_threshold: usize,
     places: Places<Picture>,
     cache: PictureCache<KeyId, Picture>,
-    out: Vec<JobOut>,
-    given: u64,
+    jobs_out: Vec<JobOut>,
+    jobs_given: u64,
     // How many units, from the first on, are known to need no job.
-    settled: usize,
+    units_settled: usize,
     // How many units, from the first on, are known not to be due.
-    looked: usize,
+    units_not_due: usize,
     // That of the last `take_for`, where only jobs were given and results landed since.
     schedule: Option<Schedule>,
 }
@@ -70,14 +72,14 @@ impl Drop for PictureStore {
             keys: _,
             ids: _,
             outcomes: _,
-            found: _,
-            enough: _,
+            numbers: _,
+            sweep_threshold: _,
             places: _,
             cache: _,
-            out: _,
-            given: _,
-            settled: _,
-            looked: _,
+            jobs_out: _,
+            jobs_given: _,
+            units_settled: _,
+            units_not_due: _,
             schedule: _,
         } = self;
     }
@@ -101,16 +103,16 @@ impl Model for PictureStore {
     ghost view = { λ s. record {
       ids = s.ids.items;
       outcomes = s.outcomes.items;
-      numbers = s.found.items;
+      numbers = s.numbers.items;
       room = s.cache.capacity;
       held = keys_for s.keys (numbers_held s.places);
       cached = keys_for s.keys (numbers_of s.cache.pairs);
-      out = jobs_for s.keys s.out.items;
-      given = s.given;
+      jobs_out = jobs_for s.keys s.jobs_out.items;
+      jobs_given = s.jobs_given;
     } };
 
-    ghost invariant = { λ s. IsStored s.keys s.ids.items s.outcomes.items s.found.items s.places s.cache.pairs s.out.items
-        s.settled s.looked s.schedule };
+    ghost invariant = { λ s. IsStored s.keys s.ids.items s.outcomes.items s.numbers.items s.places
+        s.cache.pairs s.jobs_out.items s.units_settled s.units_not_due s.schedule };
 }
 
 impl PictureStore {
@@ -125,30 +127,16 @@ impl PictureStore {
             keys: Keys::new(alloc),
             ids: Vec::new(alloc),
             outcomes: Vec::new(alloc),
-            found: Vec::new(alloc),
-            enough: 0,
+            numbers: Vec::new(alloc),
+            sweep_threshold: 0,
             places: Places::new(alloc),
             cache: PictureCache::new(alloc, room)?,
-            out: Vec::new(alloc),
-            given: 0,
-            settled: 0,
-            looked: 0,
+            jobs_out: Vec::new(alloc),
+            jobs_given: 0,
+            units_settled: 0,
+            units_not_due: 0,
             schedule: None,
         })
-    }
-
-    /// The ids of the units, in the order of the stream.
-    pub fn ids(&self) -> &[AuId]
-        ensures { result.now ≡ self.now.ids }
-    {
-        self.ids.as_slice()
-    }
-
-    /// Each unit's outcome, in the order of the stream.
-    pub fn outcomes(&self) -> &[Shared<HashedOutcome>]
-        ensures { result.now ≡ self.now.outcomes }
-    {
-        self.outcomes.as_slice()
     }
 
     /// The number of each unit's key, in the order of the stream; nothing for a unit that isn't
@@ -157,7 +145,7 @@ impl PictureStore {
         ensures value { result.now ≡ self.now.numbers }
         ensures numbered { AreNumbered self.now }
     {
-        self.found.as_slice()
+        self.numbers.as_slice()
     }
 
     /// Takes a stretch of units in the place of another one. A picture whose key stays in use stays
@@ -190,13 +178,13 @@ impl PictureStore {
             &mut self.keys,
             &self.ids,
             &self.outcomes,
-            &self.found,
+            &self.numbers,
             states,
             &stretch,
         )?;
         let leaving = make_ready(
             self.alloc,
-            &mut self.found,
+            &mut self.numbers,
             &mut self.places,
             stretch.from,
             past,
@@ -211,10 +199,10 @@ impl PictureStore {
         } = stretch;
         replace_range(&mut self.ids, from, to, ids);
         replace_range(&mut self.outcomes, from, to, outcomes);
-        replace_range(&mut self.found, from, past, later);
-        self.settled = self.settled.min(from);
-        self.looked = self.looked.min(from);
-        lower_all(&mut self.out, from);
+        replace_range(&mut self.numbers, from, past, later);
+        self.units_settled = self.units_settled.min(from);
+        self.units_not_due = self.units_not_due.min(from);
+        lower_all(&mut self.jobs_out, from);
         Ok(lost)
     }
 
@@ -224,15 +212,15 @@ impl PictureStore {
         ensures { self.new ≡ self.old }
     {
         self.schedule = None;
-        let enough = sweep_at(
+        let sweep_threshold = sweep_at(
             self.alloc,
-            self.enough,
+            self.sweep_threshold,
             &mut self.keys,
-            &self.found,
+            &self.numbers,
             &self.cache,
-            &self.out,
+            &self.jobs_out,
         )?;
-        self.enough = enough;
+        self.sweep_threshold = sweep_threshold;
         Ok(())
     }
 
@@ -241,7 +229,7 @@ impl PictureStore {
         requires { at < length self.now.ids }
         ensures { IsPictureAt self.now at result }
     {
-        self.places.get(self.found[at]?)?
+        self.places.get(self.numbers[at]?)?
     }
 
     /// The number of the key of the unit at a place of the stream; nothing where it isn't valid.
@@ -251,7 +239,7 @@ impl PictureStore {
         ensures value { IsNumberAt self.now at result }
         ensures one { AreOneToOne self.now self.now }
     {
-        self.found[at]
+        self.numbers[at]
     }
 
     /// Whether a number is that of a key in use: of one that some unit of the stream has.
@@ -270,16 +258,27 @@ impl PictureStore {
         ensures waits { IfOk result (λ told. told ≡ None
             → (at : ℕ) → IsPending self.old at → IsAnyOutBy self.old at) }
     {
-        let settled = first_to_do(&self.places, &self.out, &self.found, self.settled);
-        self.settled = settled;
-        let from = settled.max(self.looked);
-        let due = first_due(&self.keys, &self.places, &self.out, &self.found, from);
+        let settled = first_to_do(
+            &self.places,
+            &self.jobs_out,
+            &self.numbers,
+            self.units_settled,
+        );
+        self.units_settled = settled;
+        let from = settled.max(self.units_not_due);
+        let due = first_due(
+            &self.keys,
+            &self.places,
+            &self.jobs_out,
+            &self.numbers,
+            from,
+        );
         let Some(at) = due else {
-            self.looked = self.found.len();
+            self.units_not_due = self.numbers.len();
             return Ok(None);
         };
-        self.looked = at;
-        let Some(key) = self.found[at] else {
+        self.units_not_due = at;
+        let Some(key) = self.numbers[at] else {
             return Ok(None);
         };
         Ok(Some(self.give(at, key)?))
@@ -301,12 +300,18 @@ impl PictureStore {
             places: &self.places,
             ids: &self.ids,
             outcomes: &self.outcomes,
-            found: &self.found,
+            numbers: &self.numbers,
         };
         let kept = self.schedule.take();
-        let mut schedule = schedule_for(self.alloc, &units, &self.out, kept, at)?;
+        let mut schedule = schedule_for(self.alloc, &units, &self.jobs_out, kept, at)?;
         let queue = &mut schedule.queue;
-        let due = earliest_due(&self.keys, &self.places, &self.out, &self.found, queue);
+        let due = earliest_due(
+            &self.keys,
+            &self.places,
+            &self.jobs_out,
+            &self.numbers,
+            queue,
+        );
         self.schedule = Some(schedule);
         let Some((place, key)) = due else {
             return Ok(None);
@@ -320,20 +325,20 @@ impl PictureStore {
         requires due { IsDueAt self.old at }
         ensures { TellsGiven self.old at result self.new }
     {
-        let Some(number) = self.given.checked_add(1) else {
+        let Some(number) = self.jobs_given.checked_add(1) else {
             return Err(TakeRefused::JobsSpent);
         };
         let outcome = &self.outcomes[at];
         let input = input_of(self.alloc, &self.keys, &self.places, outcome, key)?;
-        self.out.reserve(1)?;
-        let given = input.copy(self.alloc)?;
-        self.out.push_reserved(JobOut {
+        self.jobs_out.reserve(1)?;
+        let copy = input.copy(self.alloc)?;
+        self.jobs_out.push_reserved(JobOut {
             number,
             key,
-            input: given,
-            from: self.looked,
+            input: copy,
+            first_place: self.units_not_due,
         });
-        self.given = number;
+        self.jobs_given = number;
         let job = Job::new(number, input);
         Ok(JobAt { at, job })
     }
@@ -343,40 +348,23 @@ impl PictureStore {
         ensures { AnswersLand self.old finished result self.new }
     {
         let (number, input, picture) = finished.into_parts();
-        let Some(at) = place_of(&self.out, number, &input) else {
+        let Some(at) = place_of(&self.jobs_out, number, &input) else {
             return Landing::Foreign;
         };
-        let job = self.out.remove(at);
+        let job = self.jobs_out.remove(at);
         let schedule = if_ready(&self.keys, &self.places, job.key, self.schedule.take());
         let landing = fill(&mut self.places, job.key, picture);
-        self.looked = looked_after(self.looked, landing, job.from);
+        self.units_not_due = looked_after(self.units_not_due, landing, job.first_place);
         self.schedule = after_landing(
             &self.keys,
             &self.places,
-            &self.out,
-            &self.found,
+            &self.jobs_out,
+            &self.numbers,
             schedule,
             job.key,
             landing,
         );
         landing
-    }
-
-    /// Takes a job back that wasn't decoded. It takes no memory.
-    pub fn give_back(&mut self, job: Job) -> Returning
-        ensures { AnswersGiveBack self.old job result self.new }
-    {
-        let (number, input) = job.into_parts();
-        match place_of(&self.out, number, &input) {
-            Some(at) => {
-                drop(self.out.remove(at));
-                self.settled = 0;
-                self.looked = 0;
-                self.schedule = None;
-                Returning::Returned
-            }
-            None => Returning::Foreign,
-        }
     }
 
     /// Drops the picture of the unit at a place, and says whether it was held. It isn't cached, and
@@ -385,15 +373,15 @@ impl PictureStore {
         requires { at < length self.old.ids }
         ensures { AnswersDrop self.old at result self.new }
     {
-        let Some(key) = self.found[at] else {
+        let Some(key) = self.numbers[at] else {
             return false;
         };
         if !is_held(&self.places, key) {
             return false;
         }
         self.places.empty(key);
-        self.settled = 0;
-        self.looked = 0;
+        self.units_settled = 0;
+        self.units_not_due = 0;
         self.schedule = None;
         true
     }

@@ -36,7 +36,7 @@ use Rattle.script_run.specs.Settling.{Lands, Settles, Takes}
 
 -- the keys of the jobs that are out
 abbrev pub keys_out : Machine → List Key
-keys_out machine = map (λ (job : OutValue). job.key) machine.out
+keys_out machine = map (λ (job : OutValue). job.key) machine.jobs_out
 
 -- from one state to the other the stream stays, no picture goes, and no key is out that wasn't
 pub record Eases (old new : Machine) : Type 0 where
@@ -78,7 +78,7 @@ record HasOneMore (old : Machine) (number : ℕ) (new : Machine) : Type 0 where
   held : new.held ≡ old.held
   more : OutValue
   number_is : more.number ≡ number
-  out : new.out ≡ old.out ++ more ∷ []
+  out : new.jobs_out ≡ old.jobs_out ++ more ∷ []
   given : new.jobs ≡ old.jobs + 1
 
 takes_one : (old : Machine) (unit : Option ℕ) (job : TakenJob) (new : Machine) → Takes unit old (Some job) new
@@ -92,8 +92,8 @@ takes_one old None job new took =
       held = ap (λ (s : StoreValue). s.held) takes.new_is;
       more = _;
       number_is = is.1;
-      out = ap (λ (s : StoreValue). s.out) takes.new_is;
-      given = ap (λ (s : StoreValue). s.given) takes.new_is ∙ takes.number_is;
+      out = ap (λ (s : StoreValue). s.jobs_out) takes.new_is;
+      given = ap (λ (s : StoreValue). s.jobs_given) takes.new_is ∙ takes.number_is;
     }
 takes_one old (Some id) job new took =
     let answered : ◌≡◌ {A = Result (Option TakenJob) TakeRefused} took.0 (Ok (Some job)) = cc in
@@ -105,15 +105,15 @@ takes_one old (Some id) job new took =
       held = ap (λ (s : StoreValue). s.held) gives.new_is;
       more = _;
       number_is = is.1;
-      out = ap (λ (s : StoreValue). s.out) gives.new_is;
-      given = ap (λ (s : StoreValue). s.given) gives.new_is ∙ gives.number_is;
+      out = ap (λ (s : StoreValue). s.jobs_out) gives.new_is;
+      given = ap (λ (s : StoreValue). s.jobs_given) gives.new_is ∙ gives.number_is;
     }
 
 -- the stream stays, no picture goes, and no job comes
 record HasNoMore (old new : Machine) : Type 0 where
   stream : new.register ≡ old.register
   held : (key : Key) → Contains old.held key → Contains new.held key
-  out : (job : OutValue) → Contains new.out job → Contains old.out job
+  out : (job : OutValue) → Contains new.jobs_out job → Contains old.jobs_out job
   given : new.jobs ≡ old.jobs
 
 -- what is left of a list without one of its items was in it
@@ -137,8 +137,8 @@ lands_no_more old number (Ok landing.Foreign) new is =
     record {
       stream = is.2.1.1;
       held = λ key held. subst (λ (s : StoreValue). Contains s.held key) (sym lands.1) held;
-      out = λ job out. subst (λ (s : StoreValue). Contains s.out job) lands.1 out;
-      given = ap (λ (s : StoreValue). s.given) lands.1;
+      out = λ job out. subst (λ (s : StoreValue). Contains s.jobs_out job) lands.1 out;
+      given = ap (λ (s : StoreValue). s.jobs_given) lands.1;
     }
 lands_no_more old number (Ok landing.Stale) new is =
     let lands = is.2.0 in
@@ -146,8 +146,8 @@ lands_no_more old number (Ok landing.Stale) new is =
       stream = is.2.1.1;
       held = λ key held. subst (λ (s : StoreValue). Contains s.held key) (sym lands.4) held;
       out = λ job out.
-          remove_among old.out lands.0 job (subst (λ (s : StoreValue). Contains s.out job) lands.4 out);
-      given = ap (λ (s : StoreValue). s.given) lands.4;
+          remove_among old.jobs_out lands.0 job (subst (λ (s : StoreValue). Contains s.jobs_out job) lands.4 out);
+      given = ap (λ (s : StoreValue). s.jobs_given) lands.4;
     }
 lands_no_more old number (Ok landing.Taken) new is =
     let lands = is.2.0 in
@@ -155,8 +155,8 @@ lands_no_more old number (Ok landing.Taken) new is =
       stream = is.2.1.1;
       held = λ key held. (lands.5 key).1 (inl held);
       out = λ job out.
-          remove_among old.out lands.0 job (subst (λ (s : StoreValue). Contains s.out job) lands.6 out);
-      given = ap (λ (s : StoreValue). s.given) lands.6;
+          remove_among old.jobs_out lands.0 job (subst (λ (s : StoreValue). Contains s.jobs_out job) lands.6 out);
+      given = ap (λ (s : StoreValue). s.jobs_given) lands.6;
     }
 
 -- where the jobs have nothing of a number, none has it
@@ -198,14 +198,14 @@ lands_eases old unit job new lands =
       stream = none_more.stream ∙ one.stream;
       held = λ key held. none_more.held key (subst (λ (l : List Key). Contains l key) (sym one.held) held);
       out = λ key out.
-          let source = among_source (λ (it : OutValue). it.key) new.out key out in
-          let was : Contains (old.out ++ one.more ∷ []) source.0 =
+          let source = among_source (λ (it : OutValue). it.key) new.jobs_out key out in
+          let was : Contains (old.jobs_out ++ one.more ∷ []) source.0 =
           subst (λ (l : List OutValue). Contains l source.0) one.out (none_more.out source.0 source.1) in
-          elim (Contains-push_cases old.out one.more source.0 was) [
+          elim (Contains-push_cases old.jobs_out one.more source.0 was) [
             | inl there ↦
-                subst (Contains (keys_out old)) source.2 (among_map (λ (it : OutValue). it.key) old.out source.0 there)
+                subst (Contains (keys_out old)) source.2 (among_map (λ (it : OutValue). it.key) old.jobs_out source.0 there)
             | inr last ↦
-                absurd (gone (as_taken source.0) (among_map as_taken new.out source.0 source.1)
+                absurd (gone (as_taken source.0) (among_map as_taken new.jobs_out source.0 source.1)
                 (ap (λ (it : OutValue). it.number) (sym last) ∙ one.number_is))
           ];
     }

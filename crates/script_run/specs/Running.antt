@@ -1,9 +1,7 @@
 -- The run of a script's commands on a session, and what it writes (docs/OUTPUT.md).
-use Rattle.std.specs.Prelude.{◌≡◌, ℕ, ◌-◌, ◌≤◌, ◌++◌, Bool, List, [], ◌∷◌, length, Result, Ok, Err, Option, Some, None, IfSome, ◌⊎◌}
+use Rattle.std.specs.Prelude.{◌≡◌, ℕ, ◌-◌, ◌≤◌, Bool, List, [], ◌∷◌, length, Result, Ok, Err, Option, Some, None, IfSome, ◌⊎◌}
 use Rattle.annexb.specs.ByteStream.{joined}
 use Rattle.stream_edits.specs.declared.edits.Edit.TheVariants.{Insert}
-use Rattle.stream_edits.specs.declared.edits.Place.{Place}
-use Rattle.stream_edits.specs.declared.edits.Place.TheVariants.{First, After}
 use Rattle.stream_edits.specs.declared.receipts.Receipt.{Receipt}
 use Rattle.stream_edits.specs.declared.refusals.EditRefused.{EditRefused}
 use Rattle.edit_engine.specs.declared.commands.Command.{Command as Told}
@@ -13,7 +11,7 @@ use Rattle.edit_engine.specs.declared.replies.Reply.TheVariants as replies
 use Rattle.edit_engine.specs.declared.refusals.NoSuchUnit.{NoSuchUnit}
 use Rattle.edit_engine.specs.declared.replies.TakenJob.{TakenJob}
 use Rattle.edit_engine.specs.declared.replies.UnitReport.{UnitReport}
-use Rattle.stream_edits.specs.Streams.{last_of}
+use Rattle.stream_edits.specs.Streams.{end_of}
 use Rattle.edit_engine.specs.Machines.{Machine, empty}
 use Rattle.edit_engine.specs.Runs.{Answers as Replies}
 use Rattle.stream_edits.specs.Streams.{Stream}
@@ -30,15 +28,6 @@ use Rattle.edit_script.specs.Words.{id_of}
 use Rattle.edit_script.specs.declared.session_commands.SessionCommand.{SessionCommand}
 use Rattle.edit_script.specs.declared.session_commands.SessionCommand.TheVariants as command
 use Rattle.access_unit.specs.declared.room.Refusal.{Refusal}
-
--- after the unit of this id, or first where there is none
-abbrev pub place_after : Option ℕ → Place
-place_after (Some id) = After id
-place_after None = First
-
--- after the last unit
-abbrev pub end_of : Stream → Place
-end_of stream = place_after (last_of stream).id
 
 -- the units that are left are inserted after the last one, each by an edit, of so many in all: to
 -- the end, or to the first edit that is refused

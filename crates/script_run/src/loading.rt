@@ -7,14 +7,15 @@ ghost use Rattle.edit_engine.specs.declared.commands.Command.TheVariants as told
 ghost use Rattle.edit_engine.specs.declared.replies.Reply.TheVariants as replies;
 ghost use Rattle.edit_engine.specs.Runs.{Answers as Replies};
 ghost use Rattle.script_run.specs.RunFaults.{IsLoadFault};
-ghost use Rattle.script_run.specs.Running.{end_of, InsertsAll, Loads};
+ghost use Rattle.stream_edits.specs.Streams.{end_of};
+ghost use Rattle.script_run.specs.Running.{InsertsAll, Loads};
 
 use crate::answers::{LoadedLine, RefusedLine};
 use crate::run_fault::RunFault;
 use access_unit::{MOST_UNITS, ReadFault, read_units};
 use bytes::Bytes;
 use console_io::Source;
-use edit_engine::{EditRefused, Place, ReadEdit, Receipt, Runner, Session};
+use edit_engine::{EditRefused, ReadEdit, Receipt, Runner};
 use picture_keys::{HashedUnit, hash_units};
 use std::alloc::{AllocError, Global};
 use std::thread::Threads;
@@ -86,16 +87,6 @@ fn insert_last(alloc: Global, unit: HashedUnit, runner: &mut Runner) -> Result<R
         (Insert (end_of runner.old.register.stream) (joined unit)))
         (replies.Edit result) runner.new }
 {
-    let place = end_of(runner.session());
+    let place = runner.session().end();
     runner.edit_read(ReadEdit::insertion(alloc, place, unit)?)
-}
-
-/// The place after the last unit.
-fn end_of(session: &Session) -> Place
-    ensures { result ≡ end_of session.now.register.stream }
-{
-    match session.last().id {
-        Some(id) => Place::After(id),
-        None => Place::First,
-    }
 }

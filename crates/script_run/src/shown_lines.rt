@@ -27,7 +27,8 @@ pub fn shown_line(alloc: Global, number: u64, shown: Shown, hex: bool) -> Result
 
 /// The line of a picture with its digits.
 fn picture_line(alloc: Global, number: u64, picture: Picture) -> Result<String, AllocError>
-    ensures { IfOk result (λ line. string_bytes line ≡ digits_line number (encode_lower picture.digest)) }
+    ensures { IfOk result (λ line. string_bytes line ≡ digits_line number
+        (encode_lower picture.digest)) }
 {
     let digits = hex::encode(alloc, picture.digest.as_slice())?;
     PictureLine(number, digits.as_str()).to_string(alloc)

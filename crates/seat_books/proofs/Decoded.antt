@@ -33,7 +33,7 @@ lone x y (suc at, within, is) = absurd (omega (arith, within))
 
 -- a job that is taken where none is out
 module _ (before mid : Machine) (id : ℕ) (job : JobValue) (told : TellsTake before (Ok (Some (id, job))) mid)
-    (none : before.out ≡ []) where
+    (none : before.jobs_out ≡ []) where
   abbrev takes : pictures.Takes (store_of before) job (store_of mid)
   takes = told.0.0
 
@@ -45,8 +45,8 @@ module _ (before mid : Machine) (id : ℕ) (job : JobValue) (told : TellsTake be
     input = job.input;
   }
 
-  pub out_one : mid.out ≡ given ∷ []
-  out_one = ap (λ (store : StoreValue). store.out) takes.new_is ∙ ap (λ (jobs : List OutValue). jobs ++ given ∷ []) none
+  pub out_one : mid.jobs_out ≡ given ∷ []
+  out_one = ap (λ (store : StoreValue). store.jobs_out) takes.new_is ∙ ap (λ (jobs : List OutValue). jobs ++ given ∷ []) none
 
   pub stays_take : Stays before mid
   stays_take = record {
@@ -84,14 +84,14 @@ record Landed (before new : Machine) (key : Key) : Type 0 where
   used : IsInUse before.register.stream key
   awaited : Contains before.held key → ⊥
   cached_stays : new.cached ≡ before.cached
-  out_none : new.out ≡ []
+  out_none : new.jobs_out ≡ []
 
 module _ (before mid new : Machine) (id : ℕ) (job : JobValue) (told : TellsTake before (Ok (Some (id, job))) mid)
-    (none : before.out ≡ []) where
+    (none : before.jobs_out ≡ []) where
   abbrev out : OutValue
   out = given before mid id job told none
 
-  is_out : mid.out ≡ out ∷ []
+  is_out : mid.jobs_out ≡ out ∷ []
   is_out = out_one before mid id job told none
 
   abbrev taken : Stays before mid
@@ -106,7 +106,7 @@ module _ (before mid new : Machine) (id : ℕ) (job : JobValue) (told : TellsTak
 
   lands : (landing : Landing) → AnswersLand mid job landing new → Landed before new out.key
   lands landings.Foreign answer =
-      absurd (All-contains (λ (other : OutValue). pictures.IsOf job other → ⊥) mid.out out answer.0.0
+      absurd (All-contains (λ (other : OutValue). pictures.IsOf job other → ⊥) mid.jobs_out out answer.0.0
       (subst (λ (jobs : List OutValue). Contains jobs out) (sym is_out) (0, omega arith, refl)) (refl, refl))
   lands landings.Stale answer =
       let at = answer.0.0 in
@@ -138,7 +138,7 @@ module _ (before mid new : Machine) (id : ℕ) (job : JobValue) (told : TellsTak
         awaited = (due before mid id job told none).awaited;
         cached_stays = ap (λ (store : StoreValue). store.cached) new_is ∙ cached_stays before mid id job told none;
         out_none =
-            ap (λ (store : StoreValue). store.out) new_is
+            ap (λ (store : StoreValue). store.jobs_out) new_is
             ∙ subst (λ (jobs : List OutValue). remove jobs at ≡ []) (sym is_out) only.1;
       }
 
@@ -151,7 +151,7 @@ pub IsReplayed-decoded : (journal : List (List Edit)) (books : List SeatBook) (s
     × ((other : ℕ) → has new.ready other ≡ cond (eqb number other) false (has old.ready other)))
     → AnswersLand mid job landing new.session → IsReplayed journal books seat earlier old → IsReplayed journal books seat earlier new
 IsReplayed-decoded journal books seat earlier old new mid id job landing own gone_is told forgets lands_so replayed =
-    let none : old.session.out ≡ [] = replayed.bare.out_none in
+    let none : old.session.jobs_out ≡ [] = replayed.bare.out_none in
     let out : OutValue = given old.session mid id job told none in
     let landed : Landed old.session new.session out.key = lands old.session mid new.session id job told none landing lands_so in
     let taken : Stays old.session mid = stays_take old.session mid id job told none in

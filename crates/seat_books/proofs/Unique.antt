@@ -19,9 +19,9 @@ some_same a b same = cc
 same_unit : (text : List ℕ) (unit other : List (List ℕ)) → IsAccepted text unit → IsAccepted text other → unit ≡ other
 same_unit text unit other is so = same_reading text unit other is.has so.has
 
-same_register : (a b : Register) → a.given ≡ b.given → a.stream ≡ b.stream → a ≡ b
+same_register : (a b : Register) → a.ids_given ≡ b.ids_given → a.stream ≡ b.stream → a ≡ b
 same_register a b given stream =
-    ap (λ (n : ℕ). record a { given = n }) given ∙ ap (λ (units : Stream). record b { stream = units }) stream
+    ap (λ (n : ℕ). record a { ids_given = n }) given ∙ ap (λ (units : Stream). record b { stream = units }) stream
 
 -- the same id, and the same units after it
 pub record SameEdit (id other : ℕ) (new another : Register) : Type 0 where

@@ -42,7 +42,7 @@ AreGone journal books seat n machine gone =
 pub record IsBare (machine : Machine) : Type 0 where
   pub used : (key : Key) → Contains machine.held key → IsInUse machine.register.stream key
   pub cached_none : machine.cached ≡ []
-  pub out_none : machine.out ≡ []
+  pub out_none : machine.jobs_out ≡ []
 
 -- the journal's first entries were made, no fewer than any of the seat's receipts notes, and the
 -- keys are those that are ready and those that other seats drop here

@@ -65,10 +65,13 @@ impl DropTable {
 
     /// Adds the drops of a seat's book.
     fn add_book(&mut self, seat: usize, book: &SeatBook) -> Result<(), AllocError>
-        ensures size { OnOk result (length self.new.by_length.items ≡ length self.old.by_length.items) }
-        ensures drops { OnOk result ((n : ℕ) (drop : DropValue) → n < length self.old.by_length.items
+        ensures size { OnOk result (length self.new.by_length.items
+            ≡ length self.old.by_length.items) }
+        ensures drops { OnOk result ((n : ℕ) (drop : DropValue)
+            → n < length self.old.by_length.items
             → Contains (drops_at self.new n) drop
-            ↔ (Contains (drops_at self.old n) drop ⊎ IsDropIn seat book.now.receipts.items n drop)) }
+            ↔ (Contains (drops_at self.old n) drop ⊎ IsDropIn seat
+            book.now.receipts.items n drop)) }
     {
         for receipt in &book.receipts {
             self.add(seat, receipt)?;
@@ -78,8 +81,10 @@ impl DropTable {
 
     /// Adds the drop that a receipt notes, if it notes one.
     fn add(&mut self, seat: usize, receipt: &SeatReceipt) -> Result<(), AllocError>
-        ensures size { OnOk result (length self.new.by_length.items ≡ length self.old.by_length.items) }
-        ensures drops { OnOk result ((n : ℕ) (drop : DropValue) → n < length self.old.by_length.items
+        ensures size { OnOk result (length self.new.by_length.items
+            ≡ length self.old.by_length.items) }
+        ensures drops { OnOk result ((n : ℕ) (drop : DropValue)
+            → n < length self.old.by_length.items
             → Contains (drops_at self.new n) drop
             ↔ (Contains (drops_at self.old n) drop ⊎ IsDropIn seat (receipt.now ∷ []) n drop)) }
     {
@@ -96,7 +101,8 @@ impl DropTable {
 
     /// Adds a drop with the length, unless that is above those of the table.
     fn put(&mut self, at: u64, dropped: SeatDrop) -> Result<(), AllocError>
-        ensures size { OnOk result (length self.new.by_length.items ≡ length self.old.by_length.items) }
+        ensures size { OnOk result (length self.new.by_length.items
+            ≡ length self.old.by_length.items) }
         ensures drops { OnOk result ((n : ℕ) → n < length self.old.by_length.items
             → drops_at self.new n
             ≡ (if at == n then drops_at self.old n ++ dropped ∷ [] else drops_at self.old n)) }

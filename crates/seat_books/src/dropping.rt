@@ -25,7 +25,8 @@ impl Replay {
         ensures own { self.new.seat ≡ self.old.seat }
         ensures session { self.new.session ≡ self.old.session }
         ensures gone { OnOk result
-            (AreLost self.old.session self.old.seat (drops_at drops.now (reach self.old)) self.new.gone) }
+            (AreLost self.old.session self.old.seat (drops_at drops.now (reach self.old))
+            self.new.gone) }
         ensures ready { OnOk result ((number : ℕ) → has self.new.ready number
             ≡ (has self.old.ready number && not (has self.new.gone number))) }
     {
@@ -58,7 +59,8 @@ impl Replay {
     /// Whether this may be answered to the seat that drops a picture now. Where it may and the
     /// picture was dropped, the unit's key isn't ready any more.
     pub(crate) fn loses(&mut self, id: AuId, answer: Dropping) -> bool
-        ensures { (journal : List (List EditValue)) (books : List Book) (seat : ℕ) (earlier : List Receipt)
+        ensures { (journal : List (List EditValue)) (books : List Book) (seat : ℕ)
+            (earlier : List Receipt)
             → IsReplayed journal books seat earlier self.old
             → Loses journal books seat earlier self.old id answer result self.new }
     {

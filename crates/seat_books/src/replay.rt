@@ -119,7 +119,8 @@ impl Replay {
         ids: &[AuId],
         length: u64,
     ) -> Result<bool, AllocError>
-        ensures { IfOk result (λ agrees. (books : List Book) (seat : ℕ) (earlier : List Receipt) (receipt : Receipt)
+        ensures { IfOk result (λ agrees. (books : List Book) (seat : ℕ) (earlier : List Receipt)
+            (receipt : Receipt)
             → AreNoted (take seat books) noted.now → AreDrops journal.now books drops.now
             → IsOf receipt edits.now ids.now length
             → IsUpTo journal.now books seat earlier self.old
@@ -148,7 +149,8 @@ impl Replay {
     ) -> Result<bool, AllocError>
         ensures { IfOk result (λ agrees. (books : List Book) (seat : ℕ) (earlier : List Receipt)
             → AreDrops journal.now books drops.now → IsUpTo journal.now books seat earlier self.old
-            → IsChecked journal.now books seat earlier (ShowNoted id shown length) agrees self.new) }
+            → IsChecked journal.now books seat earlier (ShowNoted id shown length) agrees
+            self.new) }
     {
         if !self.comes_to(journal, drops, length)? {
             return Ok(false);
@@ -167,7 +169,8 @@ impl Replay {
     ) -> Result<bool, AllocError>
         ensures { IfOk result (λ agrees. (books : List Book) (seat : ℕ) (earlier : List Receipt)
             → AreDrops journal.now books drops.now → IsUpTo journal.now books seat earlier self.old
-            → IsChecked journal.now books seat earlier (DropNoted id answer length) agrees self.new) }
+            → IsChecked journal.now books seat earlier (DropNoted id answer length) agrees
+            self.new) }
     {
         if !self.comes_to(journal, drops, length)? {
             return Ok(false);
@@ -184,7 +187,8 @@ impl Replay {
         to: u64,
     ) -> Result<bool, AllocError>
         ensures { IfOk result (λ may. (books : List Book) (seat : ℕ) (earlier : List Receipt)
-            → AreDrops journal.now books drops.now → IsReplayed journal.now books seat earlier self.old
+            → AreDrops journal.now books drops.now → IsReplayed journal.now books seat earlier
+            self.old
             → MatchBool may
             (IsReplayed journal.now books seat earlier self.new × (reach self.new ≡ to))
             ((to < reach self.old) ⊎ (length journal.now < to))) }
@@ -212,8 +216,10 @@ impl Replay {
     ) -> Result<(), AllocError>
         requires { to ≤ length journal.now }
         ensures { OnOk result ((books : List Book) (seat : ℕ) (earlier : List Receipt)
-            → AreDrops journal.now books drops.now → IsReplayed journal.now books seat earlier self.old
-            → reach self.old ≤ to → IsReplayed journal.now books seat earlier self.new × (reach self.new ≡ to)) }
+            → AreDrops journal.now books drops.now → IsReplayed journal.now books seat earlier
+            self.old
+            → reach self.old ≤ to → IsReplayed journal.now books seat earlier self.new
+            × (reach self.new ≡ to)) }
     {
         for at in self.session.journal().len()..to {
             let _ = self.make(drops, journal[at].edits())?;
@@ -223,8 +229,10 @@ impl Replay {
 
     /// Makes one entry more, and answers the ids that its edits are given.
     fn make(&mut self, drops: &DropTable, edits: &[Edit]) -> Result<Vec<AuId>, AllocError>
-        ensures makes { IfOk result (λ ids. MakesEntry self.old.session edits.now ids.items self.new.session) }
-        ensures follows { OnOk result ((journal : List (List EditValue)) (books : List Book) (seat : ℕ)
+        ensures makes { IfOk result (λ ids. MakesEntry self.old.session edits.now ids.items
+            self.new.session) }
+        ensures follows { OnOk result ((journal : List (List EditValue)) (books : List Book)
+            (seat : ℕ)
             (earlier : List Receipt) → AreDrops journal books drops.now
             → IsReplayed journal books seat earlier self.old
             → slice_get journal (reach self.old) ≡ Some edits.now
@@ -239,7 +247,8 @@ impl Replay {
 
     /// Whether this may be shown now.
     fn sees(&mut self, id: AuId, shown: Shown) -> Result<bool, AllocError>
-        ensures { IfOk result (λ possible. (journal : List (List EditValue)) (books : List Book) (seat : ℕ)
+        ensures { IfOk result (λ possible. (journal : List (List EditValue)) (books : List Book)
+            (seat : ℕ)
             (earlier : List Receipt) → IsReplayed journal books seat earlier self.old
             → Sees journal books seat earlier self.old id shown possible self.new) }
     {
@@ -255,7 +264,8 @@ impl Replay {
     /// Whether this is the picture of the unit's key, which is ready then. Once what is due is
     /// decoded, the session holds the picture of each valid unit.
     fn shows(&mut self, id: AuId, picture: Picture) -> Result<bool, AllocError>
-        ensures { IfOk result (λ possible. (journal : List (List EditValue)) (books : List Book) (seat : ℕ)
+        ensures { IfOk result (λ possible. (journal : List (List EditValue)) (books : List Book)
+            (seat : ℕ)
             (earlier : List Receipt) → IsReplayed journal books seat earlier self.old
             → Sees journal books seat earlier self.old id (Ready picture) possible self.new) }
     {
@@ -279,7 +289,8 @@ impl Replay {
         ensures session { self.new.session ≡ self.old.session }
         ensures gone { self.new.gone ≡ self.old.gone }
         ensures ready { OnOk result ((other : ℕ) → has self.new.ready other
-            ≡ (if has self.old.gone number then has self.old.ready other else (if number == other then true else has self.old.ready other))) }
+            ≡ (if has self.old.gone number then has self.old.ready other else
+            (if number == other then true else has self.old.ready other))) }
     {
         if !self.gone.has(number) {
             self.ready.add(number)?;
@@ -289,7 +300,8 @@ impl Replay {
 
     /// Whether the unit is valid, and its key isn't ready.
     pub(crate) fn may_wait(&self, id: AuId) -> bool
-        ensures { (journal : List (List EditValue)) (books : List Book) (seat : ℕ) (earlier : List Receipt)
+        ensures { (journal : List (List EditValue)) (books : List Book) (seat : ℕ)
+            (earlier : List Receipt)
             → IsReplayed journal books seat earlier self.now
             → Sees journal books seat earlier self.now id Pending result self.now }
     {

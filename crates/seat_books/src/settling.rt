@@ -20,7 +20,8 @@ impl Replay {
     /// Takes jobs, decodes them and lands their results until none is due.
     pub(crate) fn settle(&mut self) -> Result<(), AllocError>
         ensures stays { OnOk result (Stays self.old.session self.new.session) }
-        ensures follows { OnOk result ((journal : List (List EditValue)) (books : List Book) (seat : ℕ)
+        ensures follows { OnOk result ((journal : List (List EditValue)) (books : List Book)
+            (seat : ℕ)
             (earlier : List Receipt) → IsReplayed journal books seat earlier self.old
             → IsReplayed journal books seat earlier self.new) }
         ensures due { OnOk result (IsAnyDue (store_of self.new.session) → ⊥) }
@@ -36,7 +37,8 @@ impl Replay {
     /// Takes a job, decodes it and lands its result; whether one was due.
     fn decode_next(&mut self) -> Result<bool, AllocError>
         ensures stays { IfOk result (λ _. Stays self.old.session self.new.session) }
-        ensures follows { IfOk result (λ _. (journal : List (List EditValue)) (books : List Book) (seat : ℕ)
+        ensures follows { IfOk result (λ _. (journal : List (List EditValue)) (books : List Book)
+            (seat : ℕ)
             (earlier : List Receipt) → IsReplayed journal books seat earlier self.old
             → IsReplayed journal books seat earlier self.new) }
         ensures due { IfOk result (λ was_due. was_due ≡ false

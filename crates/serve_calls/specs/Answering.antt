@@ -55,7 +55,7 @@ stats_of machine sums = record {
   edits = length machine.journal;
   held = length machine.held;
   cached = length machine.cached;
-  jobs_out = length machine.out;
+  jobs_out = length machine.jobs_out;
   steps = sums.steps;
   bytes = sums.bytes;
 }

@@ -1,16 +1,14 @@
 -- A stream whose access units a server inserts one after the other, and the result.
-use Rattle.std.specs.Prelude.{◌≡◌, ◌⊎◌, ◌-◌, ◌≤◌, ⊤, ℕ, List, [], ◌∷◌, length, Option, None, Some, IfSome, Result, Ok, Err}
+use Rattle.std.specs.Prelude.{◌≡◌, ◌⊎◌, ◌-◌, ◌≤◌, ℕ, List, [], ◌∷◌, length, Option, None, Some, IfSome, Result, Ok, Err}
 use Rattle.annexb.specs.ByteStream.{joined}
 use Rattle.access_unit.specs.declared.room.Refusal.{Refusal as StreamRefusal}
 use Rattle.access_unit.specs.Rooms.{IsStream, IsStreamRefused, most_units}
 use Rattle.stream_edits.specs.declared.edits.Edit.TheVariants.{Insert}
-use Rattle.stream_edits.specs.declared.edits.Place.{Place}
-use Rattle.stream_edits.specs.declared.edits.Place.TheVariants.{First, After}
 use Rattle.stream_edits.specs.declared.receipts.Last.{Last}
 use Rattle.stream_edits.specs.declared.receipts.Receipt.{Receipt}
 use Rattle.stream_edits.specs.declared.refusals.EditRefused.{EditRefused}
 use Rattle.stream_edits.specs.declared.refusals.EditRefused.TheVariants as refusals
-use Rattle.stream_edits.specs.Streams.{last_of}
+use Rattle.stream_edits.specs.Streams.{last_of, place_after}
 use Rattle.edit_engine.specs.Machines.{Machine}
 use Rattle.serve_messages.specs.declared.call.Loaded.{Loaded}
 use Rattle.serve_messages.specs.declared.call.Loaded.TheVariants as loaded
@@ -43,11 +41,6 @@ with_unit inserted id =
 -- the result of a load whose units were all inserted
 abbrev pub loaded_answer : Inserted → Answer
 loaded_answer inserted = answer.Loaded inserted.units inserted.first inserted.last
-
--- the place after the last unit
-abbrev pub place_after : Option ℕ → Place
-place_after (Some id) = After id
-place_after None = First
 
 -- this is the end of the session's stream
 abbrev pub IsLast : {B S : Type 0} → (B → Machine → Type 0) → Server B S → Last → Type 0

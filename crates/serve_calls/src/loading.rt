@@ -2,7 +2,7 @@
 
 ghost use Rattle.std.specs.Prelude.{◌≡◌, ℕ, List, IfErr, IfOk, MatchResult};
 ghost use Rattle.serve_calls.specs.Failing.{out_of_memory};
-ghost use Rattle.serve_calls.specs.Loading.{InsertsAll, InsertsLast, IsLast, IsTextOf, IsTextless, LoadsAs, LoadsText, loaded_answer, none_inserted, place_after, with_unit};
+ghost use Rattle.serve_calls.specs.Loading.{InsertsAll, InsertsLast, IsLast, IsTextOf, IsTextless, LoadsAs, LoadsText, loaded_answer, none_inserted, with_unit};
 
 use crate::backend::{Asked, Backend};
 use crate::failing::OUT_OF_MEMORY;
@@ -10,7 +10,7 @@ use crate::server::Server;
 use access_unit::{MOST_UNITS, ReadFault, read_units};
 use bytes::Bytes;
 use console_io::{InputFault, Source};
-use edit_engine::{EditRefused, Last, Place, ReadEdit, Receipt};
+use edit_engine::{EditRefused, Last, ReadEdit, Receipt};
 use picture_keys::{HashedUnit, hash_units};
 use pictures::AuId;
 use serve_messages::{Answer, Failure, Loaded, Refusal};
@@ -112,7 +112,7 @@ impl<B: Backend, S: Source> Server<B, S> {
     fn insert_last(&mut self, unit: HashedUnit) -> Result<Receipt, EditRefused>
         ensures { InsertsLast B.is_session self.old unit result self.new }
     {
-        let place = place_after(self.last().id);
+        let place = self.last().end();
         let read = ReadEdit::insertion(self.alloc, place, unit)?;
         self.edit_read(read)
     }
@@ -122,16 +122,6 @@ impl<B: Backend, S: Source> Server<B, S> {
         ensures { IsLast B.is_session self.now result }
     {
         self.backend.look(|session| session.last())
-    }
-}
-
-/// The place after the last unit, which has this id if there is one.
-fn place_after(id: Option<AuId>) -> Place
-    ensures { result ≡ place_after id }
-{
-    match id {
-        Some(id) => Place::After(id),
-        None => Place::First,
     }
 }
 
@@ -153,7 +143,8 @@ fn text_of<S: Source>(alloc: Global, source: &mut S, loaded: Loaded) -> Result<B
 
 /// The bytes of a file, to be shared.
 fn bytes_of(text: Vec<u8>) -> Result<Bytes, Failure>
-    ensures { MatchResult result (λ bytes. bytes ≡ text.items) (λ failure. failure ≡ out_of_memory) }
+    ensures { MatchResult result (λ bytes. bytes ≡ text.items)
+        (λ failure. failure ≡ out_of_memory) }
 {
     match Bytes::from_vec(text) {
         Ok(bytes) => Ok(bytes),

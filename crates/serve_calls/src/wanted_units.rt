@@ -53,7 +53,8 @@ fn add(units: &mut Vec<WantedUnit>, number: u64) -> Result<(), AllocError>
 
 /// Whether one of the units has the number.
 fn has_number(units: &[WantedUnit], number: u64) -> bool
-    ensures { MatchBool result (IsAmong units.now number) (All (λ unit. unit.number ≢ number) units.now) }
+    ensures { MatchBool result (IsAmong units.now number)
+        (All (λ unit. unit.number ≢ number) units.now) }
 {
     for unit in units {
         if unit.number == number {

@@ -111,7 +111,8 @@ impl<B: Backend, S> Server<B, S> {
     /// What is told of the units as the session is now.
     fn tell_now(&self, units: &[WantedUnit]) -> Result<ToldNow, Failure>
         ensures { MatchResult result
-            (λ told. Asks (B.is_session self.now.backend) (λ machine. TellsOf machine units.now told))
+            (λ told. Asks (B.is_session self.now.backend)
+            (λ machine. TellsOf machine units.now told))
             (λ failure. failure ≡ out_of_memory) }
     {
         let alloc = self.alloc;

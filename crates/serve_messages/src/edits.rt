@@ -72,7 +72,8 @@ pub(crate) fn entries(alloc: Global, parameters: &Value) -> Result<Listed<Edit>,
 
 /// The edits that all of a group's entries ask for.
 fn all_entries(alloc: Global, values: &[Value]) -> Result<Listed<Edit>, FieldFault>
-    ensures { IsFieldAnswer (ok_or (all_of entry_of (items_view values.now)) Parameter.Edits) result }
+    ensures { IsFieldAnswer (ok_or (all_of entry_of (items_view
+        values.now)) Parameter.Edits) result }
 {
     let mut edits = Vec::with_capacity(alloc, values.len())?;
     for value in values {

@@ -1,12 +1,9 @@
 -- Edits, and what is told of them.
-use Rattle.std.specs.Prelude.{◌≡◌, ◌⊎◌, ℕ, Option, None, Some, Result, Ok, Err}
+use Rattle.std.specs.Prelude.{◌≡◌, ◌⊎◌, ℕ, Result, Ok, Err}
 use Rattle.stream_edits.specs.declared.edits.Edit.{Edit}
-use Rattle.stream_edits.specs.declared.edits.Place.{Place}
-use Rattle.stream_edits.specs.declared.edits.Place.TheVariants.{First, After}
 use Rattle.stream_edits.specs.declared.receipts.Receipt.{Receipt}
 use Rattle.stream_edits.specs.declared.refusals.EditRefused.{EditRefused}
 use Rattle.stream_edits.specs.Numbers.{number_of}
-use Rattle.stream_edits.specs.Streams.{Stream, last_of}
 use Rattle.edit_engine.specs.Machines.{Machine, AnswersEdit}
 use Rattle.session_calls.specs.declared.editing.EditReceipt.{EditReceipt}
 use Rattle.session_calls.specs.Statuses.{memory}
@@ -36,12 +33,3 @@ IsWanting old status told tells new = (status ≡ memory) × (tells ≡ told) ×
 abbrev pub EditsByCopy : Machine → Edit → ℕ → EditReceipt → EditReceipt → Machine → Type 0
 EditsByCopy old edit status told tells new =
     EditsBy old edit status told tells new ⊎ IsWanting old status told tells new
-
--- the place behind a unit, or before all where there is none
-abbrev pub behind : Option ℕ → Place
-behind (Some id) = After id
-behind None = First
-
--- the place behind the last unit
-abbrev pub end_of : Stream → Place
-end_of stream = behind (last_of stream).id

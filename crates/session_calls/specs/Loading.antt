@@ -12,7 +12,7 @@ use Rattle.stream_edits.specs.Numbers.{number_of}
 use Rattle.stream_edits.specs.Streams.{Stream}
 use Rattle.edit_engine.specs.Machines.{Machine, AnswersEdit}
 use Rattle.session_calls.specs.declared.loading.LoadTold.{LoadTold}
-use Rattle.session_calls.specs.Editing.{end_of}
+use Rattle.stream_edits.specs.Streams.{end_of}
 use Rattle.session_calls.specs.Statuses.{done, memory}
 
 -- nothing was inserted, with this index

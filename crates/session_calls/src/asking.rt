@@ -67,7 +67,8 @@ pub fn place(session: &Session, id: u32, place: &mut usize) -> u32
 
 /// The position of the unit of the id in output order, from 0 on.
 pub fn position(session: &Session, id: u32, position: &mut usize) -> u32
-    ensures { Tells (position_told session.now.register.stream id) result position.old position.new }
+    ensures { Tells (position_told session.now.register.stream id) result position.old
+        position.new }
 {
     match session.position(AuId::new(id)) {
         Ok(Some(found)) => tell(Ok(found), position),

@@ -3,12 +3,13 @@
 ghost use Rattle.std.specs.Prelude.{◌≡◌};
 ghost use Rattle.stream_edits.specs.declared.edits.Edit.TheVariants.{Insert, Replace, Delete};
 ghost use Rattle.edit_engine.specs.Machines.{AnswersEdit};
-ghost use Rattle.session_calls.specs.Editing.{EditsBy, EditsByCopy, end_of, told_edit};
+ghost use Rattle.stream_edits.specs.Streams.{end_of};
+ghost use Rattle.session_calls.specs.Editing.{EditsBy, EditsByCopy, told_edit};
 
 use crate::statuses::MEMORY;
 use crate::telling::tell;
 use bytes::Bytes;
-use edit_engine::{Edit, EditRefused, Place, Receipt, Runner, Session};
+use edit_engine::{Edit, EditRefused, Place, Receipt, Runner};
 use pictures::AuId;
 use std::alloc::Global;
 
@@ -63,7 +64,8 @@ pub fn insert(
     text: &[u8],
     receipt: &mut EditReceipt,
 ) -> u32
-    ensures { EditsByCopy runner.old (Insert place text.now) result receipt.old receipt.new runner.new }
+    ensures { EditsByCopy runner.old (Insert place text.now) result receipt.old receipt.new
+        runner.new }
 {
     match Bytes::copy_from_slice(alloc, text) {
         Ok(text) => edit(alloc, runner, Edit::Insert(place, text), receipt),
@@ -81,18 +83,8 @@ pub fn insert_last(
     ensures { EditsByCopy runner.old (Insert (end_of runner.old.register.stream) text.now)
         result receipt.old receipt.new runner.new }
 {
-    let place = end_of(runner.session());
+    let place = runner.session().end();
     insert(alloc, runner, place, text, receipt)
-}
-
-/// The place behind the last unit.
-pub(crate) fn end_of(session: &Session) -> Place
-    ensures { result ≡ end_of session.now.register.stream }
-{
-    match session.last().id {
-        Some(id) => Place::After(id),
-        None => Place::First,
-    }
 }
 
 /// Takes the unit of the id out.
@@ -111,7 +103,8 @@ pub fn replace(
     text: &[u8],
     receipt: &mut EditReceipt,
 ) -> u32
-    ensures { EditsByCopy runner.old (Replace id text.now) result receipt.old receipt.new runner.new }
+    ensures { EditsByCopy runner.old (Replace id text.now) result receipt.old receipt.new
+        runner.new }
 {
     match Bytes::copy_from_slice(alloc, text) {
         Ok(text) => edit(alloc, runner, Edit::Replace(AuId::new(id), text), receipt),

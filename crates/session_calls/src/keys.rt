@@ -14,7 +14,8 @@ use pictures::AuId;
 /// The number of the key of the unit of the id: units have equal numbers exactly where their
 /// pictures are made alike, and a number stays while some unit has its key.
 pub fn key(session: &Session, id: u32, key: &mut u64) -> u32
-    ensures { (answer : Result ℕ ℕ) × IsKeyOf session.now id answer × Tells answer result key.old key.new }
+    ensures { (answer : Result ℕ ℕ) × IsKeyOf session.now id answer
+        × Tells answer result key.old key.new }
 {
     tell(key_of(session, id), key)
 }

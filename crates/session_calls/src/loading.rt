@@ -4,10 +4,9 @@ ghost use Rattle.std.specs.Prelude.{◌≡◌};
 ghost use Rattle.annexb.specs.ByteStream.{joined};
 ghost use Rattle.stream_edits.specs.declared.edits.Edit.TheVariants.{Insert};
 ghost use Rattle.edit_engine.specs.Machines.{AnswersEdit};
-ghost use Rattle.session_calls.specs.Editing.{end_of};
+ghost use Rattle.stream_edits.specs.Streams.{end_of};
 ghost use Rattle.session_calls.specs.Loading.{InsertsAll, LoadsTo, index_of, none_at, number_of_refusal, with_one};
 
-use crate::editing::end_of;
 use crate::statuses::{DONE, MEMORY};
 use access_unit::{MOST_UNITS, ReadFault, Refusal, Unit, read_alone};
 use edit_engine::{EditRefused, ReadEdit, Receipt, Runner};
@@ -67,7 +66,7 @@ fn insert_last(alloc: Global, unit: Unit, runner: &mut Runner) -> Result<Receipt
     ensures { AnswersEdit runner.old (Insert (end_of runner.old.register.stream) (joined unit))
         result runner.new }
 {
-    let place = end_of(runner.session());
+    let place = runner.session().end();
     runner.edit_read(ReadEdit::insertion(alloc, place, HashedUnit::of(unit))?)
 }
 

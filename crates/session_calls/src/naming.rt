@@ -19,7 +19,8 @@ pub fn status_name(status: u32, name: &mut [u8], needed: &mut usize) -> u32
 
 /// The name of a status.
 fn named_status(status: u32) -> Option<&'static str>
-    ensures { MatchOption result (name_of_status status ≡ None) (λ name. name_of_status status ≡ Some name.now) }
+    ensures { MatchOption result (name_of_status status ≡ None)
+        (λ name. name_of_status status ≡ Some name.now) }
 {
     match named_refusal(status) {
         Some(name) => Some(name),
@@ -29,7 +30,8 @@ fn named_status(status: u32) -> Option<&'static str>
 
 /// The name of a refusal, or of what isn't refused.
 fn named_refusal(status: u32) -> Option<&'static str>
-    ensures { MatchOption result (name_in refusals status ≡ None) (λ name. name_in refusals status ≡ Some name.now) }
+    ensures { MatchOption result (name_in refusals status ≡ None)
+        (λ name. name_in refusals status ≡ Some name.now) }
 {
     match status {
         0 => Some("Done"),
@@ -58,7 +60,8 @@ fn named_refusal(status: u32) -> Option<&'static str>
 
 /// The name of what only this interface answers.
 fn named_answer(status: u32) -> Option<&'static str>
-    ensures { MatchOption result (name_in answers status ≡ None) (λ name. name_in answers status ≡ Some name.now) }
+    ensures { MatchOption result (name_in answers status ≡ None)
+        (λ name. name_in answers status ≡ Some name.now) }
 {
     match status {
         100 => Some("NoSession"),
@@ -95,7 +98,8 @@ pub fn fault_name(fault: u32, name: &mut [u8], needed: &mut usize) -> u32
 
 /// The name of a fault.
 fn named_fault(fault: u32) -> Option<&'static str>
-    ensures { MatchOption result (name_in faults fault ≡ None) (λ name. name_in faults fault ≡ Some name.now) }
+    ensures { MatchOption result (name_in faults fault ≡ None)
+        (λ name. name_in faults fault ≡ Some name.now) }
 {
     match fault {
         1 => Some("MissingPps"),

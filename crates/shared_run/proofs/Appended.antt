@@ -1,19 +1,15 @@
 -- Units that a seat appends a handful at a time are inserted one after the other.
-use Rattle.std.proofs.Common.{◌≡◌, ℕ, ◌+◌, List, [], ◌∷◌, ◌++◌, Option, Some, None, Result, Ok, Err, refl, sym, ◌∙◌, ap, subst, inl, inr, append_assoc}
+use Rattle.std.proofs.Common.{◌≡◌, ℕ, ◌+◌, List, [], ◌∷◌, ◌++◌, Some, None, Result, Ok, Err, refl, sym, ◌∙◌, ap, subst, inl, inr, append_assoc}
 use Rattle.std.proofs.lemmas.Option.{none-some, same_Some}
-use Rattle.annexb.specs.ByteStream.{joined}
 use Rattle.stream_edits.specs.Streams.{last_of}
-use Rattle.stream_edits.specs.declared.edits.Edit.TheVariants.{Insert}
-use Rattle.stream_edits.specs.declared.edits.Place.{Place}
 use Rattle.stream_edits.specs.declared.receipts.Receipt.{Receipt}
 use Rattle.stream_edits.specs.declared.refusals.EditRefused.{EditRefused}
 use Rattle.edit_engine.specs.Machines.{Machine}
 use Rattle.decode_pool.specs.declared.appending.Appended.{Appended}
 use Rattle.decode_pool.specs.declared.seat.Seat.{Seat}
 use Rattle.decode_pool.specs.Appends as appends
-use Rattle.decode_pool.specs.Seats.{EditsOne, IsReached}
+use Rattle.decode_pool.specs.Seats.{IsReached}
 use Rattle.script_run.specs.Answers.{refused_line}
-use Rattle.script_run.specs.Running.{place_after}
 use Rattle.shared_run.specs.Running.{InsertsAll, InsertsLast}
 
 -- a unit that is put behind a handful stands there, and before the units that follow
@@ -27,11 +23,6 @@ moved handful more unit filled left put first =
 pub alone : (handful left : List (List (List ℕ))) → left ≡ [] → handful ++ left ≡ handful ++ []
 alone handful left none = ap (λ (units : List (List (List ℕ))). handful ++ units) none
 
--- both say the same place
-same_place : (id : Option ℕ) → appends.place_after id ≡ place_after id
-same_place (Some id) = refl
-same_place None = refl
-
 -- a unit that is appended to a session is inserted after the last one of one
 pub inserts_last : (from : Machine) (old : Seat) (part : List (List ℕ)) (answer : Result Receipt EditRefused)
     (to : Machine) (new : Seat) → IsReached from → appends.AppendsOne from old part answer to new
@@ -40,8 +31,7 @@ inserts_last from old part answer to new reached one = elim one [
   | inl edits ↦ inl (
     last_of from.register.stream,
     (from, reached, refl),
-    subst (λ (place : Place). EditsOne old (Insert place (joined part)) answer new)
-        (same_place (last_of from.register.stream).id) (from, to, reached, edits.0, edits.1),
+    (from, to, reached, edits.0, edits.1),
   )
   | inr none ↦ inr (none.0, none.2)
 ]

@@ -1,6 +1,6 @@
 -- The run of a script's commands by a seat of a desk, and what it writes (docs/OUTPUT.md). Each
 -- step is one of the seat's calls, whose session no clause can name.
-use Rattle.std.specs.Prelude.{◌≡◌, ℕ, ◌-◌, ◌≤◌, ◌++◌, Bool, List, [], ◌∷◌, length, Result, Ok, Err, Option, IfSome, ◌⊎◌}
+use Rattle.std.specs.Prelude.{◌≡◌, ℕ, ◌-◌, ◌≤◌, Bool, List, [], ◌∷◌, length, Result, Ok, Err, Option, IfSome, ◌⊎◌}
 use Rattle.annexb.specs.ByteStream.{joined}
 use Rattle.access_unit.specs.Rooms.{IsStream, IsStreamRefused, most_units}
 use Rattle.access_unit.specs.declared.room.Refusal.{Refusal}
@@ -26,7 +26,7 @@ use Rattle.edit_script.specs.declared.seat_commands.SeatCommand.TheVariants as s
 use Rattle.script_run.specs.Answers.{edit_line, refused_line, loaded_line}
 use Rattle.script_run.specs.GroupLines.{group_answer_line}
 use Rattle.script_run.specs.JobLines.{cleared_line, dropped_line, settled_line}
-use Rattle.script_run.specs.Running.{place_after}
+use Rattle.stream_edits.specs.Streams.{place_after}
 use Rattle.script_run.specs.Sequences.{AreAnswered, AreWritten}
 use Rattle.script_run.specs.ShownLines.{shown_line}
 use Rattle.shared_run.specs.WantedLines.{rest_line, want_line}

@@ -88,7 +88,8 @@ fn insert_handful<R: Wait>(
     handful: &mut Vec<HashedUnit>,
 ) -> Option<EditRefused>
     ensures inserted { (inserted : ℕ)
-        × AppendsSome seat.old handful.old.items (record { inserted = inserted; refused = result }) seat.new }
+        × AppendsSome seat.old handful.old.items (record { inserted = inserted; refused = result })
+        seat.new }
     ensures empty { handful.new.items ≡ [] }
 {
     let units = replace(handful, Vec::new(alloc));

@@ -118,7 +118,7 @@ pub IsForAll-draft : (old : Register) (edits : List Edit) (draft : Draft) (rest 
     → IsLongestRest (at_of accepted.change) old.stream draft.units.items rest
     → rest_from accepted.change ≡ length old.stream - rest
     → units_of accepted.change ≡ drop (at_of accepted.change) (take (length draft.units.items - rest) draft.units.items)
-    → accepted.ids.items ≡ draft.about.items → accepted.given ≡ draft.given
+    → accepted.ids.items ≡ draft.about.items → accepted.ids_given ≡ draft.ids_given
     → IsForAll old edits accepted
 IsForAll-draft old edits draft rest accepted is sized front behind rest_is units_are ids_are given_is =
     let made : stream_after accepted.change old.stream ≡ draft.units.items =

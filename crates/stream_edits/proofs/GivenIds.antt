@@ -59,7 +59,7 @@ none_or_some zero = inl (omega arith)
 none_or_some (suc n) = inr (omega arith)
 
 -- an insertion
-pub HasIds-insert : (old new : Register) (id at : ℕ) (unit : List (List ℕ)) → HasIds old → id ≡ old.given + 1 → new.given ≡ id
+pub HasIds-insert : (old new : Register) (id at : ℕ) (unit : List (List ℕ)) → HasIds old → id ≡ old.ids_given + 1 → new.ids_given ≡ id
     → new.stream ≡ insert old.stream at (id, unit) → HasIds new
 HasIds-insert old new id at unit ids id_is given_is stream_is = record {
   once = λ other. ⊎_elim
@@ -86,7 +86,7 @@ HasIds-insert old new id at unit ids id_is given_is stream_is = record {
         ap (λ stream. units_with stream other) stream_is
         ∙ sum_by-insert (λ (u : ℕ × List (List ℕ)). cond (eqb u.0 other) 1 0) old.stream at (id, unit)
 
-    none : (other : ℕ) → old.given < other → units_with old.stream other ≤ 0
+    none : (other : ℕ) → old.ids_given < other → units_with old.stream other ≤ 0
     none other above =
         ⊎_elim (λ (none : units_with old.stream other ≤ 0). none)
         (λ (some : 0 < units_with old.stream other).

@@ -29,11 +29,11 @@ stream_after change stream = take (at_of change) stream ++ units_of change ++ dr
 
 -- the stream after it, and so many ids given
 abbrev pub after : Change → ℕ → Stream → Register
-after change given stream = record { given = given; stream = stream_after change stream }
+after change ids_given stream = record { ids_given = ids_given; stream = stream_after change stream }
 
 -- the change is what the edit comes to: it brings one unit at most, and takes one at most away
 pub record IsFor (old : Register) (edit : Edit) (accepted : AcceptedEdit) : Type 0 where
   pub inside : IsInside accepted.change old.stream
   pub brings_one : length (units_of accepted.change) ≤ 1
   pub takes_one : rest_from accepted.change ≤ at_of accepted.change + 1
-  pub makes : Makes old edit accepted.id (after accepted.change accepted.given old.stream)
+  pub makes : Makes old edit accepted.id (after accepted.change accepted.ids_given old.stream)

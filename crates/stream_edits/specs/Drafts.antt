@@ -11,7 +11,7 @@ use Rattle.stream_edits.specs.Streams.{ids_of}
 
 -- what it has come to
 abbrev pub register_of : Draft → Register
-register_of draft = record { given = draft.given; stream = draft.units.items }
+register_of draft = record { ids_given = draft.ids_given; stream = draft.units.items }
 
 -- the edits were made on it, and between those units at its front and at its end that are as they
 -- were
@@ -25,7 +25,7 @@ pub record IsDraft (old : Register) (edits : List Edit) (draft : Draft) : Type 0
 pub record IsMade (old : Draft) (accepted : AcceptedEdit) (new : Draft) : Type 0 where
   pub units_are : new.units.items ≡ stream_after accepted.change old.units.items
   pub ids_are : new.ids.items ≡ ids_of new.units.items
-  pub given_is : new.given ≡ accepted.given
+  pub given_is : new.ids_given ≡ accepted.ids_given
   pub about_is : new.about.items ≡ old.about.items ++ accepted.id ∷ []
   pub front_is : new.front ≡ min old.front (at_of accepted.change)
   pub rest_is : new.rest ≡ min old.rest (length old.units.items - rest_from accepted.change)

@@ -13,12 +13,12 @@ most_ids = 4294967295
 
 -- a stream, and how many ids were given: 1, 2, 3 and so on
 pub record Register : Type 0 where
-  pub given : ℕ
+  pub ids_given : ℕ
   pub stream : Stream
 
 -- before the first edit
 abbrev pub no_units : Register
-no_units = record { given = 0; stream = [] }
+no_units = record { ids_given = 0; stream = [] }
 
 -- a unit more stands at its place, under the next id
 pub record Inserts (old : Register) (place : Place) (text : List ℕ) (id : ℕ) (new : Register) : Type 0 where
@@ -27,16 +27,16 @@ pub record Inserts (old : Register) (place : Place) (text : List ℕ) (id : ℕ)
   pub accepted : IsAccepted text unit
   pub stands : start_of old.stream place ≡ Some at
   pub fits : length old.stream < most_units
-  pub is_left : old.given < most_ids
-  pub id_is : id ≡ old.given + 1
-  pub given_is : new.given ≡ id
+  pub is_left : old.ids_given < most_ids
+  pub id_is : id ≡ old.ids_given + 1
+  pub given_is : new.ids_given ≡ id
   pub stream_is : new.stream ≡ insert old.stream at (id, unit)
 
 -- the unit of the id is gone
 pub record Deletes (old : Register) (id : ℕ) (new : Register) : Type 0 where
   pub at : ℕ
   pub stands : place_of old.stream id ≡ Some at
-  pub given_is : new.given ≡ old.given
+  pub given_is : new.ids_given ≡ old.ids_given
   pub stream_is : new.stream ≡ remove old.stream at
 
 -- another unit stands at the place of the one of the id, under the same id
@@ -45,7 +45,7 @@ pub record Replaces (old : Register) (id : ℕ) (text : List ℕ) (new : Registe
   pub unit : List (List ℕ)
   pub accepted : IsAccepted text unit
   pub stands : place_of old.stream id ≡ Some at
-  pub given_is : new.given ≡ old.given
+  pub given_is : new.ids_given ≡ old.ids_given
   pub stream_is : new.stream ≡ set old.stream at (id, unit)
 
 -- the edit is accepted: it is about the id, and leaves this

@@ -28,7 +28,7 @@ MakesAll from (edit ∷ edits) [] to = ⊥
 pub record IsForAll (old : Register) (edits : List Edit) (accepted : AcceptedGroup) : Type 0 where
   pub sized : IsSized edits
   pub inside : IsInside accepted.change old.stream
-  pub makes : MakesAll old edits accepted.ids.items (after accepted.change accepted.given old.stream)
+  pub makes : MakesAll old edits accepted.ids.items (after accepted.change accepted.ids_given old.stream)
   pub front : IsLongestFront old.stream (stream_after accepted.change old.stream) (at_of accepted.change)
   pub rest : IsLongestRest (at_of accepted.change) old.stream (stream_after accepted.change old.stream)
       (length old.stream - rest_from accepted.change)

@@ -11,7 +11,7 @@ units_with stream id = count_by (has_id id) stream
 -- ids given
 pub record HasIds (register : Register) : Type 0 where
   pub once : (id : ℕ) → units_with register.stream id ≤ 1
-  pub given : (id : ℕ) → 0 < units_with register.stream id → (0 < id) × (id ≤ register.given)
+  pub given : (id : ℕ) → 0 < units_with register.stream id → (0 < id) × (id ≤ register.ids_given)
 
 -- no id is there twice
 abbrev pub AreDifferent : List ℕ → Type 0

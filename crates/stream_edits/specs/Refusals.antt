@@ -53,7 +53,7 @@ IsRefused old edit (refusals.Unit refused) = IsUnreadable edit refused
 IsRefused old edit refusals.NoSuchUnit = LacksUnit old.stream edit
 IsRefused old edit refusals.StreamFull = IsInsertion old.stream edit × (most_units ≤ length old.stream)
 IsRefused old edit refusals.IdsSpent =
-    IsInsertion old.stream edit × (length old.stream < most_units) × (most_ids ≤ old.given)
+    IsInsertion old.stream edit × (length old.stream < most_units) × (most_ids ≤ old.ids_given)
 IsRefused old edit refusals.Memory = TakesMemory old.stream edit
 
 -- an edit of this text is refused so for it, whatever the stream is

@@ -1,5 +1,5 @@
 -- A stream of access units, and places in it.
-use Rattle.std.specs.Prelude.{ℕ, ◌+◌, ◌-◌, ◌==◌, Bool, List, length, Option, Some, map, position, slice_get, option_map}
+use Rattle.std.specs.Prelude.{ℕ, ◌+◌, ◌-◌, ◌==◌, Bool, List, length, Option, Some, None, map, position, slice_get, option_map}
 use Rattle.stream_edits.specs.declared.edits.Place.{Place}
 use Rattle.stream_edits.specs.declared.edits.Place.TheVariants.{First, After}
 use Rattle.stream_edits.specs.declared.receipts.Last.{Last}
@@ -37,3 +37,12 @@ start_of stream place = start_among (ids_of stream) place
 abbrev pub last_of : Stream → Last
 last_of stream =
     record { units = length stream; id = option_map (λ unit. unit.0) (slice_get stream (length stream - 1)) }
+
+-- the place after the unit of this id, or the first one where there is none
+abbrev pub place_after : Option ℕ → Place
+place_after (Some id) = After id
+place_after None = First
+
+-- the place after all units
+abbrev pub end_of : Stream → Place
+end_of stream = place_after (last_of stream).id

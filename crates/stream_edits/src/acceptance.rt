@@ -11,7 +11,7 @@ pub struct AcceptedEdit {
     /// The id of the unit that is inserted, deleted or replaced.
     pub id: AuId,
     /// How many ids were given, with it.
-    pub given: u32,
+    pub ids_given: u32,
 }
 
 /// What the edits of an accepted group come to.
@@ -22,7 +22,7 @@ pub struct AcceptedGroup {
     /// The id of the unit that each edit inserts, deletes or replaces, in order.
     pub ids: Vec<AuId>,
     /// How many ids were given, with those of the group.
-    pub given: u32,
+    pub ids_given: u32,
     /// How many bytes were hashed for the edits.
     pub hashed: usize,
 }

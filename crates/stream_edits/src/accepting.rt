@@ -32,18 +32,22 @@ pub fn change_of(
     alloc: Global,
     units: &[(AuId, Shared<HashedUnit>)],
     ids: &[AuId],
-    given: u32,
+    ids_given: u32,
     read: &ReadEdit,
 ) -> Result<AcceptedEdit, EditRefused>
     requires ids { ids.now ≡ ids_of units.now }
     requires different { AreDifferent ids.now }
-    ensures ok { IfOk result (IsFor (record { given = given; stream = units.now }) read.now) }
-    ensures err { IfErr result (IsRefused (record { given = given; stream = units.now }) read.now) }
+    ensures ok { IfOk result
+        (IsFor (record { ids_given = ids_given; stream = units.now }) read.now) }
+    ensures err { IfErr result
+        (IsRefused (record { ids_given = ids_given; stream = units.now }) read.now) }
 {
     match (&read.edit, &read.unit) {
-        (Edit::Insert(place, _), Some(unit)) => insertion(alloc, units, ids, given, *place, unit),
-        (Edit::Replace(id, _), Some(unit)) => replacement(alloc, units, ids, given, *id, unit),
-        (Edit::Delete(id), _) => deletion(alloc, units, ids, given, *id),
+        (Edit::Insert(place, _), Some(unit)) => {
+            insertion(alloc, units, ids, ids_given, *place, unit)
+        }
+        (Edit::Replace(id, _), Some(unit)) => replacement(alloc, units, ids, ids_given, *id, unit),
+        (Edit::Delete(id), _) => deletion(alloc, units, ids, ids_given, *id),
         _ => unreachable!(),
     }
 }
@@ -53,16 +57,16 @@ fn insertion(
     alloc: Global,
     units: &[(AuId, Shared<HashedUnit>)],
     ids: &[AuId],
-    given: u32,
+    ids_given: u32,
     place: Place,
     unit: &Shared<HashedUnit>,
 ) -> Result<AcceptedEdit, EditRefused>
     requires ids { ids.now ≡ ids_of units.now }
     requires different { AreDifferent ids.now }
     ensures ok { (text : List ℕ) → IsAccepted text unit.now → IfOk result
-        (IsFor (record { given = given; stream = units.now }) (Insert place text)) }
+        (IsFor (record { ids_given = ids_given; stream = units.now }) (Insert place text)) }
     ensures err { (text : List ℕ) → IsAccepted text unit.now → IfErr result
-        (IsRefused (record { given = given; stream = units.now }) (Insert place text)) }
+        (IsRefused (record { ids_given = ids_given; stream = units.now }) (Insert place text)) }
 {
     let Some(at) = start_of(ids, place) else {
         return Err(EditRefused::NoSuchUnit);
@@ -70,7 +74,7 @@ fn insertion(
     if units.len() >= MOST_UNITS {
         return Err(EditRefused::StreamFull);
     }
-    let Some(number) = given.checked_add(1) else {
+    let Some(number) = ids_given.checked_add(1) else {
         return Err(EditRefused::IdsSpent);
     };
     let id = AuId::new(number);
@@ -81,7 +85,7 @@ fn insertion(
             units: one_unit(alloc, id, unit)?,
         },
         id,
-        given: number,
+        ids_given: number,
     })
 }
 
@@ -90,15 +94,15 @@ fn deletion(
     alloc: Global,
     units: &[(AuId, Shared<HashedUnit>)],
     ids: &[AuId],
-    given: u32,
+    ids_given: u32,
     id: AuId,
 ) -> Result<AcceptedEdit, EditRefused>
     requires ids { ids.now ≡ ids_of units.now }
     requires different { AreDifferent ids.now }
     ensures ok { IfOk result
-        (IsFor (record { given = given; stream = units.now }) (Delete id)) }
+        (IsFor (record { ids_given = ids_given; stream = units.now }) (Delete id)) }
     ensures err { IfErr result
-        (IsRefused (record { given = given; stream = units.now }) (Delete id)) }
+        (IsRefused (record { ids_given = ids_given; stream = units.now }) (Delete id)) }
 {
     let Some(at) = place_of(ids, id) else {
         return Err(EditRefused::NoSuchUnit);
@@ -108,7 +112,11 @@ fn deletion(
         rest: at + 1,
         units: Vec::new(alloc),
     };
-    Ok(AcceptedEdit { change, id, given })
+    Ok(AcceptedEdit {
+        change,
+        id,
+        ids_given,
+    })
 }
 
 /// The replacement of the unit of an id by that of a text.
@@ -116,16 +124,16 @@ fn replacement(
     alloc: Global,
     units: &[(AuId, Shared<HashedUnit>)],
     ids: &[AuId],
-    given: u32,
+    ids_given: u32,
     id: AuId,
     unit: &Shared<HashedUnit>,
 ) -> Result<AcceptedEdit, EditRefused>
     requires ids { ids.now ≡ ids_of units.now }
     requires different { AreDifferent ids.now }
     ensures ok { (text : List ℕ) → IsAccepted text unit.now → IfOk result
-        (IsFor (record { given = given; stream = units.now }) (Replace id text)) }
+        (IsFor (record { ids_given = ids_given; stream = units.now }) (Replace id text)) }
     ensures err { (text : List ℕ) → IsAccepted text unit.now → IfErr result
-        (IsRefused (record { given = given; stream = units.now }) (Replace id text)) }
+        (IsRefused (record { ids_given = ids_given; stream = units.now }) (Replace id text)) }
 {
     let Some(at) = place_of(ids, id) else {
         return Err(EditRefused::NoSuchUnit);
@@ -135,7 +143,11 @@ fn replacement(
         rest: at + 1,
         units: one_unit(alloc, id, unit)?,
     };
-    Ok(AcceptedEdit { change, id, given })
+    Ok(AcceptedEdit {
+        change,
+        id,
+        ids_given,
+    })
 }
 
 /// The unit alone, under the id.

@@ -28,7 +28,7 @@ use std::alloc::{AllocError, Global};
 pub(crate) struct Draft {
     pub(crate) units: Vec<(AuId, Shared<HashedUnit>)>,
     pub(crate) ids: Vec<AuId>,
-    pub(crate) given: u32,
+    pub(crate) ids_given: u32,
     /// The id that each edit was about.
     pub(crate) about: Vec<AuId>,
     /// In front of how many units no edit was made, and behind how many.
@@ -42,7 +42,7 @@ impl Drop for Draft {
         let Draft {
             units: _,
             ids: _,
-            given: _,
+            ids_given: _,
             about: _,
             front: _,
             rest: _,
@@ -56,16 +56,16 @@ impl Draft {
         alloc: Global,
         units: &[(AuId, Shared<HashedUnit>)],
         ids: &[AuId],
-        given: u32,
+        ids_given: u32,
     ) -> Result<Draft, AllocError>
         requires { ids.now ≡ ids_of units.now }
-        ensures { IfOk result (IsDraft (record { given = given; stream = units.now }) []) }
+        ensures { IfOk result (IsDraft (record { ids_given = ids_given; stream = units.now }) []) }
     {
         let count = units.len();
         Ok(Draft {
             units: shares_of(alloc, units)?,
             ids: ids.to_vec(alloc)?,
-            given,
+            ids_given,
             about: Vec::new(alloc),
             front: count,
             rest: count,
@@ -80,7 +80,7 @@ impl Draft {
             → IsDraft old edits self.old → IsDraft old (edits ++ read.now ∷ []) self.new) }
         ensures err { IfErr result (IsRefused (register_of self.old) read.now) }
     {
-        let accepted = change_of(alloc, &self.units, &self.ids, self.given, read)?;
+        let accepted = change_of(alloc, &self.units, &self.ids, self.ids_given, read)?;
         self.make_accepted(alloc, accepted)?;
         Ok(())
     }
@@ -92,7 +92,11 @@ impl Draft {
         requires one { length (units_of accepted.change) ≤ 1 }
         ensures { OnOk result (IsMade self.old accepted self.new) }
     {
-        let AcceptedEdit { change, id, given } = accepted;
+        let AcceptedEdit {
+            change,
+            id,
+            ids_given,
+        } = accepted;
         let ids = ids_in(alloc, change.units())?;
         self.units.reserve(1)?;
         self.ids.reserve(1)?;
@@ -101,7 +105,7 @@ impl Draft {
         self.rest = self.rest.min(self.units.len() - change.rest_from());
         replace_range(&mut self.ids, change.at(), change.rest_from(), ids);
         change.make(&mut self.units);
-        self.given = given;
+        self.ids_given = ids_given;
         Ok(())
     }
 
@@ -114,15 +118,16 @@ impl Draft {
     ) -> AcceptedGroup
         requires front { IsFront units.now self.units.items self.front }
         requires rest { IsRest units.now self.units.items self.rest }
-        ensures change { (given : ℕ) (edits : List EditValue)
-            → IsDraft (record { given = given; stream = units.now }) edits self → IsSized edits
-            → IsForAll (record { given = given; stream = units.now }) edits result }
+        ensures change { (ids_given : ℕ) (edits : List EditValue)
+            → IsDraft (record { ids_given = ids_given; stream = units.now }) edits self
+            → IsSized edits
+            → IsForAll (record { ids_given = ids_given; stream = units.now }) edits result }
         ensures hashed { result.hashed ≡ hashed }
     {
         let Draft {
             units: made,
             ids: _,
-            given,
+            ids_given,
             about,
             front,
             rest,
@@ -138,7 +143,7 @@ impl Draft {
         AcceptedGroup {
             change,
             ids: about,
-            given,
+            ids_given,
             hashed,
         }
     }

@@ -27,18 +27,18 @@ pub fn change_of_group(
     alloc: Global,
     units: &[(AuId, Shared<HashedUnit>)],
     ids: &[AuId],
-    given: u32,
+    ids_given: u32,
     group: &ReadGroup,
 ) -> Result<AcceptedGroup, GroupRefused>
     requires ids { ids.now ≡ ids_of units.now }
-    requires different { HasIds (record { given = given; stream = units.now }) }
+    requires different { HasIds (record { ids_given = ids_given; stream = units.now }) }
     ensures ok { IfOk result
-        (IsForAll (record { given = given; stream = units.now }) group.now) }
+        (IsForAll (record { ids_given = ids_given; stream = units.now }) group.now) }
     ensures hashed { IfOk result (λ accepted. AreHashedFor group.now accepted.hashed) }
     ensures err { IfErr result
-        (IsGroupRefused (record { given = given; stream = units.now }) group.now) }
+        (IsGroupRefused (record { ids_given = ids_given; stream = units.now }) group.now) }
 {
-    let draft = draft_of(alloc, units, ids, given, &group.read)?;
+    let draft = draft_of(alloc, units, ids, ids_given, &group.read)?;
     if let Some(refused) = group.refused {
         return Err(GroupRefused::at(group.read.len(), refused));
     }
@@ -64,17 +64,17 @@ fn draft_of(
     alloc: Global,
     units: &[(AuId, Shared<HashedUnit>)],
     ids: &[AuId],
-    given: u32,
+    ids_given: u32,
     read: &[ReadEdit],
 ) -> Result<Draft, GroupRefused>
     requires ids { ids.now ≡ ids_of units.now }
-    requires different { HasIds (record { given = given; stream = units.now }) }
+    requires different { HasIds (record { ids_given = ids_given; stream = units.now }) }
     ensures ok { IfOk result
-        (IsDraft (record { given = given; stream = units.now }) read.now) }
+        (IsDraft (record { ids_given = ids_given; stream = units.now }) read.now) }
     ensures err { IfErr result
-        (IsRefusedAmong (record { given = given; stream = units.now }) read.now) }
+        (IsRefusedAmong (record { ids_given = ids_given; stream = units.now }) read.now) }
 {
-    let mut draft = Draft::new(alloc, units, ids, given)?;
+    let mut draft = Draft::new(alloc, units, ids, ids_given)?;
     for index in 0..read.len() {
         if let Err(refused) = draft.make(alloc, &read[index]) {
             return Err(GroupRefused::at(index, refused));

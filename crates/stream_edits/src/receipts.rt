@@ -1,5 +1,9 @@
 //! What an edit answers, and the end of a stream.
 
+ghost use Rattle.std.specs.Prelude.{◌≡◌};
+ghost use Rattle.stream_edits.specs.Streams.{place_after};
+
+use crate::edits::Place;
 use pictures::AuId;
 
 /// What an accepted edit answers.
@@ -40,4 +44,16 @@ pub struct Last {
     pub units: usize,
     /// The id of the last one, if there is one.
     pub id: Option<AuId>,
+}
+
+impl Last {
+    /// The place after all units.
+    pub fn end(self) -> Place
+        ensures { result ≡ place_after self.id }
+    {
+        match self.id {
+            Some(id) => Place::After(id),
+            None => Place::First,
+        }
+    }
 }

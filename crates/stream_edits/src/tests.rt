@@ -23,15 +23,15 @@ static I: [u8; 7] = [0, 0, 1, 0x65, 0x88, 0x84, 0x80];
 type Units = (Vec<(AuId, Shared<HashedUnit>)>, Vec<AuId>);
 
 /// Adds a unit under the id after those that were given.
-fn add(units: &mut Units, given: u32, unit: Shared<HashedUnit>) -> Result<(), AllocError>
-    requires below { given + 1 < 2 ^ 32 }
-    requires different { HasIds (record { given = given; stream = units.old.0.items }) }
+fn add(units: &mut Units, ids_given: u32, unit: Shared<HashedUnit>) -> Result<(), AllocError>
+    requires below { ids_given + 1 < 2 ^ 32 }
+    requires different { HasIds (record { ids_given = ids_given; stream = units.old.0.items }) }
     requires same { units.old.1.items ≡ ids_of units.old.0.items }
     ensures different { OnOk result
-        (HasIds (record { given = given + 1; stream = units.new.0.items })) }
+        (HasIds (record { ids_given = ids_given + 1; stream = units.new.0.items })) }
     ensures same { OnOk result (units.new.1.items ≡ ids_of units.new.0.items) }
 {
-    let id = AuId::new(given + 1);
+    let id = AuId::new(ids_given + 1);
     units.0.push((id, unit))?;
     units.1.push(id)?;
     Ok(())
@@ -48,20 +48,20 @@ fn equal_units(rt: &impl Abort, alloc: Global, count: u32) -> Result<Units, Allo
     };
     let unit = Shared::new(alloc, HashedUnit::of(unit))?;
     let mut units = (Vec::new(alloc), Vec::new(alloc));
-    for given in 0..count {
-        add(&mut units, given, unit.clone()?)?;
+    for ids_given in 0..count {
+        add(&mut units, ids_given, unit.clone()?)?;
     }
     Ok(units)
 }
 
 /// The id of the unit that an edit of these changes, or why it is refused.
-fn changed(alloc: Global, units: &Units, given: u32, edit: &Edit) -> Result<u32, EditRefused>
+fn changed(alloc: Global, units: &Units, ids_given: u32, edit: &Edit) -> Result<u32, EditRefused>
     requires different { AreDifferent units.now.1.items }
     requires same { units.now.1.items ≡ ids_of units.now.0.items }
 {
     let read = edit.copy()?.read(alloc)?;
     Ok(
-        change_of(alloc, &units.0, &units.1, given, &read)?
+        change_of(alloc, &units.0, &units.1, ids_given, &read)?
             .id
             .number(),
     )
@@ -83,9 +83,9 @@ const ROOMS: [(u32, u32, Result<u32, EditRefused>); 7] = [
 #[test]
 fn has_room_for_65_536_units_and_4_294_967_295_ids(rt: HostRuntime) -> Result<(), Fail> {
     let insertion = Edit::Insert(Place::First, Bytes::from_static(&I));
-    for (row, (count, given, wanted)) in ROOMS.iter().enumerate() {
+    for (row, (count, ids_given, wanted)) in ROOMS.iter().enumerate() {
         let units = equal_units(&rt, rt.alloc(), *count)?;
-        let answer = changed(rt.alloc(), &units, *given, &insertion);
+        let answer = changed(rt.alloc(), &units, *ids_given, &insertion);
         assert!(rt; answer == *wanted, "row {row}");
     }
     Ok(())

@@ -1,5 +1,5 @@
 -- What a change changes is folded anew: how it begins, where it ends, and how many steps it makes.
-use Rattle.std.proofs.Common.{◌≡◌, ◌⊎◌, ℕ, ◌+◌, ◌-◌, ◌<◌, ◌≤◌, Bool, true, false, List, ◌++◌, length, take, drop, Contains, Option, None, Some, IfSome, Result, Ok, Err, IfOk, refl, ap, sym, ◌∙◌, subst, arith, inl, inr, append_assoc, length-take, length-drop, eqb}
+use Rattle.std.proofs.Common.{◌≡◌, ◌⊎◌, ℕ, ◌+◌, ◌-◌, ◌<◌, ◌≤◌, Bool, true, false, ◌++◌, length, take, drop, Contains, Option, None, Some, IfSome, Result, Ok, Err, IfOk, refl, ap, sym, ◌∙◌, subst, arith, inl, inr, append_assoc, length-take, length-drop, eqb}
 use Rattle.std.specs.Prelude.{nat_eq, IsSome}
 use Rattle.std.specs.Map.{keys_of, lookup}
 use Rattle.std.specs.Cmp.{nat_eq_equiv}
@@ -7,7 +7,6 @@ use Rattle.std.proofs.Math.Seq.{take-length}
 use Rattle.std.proofs.lemmas.List.{drop-drop}
 use Rattle.std.proofs.lemmas.Bool.{cases_lt, eqb-true}
 use Rattle.std.proofs.lemmas.Map.Views.{Contains-from_lookup, Contains-keys_from_lookup, IsSome-lookup_from_Contains}
-use Rattle.unit_outcomes.specs.declared.outcome.Outcome.{Outcome}
 use Rattle.request_core.specs.States.{FoldState, no_units}
 use Rattle.request_core.specs.Agreement.{Stream, state_from}
 use Rattle.checkpoints.specs.Stored.{IsStoredAt, IsBefore, IsLast}
@@ -45,7 +44,7 @@ stored_of states place there = some_state (lookup (nat_eq place) states) (IsSome
 pub place_of_stored : (states : States) (place : ℕ) (state : FoldState) → IsStoredAt states place state → Contains (keys_of states) place
 place_of_stored states place state is = Contains-keys_from_lookup {eq = eqb} eqb-true place states (rw is refl)
 
-module _ (stream : Stream) (outcomes : List Outcome) (states : States) (end : FoldState) (folded : IsFolded stream outcomes states end) where
+module _ (stream : Stream) (states : States) (end : FoldState) (folded : IsFolded stream states end) where
   -- the last stored state is near the end
   pub last_near : (last : ℕ) (state : FoldState) → IsLast states last state → (last ≤ length stream) × (length stream ≤ last + spacing)
   last_near last state is = (
@@ -192,8 +191,8 @@ state_in_front stream states at first second start on =
     ∙ ap (λ (units : Stream). state_from no_units units) (sym (take_more_of first.from at stream start.before))
 
 -- from its start over the unit that is changed and those behind it
-module _ (change : Change) (stream : Stream) (outcomes : List Outcome) (states : States) (end : FoldState)
-    (folded : IsFolded stream outcomes states end) (inside : IsInside change stream) (first second third fold : Refold) (met : Option ℕ)
+module _ (change : Change) (stream : Stream) (states : States) (end : FoldState) (folded : IsFolded stream states end)
+    (inside : IsInside change stream) (first second third fold : Refold) (met : Option ℕ)
     (start : IsStart (at_of change) stream states first)
     (before : GoesOn first (take (at_of change - first.from) (drop first.from stream)) second)
     (changed : GoesOn second (units_of change) third)

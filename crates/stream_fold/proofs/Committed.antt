@@ -46,8 +46,8 @@ can_shift_by change stays kept most places short within sides low ordered behind
   | inr up ↦ rw up.1 (λ place there high. omega (arith, within place there, short, up.0, ordered))
 ]
 
-module _ (change : Change) (stream : Stream) (outcomes : List Outcome) (states : States) (end : FoldState)
-    (folded : IsFolded stream outcomes states end) (inside : IsInside change stream) (fold : Refold) where
+module _ (change : Change) (stream : Stream) (states : States) (end : FoldState) (folded : IsFolded stream states end)
+    (inside : IsInside change stream) (fold : Refold) where
   abbrev after : Stream
   after = stream_after change stream
 
@@ -141,7 +141,7 @@ module _ (change : Change) (stream : Stream) (outcomes : List Outcome) (states :
     front_long = length-take-le (place_after change to) after to_within
 
     -- the outcomes
-    pub outcomes_are : take fold.from outcomes ++ fold.outcomes.items ++ drop to outcomes ≡ outcomes_of after
+    pub outcomes_are : outcomes_of after ≡ take fold.from (outcomes_of stream) ++ fold.outcomes.items ++ drop to (outcomes_of stream)
     outcomes_are =
         let front : Stream = take (place_after change to) after in
         let below : fold.from ≤ place_after change to = omega (arith, made.refolded.begun, front_long) in
@@ -149,10 +149,9 @@ module _ (change : Change) (stream : Stream) (outcomes : List Outcome) (states :
         let rest = outcomes_behind change stream inside to bounds.behind (agreed met made.met_at made.refolded.state_is) in
         let done : outcomes_of front ≡ take fold.from (outcomes_of stream) ++ fold.outcomes.items =
         made.refolded.outcomes_are ∙ ap (λ (first : List Outcome). first ++ fold.outcomes.items) begun in
-        rw folded.outcomes_are
-        (sym (outcomes_split after (place_after change to)
+        outcomes_split after (place_after change to)
         ∙ (ap (λ (first : List Outcome). first ++ outcomes_from (state_past after (place_after change to)) (drop (place_after change to) after)) done
-        ∙ ap (λ (last : List Outcome). (take fold.from (outcomes_of stream) ++ fold.outcomes.items) ++ last) rest)))
+        ∙ ap (λ (last : List Outcome). (take fold.from (outcomes_of stream) ++ fold.outcomes.items) ++ last) rest)
 
     -- the states that are new
     new_past : (e : ℕ × FoldState) → IsNew (take (place_after change to) after) fold.kept e → IsPast after e.0 e.1
@@ -331,9 +330,8 @@ module _ (change : Change) (stream : Stream) (outcomes : List Outcome) (states :
 
       -- all that is stored is that of the changed stream
       pub folded_after : (mid final : States) → IsThinned fold.kept new_states mid → IsThinned (place_after change to) mid final
-          → IsFolded after (take fold.from outcomes ++ fold.outcomes.items ++ drop to outcomes) final last
+          → IsFolded after final last
       folded_after mid final thinned again = record {
-        outcomes_are = outcomes_are;
         past = λ place state is. past_after place state (thinned.only place state (again.only place state is));
         near = λ k within. again.near k (thinned.near k (near_after k within));
         sparse = sparse_after fold.kept (place_after change to) new_states mid final sparse_but thinned again;
@@ -341,16 +339,15 @@ module _ (change : Change) (stream : Stream) (outcomes : List Outcome) (states :
       }
 
       -- and so by other names
-      pub folded_by : (units : Stream) (kinds : List Outcome) (kept_states mid final : States) (last_place stays_from : ℕ) (by : LengthChange)
-          → units ≡ after → kinds ≡ take fold.from outcomes ++ fold.outcomes.items ++ drop last_place outcomes → last_place ≡ to
+      pub folded_by : (units : Stream) (kept_states mid final : States) (stays_from : ℕ) (by : LengthChange) → units ≡ after
           → kept_states ≡ stored_after fold.kept stays_from by fold.states.items states → stays_from ≡ stays → by ≡ length_change change
-          → IsThinned fold.kept kept_states mid → IsThinned fold.place mid final → IsFolded units kinds final last
-      folded_by units kinds kept_states mid final last_place stays_from by units_are kinds_are to_is states_are stays_is by_is thinned again =
+          → IsThinned fold.kept kept_states mid → IsThinned fold.place mid final → IsFolded units final last
+      folded_by units kept_states mid final stays_from by units_are states_are stays_is by_is thinned again =
           let same : kept_states ≡ new_states =
           states_are ∙ (ap (λ (from : ℕ). stored_after fold.kept from by fold.states.items states) stays_is
           ∙ ap (λ (b : LengthChange). stored_after fold.kept stays b fold.states.items states) by_is) in
           let at : fold.place ≡ place_after change to = made.refolded.place_is ∙ front_long in
-          rw (units_are, kinds_are, to_is)
+          rw units_are
           (folded_after mid final (subst (λ (old : States). IsThinned fold.kept old mid) same thinned)
           (subst (λ (p : ℕ). IsThinned p mid final) at again))
 

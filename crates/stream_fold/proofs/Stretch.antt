@@ -1,15 +1,14 @@
 -- The stretch of outcomes that a prepared change makes anew.
-use Rattle.std.proofs.Common.{◌≡◌, ◌+◌, ◌++◌, List, length, take, drop, ap, sym, ◌∙◌, subst, arith, length-append}
+use Rattle.std.proofs.Common.{◌≡◌, ◌+◌, length, take, ap, ◌∙◌, arith, length-append}
 use Rattle.std.proofs.lemmas.List.{length-take-le}
-use Rattle.unit_outcomes.specs.declared.outcome.Outcome.{Outcome}
 use Rattle.request_core.specs.States.{FoldState, no_units}
 use Rattle.request_core.specs.Fold.{outcomes_of}
 use Rattle.request_core.specs.Agreement.{Stream}
-use Rattle.stream_fold.specs.declared.folded.Prepared.{Prepared}
+use Rattle.stream_fold.specs.declared.folded.PreparedFold.{PreparedFold}
 use Rattle.stream_fold.specs.declared.refold.Refold.{Refold}
-use Rattle.stream_edits.specs.Changes.{IsInside, stream_after}
+use Rattle.stream_edits.specs.Changes.{IsInside}
 use Rattle.stream_fold.specs.Kept.{IsFolded}
-use Rattle.stream_fold.specs.Refolding.{IsRefolded, IsMadeAnew, end_of}
+use Rattle.stream_fold.specs.Refolding.{IsRefolded, IsMadeAnew}
 use Rattle.stream_fold.specs.Prepared.{IsAnew}
 use Rattle.stream_fold.proofs.Folds.{length-outcomes_from}
 use Rattle.stream_fold.proofs.Storage.{States}
@@ -25,19 +24,13 @@ as_many front fold is =
     ap length is.outcomes_are ∙ length-append (take fold.from (outcomes_of front)) fold.outcomes.items in
     omega (arith, both, long, begun, is.counted)
 
-module _ (stream : Stream) (outcomes : List Outcome) (states : States) (end : FoldState) (folded : IsFolded stream outcomes states end)
-    (prepared : Prepared) (inside : IsInside prepared.change stream)
+module _ (stream : Stream) (states : States) (end : FoldState) (folded : IsFolded stream states end)
+    (prepared : PreparedFold) (inside : IsInside prepared.change stream)
     (made : IsMadeAnew prepared.change stream states prepared.fold prepared.met) where
   pub is_anew : IsAnew prepared stream
-  is_anew =
-      let P : List Outcome → Type 0 = λ were.
-      take prepared.fold.from were ++ prepared.fold.outcomes.items ++ drop (end_of stream prepared.met) were
-      ≡ outcomes_of (stream_after prepared.change stream) in
-      record {
-        ordered = from_to prepared.change stream outcomes states end folded inside prepared.fold prepared.met made;
-        within = to_inside prepared.change stream outcomes states end folded inside prepared.fold prepared.met made;
-        counted = as_many _ prepared.fold made.refolded;
-        outcomes_are =
-            sym (subst P folded.outcomes_are
-            (outcomes_are prepared.change stream outcomes states end folded inside prepared.fold prepared.met made));
-      }
+  is_anew = record {
+    ordered = from_to prepared.change stream states end folded inside prepared.fold prepared.met made;
+    within = to_inside prepared.change stream states end folded inside prepared.fold prepared.met made;
+    counted = as_many _ prepared.fold made.refolded;
+    outcomes_are = outcomes_are prepared.change stream states end folded inside prepared.fold prepared.met made;
+  }

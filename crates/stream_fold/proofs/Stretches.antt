@@ -5,7 +5,7 @@ use Rattle.request_core.specs.States.{no_units}
 use Rattle.request_core.specs.Fold.{outcomes_of}
 use Rattle.request_core.specs.Agreement.{Stream}
 use Rattle.stream_edits.specs.declared.changes.Change as changes
-use Rattle.stream_fold.specs.declared.folded.Prepared.{Prepared}
+use Rattle.stream_fold.specs.declared.folded.PreparedFold.{PreparedFold}
 use Rattle.stream_edits.specs.Changes.{IsInside, stream_after, units_of as brought_by}
 use Rattle.stream_fold.specs.Prepared.{IsAnew, change_in, begin_in, end_in, outcomes_in}
 use Rattle.stream_fold.proofs.Changed.{length_after, place_is}
@@ -34,7 +34,7 @@ module _ (stream : Stream) (periods : List PeriodValue) (are : AreOrdered stream
   length-units = ap length (sym are) ∙ length-shown stream
 
   -- what is shown after a change is what was shown, with the stretch replaced
-  pub shown_anew : (prepared : Prepared) → IsAnew prepared stream
+  pub shown_anew : (prepared : PreparedFold) → IsAnew prepared stream
       → spliced (begin_in prepared) (end_in prepared stream) (map shown_of (outcomes_in prepared)) (units_of periods)
       ≡ map shown_of (outcomes_of (stream_after (change_in prepared) stream))
   shown_anew prepared anew =
@@ -50,7 +50,7 @@ module _ (stream : Stream) (periods : List PeriodValue) (are : AreOrdered stream
       (map-append shown_of (take (begin_in prepared) was) (outcomes_in prepared))))
 
   -- the stretch can be replaced, by other names of its ends and of what is shown of it
-  module _ (prepared : Prepared) (anew : IsAnew prepared stream) (inside : IsInside (change_in prepared) stream)
+  module _ (prepared : PreparedFold) (anew : IsAnew prepared stream) (inside : IsInside (change_in prepared) stream)
       (begin end : ℕ) (shown : List (Option Shown)) (begin_is : begin ≡ begin_in prepared) (end_is : end ≡ end_in prepared stream)
       (shown_is : shown ≡ map shown_of (outcomes_in prepared)) where
     abbrev after : Stream

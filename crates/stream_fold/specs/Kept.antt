@@ -1,22 +1,18 @@
 -- What a folded stream stores.
 use Rattle.std.specs.Prelude.{◌≡◌, ℕ, ◌+◌, ◌<◌, ◌≤◌, List, Contains, length, Option, IfSome}
 use Rattle.std.specs.Map.{keys_of}
-use Rattle.unit_outcomes.specs.declared.outcome.Outcome.{Outcome}
 use Rattle.request_core.specs.States.{FoldState, no_units}
-use Rattle.request_core.specs.Fold.{outcomes_of}
 use Rattle.request_core.specs.Agreement.{Stream, state_from}
 use Rattle.checkpoints.specs.Stored.{Stored, IsStoredAt}
 use Rattle.checkpoints.specs.Spacing.{HasNear}
 use Rattle.stream_fold.specs.declared.reached.Reached.{Reached}
 use Rattle.stream_fold.specs.Streams.{state_past}
 
--- the stream, the states that are stored along it, and for how many more units and outcomes there
--- is room
+-- the stream, the states that are stored along it, and for how many more units there is room
 pub record FoldedValue : Type 0 where
   pub stream : Stream
   pub stored : Stored FoldState
   pub units_room : ℕ
-  pub outcomes_room : ℕ
 
 -- how far stored states stand apart at most, in units
 abbrev pub spacing : ℕ
@@ -47,10 +43,8 @@ AreSparse states =
     (first between last : ℕ) → Contains (keys_of states) first → Contains (keys_of states) between → Contains (keys_of states) last
     → first < between → between < last → first + spacing < last
 
--- outcomes, stored states and the last state are those of the stream
-pub record IsFolded
-    (stream : Stream) (outcomes : List Outcome) (states : List (ℕ × FoldState)) (end : FoldState) : Type 0 where
-  pub outcomes_are : outcomes ≡ outcomes_of stream
+-- stored states and the last state are those of the stream
+pub record IsFolded (stream : Stream) (states : List (ℕ × FoldState)) (end : FoldState) : Type 0 where
   pub past : ArePast stream states
   pub near : AreNear stream states
   pub sparse : AreSparse states

@@ -1,4 +1,4 @@
-//! A stream with each unit's outcome.
+//! A stream, with the states of the fold along it.
 
 ghost use Rattle.std.specs.Prelude.{◌≡◌, ◌↔◌, ◌+◌, ◌-◌, ◌^◌, ◌<◌, ◌≤◌, [], ◌∷◌, take, drop, length, ℕ, IfOk, IsTrue, OnOk};
 ghost use Rattle.request_core.specs.Fold.{outcomes_of};
@@ -12,7 +12,7 @@ use crate::changes::length_change;
 use crate::reached::{Reached, if_between};
 use crate::refold::Refold;
 use crate::storing::{keep_end, store_anew, thin};
-use base_types::{Shared, replace_range};
+use base_types::Shared;
 use checkpoints::Checkpoints;
 use picture_keys::{HashedOutcome, HashedUnit};
 use pictures::AuId;
@@ -21,12 +21,10 @@ use std::alloc::{AllocError, Global};
 use std::marker::Model;
 use stream_edits::Change;
 
-/// A stream of access units under their ids, with the outcome of each, and the states of the fold
-/// past some of its places.
+/// A stream of access units under their ids, and the states of the fold past some of its places.
 #[derive(Debug)]
 pub struct Folded {
     units: Vec<(AuId, Shared<HashedUnit>)>,
-    outcomes: Vec<Shared<HashedOutcome>>,
     stored: Checkpoints<State>,
     end: State,
     // That of the last change, if it was within the stream: an edit near it begins there.
@@ -38,7 +36,6 @@ impl Drop for Folded {
     fn drop(self) {
         let Folded {
             units: _,
-            outcomes: _,
             stored: _,
             end: _,
             reached: _,
@@ -53,16 +50,16 @@ impl Model for Folded {
 
     ghost Value = { FoldedValue };
 
-    ghost view = { λ f. record { stream = f.units.items; stored = f.stored; units_room = vec_capacity f.units - vec_len f.units; outcomes_room = vec_capacity f.outcomes - vec_len f.outcomes } };
+    ghost view = { λ f. record { stream = f.units.items; stored = f.stored; units_room = vec_capacity f.units - vec_len f.units } };
 
-    ghost invariant = { λ f. IsFolded f.units.items f.outcomes.items f.stored.states f.end
+    ghost invariant = { λ f. IsFolded f.units.items f.stored.states f.end
         × IsReached f.units.items (length f.units.items) f.reached };
 }
 
-/// A change that is prepared: the outcomes of the units of one stretch, made anew. That of all
-/// others stays.
+/// A change that is prepared: the outcomes of the units of one stretch, made anew. Those of all
+/// others stay.
 #[derive(Debug, Drop)]
-pub struct Prepared {
+pub struct PreparedFold {
     change: Change,
     fold: Refold,
     /// The place of the stream as it was at which the fold came to a stored state, if it did.
@@ -71,7 +68,7 @@ pub struct Prepared {
     reached: Option<Reached>,
 }
 
-impl Prepared {
+impl PreparedFold {
     ghost use Rattle.stream_fold.specs.Prepared.{begin_in, change_in, end_in, outcomes_in, steps_in};
 
     /// The change.
@@ -121,7 +118,6 @@ impl Folded {
     {
         Ok(Folded {
             units: Vec::new(alloc),
-            outcomes: Vec::new(alloc),
             stored: Checkpoints::new(alloc, State::new(alloc)?)?,
             end: State::new(alloc)?,
             reached: None,
@@ -133,13 +129,6 @@ impl Folded {
         ensures { result.now ≡ self.now.stream }
     {
         self.units.as_slice()
-    }
-
-    /// Each unit's outcome, in the same order.
-    pub fn outcomes(&self) -> &[Shared<HashedOutcome>]
-        ensures { result.now ≡ outcomes_of self.now.stream }
-    {
-        self.outcomes.as_slice()
     }
 
     /// The states of the fold that are stored, each past its place: one for each 32 units or less,
@@ -154,10 +143,17 @@ impl Folded {
     }
 
     /// Prepares a change: folds anew what it changes, and makes room. All answers stay as they
-    /// were.
-    pub fn prepare(&mut self, alloc: Global, change: Change) -> Result<Prepared, AllocError>
+    /// were. The outcomes of the stream as it stands are those of the caller, who keeps them; those
+    /// of the stretch come with the prepared change.
+    pub fn prepare(
+        &mut self,
+        alloc: Global,
+        change: Change,
+        outcomes: &[Shared<HashedOutcome>],
+    ) -> Result<PreparedFold, AllocError>
         requires inside { IsInside change self.old.stream }
         requires short { length self.old.stream + length (units_of change) < 2 ^ 64 }
+        requires outcomes { outcomes.now ≡ outcomes_of self.old.stream }
         ensures kept { self.new.stream ≡ self.old.stream }
         ensures ready { IfOk result (λ prepared. IsPrepared self.new prepared) }
         ensures change { IfOk result (λ prepared. change_in prepared ≡ change) }
@@ -168,11 +164,10 @@ impl Folded {
         ensures counted { IfOk result
             (λ prepared. IsCounted change self.old.stream (steps_in prepared)) }
     {
-        let (fold, met, reached) = self.refold(alloc, &change)?;
+        let (fold, met, reached) = self.refold(alloc, &change, outcomes)?;
         self.units.reserve(change.units().len())?;
-        self.outcomes.reserve(fold.outcomes.len())?;
         self.stored.reserve(fold.states.len())?;
-        Ok(Prepared {
+        Ok(PreparedFold {
             change,
             fold,
             met,
@@ -181,11 +176,11 @@ impl Folded {
     }
 
     /// Makes a prepared change. Takes no memory.
-    pub fn commit(&mut self, prepared: Prepared)
+    pub fn commit(&mut self, prepared: PreparedFold)
         requires { IsPrepared self.old prepared }
         ensures { self.new.stream ≡ stream_after (change_in prepared) self.old.stream }
     {
-        let Prepared {
+        let PreparedFold {
             change,
             fold,
             met,
@@ -201,12 +196,6 @@ impl Folded {
         );
         thin(&mut self.stored, fold.kept);
         thin(&mut self.stored, fold.place);
-        replace_range(
-            &mut self.outcomes,
-            fold.from,
-            met.unwrap_or(end),
-            fold.outcomes,
-        );
         keep_end(&mut self.end, met, fold.state);
         self.reached = reached;
         change.make(&mut self.units);
@@ -214,14 +203,17 @@ impl Folded {
 
     /// The fold over what a change changes, and the place at which it came to a stored state, if it
     /// did; and the place of the change within the stream, if it is one, with the state past it.
+    /// It shares the outcomes of the units in front of the change.
     #[tactic(auto, using(crate::proofs::Changed::at_inside, crate::proofs::Changed::rest_inside, crate::proofs::Changed::at_rest))]
     fn refold(
         &self,
         alloc: Global,
         change: &Change,
+        outcomes: &[Shared<HashedOutcome>],
     ) -> Result<(Refold, Option<usize>, Option<Reached>), AllocError>
         requires inside { IsInside change.now self.now.stream }
         requires short { length self.now.stream + length (units_of change.now) < 2 ^ 64 }
+        requires outcomes { outcomes.now ≡ outcomes_of self.now.stream }
         ensures made { IfOk result (λ made.
             IsMadeAnew change.now self.now.stream self.now.stored.states made.0 made.1) }
         ensures reached { IfOk result (λ made. IsReached self.now.stream (at_of change.now) made.2) }
@@ -230,7 +222,7 @@ impl Folded {
         let mut fold = self.start(alloc, at)?;
         let from = fold.from;
         fold.go_over(alloc, &self.units[from..at])?;
-        fold.share(alloc, &self.outcomes[from..at])?;
+        fold.share(alloc, &outcomes[from..at])?;
         let reached = self.reached_at(at, &fold.state)?;
         fold.go_over(alloc, change.units())?;
         let met = self.catch_up(alloc, change.rest_from(), &mut fold)?;

@@ -1,14 +1,15 @@
-//! A stream under changes, with each unit's outcome and its place in output order, refolded from
-//! stored states; and theorems on whole streams.
+//! A stream under changes, refolded from stored states, with each unit's place in output order; and
+//! theorems on whole streams.
 //!
-//! `Folded` keeps the units of a stream, what the fold over it makes of each, and the states past
-//! some of its places. A change of one stretch is prepared, which may run out of memory and leaves
-//! all answers as they were, and then committed, which takes none. The fold goes on from the stored
-//! state before the change, or from the place of the last change, where that is nearer, and ends
-//! where it comes to a state that is stored.
+//! `Folded` keeps the units of a stream, and the states of the fold past some of its places. The
+//! units' outcomes are its caller's: it reads them when it prepares a change, and the prepared
+//! change has those of one stretch, made anew. A change is prepared, which may run out of memory
+//! and leaves all answers as they were, and then committed, which takes none. The fold goes on from
+//! the stored state before the change, or from the place of the last change, where that is nearer,
+//! and ends where it comes to a state that is stored.
 //!
-//! `OrderedFold` joins a `Folded` with the `Periods` of output_order that its outcomes make. Of the
-//! periods, those that the stretch of new outcomes touches are changed, and no others.
+//! `OrderedFold` joins a `Folded` with the `Periods` of output_order that its units' outcomes make.
+//! Of the periods, those that the stretch of new outcomes touches are changed, and no others.
 //!
 //! The theorems: whoever decodes a stream's units in order never meets one that lacks something:
 //! where no access unit is refused, the plan of each valid unit has the requests of one picture,
@@ -34,7 +35,7 @@ mod showing;
 mod storing;
 
 pub use depending::keys_depend_on_marked_frames;
-pub use folded::{Folded, Prepared};
+pub use folded::{Folded, PreparedFold};
 pub use going_on::folds_that_agree_go_on_alike;
 pub use laws::outcomes_can_be_decoded;
 pub use ordered::OrderedFold;

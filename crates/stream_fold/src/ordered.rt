@@ -1,4 +1,4 @@
-//! A stream with each unit's outcome, and where it is shown.
+//! A stream, and where each of its units is shown.
 
 ghost use Rattle.std.specs.Prelude.{◌≡◌, ℕ, ◌+◌, ◌^◌, ◌<◌, ◌≤◌, [], length, slice_get, Some, IfOk, IfNone, IfSome};
 ghost use Rattle.request_core.specs.Fold.{outcomes_of};
@@ -22,8 +22,7 @@ use request_core::State;
 use std::alloc::{AllocError, Global};
 use std::marker::Model;
 
-/// A stream of access units under their ids, with the outcome of each and its position in output
-/// order.
+/// A stream of access units under their ids, with the position of each in output order.
 #[derive(Debug)]
 pub struct OrderedFold {
     folded: Folded,
@@ -68,13 +67,6 @@ impl OrderedFold {
         self.folded.units()
     }
 
-    /// Each unit's outcome, in the same order.
-    pub fn outcomes(&self) -> &[Shared<HashedOutcome>]
-        ensures { result.now ≡ outcomes_of self.now.folded.stream }
-    {
-        self.folded.outcomes()
-    }
-
     /// The states of the fold that are stored, each past its place.
     pub fn states(&self) -> &Checkpoints<State>
         ensures value { result.now ≡ self.now.folded.stored }
@@ -109,10 +101,17 @@ impl OrderedFold {
     }
 
     /// Prepares a change: folds anew what it changes, prepares what this changes in the periods,
-    /// and makes room. All answers stay as they were.
-    pub fn prepare(&mut self, alloc: Global, change: Change) -> Result<PreparedChange, AllocError>
+    /// and makes room. All answers stay as they were. The outcomes of the stream as it stands are
+    /// those of the caller, who keeps them; those of the stretch come with the prepared change.
+    pub fn prepare(
+        &mut self,
+        alloc: Global,
+        change: Change,
+        outcomes: &[Shared<HashedOutcome>],
+    ) -> Result<PreparedChange, AllocError>
         requires inside { IsInside change self.old.folded.stream }
         requires short { length self.old.folded.stream + length (units_of change) < 2 ^ 64 }
+        requires outcomes { outcomes.now ≡ outcomes_of self.old.folded.stream }
         ensures kept { self.new.folded.stream ≡ self.old.folded.stream }
         ensures ready { IfOk result (λ prepared. IsPrepared self.new prepared) }
         ensures change { IfOk result (λ prepared. change_in prepared.refolded ≡ change) }
@@ -124,7 +123,7 @@ impl OrderedFold {
         ensures counted { IfOk result
             (λ prepared. IsCounted change self.old.folded.stream (steps_in prepared.refolded)) }
     {
-        let refolded = self.folded.prepare(alloc, change)?;
+        let refolded = self.folded.prepare(alloc, change, outcomes)?;
         let shown = shown_of_each(alloc, refolded.outcomes())?;
         let end = refolded.end(&self.folded);
         let splice = self

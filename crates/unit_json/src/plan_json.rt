@@ -106,7 +106,8 @@ fn plan_shared<J: Encoder, W: Sink, E: Sink>(
 
 /// Says nothing of a stream that is refused, as its refusal is printed.
 fn say_nothing<E: Sink>(errors: &mut E) -> Result<(), PrintFault>
-    ensures { Tells result (E.refuses errors.new) (E.contents errors.old) (E.contents errors.new) [] }
+    ensures { Tells result (E.refuses errors.new) (E.contents errors.old)
+        (E.contents errors.new) [] }
 {
     write_bytes(errors, b"")
 }

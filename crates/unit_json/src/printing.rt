@@ -76,7 +76,8 @@ pub(crate) fn print_line<J: Encoder, W: Sink>(
     line: &JsonLine,
     writer: &mut W,
 ) -> Result<(), PrintFault>
-    ensures ok { OnOk result (Said J.says line.now (W.contents writer.old) (W.contents writer.new)) }
+    ensures ok { OnOk result (Said J.says line.now (W.contents writer.old)
+        (W.contents writer.new)) }
     ensures refused { IsErrOf result PrintFault.Unwritten → W.refuses writer.new }
 {
     let text = encoder.encode(alloc, line)?;

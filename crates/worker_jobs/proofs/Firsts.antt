@@ -117,7 +117,7 @@ none_left (x ∷ xs) is = absurd (omega arith)
 -- the end of a wait for all that is wanted, by what becomes of the second list where the first is
 -- settled
 pub rests : (machine : Machine) (wants : Wants) (numbers others : List ℕ) (b : Bool) → numbers ≡ wants.waited
-    → others ≡ wants.listed → wants.rest ≡ false → length machine.out ≡ 0 → AreSettled machine numbers
+    → others ≡ wants.listed → wants.rest ≡ false → length machine.jobs_out ≡ 0 → AreSettled machine numbers
     → MatchBool b (AreSettled machine others) (IsAnyPending machine others)
     → MatchBool b (IsAtRest machine wants) (MayNotRest machine wants)
 rests machine wants numbers others true same alike off out one other = record {
@@ -125,7 +125,7 @@ rests machine wants numbers others true same alike off out one other = record {
   settled = settled_joined machine wants.waited wants.listed
       (subst (λ (ids : List ℕ). AreSettled machine ids) same one)
       (subst (λ (ids : List ℕ). AreSettled machine ids) alike other);
-  none_out = none_left machine.out out;
+  none_out = none_left machine.jobs_out out;
 }
 rests machine wants numbers others false same alike off out one other =
     inr (inl (pending_right machine wants.waited wants.listed (subst (λ (ids : List ℕ). IsAnyPending machine ids) alike other)))

@@ -22,9 +22,9 @@ IsAnyPending machine ids = (at id : ℕ) × (slice_get ids at ≡ Some id) × Sh
 pub record IsAtRest (machine : Machine) (wants : Wants) : Type 0 where
   pub off : wants.rest ≡ false
   pub settled : AreSettled machine (urgent wants)
-  pub none_out : machine.out ≡ []
+  pub none_out : machine.jobs_out ≡ []
 
 -- the rest is wanted, or a wanted unit is pending, or a job is out
 abbrev pub MayNotRest : Machine → Wants → Type 0
 MayNotRest machine wants =
-    (wants.rest ≡ true) ⊎ (IsAnyPending machine (urgent wants) ⊎ (machine.out ≢ []))
+    (wants.rest ≡ true) ⊎ (IsAnyPending machine (urgent wants) ⊎ (machine.jobs_out ≢ []))

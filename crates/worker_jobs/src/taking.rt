@@ -26,7 +26,8 @@ impl Wanted {
     /// Whether a session has nothing to do but the rest, which isn't wanted: no wanted unit is
     /// pending, and no job is out.
     pub fn is_at_rest(&self, session: &Session) -> bool
-        ensures { MatchBool result (IsAtRest session.now self.now) (MayNotRest session.now self.now) }
+        ensures { MatchBool result (IsAtRest session.now self.now)
+            (MayNotRest session.now self.now) }
     {
         if self.is_rest_wanted() || session.jobs_out() > 0 {
             return false;
@@ -52,7 +53,8 @@ fn take_first_of(numbers: &[u32], session: &mut Session) -> Result<Option<Job>, 
 
 /// Whether none of the units of the ids is pending.
 fn are_settled(numbers: &[u32], session: &Session) -> bool
-    ensures { MatchBool result (AreSettled session.now numbers.now) (IsAnyPending session.now numbers.now) }
+    ensures { MatchBool result (AreSettled session.now numbers.now)
+        (IsAnyPending session.now numbers.now) }
 {
     for number in numbers {
         if session.show(AuId::new(*number)) == Shown::Pending {

@@ -120,7 +120,8 @@ impl Tally {
         session: &mut Session,
     ) -> Result<bool, TakeRefused>
         requires { self.old.count < 2 ^ 63 }
-        ensures { TakesFirstIn session.old (urgent wanted.now) self.old result session.new self.new }
+        ensures { TakesFirstIn session.old (urgent wanted.now) self.old result session.new
+            self.new }
     {
         self.make_room()?;
         let answer = wanted.take_first(session);

@@ -1,20 +1,21 @@
 //! Units that a seat inserts into a session one after the other.
 
 ghost use Rattle.std.specs.Prelude.{◌≡◌};
-ghost use Rattle.decode_pool.specs.Appends.{AppendsOn, AppendsOne, place_after};
+ghost use Rattle.decode_pool.specs.Appends.{AppendsOn, AppendsOne};
 ghost use Rattle.decode_pool.specs.Seats.{IsReached};
 
-use super::State;
+use super::DeskState;
 use crate::appending::Appended;
 use crate::seat::Seat;
-use edit_engine::{EditRefused, Last, Place, ReadEdit, Receipt};
+use edit_engine::{EditRefused, ReadEdit, Receipt};
 use picture_keys::HashedUnit;
 
-impl State {
+impl DeskState {
     /// A seat inserts units after the last one, in their order, up to the first that is refused.
     pub(crate) fn append_read(&mut self, seat: &mut Seat, units: Vec<HashedUnit>) -> Appended
         ensures reached { IsReached self.old.session }
-        ensures appended { AppendsOn 0 self.old.session seat.old units.items result self.new.session seat.new }
+        ensures appended { AppendsOn 0 self.old.session seat.old units.items result self.new.session
+            seat.new }
         ensures status { self.new.status ≡ self.old.status }
     {
         let _ = self.session.journal();
@@ -37,21 +38,12 @@ impl State {
     /// A seat inserts a unit after the last one.
     fn append_one(&mut self, seat: &mut Seat, unit: HashedUnit) -> Result<Receipt, EditRefused>
         ensures reached { IsReached self.old.session }
-        ensures appended { AppendsOne self.old.session seat.old unit result self.new.session seat.new }
+        ensures appended { AppendsOne self.old.session seat.old unit result self.new.session
+            seat.new }
         ensures status { self.new.status ≡ self.old.status }
     {
-        let place = end_of(self.last());
+        let place = self.last().end();
         let read = ReadEdit::insertion(seat.alloc, place, unit)?;
         self.edit_read(seat, read)
-    }
-}
-
-/// The place after the last unit.
-fn end_of(last: Last) -> Place
-    ensures { result ≡ place_after last.id }
-{
-    match last.id {
-        Some(id) => Place::After(id),
-        None => Place::First,
     }
 }

@@ -4,7 +4,7 @@ ghost use Rattle.std.specs.Prelude.{◌≡◌, ◌≢◌, ◌<◌, []};
 ghost use Rattle.decode_pool.specs.declared.state.bringing.Next.TheVariants.{DecodesLast};
 ghost use Rattle.decode_pool.specs.Batches.{GivesBackAll, LandsAll, TakesNext, TakesSome};
 
-use super::State;
+use super::DeskState;
 use worker_jobs::Tally;
 
 /// How many jobs a worker takes at most before it ends.
@@ -25,10 +25,11 @@ pub(crate) enum Next {
     Ends,
 }
 
-impl State {
+impl DeskState {
     /// A worker comes back, and brings all results that it has in hand.
     pub(crate) fn come_back(&mut self, tally: &mut Tally)
-        ensures landed { LandsAll self.old.session tally.old.results.items tally.old.counts self.new.session tally.new.counts }
+        ensures landed { LandsAll self.old.session tally.old.results.items tally.old.counts
+            self.new.session tally.new.counts }
         ensures results { tally.new.results.items ≡ [] }
         ensures jobs { tally.new.jobs.items ≡ tally.old.jobs.items }
     {
@@ -44,7 +45,8 @@ impl State {
     pub(crate) fn take_next(&mut self, tally: &mut Tally, most: usize, workers: usize) -> Next
         requires none { tally.old.jobs.items ≡ [] }
         requires some { 0 < most }
-        ensures taken { TakesNext self.old.session self.old.status.wanted tally.new.jobs.items result self.new.session }
+        ensures taken { TakesNext self.old.session self.old.status.wanted
+            tally.new.jobs.items result self.new.session }
         ensures results { tally.new.results.items ≡ tally.old.results.items }
         ensures counts { tally.new.counts ≡ tally.old.counts }
         ensures wanted { self.new.status.wanted ≡ self.old.status.wanted }
@@ -63,7 +65,8 @@ impl State {
     fn take_urgent(&mut self, tally: &mut Tally, most: usize) -> Next
         requires none { tally.old.jobs.items ≡ [] }
         requires some { 0 < most }
-        ensures taken { TakesNext self.old.session self.old.status.wanted tally.new.jobs.items result self.new.session }
+        ensures taken { TakesNext self.old.session self.old.status.wanted
+            tally.new.jobs.items result self.new.session }
         ensures results { tally.new.results.items ≡ tally.old.results.items }
         ensures counts { tally.new.counts ≡ tally.old.counts }
         ensures status { self.new.status ≡ self.old.status }
@@ -105,7 +108,8 @@ impl State {
     /// A worker brings all results that it has in hand, in the order in which it took their jobs,
     /// each by a step of the session.
     pub(crate) fn land_all(&mut self, tally: &mut Tally)
-        ensures landed { LandsAll self.old.session tally.old.results.items tally.old.counts self.new.session tally.new.counts }
+        ensures landed { LandsAll self.old.session tally.old.results.items tally.old.counts
+            self.new.session tally.new.counts }
         ensures results { tally.new.results.items ≡ [] }
         ensures jobs { tally.new.jobs.items ≡ tally.old.jobs.items }
         ensures status { self.new.status ≡ self.old.status }
@@ -118,7 +122,8 @@ impl State {
     /// A worker gives all jobs back that it has in hand, in the order in which it took them, each
     /// by a step of the session.
     pub(crate) fn give_back_all(&mut self, tally: &mut Tally)
-        ensures given { GivesBackAll self.old.session tally.old.jobs.items tally.old.counts self.new.session tally.new.counts }
+        ensures given { GivesBackAll self.old.session tally.old.jobs.items tally.old.counts
+            self.new.session tally.new.counts }
         ensures jobs { tally.new.jobs.items ≡ [] }
         ensures results { tally.new.results.items ≡ tally.old.results.items }
         ensures status { self.new.status ≡ self.old.status }

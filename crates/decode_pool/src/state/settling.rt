@@ -3,7 +3,7 @@
 ghost use Rattle.std.specs.Prelude.{◌≡◌, IfOk, MatchOption};
 ghost use Rattle.decode_pool.specs.Seats.{AreSettledFrom, IsPendingAt, IsReached, IsSettledBy, IsSettledForBy, WaitsForOne};
 
-use super::State;
+use super::DeskState;
 use edit_engine::Shown;
 use pictures::AuId;
 
@@ -20,7 +20,7 @@ pub enum Settled {
     Rested,
 }
 
-impl State {
+impl DeskState {
     /// How a wait ends that began to look at the units from a place on, or found none pending
     /// there: no unit is pending; or one is, but all that is wanted is done; or as many workers
     /// have ended. Else the place of a pending unit, from which on is looked next.

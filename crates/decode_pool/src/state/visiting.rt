@@ -6,13 +6,13 @@ ghost use Rattle.edit_engine.specs.Machines.{AnswersEdit};
 ghost use Rattle.edit_engine.specs.Needing.{AnswersDrop};
 ghost use Rattle.decode_pool.specs.Seats.{IsReached};
 
-use super::State;
+use super::DeskState;
 use edit_engine::{
     Dropping, EditRefused, GroupReceipt, GroupRefused, ReadEdit, ReadGroup, Receipt, Session,
 };
 use pictures::AuId;
 
-impl State {
+impl DeskState {
     /// The session, to be asked.
     pub(crate) fn visited(&self) -> &Session
         ensures reached { IsReached self.now.session }

@@ -1,11 +1,13 @@
 //! What is asked of a session.
 
-ghost use Rattle.std.specs.Prelude.{◌≡◌, ◌<◌, ◌↔◌, ℕ, length, slice_get, Contains, Some, None, IsTrue, IfOk, MatchResult};
+ghost use Rattle.std.specs.Prelude.{◌≡◌, ◌<◌, ◌↔◌, ℕ, length, slice_get, Contains, Some, None, IsTrue, IfOk, IfSome, MatchOption, MatchResult};
 ghost use Rattle.picture_store.specs.Stores.{AreOneToOne, IsNumberInUse};
-ghost use Rattle.stream_edits.specs.Streams.{ids_of, place_of};
+ghost use Rattle.stream_edits.specs.Streams.{end_of, ids_of, place_of, start_of};
 ghost use Rattle.edit_engine.specs.Streams.{outcome_in, position_in};
 ghost use Rattle.edit_engine.specs.Machines.{store_of};
 ghost use Rattle.edit_engine.specs.Showing.{HasNumber, Shows};
+ghost use Rattle.edit_engine.specs.Taken.{input_of};
+ghost use Rattle.stand_in_device.specs.Inputs.{is_whole};
 
 use super::Session;
 use crate::refusals::NoSuchUnit;
@@ -13,9 +15,22 @@ use crate::showing::Shown;
 use dep_keys::KeyId;
 use output_order::Comparisons;
 use pictures::AuId;
+use stand_in_device::Input;
+use stream_edits::Place;
 use unit_outcomes::Outcome;
 
 impl Session {
+    /// The place after all units, at which a unit is appended.
+    pub fn end(&self) -> Place
+        ensures value { result ≡ end_of self.now.register.stream }
+        ensures stands { start_of self.now.register.stream result
+            ≡ Some (length self.now.register.stream) }
+    {
+        // Its ids differ, since edits led to the stream.
+        let _ = self.journal();
+        self.last().end()
+    }
+
     /// What is shown of the unit that has the id. It takes no memory.
     pub fn show(&self, id: AuId) -> Shown
         ensures { Shows self.now id result }
@@ -101,7 +116,7 @@ impl Session {
 
     /// How many jobs are out. It takes no memory.
     pub fn jobs_out(&self) -> usize
-        ensures { result ≡ length self.now.out }
+        ensures { result ≡ length self.now.jobs_out }
     {
         self.store.jobs_out()
     }
@@ -119,5 +134,15 @@ impl Session {
         ensures { result ≡ length self.now.cached }
     {
         self.store.cached_keys()
+    }
+
+    /// What the job of this number is made of, if it is out. It takes no memory.
+    pub(crate) fn job_input(&self, number: u64) -> Option<&Input>
+        ensures value { MatchOption result
+            (input_of self.now number ≡ None)
+            (λ input. input_of self.now number ≡ Some input.now) }
+        ensures whole { IfSome result (λ input. IsTrue (is_whole input.now)) }
+    {
+        self.store.job_input(number)
     }
 }

@@ -1,5 +1,6 @@
 mod period_rows;
 mod stored_states;
+mod with_outcomes;
 
 ghost use Rattle.std.specs.Prelude.{◌<◌, ◌≤◌, length};
 
@@ -11,8 +12,9 @@ use pictures::AuId;
 use std::alloc::{AllocError, AllocGlobal, Global};
 use std::process::Abort;
 use std::test::Fail;
-use stream_fold::{Change, Folded, OrderedFold};
+use stream_fold::{Change, OrderedFold};
 use unit_outcomes::Outcome;
+use with_outcomes::StreamWithOutcomes;
 
 /// Sets and an IDR picture, of one macroblock, count type 2 and one reference frame; frame_num has
 /// four bits.
@@ -69,70 +71,67 @@ fn unit(rt: &(impl Abort + AllocGlobal), text: &[u8]) -> Result<Shared<HashedUni
 /// the place, and says how many steps of the fold it took.
 fn changed(
     alloc: Global,
-    folded: &mut Folded,
+    stream: &mut StreamWithOutcomes,
     at: usize,
     rest: usize,
     unit: Option<Shared<HashedUnit>>,
 ) -> Result<u64, AllocError>
     requires ordered { at ≤ rest }
-    requires inside { rest ≤ length folded.old.stream }
-    requires short { length folded.old.stream < 70000 }
+    requires inside { rest ≤ length stream.old.folded.stream }
+    requires short { length stream.old.folded.stream < 70000 }
 {
     let mut units = Vec::new(alloc);
     if let Some(unit) = unit {
         units.push((AuId::new(at as u32 + 1), unit))?;
     }
-    let prepared = folded.prepare(alloc, Change::new(at, rest, units))?;
-    let steps = prepared.steps();
-    folded.commit(prepared);
-    Ok(steps)
+    stream.make(alloc, Change::new(at, rest, units))
 }
 
 /// Puts the unit of a text at the end, under the next id.
 fn append(
     rt: &(impl Abort + AllocGlobal),
-    folded: &mut Folded,
+    stream: &mut StreamWithOutcomes,
     text: &[u8],
 ) -> Result<u64, AllocError> {
-    let at = folded.units().len();
+    let at = stream.ordered().units().len();
     if at >= 69_999 {
         panic!(rt; "the stream is too long");
     }
     let unit = unit(rt, text)?;
-    changed(rt.alloc(), folded, at, at, Some(unit))
+    changed(rt.alloc(), stream, at, at, Some(unit))
 }
 
 /// Puts the unit of a text in the place of the one at the place.
 fn replace(
     rt: &(impl Abort + AllocGlobal),
-    folded: &mut Folded,
+    stream: &mut StreamWithOutcomes,
     at: usize,
     text: &[u8],
 ) -> Result<u64, AllocError> {
-    let count = folded.units().len();
+    let count = stream.ordered().units().len();
     if at >= count || count >= 70_000 {
         panic!(rt; "there is no such unit");
     }
     let unit = unit(rt, text)?;
-    changed(rt.alloc(), folded, at, at + 1, Some(unit))
+    changed(rt.alloc(), stream, at, at + 1, Some(unit))
 }
 
 /// Takes the unit at the place away.
 fn delete(
     rt: &(impl Abort + AllocGlobal),
-    folded: &mut Folded,
+    stream: &mut StreamWithOutcomes,
     at: usize,
 ) -> Result<u64, AllocError> {
-    let count = folded.units().len();
+    let count = stream.ordered().units().len();
     if at >= count || count >= 70_000 {
         panic!(rt; "there is no such unit");
     }
-    changed(rt.alloc(), folded, at, at + 1, None)
+    changed(rt.alloc(), stream, at, at + 1, None)
 }
 
 /// Whether the unit at the place is valid.
-fn is_valid(folded: &Folded, at: usize) -> bool {
-    match folded.outcomes().get(at) {
+fn is_valid(stream: &StreamWithOutcomes, at: usize) -> bool {
+    match stream.outcomes().get(at) {
         Some(outcome) => match &***outcome {
             Outcome::Plan(_) => true,
             Outcome::Fault(_) | Outcome::Empty => false,
@@ -143,24 +142,24 @@ fn is_valid(folded: &Folded, at: usize) -> bool {
 
 /// A thousand units: the first has the sets, the 601st is an IDR picture, the others are P pictures
 /// that follow.
-fn thousand(rt: &(impl Abort + AllocGlobal)) -> Result<Folded, AllocError> {
-    let mut folded = Folded::new(rt.alloc())?;
-    append(rt, &mut folded, &A)?;
+fn thousand(rt: &(impl Abort + AllocGlobal)) -> Result<StreamWithOutcomes, AllocError> {
+    let mut stream = StreamWithOutcomes::new(rt.alloc())?;
+    append(rt, &mut stream, &A)?;
     for frame_num in 1..600 {
-        append(rt, &mut folded, &p_text(frame_num))?;
+        append(rt, &mut stream, &p_text(frame_num))?;
     }
-    append(rt, &mut folded, &IDR)?;
+    append(rt, &mut stream, &IDR)?;
     for frame_num in 1..400 {
-        append(rt, &mut folded, &p_text(frame_num))?;
+        append(rt, &mut stream, &p_text(frame_num))?;
     }
-    Ok(folded)
+    Ok(stream)
 }
 
 #[test]
 fn an_append_makes_one_step(rt: HostRuntime) -> Result<(), Fail> {
-    let mut folded = Folded::new(rt.alloc())?;
+    let mut stream = StreamWithOutcomes::new(rt.alloc())?;
     for frame_num in 0..70 {
-        assert!(rt; append(&rt, &mut folded, &p_text(frame_num))? == 1);
+        assert!(rt; append(&rt, &mut stream, &p_text(frame_num))? == 1);
     }
     Ok(())
 }
@@ -169,11 +168,13 @@ fn an_append_makes_one_step(rt: HostRuntime) -> Result<(), Fail> {
 /// to the end.
 #[test]
 fn a_replacement_in_a_long_stream_makes_few_steps(rt: HostRuntime) -> Result<(), Fail> {
-    let mut folded = thousand(&rt)?;
-    assert!(rt; folded.units().len() == 1000 && is_valid(&folded, 499) && is_valid(&folded, 999));
-    assert!(rt; replace(&rt, &mut folded, 499, &other_p_text(499))? == 32);
-    assert!(rt; replace(&rt, &mut folded, 999, &other_p_text(399))? == 8);
-    assert!(rt; is_valid(&folded, 499) && is_valid(&folded, 999));
+    let mut stream = thousand(&rt)?;
+    assert!(rt;
+        stream.ordered().units().len() == 1000 && is_valid(&stream, 499) && is_valid(&stream, 999)
+    );
+    assert!(rt; replace(&rt, &mut stream, 499, &other_p_text(499))? == 32);
+    assert!(rt; replace(&rt, &mut stream, 999, &other_p_text(399))? == 8);
+    assert!(rt; is_valid(&stream, 499) && is_valid(&stream, 999));
     Ok(())
 }
 
@@ -181,59 +182,28 @@ fn a_replacement_in_a_long_stream_makes_few_steps(rt: HostRuntime) -> Result<(),
 /// at 480 where the change is in front of the one before it, or where that was at the end.
 #[test]
 fn a_change_near_the_one_before_it_begins_there(rt: HostRuntime) -> Result<(), Fail> {
-    let mut folded = thousand(&rt)?;
-    assert!(rt; replace(&rt, &mut folded, 499, &other_p_text(499))? == 32);
-    assert!(rt; replace(&rt, &mut folded, 499, &p_text(499))? == 13);
-    assert!(rt; replace(&rt, &mut folded, 501, &other_p_text(501))? == 13);
-    assert!(rt; replace(&rt, &mut folded, 490, &other_p_text(490))? == 32);
-    append(&rt, &mut folded, &IDR)?;
-    assert!(rt; replace(&rt, &mut folded, 491, &other_p_text(491))? == 32);
-    assert!(rt; is_valid(&folded, 501) && is_valid(&folded, 999) && is_valid(&folded, 1000));
+    let mut stream = thousand(&rt)?;
+    assert!(rt; replace(&rt, &mut stream, 499, &other_p_text(499))? == 32);
+    assert!(rt; replace(&rt, &mut stream, 499, &p_text(499))? == 13);
+    assert!(rt; replace(&rt, &mut stream, 501, &other_p_text(501))? == 13);
+    assert!(rt; replace(&rt, &mut stream, 490, &other_p_text(490))? == 32);
+    append(&rt, &mut stream, &IDR)?;
+    assert!(rt; replace(&rt, &mut stream, 491, &other_p_text(491))? == 32);
+    assert!(rt; is_valid(&stream, 501) && is_valid(&stream, 999) && is_valid(&stream, 1000));
     Ok(())
 }
 
 #[test]
 fn a_deletion_of_what_nobody_refers_to_makes_few_steps(rt: HostRuntime) -> Result<(), Fail> {
-    let mut folded = Folded::new(rt.alloc())?;
-    append(&rt, &mut folded, &A)?;
-    append(&rt, &mut folded, &p_text(1))?;
-    append(&rt, &mut folded, &[0, 0, 1, 0x01, 0x9A, 0x47])?;
-    append(&rt, &mut folded, &p_text(2))?;
-    assert!(rt; is_valid(&folded, 2) && is_valid(&folded, 3));
-    assert!(rt; delete(&rt, &mut folded, 2)? == 3);
-    assert!(rt; folded.units().len() == 3 && is_valid(&folded, 2));
+    let mut stream = StreamWithOutcomes::new(rt.alloc())?;
+    append(&rt, &mut stream, &A)?;
+    append(&rt, &mut stream, &p_text(1))?;
+    append(&rt, &mut stream, &[0, 0, 1, 0x01, 0x9A, 0x47])?;
+    append(&rt, &mut stream, &p_text(2))?;
+    assert!(rt; is_valid(&stream, 2) && is_valid(&stream, 3));
+    assert!(rt; delete(&rt, &mut stream, 2)? == 3);
+    assert!(rt; stream.ordered().units().len() == 3 && is_valid(&stream, 2));
     Ok(())
-}
-
-/// Puts the unit of a text at the end of a stream in output order, under the next id.
-fn append_in_order(
-    rt: &(impl Abort + AllocGlobal),
-    ordered: &mut OrderedFold,
-    text: &[u8],
-) -> Result<(), AllocError> {
-    let at = ordered.units().len();
-    if at >= 69_999 {
-        panic!(rt; "the stream is too long");
-    }
-    let mut units = Vec::with_capacity(rt.alloc(), 1)?;
-    units.push((AuId::new(at as u32 + 1), unit(rt, text)?))?;
-    let prepared = ordered.prepare(rt.alloc(), Change::new(at, at, units))?;
-    ordered.commit(prepared);
-    Ok(())
-}
-
-/// The thousand units in output order.
-fn thousand_in_order(rt: &(impl Abort + AllocGlobal)) -> Result<OrderedFold, AllocError> {
-    let mut ordered = OrderedFold::new(rt.alloc())?;
-    append_in_order(rt, &mut ordered, &A)?;
-    for frame_num in 1..600 {
-        append_in_order(rt, &mut ordered, &p_text(frame_num))?;
-    }
-    append_in_order(rt, &mut ordered, &IDR)?;
-    for frame_num in 1..400 {
-        append_in_order(rt, &mut ordered, &p_text(frame_num))?;
-    }
-    Ok(ordered)
 }
 
 /// Whether the unit at a place has the position, which takes so many comparisons at most.
@@ -249,21 +219,21 @@ fn stands_at(ordered: &OrderedFold, place: usize, position: usize, most: usize) 
 
 #[test]
 fn a_position_takes_few_comparisons(rt: HostRuntime) -> Result<(), Fail> {
-    let ordered = thousand_in_order(&rt)?;
-    assert!(rt; stands_at(&ordered, 699, 699, 400));
+    let stream = thousand(&rt)?;
+    assert!(rt; stands_at(stream.ordered(), 699, 699, 400));
     Ok(())
 }
 
 /// Whether a deletion that is refused for lack of memory leaves the stream and the outcomes of its
 /// units as they were, and one that isn't leaves the picture behind it without the one before.
 fn holds_where_refused(rt: &(impl Abort + AllocGlobal)) -> Result<bool, AllocError> {
-    let mut folded = Folded::new(rt.alloc())?;
-    append(rt, &mut folded, &A)?;
-    append(rt, &mut folded, &p_text(1))?;
-    append(rt, &mut folded, &p_text(2))?;
-    match delete(rt, &mut folded, 1) {
-        Ok(_) => Ok(folded.units().len() == 2 && !is_valid(&folded, 1)),
-        Err(_) => Ok(folded.units().len() == 3 && is_valid(&folded, 2)),
+    let mut stream = StreamWithOutcomes::new(rt.alloc())?;
+    append(rt, &mut stream, &A)?;
+    append(rt, &mut stream, &p_text(1))?;
+    append(rt, &mut stream, &p_text(2))?;
+    match delete(rt, &mut stream, 1) {
+        Ok(_) => Ok(stream.ordered().units().len() == 2 && !is_valid(&stream, 1)),
+        Err(_) => Ok(stream.ordered().units().len() == 3 && is_valid(&stream, 2)),
     }
 }
 

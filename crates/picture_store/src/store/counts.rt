@@ -7,9 +7,9 @@ use super::PictureStore;
 impl PictureStore {
     /// How many jobs are out.
     pub fn jobs_out(&self) -> usize
-        ensures { result ≡ length self.now.out }
+        ensures { result ≡ length self.now.jobs_out }
     {
-        self.out.len()
+        self.jobs_out.len()
     }
 
     /// How many keys there are whose pictures are held. The slot of each key is looked at.

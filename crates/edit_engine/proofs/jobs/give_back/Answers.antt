@@ -1,16 +1,10 @@
-use Rattle.std.proofs.Common.{◌≡◌, ◌<◌, length, Some, ap, sym, ◌∙◌, refl, arith}
-use Rattle.std.specs.Prelude.{slice_get}
-use Rattle.std.proofs.lemmas.Option.{slice_get_read}
-use Rattle.stand_in_device.specs.Jobs.{JobValue}
-use Rattle.edit_engine.proofs.Taking.{give_back_agrees}
+use Rattle.edit_engine.proofs.ByNumber.{given_back, none_given_back}
 use Rattle.edit_engine.proofs.jobs.give_back.Goals as goal
 
-pub returns-in-Some-clause-out : goal.returns-in-Some-clause-out
-returns-in-Some-clause-out c =
-    let within : c.in-Some.at < length c.args.jobs.now.items =
-    omega (arith, c.in-Some.ensures.0, ap length c.deref.ensures.value) in
-    let stands : slice_get c.args.jobs.now.items c.in-Some.at ≡ Some c.into_job.result =
-    slice_get_read c.args.jobs.now.items (length c.args.jobs.now.items) c.in-Some.at c.remove.result refl within c.remove.ensures.value
-    ∙ ap (λ (job : JobValue). Some job) (sym c.into_job.ensures) in
-    rw c.remove.ensures.items
-    (give_back_agrees c.args.jobs.now.items c.args.session.now c.in-Some.at c.into_job.result c.requires stands c.give_back.result c.give_back.new.self c.give_back.ensures)
+pub returns-in-Returned : goal.returns-in-Returned
+returns-in-Returned c =
+    given_back c.args.session.now c.give_back_number.new.self c.args.number (rw c.in-Returned.is at c.give_back_number.ensures)
+
+pub returns-in-Foreign : goal.returns-in-Foreign
+returns-in-Foreign c =
+    none_given_back c.args.session.now c.give_back_number.new.self c.args.number _ (rw c.in-Foreign.is at c.give_back_number.ensures)

@@ -6,19 +6,19 @@ use Rattle.picture_store.proofs.due.first_to_do.Goals as goal
 
 pub loop-at-preserved : goal.loop-at-preserved
 loop-at-preserved c =
-    let found = c.args.found.now in
+    let numbers = c.args.numbers.now in
     let needs = NeedsNone c.args.places.now c.args.out.now in
     let yes : IsTrue c.needs_none.result = cc in (
       omega (arith, c.loop-at-test.true),
-      All-more needs found c.loop-at.at c.index-found-at.result c.loop-at-test.true c.loop-at.invariant.1
-          (subst needs c.index-found-at.is (c.needs_none.ensures.0 yes)),
+      All-more needs numbers c.loop-at.at c.index-numbers-at.result c.loop-at-test.true c.loop-at.invariant.1
+          (subst needs c.index-numbers-at.is (c.needs_none.ensures.0 yes)),
     )
 
 pub returns : goal.returns
 returns c =
-    let found = c.args.found.now in
+    let numbers = c.args.numbers.now in
     let needs = NeedsNone c.args.places.now c.args.out.now in (
       omega arith,
-      subst (λ xs. All needs xs) (sym (take_all (length found) found (omega arith)))
-          (subst (λ xs. All needs xs) (take_all c.loop-at.at found c.loop-at-test.false) c.loop-at.invariant.1),
+      subst (λ xs. All needs xs) (sym (take_all (length numbers) numbers (omega arith)))
+          (subst (λ xs. All needs xs) (take_all c.loop-at.at numbers c.loop-at-test.false) c.loop-at.invariant.1),
     )

@@ -11,9 +11,9 @@ pub returns-clause-counted : goal.returns-clause-counted
 returns-clause-counted c = λ number.
     omega (
       arith,
-      sum_by-IsPermutation (once_if number) c.add_found.new.roots.items c.sort_unstable.new.self.items
+      sum_by-IsPermutation (once_if number) c.add_numbers.new.roots.items c.sort_unstable.new.self.items
           c.sort_unstable.ensures.permutation,
-      c.in_ok-add_found.ensures.counted number,
+      c.in_ok-add_numbers.ensures.counted number,
       none number c.new-keys.result.items c.new-keys.ensures.items,
     )
 

@@ -11,8 +11,8 @@ where_ok : {A E : Type 0} (result : Result A E) (P Q : A → Type 0) → ((a : A
 where_ok (Ok a) P Q more known = more a known
 where_ok (Err error) P Q more known = known
 
-one_state : (found : Option FoldState) (a b : FoldState) → found ≡ Some a → found ≡ Some b → a ≡ b
-one_state found a b first second = cc
+one_state : (numbers : Option FoldState) (a b : FoldState) → numbers ≡ Some a → numbers ≡ Some b → a ≡ b
+one_state numbers a b first second = cc
 
 pub returns-in-Some-clause-ok : goal.returns-in-Some-clause-ok
 returns-in-Some-clause-ok c =

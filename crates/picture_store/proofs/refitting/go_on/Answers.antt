@@ -24,7 +24,7 @@ returns-then-branch-clause-agree g c =
     let states = c.args.states.now.states in
     let at = c.loop-at.at in
     inr (agree_alike states at c.loop-at.before
-    (numbers_over [] (take at c.args.units.now.ids.now) (take at c.args.units.now.found.now)) c.agree_at.new.after.numbers
+    (numbers_over [] (take at c.args.units.now.ids.now) (take at c.args.units.now.numbers.now)) c.agree_at.new.after.numbers
     c.loop-at.invariant.was
     (subst (λ (units : UnitNumbers). AgreeAt states at c.loop-at.before units.numbers) (sym c.agree_at.ensures.after)
     (c.in_ok-agree_at.ensures.ok.0 c.if-branch.true)))
@@ -36,17 +36,17 @@ loop-at-preserved g c = record {
   some = c.in_ok-add.ensures.some;
   was = λ id.
       let ids = c.args.units.now.ids.now in
-      let found = c.args.units.now.found.now in
+      let numbers = c.args.units.now.numbers.now in
       let at = c.loop-at.at in
       let more =
-      over_more [] ids found at c.index-units-at.result c.index-units-at-in-loop-at.result (omega arith)
-      (omega (arith, c.requires.found)) c.index-units-at.is c.index-units-at-in-loop-at.is in
+      over_more [] ids numbers at c.index-units-at.result c.index-units-at-in-loop-at.result (omega arith)
+      (omega (arith, c.requires.numbers)) c.index-units-at.is c.index-units-at-in-loop-at.is in
       let noted = rw (← c.index-units-at.is, ← c.index-units-at-in-loop-at.is) at c.in_ok-note.ensures.ok id in
       noted
-      ∙ (with_alike c.agree_at.new.before (numbers_over [] (take at ids) (take at found)) c.index-units-at.result
+      ∙ (with_alike c.agree_at.new.before (numbers_over [] (take at ids) (take at numbers)) c.index-units-at.result
       c.index-units-at-in-loop-at.result
       (λ other. ap (λ numbers. number_at numbers other) c.agree_at.ensures.before ∙ c.loop-at.invariant.was other) id
-      ∙ ap (λ numbers. number_at numbers id) (sym (ap (λ n. numbers_over [] (take n ids) (take n found)) (add-one at) ∙ more)));
+      ∙ ap (λ numbers. number_at numbers id) (sym (ap (λ n. numbers_over [] (take n ids) (take n numbers)) (add-one at) ∙ more)));
   follow = λ known before h.
       let ids = c.args.units.now.ids.now in
       let outcomes = c.args.units.now.outcomes.now in

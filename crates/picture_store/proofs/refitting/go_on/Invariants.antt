@@ -14,7 +14,7 @@ invariant-loop-at g l =
       stay : Extends l.initial.keys l.keys;
       one : IsKeyMap l.initial.keys → IsKeyMap l.keys;
       some : AreNumberedSome l.keys l.after.numbers;
-      was : (id : ℕ) → number_at l.before id ≡ number_at (numbers_over [] (take l.at l.units.ids.now) (take l.at l.units.found.now)) id;
+      was : (id : ℕ) → number_at l.before id ≡ number_at (numbers_over [] (take l.at l.units.ids.now) (take l.at l.units.numbers.now)) id;
       follow : (known : Known) (before : List (ℕ × Outcome)) → Follow l.initial.keys known before l.initial.after
           → Follow l.keys known (before ++ between l.to l.at l.units.ids.now l.units.outcomes.now) l.after;
     }

@@ -7,14 +7,14 @@ use Rattle.picture_store.proofs.refitting.roots.Goals as goal
 pub returns : goal.returns
 returns c = λ number.
     let before = c.in_ok-roots.roots.items in
-    let added = c.add_found.new.roots.items in
+    let added = c.add_numbers.new.roots.items in
     let out = numbers_out c.args.out.now in
     let last : Contains (added ++ out) number → Contains c.add_out.new.roots.items number =
     λ there. subst (λ xs. Contains xs number) (sym c.in_ok-add_out.ensures) there in
-    let stored : Contains (added ++ out) number → IsStored c.args.found.now c.args.cache.now.pairs c.args.out.now number =
+    let stored : Contains (added ++ out) number → IsStored c.args.numbers.now c.args.cache.now.pairs c.args.out.now number =
     λ there. elim (Contains-append_cases added out number there) [
       | inl earlier ↦
-          elim (only_added before added c.args.found.now number (c.in_ok-add_found.ensures.counted number) earlier) [
+          elim (only_added before added c.args.numbers.now number (c.in_ok-add_numbers.ensures.counted number) earlier) [
             | inl cached ↦ inr (inl (subst (λ xs. Contains xs number) c.in_ok-roots.ensures cached))
             | inr unit ↦ inl unit
           ]
@@ -22,9 +22,9 @@ returns c = λ number.
     ] in (
       λ there. stored (subst (λ xs. Contains xs number) c.in_ok-add_out.ensures there),
       λ is. elim is [
-        | inl unit ↦ last (Contains-append_left added out number (c.in_ok-add_found.ensures.added number unit))
+        | inl unit ↦ last (Contains-append_left added out number (c.in_ok-add_numbers.ensures.added number unit))
         | inr (inl cached) ↦
-            last (Contains-append_left added out number (c.in_ok-add_found.ensures.old number (subst (λ xs. Contains xs number) (sym c.in_ok-roots.ensures) cached)))
+            last (Contains-append_left added out number (c.in_ok-add_numbers.ensures.old number (subst (λ xs. Contains xs number) (sym c.in_ok-roots.ensures) cached)))
         | inr (inr job) ↦ last (Contains-append_right added out number job)
       ],
     )

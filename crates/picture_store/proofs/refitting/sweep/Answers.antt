@@ -9,5 +9,5 @@ returns-clause-stay g c = λ number key stored there.
 
 pub returns-clause-swept : goal.returns-clause-swept
 returns-clause-swept g c =
-    swept_all c.sweep.result c.args.found.now c.args.cache.now.pairs c.args.out.now c.args.keys.now c.sweep.new.self c.deref.result.now
+    swept_all c.sweep.result c.args.numbers.now c.args.cache.now.pairs c.args.out.now c.args.keys.now c.sweep.new.self c.deref.result.now
     (λ number. rw (c.deref.ensures.value) (c.in_ok-roots.ensures number)) c.sweep.ensures.ok

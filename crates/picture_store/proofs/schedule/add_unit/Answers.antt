@@ -17,7 +17,7 @@ returns-in-Some-node-clause-all g c =
     (λ all entry refers not.
     all entry
     (subst (λ entries. Contains entries (Some entry)) (sym c.entries.ensures)
-    (refers_among units.keys.now c.requires.one units.found.now c.args.at entry c.in-Some.key node
+    (refers_among units.keys.now c.requires.one units.numbers.now c.args.at entry c.in-Some.key node
     ((c.in-Some.ensures c.in-Some.key).0 refl) c.in-Some-node.ensures refers)) not)
     c.add_entries.ensures.all
 

@@ -20,7 +20,7 @@ loop-at-preserved g c =
         | inl earlier ↦ adds.stay at entry (was.listed at entry earlier refers not)
         | inr here ↦
             subst (λ n. WaitsFor after n entry) here
-            (adds.all entry (subst (λ n. RefersTo units.keys.now units.found.now n entry) (sym here) refers) not)
+            (adds.all entry (subst (λ n. RefersTo units.keys.now units.numbers.now n entry) (sym here) refers) not)
       ];
       those = λ at entry is. elim (adds.only at entry is) [
         | inl there ↦ was.those at entry there

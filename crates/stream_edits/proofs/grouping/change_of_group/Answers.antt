@@ -12,5 +12,5 @@ returns-in-Some-clause-err c =
     let made = rw (c.deref.ensures.value) at c.in_ok-draft.ensures.ok in
     let long : c.len.result ≡ length read.items = omega (arith, c.len.ensures, read.ok.0) in
     rw (c.at.ensures, long, ← c.group.view_is)
-    (refused_next (record { given = c.args.given; stream = c.args.units.now }) c.group.inside.edits.items read.items c.in-Some.refused
+    (refused_next (record { ids_given = c.args.ids_given; stream = c.args.units.now }) c.group.inside.edits.items read.items c.in-Some.refused
     draft.about.items (register_of draft) group made.makes)

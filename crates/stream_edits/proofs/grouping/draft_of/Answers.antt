@@ -9,7 +9,7 @@ use Rattle.stream_edits.proofs.grouping.draft_of.Goals as goal
 pub make-requires-clause-different : goal.make-requires-clause-different
 make-requires-clause-different c =
     let draft = c.loop-index.draft in
-    let old : Register = record { given = c.args.given; stream = c.args.units.now } in
+    let old : Register = record { ids_given = c.args.ids_given; stream = c.args.units.now } in
     rw (c.loop-index.invariant.ids_are)
     (AreDifferent-ids (register_of draft)
     (HasIds-all old (take c.loop-index.index c.args.read.now) draft.about.items (register_of draft) c.requires.different c.loop-index.invariant.makes))
@@ -18,7 +18,7 @@ pub returns-in-Err-clause-err : goal.returns-in-Err-clause-err
 returns-in-Err-clause-err c =
     let draft = c.loop-index.draft in
     rw (c.at.ensures)
-    (refused_among (record { given = c.args.given; stream = c.args.units.now }) c.args.read.now c.loop-index.index c.in-Err.refused
+    (refused_among (record { ids_given = c.args.ids_given; stream = c.args.units.now }) c.args.read.now c.loop-index.index c.in-Err.refused
     (record {
       edit = c.index-read-index.result;
       stands =

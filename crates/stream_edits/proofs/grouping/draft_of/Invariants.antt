@@ -4,4 +4,4 @@ use Rattle.stream_edits.proofs.grouping.draft_of.Given as goal
 
 -- the edits so far are made
 abbrev pub invariant-loop-index : goal.invariant-loop-index
-invariant-loop-index l = IsDraft (record { given = l.fn.given; stream = l.fn.units }) (take l.index l.read) l.draft
+invariant-loop-index l = IsDraft (record { ids_given = l.fn.ids_given; stream = l.fn.units }) (take l.index l.read) l.draft

@@ -11,15 +11,15 @@ pushed : (stream : Stream) (unit : ℕ × List (List ℕ)) → stream ++ unit �
 pushed stream unit = rw (take-length stream, drop-length stream) refl
 
 -- a unit more under the next id
-HasIds-next : (given id : ℕ) (stream : Stream) (unit : List (List ℕ)) → id ≡ given + 1 → HasIds (record { given = given; stream = stream })
-    → HasIds (record { given = given + 1; stream = stream ++ (id, unit) ∷ [] })
-HasIds-next given id stream unit next ids =
-    HasIds-insert (record { given = given; stream = stream })
-    (record { given = given + 1; stream = stream ++ (id, unit) ∷ [] })
+HasIds-next : (ids_given id : ℕ) (stream : Stream) (unit : List (List ℕ)) → id ≡ ids_given + 1 → HasIds (record { ids_given = ids_given; stream = stream })
+    → HasIds (record { ids_given = ids_given + 1; stream = stream ++ (id, unit) ∷ [] })
+HasIds-next ids_given id stream unit next ids =
+    HasIds-insert (record { ids_given = ids_given; stream = stream })
+    (record { ids_given = ids_given + 1; stream = stream ++ (id, unit) ∷ [] })
     id (length stream) unit ids next (sym next) (pushed stream (id, unit))
 
 -- src/tests.rt:24:1
 pub returns-clause-different : goal.returns-clause-different
 returns-clause-different c =
-    let next = HasIds-next c.args.given c.new-id.result c.args.units.now.0.items c.args.unit c.new-id.ensures c.requires.different in
-    subst (λ items. HasIds (record { given = c.args.given + 1; stream = items })) (sym c.in_ok-push.ensures.items) next
+    let next = HasIds-next c.args.ids_given c.new-id.result c.args.units.now.0.items c.args.unit c.new-id.ensures c.requires.different in
+    subst (λ items. HasIds (record { ids_given = c.args.ids_given + 1; stream = items })) (sym c.in_ok-push.ensures.items) next

@@ -10,7 +10,7 @@ pub returns : goal.returns
 returns c =
     let s = c.self.inside in
     let is : IsOf s.ordered.folded.stream s.store =
-    IsOf-kept s.journal.items (record { given = s.given; stream = s.ordered.folded.stream }) s.store c.self.invariant in
+    IsOf-kept s.journal.items (record { ids_given = s.ids_given; stream = s.ordered.folded.stream }) s.store c.self.invariant in
     let stands : place_of s.ordered.folded.stream c.args.id ≡ Some c.in-Some.place =
     sym (rw (← c.self.view_is) at c.in-Some.ensures.value) in
     elim c.if-drop_picture.branch [
@@ -18,7 +18,7 @@ returns c =
           rw (w.result-is, ← c.self.view_is) (
             c.in-Some.place,
             stands,
-            drop_seen s.journal.items (record { given = s.given; stream = s.ordered.folded.stream }) s.store is c.args.id c.in-Some.place stands true c.drop_picture.new.self
+            drop_seen s.journal.items (record { ids_given = s.ids_given; stream = s.ordered.folded.stream }) s.store is c.args.id c.in-Some.place stands true c.drop_picture.new.self
                 (subst (λ (dropped : Bool). pictures.AnswersDrop s.store c.in-Some.place dropped c.drop_picture.new.self) w.if-drop_picture.true c.drop_picture.ensures),
             (refl, refl),
           )
@@ -26,7 +26,7 @@ returns c =
           rw (w.result-is, ← c.self.view_is) (
             c.in-Some.place,
             stands,
-            drop_seen s.journal.items (record { given = s.given; stream = s.ordered.folded.stream }) s.store is c.args.id c.in-Some.place stands false c.drop_picture.new.self
+            drop_seen s.journal.items (record { ids_given = s.ids_given; stream = s.ordered.folded.stream }) s.store is c.args.id c.in-Some.place stands false c.drop_picture.new.self
                 (subst (λ (dropped : Bool). pictures.AnswersDrop s.store c.in-Some.place dropped c.drop_picture.new.self) w.if-drop_picture.false c.drop_picture.ensures),
             (refl, refl),
           )

@@ -11,7 +11,7 @@ pub change_of-requires-clause-different : goal.change_of-requires-clause-differe
 change_of-requires-clause-different c =
     let s = c.self.inside in
     rw c.ids-ids.ensures
-    (ids_apart s.journal.items (record { given = s.given; stream = s.ordered.folded.stream }) s.store c.self.invariant)
+    (ids_apart s.journal.items (record { ids_given = s.ids_given; stream = s.ordered.folded.stream }) s.store c.self.invariant)
 
 pub make-requires-clause-come : goal.make-requires-clause-come
 make-requires-clause-come c =
@@ -20,7 +20,7 @@ make-requires-clause-come c =
     let for = rw (c.units-units.ensures) at c.in_ok-accepted.ensures.ok in
     rw (← c.self.view_is, c.of_edit-entry.ensures, c.into_edit.ensures) (
       accepted.id ∷ [],
-      MakesAll-one (record { given = s.given; stream = s.ordered.folded.stream }) c.args.read accepted.id _ for.makes,
+      MakesAll-one (record { ids_given = s.ids_given; stream = s.ordered.folded.stream }) c.args.read accepted.id _ for.makes,
     )
 
 pub returns : goal.returns

@@ -5,4 +5,4 @@ pub place_of-requires : goal.place_of-requires
 place_of-requires c =
     let s = c.self.inside in
     rw c.ids.ensures
-    (ids_apart s.journal.items (record { given = s.given; stream = s.ordered.folded.stream }) s.store c.self.invariant)
+    (ids_apart s.journal.items (record { ids_given = s.ids_given; stream = s.ordered.folded.stream }) s.store c.self.invariant)

@@ -8,10 +8,10 @@ pub returns-clause-value : goal.returns-clause-value
 returns-clause-value c =
     let s = c.self.inside in
     let is : IsOf s.ordered.folded.stream s.store =
-    IsOf-kept s.journal.items (record { given = s.given; stream = s.ordered.folded.stream }) s.store c.self.invariant in
+    IsOf-kept s.journal.items (record { ids_given = s.ids_given; stream = s.ordered.folded.stream }) s.store c.self.invariant in
     rw (← c.self.view_is)
     (one_seen (λ (store : StoreValue). IsTrue c.in_use.result ↔ IsNumberInUse store c.args.key) s.journal.items
-    (record { given = s.given; stream = s.ordered.folded.stream }) s.store is c.in_use.ensures.value)
+    (record { ids_given = s.ids_given; stream = s.ordered.folded.stream }) s.store is c.in_use.ensures.value)
 
 pub returns-clause-listed : goal.returns-clause-listed
 returns-clause-listed c = rw (← c.self.view_is) c.in_use.ensures.listed
@@ -20,7 +20,7 @@ pub returns-clause-one : goal.returns-clause-one
 returns-clause-one c =
     let s = c.self.inside in
     let is : IsOf s.ordered.folded.stream s.store =
-    IsOf-kept s.journal.items (record { given = s.given; stream = s.ordered.folded.stream }) s.store c.self.invariant in
+    IsOf-kept s.journal.items (record { ids_given = s.ids_given; stream = s.ordered.folded.stream }) s.store c.self.invariant in
     rw (← c.self.view_is)
-    (one_seen (λ (store : StoreValue). AreOneToOne store store) s.journal.items (record { given = s.given; stream = s.ordered.folded.stream }) s.store is
+    (one_seen (λ (store : StoreValue). AreOneToOne store store) s.journal.items (record { ids_given = s.ids_given; stream = s.ordered.folded.stream }) s.store is
     c.in_use.ensures.one)

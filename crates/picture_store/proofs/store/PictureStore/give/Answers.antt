@@ -15,8 +15,8 @@ index-outcome-requires c =
     let is = rw (← c.self.view_is) at c.requires.number in
     omega (
       arith,
-      slice_get_within s.found.items c.args.at (Some c.args.key) is,
-      found_length s.keys s.ids.items s.outcomes.items s.found.items s.places s.cache.pairs s.cache.capacity s.out.items s.given
+      slice_get_within s.numbers.items c.args.at (Some c.args.key) is,
+      found_length s.keys s.ids.items s.outcomes.items s.numbers.items s.places s.cache.pairs s.cache.capacity s.jobs_out.items s.jobs_given
           c.self.invariant.kept,
       c.self.invariant.kept.same,
       s.outcomes.ok.0,
@@ -25,7 +25,7 @@ index-outcome-requires c =
 pub input_of-requires-clause-ready : goal.input_of-requires-clause-ready
 input_of-requires-clause-ready c =
     let s = c.self.inside in
-    let due = due_number s.keys s.ids.items s.outcomes.items s.found.items s.places s.cache.pairs s.cache.capacity s.out.items s.given
+    let due = due_number s.keys s.ids.items s.outcomes.items s.numbers.items s.places s.cache.pairs s.cache.capacity s.jobs_out.items s.jobs_given
     c.self.invariant.kept c.args.at c.args.key (rw (← c.self.view_is) at c.requires.number) (rw (← c.self.view_is) at c.requires.due) in
     (due.key, due.tree, due.ready)
 
@@ -33,16 +33,16 @@ pub input_of-requires-clause-known : goal.input_of-requires-clause-known
 input_of-requires-clause-known c =
     let s = c.self.inside in
     let there = rw (← c.self.view_is) at c.requires.number in
-    let within = slice_get_within s.found.items c.args.at (Some c.args.key) there in
-    let is = sym (get_or_from_slice_get s.found.items c.args.at (Some c.args.key) (Some c.args.key) there) in
-    let due = due_number s.keys s.ids.items s.outcomes.items s.found.items s.places s.cache.pairs s.cache.capacity s.out.items s.given
+    let within = slice_get_within s.numbers.items c.args.at (Some c.args.key) there in
+    let is = sym (get_or_from_slice_get s.numbers.items c.args.at (Some c.args.key) (Some c.args.key) there) in
+    let due = due_number s.keys s.ids.items s.outcomes.items s.numbers.items s.places s.cache.pairs s.cache.capacity s.jobs_out.items s.jobs_given
     c.self.invariant.kept c.args.at c.args.key there (rw (← c.self.view_is) at c.requires.due) in
-    let same = outcome_same s.keys s.ids.items s.outcomes.items s.found.items s.places s.cache.pairs s.cache.capacity s.out.items s.given
+    let same = outcome_same s.keys s.ids.items s.outcomes.items s.numbers.items s.places s.cache.pairs s.cache.capacity s.jobs_out.items s.jobs_given
     c.self.invariant.kept c.args.at within c.args.key is due c.index-outcome.result.now c.index-outcome.ensures in
     rw (c.deref-2.ensures, c.deref.ensures) (
-      known s.keys s.ids.items s.outcomes.items s.found.items s.places s.cache.pairs s.cache.capacity s.out.items s.given
+      known s.keys s.ids.items s.outcomes.items s.numbers.items s.places s.cache.pairs s.cache.capacity s.jobs_out.items s.jobs_given
           c.self.invariant.kept c.args.at within c.args.key is due,
-      has_known s.keys s.ids.items s.outcomes.items s.found.items s.places s.cache.pairs s.cache.capacity s.out.items s.given
+      has_known s.keys s.ids.items s.outcomes.items s.numbers.items s.places s.cache.pairs s.cache.capacity s.jobs_out.items s.jobs_given
           c.self.invariant.kept c.args.at within c.args.key is due c.index-outcome.result.now same,
     )
 
@@ -50,58 +50,58 @@ pub new-job-requires : goal.new-job-requires
 new-job-requires c =
     let s = c.self.inside in
     let there = rw (← c.self.view_is) at c.requires.number in
-    let within = slice_get_within s.found.items c.args.at (Some c.args.key) there in
-    let is = sym (get_or_from_slice_get s.found.items c.args.at (Some c.args.key) (Some c.args.key) there) in
-    let due = due_number s.keys s.ids.items s.outcomes.items s.found.items s.places s.cache.pairs s.cache.capacity s.out.items s.given
+    let within = slice_get_within s.numbers.items c.args.at (Some c.args.key) there in
+    let is = sym (get_or_from_slice_get s.numbers.items c.args.at (Some c.args.key) (Some c.args.key) there) in
+    let due = due_number s.keys s.ids.items s.outcomes.items s.numbers.items s.places s.cache.pairs s.cache.capacity s.jobs_out.items s.jobs_given
     c.self.invariant.kept c.args.at c.args.key there (rw (← c.self.view_is) at c.requires.due) in
-    let same = outcome_same s.keys s.ids.items s.outcomes.items s.found.items s.places s.cache.pairs s.cache.capacity s.out.items s.given
+    let same = outcome_same s.keys s.ids.items s.outcomes.items s.numbers.items s.places s.cache.pairs s.cache.capacity s.jobs_out.items s.jobs_given
     c.self.invariant.kept c.args.at within c.args.key is due c.index-outcome.result.now c.index-outcome.ensures in
     let input = rw (c.deref-2.ensures, c.deref.ensures) at c.in_ok-input.ensures in
-    let made = input (known s.keys s.ids.items s.outcomes.items s.found.items s.places s.cache.pairs s.cache.capacity s.out.items s.given
-    c.self.invariant.kept c.args.at within c.args.key is due) (has_known s.keys s.ids.items s.outcomes.items s.found.items s.places s.cache.pairs s.cache.capacity s.out.items s.given
+    let made = input (known s.keys s.ids.items s.outcomes.items s.numbers.items s.places s.cache.pairs s.cache.capacity s.jobs_out.items s.jobs_given
+    c.self.invariant.kept c.args.at within c.args.key is due) (has_known s.keys s.ids.items s.outcomes.items s.numbers.items s.places s.cache.pairs s.cache.capacity s.jobs_out.items s.jobs_given
     c.self.invariant.kept c.args.at within c.args.key is due c.index-outcome.result.now same) in
-    whole_of s.keys s.ids.items s.outcomes.items s.found.items s.places s.cache.pairs s.cache.capacity s.out.items s.given
+    whole_of s.keys s.ids.items s.outcomes.items s.numbers.items s.places s.cache.pairs s.cache.capacity s.jobs_out.items s.jobs_given
     c.self.invariant.kept c.args.at within c.args.key is due c.index-outcome.result.now c.in_ok-input.input made
 
 pub invariant_of-self-2 : goal.invariant_of-self-2
 invariant_of-self-2 c =
     let s = c.self.inside in
     let there = rw (← c.self.view_is) at c.requires.number in
-    let within = slice_get_within s.found.items c.args.at (Some c.args.key) there in
-    let is = sym (get_or_from_slice_get s.found.items c.args.at (Some c.args.key) (Some c.args.key) there) in
-    let due = due_number s.keys s.ids.items s.outcomes.items s.found.items s.places s.cache.pairs s.cache.capacity s.out.items s.given
+    let within = slice_get_within s.numbers.items c.args.at (Some c.args.key) there in
+    let is = sym (get_or_from_slice_get s.numbers.items c.args.at (Some c.args.key) (Some c.args.key) there) in
+    let due = due_number s.keys s.ids.items s.outcomes.items s.numbers.items s.places s.cache.pairs s.cache.capacity s.jobs_out.items s.jobs_given
     c.self.invariant.kept c.args.at c.args.key there (rw (← c.self.view_is) at c.requires.due) in
-    let same = outcome_same s.keys s.ids.items s.outcomes.items s.found.items s.places s.cache.pairs s.cache.capacity s.out.items s.given
+    let same = outcome_same s.keys s.ids.items s.outcomes.items s.numbers.items s.places s.cache.pairs s.cache.capacity s.jobs_out.items s.jobs_given
     c.self.invariant.kept c.args.at within c.args.key is due c.index-outcome.result.now c.index-outcome.ensures in
     let input = rw (c.deref-2.ensures, c.deref.ensures) at c.in_ok-input.ensures in
-    let made = input (known s.keys s.ids.items s.outcomes.items s.found.items s.places s.cache.pairs s.cache.capacity s.out.items s.given
-    c.self.invariant.kept c.args.at within c.args.key is due) (has_known s.keys s.ids.items s.outcomes.items s.found.items s.places s.cache.pairs s.cache.capacity s.out.items s.given
+    let made = input (known s.keys s.ids.items s.outcomes.items s.numbers.items s.places s.cache.pairs s.cache.capacity s.jobs_out.items s.jobs_given
+    c.self.invariant.kept c.args.at within c.args.key is due) (has_known s.keys s.ids.items s.outcomes.items s.numbers.items s.places s.cache.pairs s.cache.capacity s.jobs_out.items s.jobs_given
     c.self.invariant.kept c.args.at within c.args.key is due c.index-outcome.result.now same) in
     let more : c.push_reserved.new.self.items
-    ≡ s.out.items ++ (record { number = c.in-Some.number; key = c.args.key; input = c.in_ok-input.input; from = s.looked }) ∷ [] =
+    ≡ s.jobs_out.items ++ (record { number = c.in-Some.number; key = c.args.key; input = c.in_ok-input.input; first_place = s.units_not_due }) ∷ [] =
     c.push_reserved.ensures.items
-    ∙ rw (c.reserve.ensures.items, c.in_ok-given.ensures) refl in
+    ∙ rw (c.reserve.ensures.items, c.in_ok-copy.ensures) refl in
     record {
       kept =
-          kept_taken s.keys s.ids.items s.outcomes.items s.found.items s.places s.cache.pairs s.cache.capacity s.out.items s.given
-          c.self.invariant.kept c.args.at within c.args.key is due c.index-outcome.result.now same c.in_ok-input.input made c.in-Some.number s.looked
+          kept_taken s.keys s.ids.items s.outcomes.items s.numbers.items s.places s.cache.pairs s.cache.capacity s.jobs_out.items s.jobs_given
+          c.self.invariant.kept c.args.at within c.args.key is due c.index-outcome.result.now same c.in_ok-input.input made c.in-Some.number s.units_not_due
           c.push_reserved.new.self.items more;
       counted = c.self.invariant.counted;
       apart = c.self.invariant.apart;
       settled =
-          settled_more s.places s.out.items (record { number = c.in-Some.number; key = c.args.key; input = c.in_ok-input.input; from = s.looked })
-          c.push_reserved.new.self.items s.found.items s.settled more c.self.invariant.settled;
+          settled_more s.places s.jobs_out.items (record { number = c.in-Some.number; key = c.args.key; input = c.in_ok-input.input; first_place = s.units_not_due })
+          c.push_reserved.new.self.items s.numbers.items s.units_settled more c.self.invariant.settled;
       looked =
-          looked_more s.keys s.places s.out.items s.found.items
-          (record { number = c.in-Some.number; key = c.args.key; input = c.in_ok-input.input; from = s.looked })
-          c.push_reserved.new.self.items more s.looked c.self.invariant.looked;
+          looked_more s.keys s.places s.jobs_out.items s.numbers.items
+          (record { number = c.in-Some.number; key = c.args.key; input = c.in_ok-input.input; first_place = s.units_not_due })
+          c.push_reserved.new.self.items more s.units_not_due c.self.invariant.looked;
       behind =
-          behind_more s.keys s.places s.out.items s.found.items s.looked c.self.invariant.looked
-          (record { number = c.in-Some.number; key = c.args.key; input = c.in_ok-input.input; from = s.looked })
+          behind_more s.keys s.places s.jobs_out.items s.numbers.items s.units_not_due c.self.invariant.looked
+          (record { number = c.in-Some.number; key = c.args.key; input = c.in_ok-input.input; first_place = s.units_not_due })
           c.push_reserved.new.self.items more refl due c.self.invariant.behind;
       scheduled =
-          scheduled_given s.keys (zip s.ids.items s.outcomes.items) s.found.items s.places s.out.items
-          (record { number = c.in-Some.number; key = c.args.key; input = c.in_ok-input.input; from = s.looked }) c.push_reserved.new.self.items more
+          scheduled_given s.keys (zip s.ids.items s.outcomes.items) s.numbers.items s.places s.jobs_out.items
+          (record { number = c.in-Some.number; key = c.args.key; input = c.in_ok-input.input; first_place = s.units_not_due }) c.push_reserved.new.self.items more
           s.schedule c.self.invariant.scheduled;
     }
 
@@ -109,23 +109,23 @@ pub returns : goal.returns
 returns c =
     let s = c.self.inside in
     let there = rw (← c.self.view_is) at c.requires.number in
-    let within = slice_get_within s.found.items c.args.at (Some c.args.key) there in
-    let is = sym (get_or_from_slice_get s.found.items c.args.at (Some c.args.key) (Some c.args.key) there) in
-    let due = due_number s.keys s.ids.items s.outcomes.items s.found.items s.places s.cache.pairs s.cache.capacity s.out.items s.given
+    let within = slice_get_within s.numbers.items c.args.at (Some c.args.key) there in
+    let is = sym (get_or_from_slice_get s.numbers.items c.args.at (Some c.args.key) (Some c.args.key) there) in
+    let due = due_number s.keys s.ids.items s.outcomes.items s.numbers.items s.places s.cache.pairs s.cache.capacity s.jobs_out.items s.jobs_given
     c.self.invariant.kept c.args.at c.args.key there (rw (← c.self.view_is) at c.requires.due) in
-    let same = outcome_same s.keys s.ids.items s.outcomes.items s.found.items s.places s.cache.pairs s.cache.capacity s.out.items s.given
+    let same = outcome_same s.keys s.ids.items s.outcomes.items s.numbers.items s.places s.cache.pairs s.cache.capacity s.jobs_out.items s.jobs_given
     c.self.invariant.kept c.args.at within c.args.key is due c.index-outcome.result.now c.index-outcome.ensures in
     let input = rw (c.deref-2.ensures, c.deref.ensures) at c.in_ok-input.ensures in
-    let made = input (known s.keys s.ids.items s.outcomes.items s.found.items s.places s.cache.pairs s.cache.capacity s.out.items s.given
-    c.self.invariant.kept c.args.at within c.args.key is due) (has_known s.keys s.ids.items s.outcomes.items s.found.items s.places s.cache.pairs s.cache.capacity s.out.items s.given
+    let made = input (known s.keys s.ids.items s.outcomes.items s.numbers.items s.places s.cache.pairs s.cache.capacity s.jobs_out.items s.jobs_given
+    c.self.invariant.kept c.args.at within c.args.key is due) (has_known s.keys s.ids.items s.outcomes.items s.numbers.items s.places s.cache.pairs s.cache.capacity s.jobs_out.items s.jobs_given
     c.self.invariant.kept c.args.at within c.args.key is due c.index-outcome.result.now same) in
     let more : c.push_reserved.new.self.items
-    ≡ s.out.items ++ (record { number = c.in-Some.number; key = c.args.key; input = c.in_ok-input.input; from = s.looked }) ∷ [] =
+    ≡ s.jobs_out.items ++ (record { number = c.in-Some.number; key = c.args.key; input = c.in_ok-input.input; first_place = s.units_not_due }) ∷ [] =
     c.push_reserved.ensures.items
-    ∙ rw (c.reserve.ensures.items, c.in_ok-given.ensures) refl in (
+    ∙ rw (c.reserve.ensures.items, c.in_ok-copy.ensures) refl in (
       refl,
       rw (← c.self.view_is, c.new-job.ensures)
-          (given_job s.keys s.ids.items s.outcomes.items s.found.items s.places s.cache.pairs s.cache.capacity s.out.items s.given
-          c.self.invariant.kept c.args.at within c.args.key is due c.index-outcome.result.now same c.in_ok-input.input made c.in-Some.number s.looked
+          (given_job s.keys s.ids.items s.outcomes.items s.numbers.items s.places s.cache.pairs s.cache.capacity s.jobs_out.items s.jobs_given
+          c.self.invariant.kept c.args.at within c.args.key is due c.index-outcome.result.now same c.in_ok-input.input made c.in-Some.number s.units_not_due
           (omega (arith, c.in-Some.ensures)) c.push_reserved.new.self.items more),
     )

@@ -9,8 +9,8 @@ use Rattle.picture_store.proofs.store.PictureStore.in_use.Goals as goal
 pub returns-clause-value : goal.returns-clause-value
 returns-clause-value c =
     let s = c.self.inside in
-    let store = viewed s.keys s.ids.items s.outcomes.items s.found.items s.places s.cache.pairs s.cache.capacity s.out.items s.given in
-    let listed : IsTrue c.is_some.result ↔ Contains s.found.items (Some c.args.key) =
+    let store = viewed s.keys s.ids.items s.outcomes.items s.numbers.items s.places s.cache.pairs s.cache.capacity s.jobs_out.items s.jobs_given in
+    let listed : IsTrue c.is_some.result ↔ Contains s.numbers.items (Some c.args.key) =
     rw (c.is_some.ensures, c.get.ensures) (c.self.invariant.kept.used c.args.key) in
     rw (← c.self.view_is) (
       λ yes. in_use_listed s.keys store c.self.invariant.kept.stand c.args.key (listed.0 yes),
@@ -25,5 +25,5 @@ pub returns-clause-one : goal.returns-clause-one
 returns-clause-one c =
     let s = c.self.inside in
     rw (← c.self.view_is)
-    (one_to_one s.keys c.self.invariant.kept.right.one s.found.items (keys_of (zip s.ids.items s.outcomes.items))
-    s.found.items (keys_of (zip s.ids.items s.outcomes.items)) c.self.invariant.kept.stand c.self.invariant.kept.stand)
+    (one_to_one s.keys c.self.invariant.kept.right.one s.numbers.items (keys_of (zip s.ids.items s.outcomes.items))
+    s.numbers.items (keys_of (zip s.ids.items s.outcomes.items)) c.self.invariant.kept.stand c.self.invariant.kept.stand)

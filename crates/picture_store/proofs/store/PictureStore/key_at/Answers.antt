@@ -15,26 +15,26 @@ index-requires c =
     omega (
       arith,
       within,
-      found_length s.keys s.ids.items s.outcomes.items s.found.items s.places s.cache.pairs s.cache.capacity s.out.items s.given c.self.invariant.kept,
-      s.found.ok.0,
+      found_length s.keys s.ids.items s.outcomes.items s.numbers.items s.places s.cache.pairs s.cache.capacity s.jobs_out.items s.jobs_given c.self.invariant.kept,
+      s.numbers.ok.0,
     )
 
 pub returns-clause-value : goal.returns-clause-value
 returns-clause-value c =
     let s = c.self.inside in
     let inside = rw (← c.self.view_is) at c.requires in
-    let within : c.args.at < length s.found.items =
-    omega (arith, inside, found_length s.keys s.ids.items s.outcomes.items s.found.items s.places s.cache.pairs s.cache.capacity s.out.items s.given c.self.invariant.kept) in
-    let read : slice_get s.found.items c.args.at ≡ Some c.index.result.now =
-    slice_get_read s.found.items (length s.found.items) c.args.at c.index.result.now refl within c.index.ensures in
+    let within : c.args.at < length s.numbers.items =
+    omega (arith, inside, found_length s.keys s.ids.items s.outcomes.items s.numbers.items s.places s.cache.pairs s.cache.capacity s.jobs_out.items s.jobs_given c.self.invariant.kept) in
+    let read : slice_get s.numbers.items c.args.at ≡ Some c.index.result.now =
+    slice_get_read s.numbers.items (length s.numbers.items) c.args.at c.index.result.now refl within c.index.ensures in
     rw (← c.self.view_is)
     (number_seen s.keys
-    (viewed s.keys s.ids.items s.outcomes.items s.found.items s.places s.cache.pairs s.cache.capacity s.out.items s.given)
+    (viewed s.keys s.ids.items s.outcomes.items s.numbers.items s.places s.cache.pairs s.cache.capacity s.jobs_out.items s.jobs_given)
     c.self.invariant.kept.stand c.args.at c.index.result.now read)
 
 pub returns-clause-one : goal.returns-clause-one
 returns-clause-one c =
     let s = c.self.inside in
     rw (← c.self.view_is)
-    (one_to_one s.keys c.self.invariant.kept.right.one s.found.items (keys_of (zip s.ids.items s.outcomes.items))
-    s.found.items (keys_of (zip s.ids.items s.outcomes.items)) c.self.invariant.kept.stand c.self.invariant.kept.stand)
+    (one_to_one s.keys c.self.invariant.kept.right.one s.numbers.items (keys_of (zip s.ids.items s.outcomes.items))
+    s.numbers.items (keys_of (zip s.ids.items s.outcomes.items)) c.self.invariant.kept.stand c.self.invariant.kept.stand)

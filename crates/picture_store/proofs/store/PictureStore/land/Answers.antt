@@ -10,7 +10,7 @@ use Rattle.picture_store.proofs.store.PictureStore.land.Goals as goal
 pub returns-in_default : goal.returns-in_default
 returns-in_default c =
     let none = rw (c.deref.ensures.value, c.into_parts-number.ensures) at c.in_default.ensures in
-    rw (← c.self.view_is) (foreign_for c.self.inside.keys c.self.inside.out.items c.args.finished none, refl)
+    rw (← c.self.view_is) (foreign_for c.self.inside.keys c.self.inside.jobs_out.items c.args.finished none, refl)
 
 -- a schedule that stays was kept
 if_ready_at : {S : Type 0} {P : Type 0} (kept old result : Option S) → kept ≡ old → IfSome result (λ s. (kept ≡ Some s) × P)
@@ -24,7 +24,7 @@ after_landing-requires-clause-right c =
     let s = c.self.inside in
     let found = rw (c.deref.ensures.value, c.into_parts-number.ensures) at c.in-Some.ensures in
     let filled = rw (c.into_parts-number.ensures) at c.fill-landing.ensures.filled in
-    (kept_filled s.keys s.ids.items s.outcomes.items s.found.items s.places s.cache.pairs s.cache.capacity s.out.items s.given
+    (kept_filled s.keys s.ids.items s.outcomes.items s.numbers.items s.places s.cache.pairs s.cache.capacity s.jobs_out.items s.jobs_given
     c.self.invariant.kept c.args.finished c.in-Some.at found.0 c.remove-job.result c.remove-job.ensures.value found.1 found.2
     c.fill-landing.result c.fill-landing.new.places c.remove-job.new.self.items c.remove-job.ensures.items filled).right
 
@@ -35,26 +35,26 @@ invariant_of-self c =
     let filled = rw (c.into_parts-number.ensures) at c.fill-landing.ensures.filled in
     record {
       kept =
-          kept_filled s.keys s.ids.items s.outcomes.items s.found.items s.places s.cache.pairs s.cache.capacity s.out.items s.given
+          kept_filled s.keys s.ids.items s.outcomes.items s.numbers.items s.places s.cache.pairs s.cache.capacity s.jobs_out.items s.jobs_given
           c.self.invariant.kept c.args.finished c.in-Some.at found.0 c.remove-job.result c.remove-job.ensures.value found.1 found.2
           c.fill-landing.result c.fill-landing.new.places c.remove-job.new.self.items c.remove-job.ensures.items filled;
       counted = λ number. c.fill-landing.ensures.uses number ∙ c.self.invariant.counted number;
       apart = λ number used. c.self.invariant.apart number (subst (λ n. 0 < n) (c.fill-landing.ensures.uses number) used);
       settled =
-          settled_landed s.keys s.ids.items s.outcomes.items s.found.items s.places s.cache.pairs s.out.items
+          settled_landed s.keys s.ids.items s.outcomes.items s.numbers.items s.places s.cache.pairs s.jobs_out.items
           c.self.invariant.kept c.in-Some.at c.remove-job.result c.remove-job.ensures.value _ c.fill-landing.result c.fill-landing.new.places
-          c.remove-job.new.self.items s.settled c.remove-job.ensures.items filled c.self.invariant.settled;
+          c.remove-job.new.self.items s.units_settled c.remove-job.ensures.items filled c.self.invariant.settled;
       looked =
-          looked_landed s.keys s.ids.items s.outcomes.items s.found.items s.places s.cache.pairs s.out.items
+          looked_landed s.keys s.ids.items s.outcomes.items s.numbers.items s.places s.cache.pairs s.jobs_out.items
           c.self.invariant.kept c.in-Some.at found.0 c.remove-job.result c.remove-job.ensures.value _ c.fill-landing.result
-          c.fill-landing.new.places c.remove-job.new.self.items s.looked c.looked_after-self-inside.result c.remove-job.ensures.items filled
+          c.fill-landing.new.places c.remove-job.new.self.items s.units_not_due c.looked_after-self-inside.result c.remove-job.ensures.items filled
           c.looked_after-self-inside.ensures.before c.looked_after-self-inside.ensures.front c.self.invariant.behind c.self.invariant.looked;
       behind =
-          behind_left s.keys s.ids.items s.outcomes.items s.found.items s.places s.cache.pairs s.out.items
+          behind_left s.keys s.ids.items s.outcomes.items s.numbers.items s.places s.cache.pairs s.jobs_out.items
           c.self.invariant.kept c.in-Some.at found.0 c.remove-job.result c.remove-job.ensures.value c.remove-job.new.self.items
           c.remove-job.ensures.items c.self.invariant.behind;
       scheduled =
-          scheduled_landed s.keys s.ids.items s.outcomes.items s.found.items s.places s.cache.pairs s.out.items
+          scheduled_landed s.keys s.ids.items s.outcomes.items s.numbers.items s.places s.cache.pairs s.jobs_out.items
           c.self.invariant.kept c.in-Some.at c.remove-job.result c.remove-job.ensures.value _ c.fill-landing.result
           c.fill-landing.new.places c.remove-job.new.self.items c.remove-job.ensures.items filled s.schedule
           c.if_ready-schedule.result c.after_landing.result c.self.invariant.scheduled
@@ -68,6 +68,6 @@ returns c =
     let found = rw (c.deref.ensures.value, c.into_parts-number.ensures) at c.in-Some.ensures in
     let filled = rw (c.into_parts-number.ensures) at c.fill-landing.ensures.filled in
     rw (← c.self.view_is)
-    (landed s.keys s.ids.items s.outcomes.items s.found.items s.places s.cache.pairs s.cache.capacity s.out.items s.given
+    (landed s.keys s.ids.items s.outcomes.items s.numbers.items s.places s.cache.pairs s.cache.capacity s.jobs_out.items s.jobs_given
     c.self.invariant.kept c.args.finished c.in-Some.at found.0 c.remove-job.result c.remove-job.ensures.value found.1 found.2
     c.fill-landing.result c.fill-landing.new.places c.remove-job.new.self.items c.remove-job.ensures.items filled)

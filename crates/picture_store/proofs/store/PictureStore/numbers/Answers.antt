@@ -7,5 +7,5 @@ returns-clause-numbered c =
     let s = c.self.inside in
     rw (← c.self.view_is)
     (all_numbered s.keys
-    (viewed s.keys s.ids.items s.outcomes.items s.found.items s.places s.cache.pairs s.cache.capacity s.out.items s.given)
+    (viewed s.keys s.ids.items s.outcomes.items s.numbers.items s.places s.cache.pairs s.cache.capacity s.jobs_out.items s.jobs_given)
     c.self.invariant.kept.stand)

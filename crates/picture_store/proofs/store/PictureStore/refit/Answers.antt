@@ -50,8 +50,8 @@ pub invariant_of-self-in_err-past : goal.invariant_of-self-in_err-past
 invariant_of-self-in_err-past c =
     let s = c.self.inside in
     rw (c.make_room.ensures.ids, c.make_room.ensures.outcomes)
-    (stored_still s.keys c.keys_from.new.keys s.ids.items s.outcomes.items s.found.items s.places s.places s.cache.pairs s.out.items
-    s.settled s.looked s.schedule c.self.invariant (λ n k stored is. c.keys_from.ensures.stay n k is)
+    (stored_still s.keys c.keys_from.new.keys s.ids.items s.outcomes.items s.numbers.items s.places s.places s.cache.pairs s.jobs_out.items
+    s.units_settled s.units_not_due s.schedule c.self.invariant (λ n k stored is. c.keys_from.ensures.stay n k is)
     (c.keys_from.ensures.one c.self.invariant.kept.right.one) (same_self s.places))
 
 pub returns-in_err-past-clause-err : goal.returns-in_err-past-clause-err
@@ -59,8 +59,8 @@ returns-in_err-past-clause-err c =
     let s = c.self.inside in
     on_any_err c.from_residual-in_err-past.result
     (rw (← c.sweep.ensures, ← c.self.view_is, c.make_room.ensures.ids, c.make_room.ensures.outcomes)
-    (viewed_stays s.keys c.keys_from.new.keys s.ids.items s.outcomes.items s.found.items s.places s.cache.pairs s.out.items
-    c.self.invariant.kept (λ n k stored is. c.keys_from.ensures.stay n k is) s.cache.capacity s.given))
+    (viewed_stays s.keys c.keys_from.new.keys s.ids.items s.outcomes.items s.numbers.items s.places s.cache.pairs s.jobs_out.items
+    c.self.invariant.kept (λ n k stored is. c.keys_from.ensures.stay n k is) s.cache.capacity s.jobs_given))
 
 pub make_ready-requires-clause-ordered : goal.make_ready-requires-clause-ordered
 make_ready-requires-clause-ordered c =
@@ -74,26 +74,26 @@ make_ready-requires-clause-inside c =
     omega (
       arith,
       behind.1,
-      found_length s.keys s.ids.items s.outcomes.items s.found.items s.places s.cache.pairs s.cache.capacity s.out.items s.given
+      found_length s.keys s.ids.items s.outcomes.items s.numbers.items s.places s.cache.pairs s.cache.capacity s.jobs_out.items s.jobs_given
           c.self.invariant.kept,
     )
 
 pub invariant_of-self-in_err-leaving : goal.invariant_of-self-in_err-leaving
 invariant_of-self-in_err-leaving c =
     let s = c.self.inside in
-    rw (c.make_room.ensures.ids, c.make_room.ensures.outcomes, c.make_ready.ensures.found)
-    (stored_still s.keys c.keys_from.new.keys s.ids.items s.outcomes.items s.found.items s.places c.make_ready.new.places
-    s.cache.pairs s.out.items s.settled s.looked s.schedule c.self.invariant (λ n k stored is. c.keys_from.ensures.stay n k is)
+    rw (c.make_room.ensures.ids, c.make_room.ensures.outcomes, c.make_ready.ensures.numbers)
+    (stored_still s.keys c.keys_from.new.keys s.ids.items s.outcomes.items s.numbers.items s.places c.make_ready.new.places
+    s.cache.pairs s.jobs_out.items s.units_settled s.units_not_due s.schedule c.self.invariant (λ n k stored is. c.keys_from.ensures.stay n k is)
     (c.keys_from.ensures.one c.self.invariant.kept.right.one) c.make_ready.ensures.same)
 
 pub returns-in_err-leaving-clause-err : goal.returns-in_err-leaving-clause-err
 returns-in_err-leaving-clause-err c =
     let s = c.self.inside in
     on_any_err c.from_residual-in_err-leaving.result
-    (rw (← c.sweep.ensures, ← c.self.view_is, c.make_room.ensures.ids, c.make_room.ensures.outcomes, c.make_ready.ensures.found)
-    (viewed_still s.keys c.keys_from.new.keys s.ids.items s.outcomes.items s.found.items s.places c.make_ready.new.places
-    s.cache.pairs s.out.items s.settled s.looked s.schedule c.self.invariant (λ n k stored is. c.keys_from.ensures.stay n k is)
-    (c.keys_from.ensures.one c.self.invariant.kept.right.one) c.make_ready.ensures.same s.cache.capacity s.given))
+    (rw (← c.sweep.ensures, ← c.self.view_is, c.make_room.ensures.ids, c.make_room.ensures.outcomes, c.make_ready.ensures.numbers)
+    (viewed_still s.keys c.keys_from.new.keys s.ids.items s.outcomes.items s.numbers.items s.places c.make_ready.new.places
+    s.cache.pairs s.jobs_out.items s.units_settled s.units_not_due s.schedule c.self.invariant (λ n k stored is. c.keys_from.ensures.stay n k is)
+    (c.keys_from.ensures.one c.self.invariant.kept.right.one) c.make_ready.ensures.same s.cache.capacity s.jobs_given))
 
 pub recount-lost-requires-clause-room : goal.recount-lost-requires-clause-room
 recount-lost-requires-clause-room c =
@@ -109,9 +109,9 @@ recount-lost-requires-clause-fits c =
       arith,
       ap (λ slot. slot.uses) (c.make_ready.ensures.same.slots number),
       c.self.invariant.counted number,
-      times_at_most number s.found.items,
-      s.found.ok,
-      s.found.small,
+      times_at_most number s.numbers.items,
+      s.numbers.ok,
+      s.numbers.small,
       later.ok,
       later.small,
     ))
@@ -125,8 +125,8 @@ recount-lost-requires-clause-enough c =
     omega (
       arith,
       c.in_ok-leaving.ensures.counted number,
-      sum_by-take-le (once_at number) (drop from s.found.items) (c.in_ok-past.past - from),
-      sum_by-take-drop (once_at number) s.found.items from,
+      sum_by-take-le (once_at number) (drop from s.numbers.items) (c.in_ok-past.past - from),
+      sum_by-take-drop (once_at number) s.numbers.items from,
       ap (λ slot. slot.uses) (c.make_ready.ensures.same.slots number),
       c.self.invariant.counted number,
     ))
@@ -143,9 +143,9 @@ replace_range-requires-3-clause-inside c =
     omega (
       arith,
       behind.1,
-      ap length c.make_ready.ensures.found,
-      c.make_ready.new.found.ok.0,
-      found_length s.keys s.ids.items s.outcomes.items s.found.items s.places s.cache.pairs s.cache.capacity s.out.items s.given
+      ap length c.make_ready.ensures.numbers,
+      c.make_ready.new.numbers.ok.0,
+      found_length s.keys s.ids.items s.outcomes.items s.numbers.items s.places s.cache.pairs s.cache.capacity s.jobs_out.items s.jobs_given
           c.self.invariant.kept,
     )
 
@@ -157,7 +157,7 @@ invariant_of-self-2 c =
     let stretch : IsStretch c.args.stretch ids = rw (← c.sweep.ensures, ← c.self.view_is) at c.requires.stretch in
     let decodable = rw (← c.sweep.ensures, ← c.self.view_is) at c.requires.decodable in
     let kept =
-    kept_stays s.keys c.keys_from.new.keys s.ids.items s.outcomes.items s.found.items s.places s.cache.pairs s.out.items
+    kept_stays s.keys c.keys_from.new.keys s.ids.items s.outcomes.items s.numbers.items s.places s.cache.pairs s.jobs_out.items
     c.self.invariant.kept (λ n k stored is. c.keys_from.ensures.stay n k is)
     (c.keys_from.ensures.one c.self.invariant.kept.right.one) in
     let later = c.in_ok-past.later in
@@ -171,79 +171,79 @@ invariant_of-self-2 c =
       c.make_room.ensures.outcomes,
     ) at c.in_ok-past.ensures.stand in
     let ordered : c.args.stretch.from ≤ past = omega (arith, stretch.ordered, c.in_ok-past.ensures.behind.0) in
-    let found : List (Option ℕ) = take c.args.stretch.from s.found.items ++ later.items ++ drop past s.found.items in
-    let stand : AllStandFor c.keys_from.new.keys found (keys_of (zip (ids_with c.args.stretch ids) (outcomes_with c.args.stretch outcomes))) =
+    let numbers : List (Option ℕ) = take c.args.stretch.from s.numbers.items ++ later.items ++ drop past s.numbers.items in
+    let stand : AllStandFor c.keys_from.new.keys numbers (keys_of (zip (ids_with c.args.stretch ids) (outcomes_with c.args.stretch outcomes))) =
     subst (λ all. AllStandFor c.keys_from.new.keys all (keys_of (zip (ids_with c.args.stretch ids) (outcomes_with c.args.stretch outcomes))))
-    (sym (append_assoc (take c.args.stretch.from s.found.items) later.items (drop past s.found.items)))
-    (stand_with ids outcomes kept.same c.args.stretch stretch c.keys_from.new.keys s.found.items
-    (later.items ++ drop past s.found.items) kept.stand anew) in
+    (sym (append_assoc (take c.args.stretch.from s.numbers.items) later.items (drop past s.numbers.items)))
+    (stand_with ids outcomes kept.same c.args.stretch stretch c.keys_from.new.keys s.numbers.items
+    (later.items ++ drop past s.numbers.items) kept.stand anew) in
     let leave : (number : ℕ) → times_in number c.deref-6.result.now
-    ≡ times number (take (past - c.args.stretch.from) (drop c.args.stretch.from s.found.items)) =
+    ≡ times number (take (past - c.args.stretch.from) (drop c.args.stretch.from s.numbers.items)) =
     rw (c.deref-6.ensures.value) c.in_ok-leaving.ensures.counted in
     let counted = rw (c.deref-5.ensures.value) at
-    c.recount-lost.ensures.recounted (take c.args.stretch.from s.found.items)
-    (take (past - c.args.stretch.from) (drop c.args.stretch.from s.found.items)) (drop past s.found.items)
-    (countable s.places c.make_ready.new.places s.cache.pairs s.found.items c.args.stretch.from past c.deref-6.result.now ordered
+    c.recount-lost.ensures.recounted (take c.args.stretch.from s.numbers.items)
+    (take (past - c.args.stretch.from) (drop c.args.stretch.from s.numbers.items)) (drop past s.numbers.items)
+    (countable s.places c.make_ready.new.places s.cache.pairs s.numbers.items c.args.stretch.from past c.deref-6.result.now ordered
     c.make_ready.ensures.same c.self.invariant.counted c.self.invariant.apart leave) in
-    let recounted : IsRecounted s.places s.cache.pairs s.cache.capacity found c.recount-lost.new.places c.recount-lost.new.cache.pairs c.recount-lost.result =
-    recounted_same s.places c.make_ready.new.places s.cache.pairs s.cache.capacity found c.recount-lost.new.places
+    let recounted : IsRecounted s.places s.cache.pairs s.cache.capacity numbers c.recount-lost.new.places c.recount-lost.new.cache.pairs c.recount-lost.result =
+    recounted_same s.places c.make_ready.new.places s.cache.pairs s.cache.capacity numbers c.recount-lost.new.places
     c.recount-lost.new.cache.pairs c.recount-lost.result c.make_ready.ensures.same counted in
-    let found_are : c.replace_range-3.new.items.items ≡ found = rw (c.make_ready.ensures.found) at c.replace_range-3.ensures.items in
+    let found_are : c.replace_range-3.new.items.items ≡ numbers = rw (c.make_ready.ensures.numbers) at c.replace_range-3.ensures.items in
     let ids_are : c.replace_range.new.items.items ≡ ids_with c.args.stretch ids =
     rw (c.make_room.ensures.ids) at c.replace_range.ensures.items in
     let outcomes_are : c.replace_range-2.new.items.items ≡ outcomes_with c.args.stretch outcomes =
     rw (c.make_room.ensures.outcomes) at c.replace_range-2.ensures.items in
-    let in_front : c.args.stretch.from ≤ length s.found.items =
+    let in_front : c.args.stretch.from ≤ length s.numbers.items =
     omega (
       arith,
       stretch.ordered,
       stretch.within,
-      found_length s.keys s.ids.items s.outcomes.items s.found.items s.places s.cache.pairs s.cache.capacity s.out.items s.given
+      found_length s.keys s.ids.items s.outcomes.items s.numbers.items s.places s.cache.pairs s.cache.capacity s.jobs_out.items s.jobs_given
           c.self.invariant.kept,
     ) in
-    let later_found : List (Option ℕ) = later.items ++ drop past s.found.items in
-    let parts : take c.args.stretch.from s.found.items ++ later_found ≡ found =
-    sym (append_assoc (take c.args.stretch.from s.found.items) later.items (drop past s.found.items)) in
-    let placed : ArePlaced (take c.args.stretch.from s.found.items ++ later_found) s.places s.cache.pairs c.recount-lost.new.places =
+    let later_found : List (Option ℕ) = later.items ++ drop past s.numbers.items in
+    let parts : take c.args.stretch.from s.numbers.items ++ later_found ≡ numbers =
+    sym (append_assoc (take c.args.stretch.from s.numbers.items) later.items (drop past s.numbers.items)) in
+    let placed : ArePlaced (take c.args.stretch.from s.numbers.items ++ later_found) s.places s.cache.pairs c.recount-lost.new.places =
     subst (λ all. ArePlaced all s.places s.cache.pairs c.recount-lost.new.places) (sym parts) recounted.placed in
     let out : List JobOut = c.lower_all.new.jobs.items in
-    let out_are : out ≡ map (lowered c.args.stretch.from) s.out.items = c.lower_all.ensures in
+    let out_are : out ≡ map (lowered c.args.stretch.from) s.jobs_out.items = c.lower_all.ensures in
     let after =
-    kept_after c.keys_from.new.keys ids outcomes s.found.items s.places s.cache.pairs s.out.items kept
-    (ids_with c.args.stretch ids) (outcomes_with c.args.stretch outcomes) found
+    kept_after c.keys_from.new.keys ids outcomes s.numbers.items s.places s.cache.pairs s.jobs_out.items kept
+    (ids_with c.args.stretch ids) (outcomes_with c.args.stretch outcomes) numbers
     c.recount-lost.new.places stand recounted.placed recounted.left c.recount-lost.new.cache.pairs recounted.leaves
     recounted.left_pairs s.cache.capacity recounted.gone recounted.go c.recount-lost.result recounted.puts recounted.put_pairs
     (same_with ids outcomes kept.same c.args.stretch stretch) decodable in
     record {
       kept =
           rw (ids_are, outcomes_are, found_are)
-          (kept_lowered c.keys_from.new.keys (ids_with c.args.stretch ids) (outcomes_with c.args.stretch outcomes) found
-          c.recount-lost.new.places c.recount-lost.new.cache.pairs s.out.items out c.args.stretch.from out_are after);
+          (kept_lowered c.keys_from.new.keys (ids_with c.args.stretch ids) (outcomes_with c.args.stretch outcomes) numbers
+          c.recount-lost.new.places c.recount-lost.new.cache.pairs s.jobs_out.items out c.args.stretch.from out_are after);
       counted = rw (found_are) recounted.counted;
       apart = recounted.apart;
       settled =
           rw (found_are)
-          (settled_lowered c.recount-lost.new.places s.out.items out c.args.stretch.from found c.min-self-inside.result out_are
-          (subst (λ all. AreSettled c.recount-lost.new.places s.out.items all c.min-self-inside.result) parts
-          (settled_front s.places c.recount-lost.new.places s.cache.pairs s.out.items s.found.items
-          later_found s.settled c.args.stretch.from c.min-self-inside.result (omega (arith, c.min-self-inside.ensures))
+          (settled_lowered c.recount-lost.new.places s.jobs_out.items out c.args.stretch.from numbers c.min-self-inside.result out_are
+          (subst (λ all. AreSettled c.recount-lost.new.places s.jobs_out.items all c.min-self-inside.result) parts
+          (settled_front s.places c.recount-lost.new.places s.cache.pairs s.jobs_out.items s.numbers.items
+          later_found s.units_settled c.args.stretch.from c.min-self-inside.result (omega (arith, c.min-self-inside.ensures))
           (omega (arith, c.min-self-inside.ensures)) in_front c.self.invariant.settled placed)));
       looked =
           rw (found_are)
-          (looked_lowered c.keys_from.new.keys c.recount-lost.new.places s.out.items out c.args.stretch.from found
+          (looked_lowered c.keys_from.new.keys c.recount-lost.new.places s.jobs_out.items out c.args.stretch.from numbers
           c.min-self-inside-2.result out_are
-          (subst (λ all. AreNotDue c.keys_from.new.keys c.recount-lost.new.places s.out.items all c.min-self-inside-2.result) parts
-          (looked_front c.keys_from.new.keys ids outcomes s.found.items s.places s.cache.pairs s.out.items kept
-          c.self.invariant.apart (ids_with c.args.stretch ids) (outcomes_with c.args.stretch outcomes) found
-          c.recount-lost.new.places stand recounted.placed after.right later_found s.looked c.args.stretch.from
+          (subst (λ all. AreNotDue c.keys_from.new.keys c.recount-lost.new.places s.jobs_out.items all c.min-self-inside-2.result) parts
+          (looked_front c.keys_from.new.keys ids outcomes s.numbers.items s.places s.cache.pairs s.jobs_out.items kept
+          c.self.invariant.apart (ids_with c.args.stretch ids) (outcomes_with c.args.stretch outcomes) numbers
+          c.recount-lost.new.places stand recounted.placed after.right later_found s.units_not_due c.args.stretch.from
           c.min-self-inside-2.result (omega (arith, c.min-self-inside-2.ensures)) (omega (arith, c.min-self-inside-2.ensures))
           in_front
-          (looked_stays s.keys c.keys_from.new.keys s.ids.items s.outcomes.items s.found.items s.places s.cache.pairs s.out.items
-          c.self.invariant.kept (λ n k stored is. c.keys_from.ensures.stay n k is) s.looked c.self.invariant.looked))));
+          (looked_stays s.keys c.keys_from.new.keys s.ids.items s.outcomes.items s.numbers.items s.places s.cache.pairs s.jobs_out.items
+          c.self.invariant.kept (λ n k stored is. c.keys_from.ensures.stay n k is) s.units_not_due c.self.invariant.looked))));
       behind =
           rw (found_are)
           (subst (λ all. All (IsBehind all) out) parts
-          (behind_lowered s.found.items later_found s.out.items out c.args.stretch.from in_front out_are
+          (behind_lowered s.numbers.items later_found s.jobs_out.items out c.args.stretch.from in_front out_are
           c.self.invariant.behind));
       scheduled = tt;
     }
@@ -256,7 +256,7 @@ returns-clause-ok c =
     let stretch : IsStretch c.args.stretch ids = rw (← c.sweep.ensures, ← c.self.view_is) at c.requires.stretch in
     let decodable = rw (← c.sweep.ensures, ← c.self.view_is) at c.requires.decodable in
     let kept =
-    kept_stays s.keys c.keys_from.new.keys s.ids.items s.outcomes.items s.found.items s.places s.cache.pairs s.out.items
+    kept_stays s.keys c.keys_from.new.keys s.ids.items s.outcomes.items s.numbers.items s.places s.cache.pairs s.jobs_out.items
     c.self.invariant.kept (λ n k stored is. c.keys_from.ensures.stay n k is)
     (c.keys_from.ensures.one c.self.invariant.kept.right.one) in
     let later = c.in_ok-past.later in
@@ -270,42 +270,42 @@ returns-clause-ok c =
       c.make_room.ensures.outcomes,
     ) at c.in_ok-past.ensures.stand in
     let ordered : c.args.stretch.from ≤ past = omega (arith, stretch.ordered, c.in_ok-past.ensures.behind.0) in
-    let found : List (Option ℕ) = take c.args.stretch.from s.found.items ++ later.items ++ drop past s.found.items in
-    let stand : AllStandFor c.keys_from.new.keys found (keys_of (zip (ids_with c.args.stretch ids) (outcomes_with c.args.stretch outcomes))) =
+    let numbers : List (Option ℕ) = take c.args.stretch.from s.numbers.items ++ later.items ++ drop past s.numbers.items in
+    let stand : AllStandFor c.keys_from.new.keys numbers (keys_of (zip (ids_with c.args.stretch ids) (outcomes_with c.args.stretch outcomes))) =
     subst (λ all. AllStandFor c.keys_from.new.keys all (keys_of (zip (ids_with c.args.stretch ids) (outcomes_with c.args.stretch outcomes))))
-    (sym (append_assoc (take c.args.stretch.from s.found.items) later.items (drop past s.found.items)))
-    (stand_with ids outcomes kept.same c.args.stretch stretch c.keys_from.new.keys s.found.items
-    (later.items ++ drop past s.found.items) kept.stand anew) in
+    (sym (append_assoc (take c.args.stretch.from s.numbers.items) later.items (drop past s.numbers.items)))
+    (stand_with ids outcomes kept.same c.args.stretch stretch c.keys_from.new.keys s.numbers.items
+    (later.items ++ drop past s.numbers.items) kept.stand anew) in
     let leave : (number : ℕ) → times_in number c.deref-6.result.now
-    ≡ times number (take (past - c.args.stretch.from) (drop c.args.stretch.from s.found.items)) =
+    ≡ times number (take (past - c.args.stretch.from) (drop c.args.stretch.from s.numbers.items)) =
     rw (c.deref-6.ensures.value) c.in_ok-leaving.ensures.counted in
     let counted = rw (c.deref-5.ensures.value) at
-    c.recount-lost.ensures.recounted (take c.args.stretch.from s.found.items)
-    (take (past - c.args.stretch.from) (drop c.args.stretch.from s.found.items)) (drop past s.found.items)
-    (countable s.places c.make_ready.new.places s.cache.pairs s.found.items c.args.stretch.from past c.deref-6.result.now ordered
+    c.recount-lost.ensures.recounted (take c.args.stretch.from s.numbers.items)
+    (take (past - c.args.stretch.from) (drop c.args.stretch.from s.numbers.items)) (drop past s.numbers.items)
+    (countable s.places c.make_ready.new.places s.cache.pairs s.numbers.items c.args.stretch.from past c.deref-6.result.now ordered
     c.make_ready.ensures.same c.self.invariant.counted c.self.invariant.apart leave) in
-    let recounted : IsRecounted s.places s.cache.pairs s.cache.capacity found c.recount-lost.new.places c.recount-lost.new.cache.pairs c.recount-lost.result =
-    recounted_same s.places c.make_ready.new.places s.cache.pairs s.cache.capacity found c.recount-lost.new.places
+    let recounted : IsRecounted s.places s.cache.pairs s.cache.capacity numbers c.recount-lost.new.places c.recount-lost.new.cache.pairs c.recount-lost.result =
+    recounted_same s.places c.make_ready.new.places s.cache.pairs s.cache.capacity numbers c.recount-lost.new.places
     c.recount-lost.new.cache.pairs c.recount-lost.result c.make_ready.ensures.same counted in
-    let found_are : c.replace_range-3.new.items.items ≡ found = rw (c.make_ready.ensures.found) at c.replace_range-3.ensures.items in
+    let found_are : c.replace_range-3.new.items.items ≡ numbers = rw (c.make_ready.ensures.numbers) at c.replace_range-3.ensures.items in
     let ids_are : c.replace_range.new.items.items ≡ ids_with c.args.stretch ids =
     rw (c.make_room.ensures.ids) at c.replace_range.ensures.items in
     let outcomes_are : c.replace_range-2.new.items.items ≡ outcomes_with c.args.stretch outcomes =
     rw (c.make_room.ensures.outcomes) at c.replace_range-2.ensures.items in
     let room : c.recount-lost.new.cache.capacity ≡ s.cache.capacity = c.recount-lost.ensures.room in
-    let old : StoreValue = viewed s.keys ids outcomes s.found.items s.places s.cache.pairs s.cache.capacity s.out.items s.given in
-    let is : viewed c.keys_from.new.keys ids outcomes s.found.items s.places s.cache.pairs s.cache.capacity s.out.items s.given ≡ old =
-    viewed_stays s.keys c.keys_from.new.keys ids outcomes s.found.items s.places s.cache.pairs s.out.items
-    c.self.invariant.kept (λ n k stored is. c.keys_from.ensures.stay n k is) s.cache.capacity s.given in
-    let out_are : c.lower_all.new.jobs.items ≡ map (lowered c.args.stretch.from) s.out.items = c.lower_all.ensures in
-    let out_seen : jobs_for c.keys_from.new.keys c.lower_all.new.jobs.items ≡ jobs_for c.keys_from.new.keys s.out.items =
+    let old : StoreValue = viewed s.keys ids outcomes s.numbers.items s.places s.cache.pairs s.cache.capacity s.jobs_out.items s.jobs_given in
+    let is : viewed c.keys_from.new.keys ids outcomes s.numbers.items s.places s.cache.pairs s.cache.capacity s.jobs_out.items s.jobs_given ≡ old =
+    viewed_stays s.keys c.keys_from.new.keys ids outcomes s.numbers.items s.places s.cache.pairs s.jobs_out.items
+    c.self.invariant.kept (λ n k stored is. c.keys_from.ensures.stay n k is) s.cache.capacity s.jobs_given in
+    let out_are : c.lower_all.new.jobs.items ≡ map (lowered c.args.stretch.from) s.jobs_out.items = c.lower_all.ensures in
+    let out_seen : jobs_for c.keys_from.new.keys c.lower_all.new.jobs.items ≡ jobs_for c.keys_from.new.keys s.jobs_out.items =
     ap (jobs_for c.keys_from.new.keys) out_are
-    ∙ jobs_lowered c.keys_from.new.keys c.args.stretch.from s.out.items in
+    ∙ jobs_lowered c.keys_from.new.keys c.args.stretch.from s.jobs_out.items in
     rw (← c.sweep.ensures, ← c.self.view_is, room, ids_are, outcomes_are, found_are, out_seen)
     (subst (λ (store : StoreValue). RefitsLosing store (ids_with c.args.stretch ids) (outcomes_with c.args.stretch outcomes) c.recount-lost.result
     (viewed c.keys_from.new.keys (ids_with c.args.stretch ids) (outcomes_with c.args.stretch outcomes)
-    found c.recount-lost.new.places c.recount-lost.new.cache.pairs s.cache.capacity s.out.items s.given)) is
-    (refitted c.keys_from.new.keys ids outcomes s.found.items s.places s.cache.pairs s.out.items kept
-    (ids_with c.args.stretch ids) (outcomes_with c.args.stretch outcomes) found c.recount-lost.new.places stand
+    numbers c.recount-lost.new.places c.recount-lost.new.cache.pairs s.cache.capacity s.jobs_out.items s.jobs_given)) is
+    (refitted c.keys_from.new.keys ids outcomes s.numbers.items s.places s.cache.pairs s.jobs_out.items kept
+    (ids_with c.args.stretch ids) (outcomes_with c.args.stretch outcomes) numbers c.recount-lost.new.places stand
     recounted.placed recounted.left c.recount-lost.new.cache.pairs recounted.leaves recounted.left_pairs s.cache.capacity
-    recounted.gone recounted.go c.recount-lost.result recounted.puts recounted.put_pairs s.given))
+    recounted.gone recounted.go c.recount-lost.result recounted.puts recounted.put_pairs s.jobs_given))

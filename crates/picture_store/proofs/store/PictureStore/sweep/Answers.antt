@@ -8,25 +8,25 @@ invariant_of-self c =
     let stay = rw (c.deref.ensures.value, c.deref-2.ensures.value) at c.sweep_at.ensures.stay in
     record {
       kept =
-          kept_stays s.keys c.sweep_at.new.keys s.ids.items s.outcomes.items s.found.items s.places s.cache.pairs s.out.items
+          kept_stays s.keys c.sweep_at.new.keys s.ids.items s.outcomes.items s.numbers.items s.places s.cache.pairs s.jobs_out.items
           c.self.invariant.kept stay (c.sweep_at.ensures.one c.self.invariant.kept.right.one);
       counted = c.self.invariant.counted;
       apart = c.self.invariant.apart;
       settled = c.self.invariant.settled;
       looked =
-          looked_stays s.keys c.sweep_at.new.keys s.ids.items s.outcomes.items s.found.items s.places s.cache.pairs s.out.items
-          c.self.invariant.kept stay s.looked c.self.invariant.looked;
+          looked_stays s.keys c.sweep_at.new.keys s.ids.items s.outcomes.items s.numbers.items s.places s.cache.pairs s.jobs_out.items
+          c.self.invariant.kept stay s.units_not_due c.self.invariant.looked;
       behind = c.self.invariant.behind;
       scheduled = tt;
     }
 
-pub returns-in_err-enough : goal.returns-in_err-enough
-returns-in_err-enough c =
+pub returns-in_err-sweep_threshold : goal.returns-in_err-sweep_threshold
+returns-in_err-sweep_threshold c =
     let s = c.self.inside in
     let stay = rw (c.deref.ensures.value, c.deref-2.ensures.value) at c.sweep_at.ensures.stay in
     rw (← c.self.view_is)
-    (viewed_stays s.keys c.sweep_at.new.keys s.ids.items s.outcomes.items s.found.items s.places s.cache.pairs s.out.items
-    c.self.invariant.kept stay s.cache.capacity s.given)
+    (viewed_stays s.keys c.sweep_at.new.keys s.ids.items s.outcomes.items s.numbers.items s.places s.cache.pairs s.jobs_out.items
+    c.self.invariant.kept stay s.cache.capacity s.jobs_given)
 
 pub invariant_of-self-2 : goal.invariant_of-self-2
 invariant_of-self-2 c =
@@ -34,14 +34,14 @@ invariant_of-self-2 c =
     let stay = rw (c.deref.ensures.value, c.deref-2.ensures.value) at c.sweep_at.ensures.stay in
     record {
       kept =
-          kept_stays s.keys c.sweep_at.new.keys s.ids.items s.outcomes.items s.found.items s.places s.cache.pairs s.out.items
+          kept_stays s.keys c.sweep_at.new.keys s.ids.items s.outcomes.items s.numbers.items s.places s.cache.pairs s.jobs_out.items
           c.self.invariant.kept stay (c.sweep_at.ensures.one c.self.invariant.kept.right.one);
       counted = c.self.invariant.counted;
       apart = c.self.invariant.apart;
       settled = c.self.invariant.settled;
       looked =
-          looked_stays s.keys c.sweep_at.new.keys s.ids.items s.outcomes.items s.found.items s.places s.cache.pairs s.out.items
-          c.self.invariant.kept stay s.looked c.self.invariant.looked;
+          looked_stays s.keys c.sweep_at.new.keys s.ids.items s.outcomes.items s.numbers.items s.places s.cache.pairs s.jobs_out.items
+          c.self.invariant.kept stay s.units_not_due c.self.invariant.looked;
       behind = c.self.invariant.behind;
       scheduled = tt;
     }
@@ -51,5 +51,5 @@ returns c =
     let s = c.self.inside in
     let stay = rw (c.deref.ensures.value, c.deref-2.ensures.value) at c.sweep_at.ensures.stay in
     rw (← c.self.view_is)
-    (viewed_stays s.keys c.sweep_at.new.keys s.ids.items s.outcomes.items s.found.items s.places s.cache.pairs s.out.items
-    c.self.invariant.kept stay s.cache.capacity s.given)
+    (viewed_stays s.keys c.sweep_at.new.keys s.ids.items s.outcomes.items s.numbers.items s.places s.cache.pairs s.jobs_out.items
+    c.self.invariant.kept stay s.cache.capacity s.jobs_given)

@@ -17,22 +17,22 @@ first_due-due-requires-clause-before c =
     let s = c.self.inside in
     let settled = rw (c.deref.ensures.value, c.deref-2.ensures.value) at c.first_to_do-settled.ensures in
     rw (c.deref-3.ensures.value, c.deref-4.ensures.value)
-    (later_looked s.keys s.places s.out.items s.found.items c.first_to_do-settled.result s.looked c.max-from.result
+    (later_looked s.keys s.places s.jobs_out.items s.numbers.items c.first_to_do-settled.result s.units_not_due c.max-from.result
     c.max-from.ensures settled c.self.invariant.looked)
 
 pub returns-in_default-clause-tells : goal.returns-in_default-clause-tells
 returns-in_default-clause-tells c =
     let s = c.self.inside in
     let none = rw (c.deref-3.ensures.value, c.deref-4.ensures.value) at c.in_default.ensures in
-    rw (← c.self.view_is) (none_due s.keys s.ids.items s.outcomes.items s.found.items s.places s.cache.pairs s.cache.capacity s.out.items s.given c.self.invariant.kept none, refl)
+    rw (← c.self.view_is) (none_due s.keys s.ids.items s.outcomes.items s.numbers.items s.places s.cache.pairs s.cache.capacity s.jobs_out.items s.jobs_given c.self.invariant.kept none, refl)
 
 pub returns-in_default-clause-waits : goal.returns-in_default-clause-waits
 returns-in_default-clause-waits c =
     let s = c.self.inside in
     let none = rw (c.deref-3.ensures.value, c.deref-4.ensures.value) at c.in_default.ensures in
     rw (← c.self.view_is)
-    (λ is at pending. one_out s.keys s.ids.items s.outcomes.items s.found.items s.places s.cache.pairs s.cache.capacity s.out.items s.given
-    c.self.invariant.kept at (λ place needed due. none_due s.keys s.ids.items s.outcomes.items s.found.items s.places s.cache.pairs s.cache.capacity s.out.items s.given
+    (λ is at pending. one_out s.keys s.ids.items s.outcomes.items s.numbers.items s.places s.cache.pairs s.cache.capacity s.jobs_out.items s.jobs_given
+    c.self.invariant.kept at (λ place needed due. none_due s.keys s.ids.items s.outcomes.items s.numbers.items s.places s.cache.pairs s.cache.capacity s.jobs_out.items s.jobs_given
     c.self.invariant.kept none (due.0, due.2)) pending)
 
 pub give-requires-clause-number : goal.give-requires-clause-number
@@ -41,10 +41,10 @@ give-requires-clause-number c =
     let first = rw (c.deref-3.ensures.value, c.deref-4.ensures.value) at c.in-Some.ensures in
     let key = c.in-Some-index.key in
     let is = rw (c.in-Some-index.is) at c.index.ensures in
-    let due : IsDueNumber s.keys s.places s.out.items key =
-    subst (λ o. IfSome o (IsDueNumber s.keys s.places s.out.items)) (sym is) (first.1 (Some key)) in
-    let there : slice_get s.found.items c.in-Some.at ≡ Some (Some key) =
-    slice_get_read s.found.items (length s.found.items) c.in-Some.at (Some key) refl first.0 is in
+    let due : IsDueNumber s.keys s.places s.jobs_out.items key =
+    subst (λ o. IfSome o (IsDueNumber s.keys s.places s.jobs_out.items)) (sym is) (first.1 (Some key)) in
+    let there : slice_get s.numbers.items c.in-Some.at ≡ Some (Some key) =
+    slice_get_read s.numbers.items (length s.numbers.items) c.in-Some.at (Some key) refl first.0 is in
     there
 
 pub give-requires-clause-due : goal.give-requires-clause-due
@@ -53,11 +53,11 @@ give-requires-clause-due c =
     let first = rw (c.deref-3.ensures.value, c.deref-4.ensures.value) at c.in-Some.ensures in
     let key = c.in-Some-index.key in
     let is = rw (c.in-Some-index.is) at c.index.ensures in
-    let due : IsDueNumber s.keys s.places s.out.items key =
-    subst (λ o. IfSome o (IsDueNumber s.keys s.places s.out.items)) (sym is) (first.1 (Some key)) in
-    let there : slice_get s.found.items c.in-Some.at ≡ Some (Some key) =
-    slice_get_read s.found.items (length s.found.items) c.in-Some.at (Some key) refl first.0 is in
-    due_of s.keys s.ids.items s.outcomes.items s.found.items s.places s.cache.pairs s.cache.capacity s.out.items s.given c.self.invariant.kept c.in-Some.at
+    let due : IsDueNumber s.keys s.places s.jobs_out.items key =
+    subst (λ o. IfSome o (IsDueNumber s.keys s.places s.jobs_out.items)) (sym is) (first.1 (Some key)) in
+    let there : slice_get s.numbers.items c.in-Some.at ≡ Some (Some key) =
+    slice_get_read s.numbers.items (length s.numbers.items) c.in-Some.at (Some key) refl first.0 is in
+    due_of s.keys s.ids.items s.outcomes.items s.numbers.items s.places s.cache.pairs s.cache.capacity s.jobs_out.items s.jobs_given c.self.invariant.kept c.in-Some.at
     (key, there, due)
 
 pub returns-in_err-give-clause-tells : goal.returns-in_err-give-clause-tells
@@ -66,16 +66,16 @@ returns-in_err-give-clause-tells c =
     let first = rw (c.deref-3.ensures.value, c.deref-4.ensures.value) at c.in-Some.ensures in
     let key = c.in-Some-index.key in
     let is = rw (c.in-Some-index.is) at c.index.ensures in
-    let due : IsDueNumber s.keys s.places s.out.items key =
-    subst (λ o. IfSome o (IsDueNumber s.keys s.places s.out.items)) (sym is) (first.1 (Some key)) in
-    let there : slice_get s.found.items c.in-Some.at ≡ Some (Some key) =
-    slice_get_read s.found.items (length s.found.items) c.in-Some.at (Some key) refl first.0 is in
+    let due : IsDueNumber s.keys s.places s.jobs_out.items key =
+    subst (λ o. IfSome o (IsDueNumber s.keys s.places s.jobs_out.items)) (sym is) (first.1 (Some key)) in
+    let there : slice_get s.numbers.items c.in-Some.at ≡ Some (Some key) =
+    slice_get_read s.numbers.items (length s.numbers.items) c.in-Some.at (Some key) refl first.0 is in
     let p = err_from_is_err_and c.from_residual.result c.from_residual.ensures.1 in
     rw (p.1, p.2)
     (subst (λ (old : StoreValue). AnswersTake old (Err c.in_err-give.field-0.0) c.give.new.self) c.self.view_is
-    (refusal_answered (viewed s.keys s.ids.items s.outcomes.items s.found.items s.places s.cache.pairs s.cache.capacity s.out.items s.given)
+    (refusal_answered (viewed s.keys s.ids.items s.outcomes.items s.numbers.items s.places s.cache.pairs s.cache.capacity s.jobs_out.items s.jobs_given)
     c.in-Some.at c.in_err-give.field-0.0 c.give.new.self
-    (due_of s.keys s.ids.items s.outcomes.items s.found.items s.places s.cache.pairs s.cache.capacity s.out.items s.given c.self.invariant.kept c.in-Some.at
+    (due_of s.keys s.ids.items s.outcomes.items s.numbers.items s.places s.cache.pairs s.cache.capacity s.jobs_out.items s.jobs_given c.self.invariant.kept c.in-Some.at
     (key, there, due)) c.in_err-give.ensures))
 
 pub returns-clause-tells : goal.returns-clause-tells
@@ -84,11 +84,11 @@ returns-clause-tells c =
     let first = rw (c.deref-3.ensures.value, c.deref-4.ensures.value) at c.in-Some.ensures in
     let key = c.in-Some-index.key in
     let is = rw (c.in-Some-index.is) at c.index.ensures in
-    let due : IsDueNumber s.keys s.places s.out.items key =
-    subst (λ o. IfSome o (IsDueNumber s.keys s.places s.out.items)) (sym is) (first.1 (Some key)) in
-    let there : slice_get s.found.items c.in-Some.at ≡ Some (Some key) =
-    slice_get_read s.found.items (length s.found.items) c.in-Some.at (Some key) refl first.0 is in
+    let due : IsDueNumber s.keys s.places s.jobs_out.items key =
+    subst (λ o. IfSome o (IsDueNumber s.keys s.places s.jobs_out.items)) (sym is) (first.1 (Some key)) in
+    let there : slice_get s.numbers.items c.in-Some.at ≡ Some (Some key) =
+    slice_get_read s.numbers.items (length s.numbers.items) c.in-Some.at (Some key) refl first.0 is in
     let gives = c.in_ok-give.ensures in
-    let is_taken = taken s.keys s.ids.items s.outcomes.items s.found.items s.places s.cache.pairs s.cache.capacity s.out.items s.given c.self.invariant.kept
+    let is_taken = taken s.keys s.ids.items s.outcomes.items s.numbers.items s.places s.cache.pairs s.cache.capacity s.jobs_out.items s.jobs_given c.self.invariant.kept
     c.in-Some.at first.0 key is due c.in_ok-give.field-0.job c.give.new.self gives.1 first.2 in
     rw (← c.self.view_is) (is_taken.0, gives.0 ∙ is_taken.1)

@@ -17,7 +17,7 @@ schedule_for-requires-clause-columns c =
     rw (c.deref.ensures.value, c.deref-2.ensures.value, c.deref-3.ensures.value) (record {
       outcomes_many = sym c.self.invariant.kept.same;
       found_many =
-          found_length s.keys s.ids.items s.outcomes.items s.found.items s.places s.cache.pairs s.cache.capacity s.out.items s.given
+          found_length s.keys s.ids.items s.outcomes.items s.numbers.items s.places s.cache.pairs s.cache.capacity s.jobs_out.items s.jobs_given
           c.self.invariant.kept;
       one = c.self.invariant.kept.right.one;
       stand = c.self.invariant.kept.stand;
@@ -39,7 +39,7 @@ invariant_of-self-in_default c =
       looked = c.self.invariant.looked;
       behind = c.self.invariant.behind;
       scheduled = rw are.0
-          (scheduled_left s.keys (zip s.ids.items s.outcomes.items) s.found.items s.places s.out.items c.args.at
+          (scheduled_left s.keys (zip s.ids.items s.outcomes.items) s.numbers.items s.places s.jobs_out.items c.args.at
           schedule.dependents.items (heap_items schedule.queue) (heap_items c.earliest_due-due.new.queue) left.ordered left.stay
           left.only are.1);
     }
@@ -60,7 +60,7 @@ invariant_of-self-2 c =
       looked = c.self.invariant.looked;
       behind = c.self.invariant.behind;
       scheduled = rw are.0
-          (scheduled_left s.keys (zip s.ids.items s.outcomes.items) s.found.items s.places s.out.items c.args.at
+          (scheduled_left s.keys (zip s.ids.items s.outcomes.items) s.numbers.items s.places s.jobs_out.items c.args.at
           schedule.dependents.items (heap_items schedule.queue) (heap_items c.earliest_due-due.new.queue) left.ordered left.stay
           left.only are.1);
     }
@@ -74,7 +74,7 @@ returns-in_default-clause-tells c =
     let schedule = c.in_ok-schedule.schedule in
     let none = rw (c.deref-5.ensures.value, c.deref-6.ensures.value) at c.in_default.ensures.due in
     rw (← c.self.view_is) (
-      λ any. none_needed_due s.keys s.ids.items s.outcomes.items s.found.items s.places s.cache.pairs s.cache.capacity s.out.items s.given
+      λ any. none_needed_due s.keys s.ids.items s.outcomes.items s.numbers.items s.places s.cache.pairs s.cache.capacity s.jobs_out.items s.jobs_given
           c.self.invariant.kept c.args.at schedule.dependents.items (heap_items schedule.queue) are.1 none any.0 any.1 any.2,
       refl,
     )
@@ -88,7 +88,7 @@ returns-in_default-clause-waits c =
     let schedule = c.in_ok-schedule.schedule in
     let none = rw (c.deref-5.ensures.value, c.deref-6.ensures.value) at c.in_default.ensures.due in
     rw (← c.self.view_is)
-    (λ is pending. one_needed_out s.keys s.ids.items s.outcomes.items s.found.items s.places s.cache.pairs s.cache.capacity s.out.items s.given
+    (λ is pending. one_needed_out s.keys s.ids.items s.outcomes.items s.numbers.items s.places s.cache.pairs s.cache.capacity s.jobs_out.items s.jobs_given
     c.self.invariant.kept c.args.at schedule.dependents.items (heap_items schedule.queue) are.1 none pending)
 
 pub give-requires-clause-due : goal.give-requires-clause-due
@@ -99,7 +99,7 @@ give-requires-clause-due c =
     c.in_ok-schedule.ensures in
     let schedule = c.in_ok-schedule.schedule in
     let is = rw (c.deref-5.ensures.value, c.deref-6.ensures.value) at c.in-Some.ensures.due in
-    is_due s.keys s.ids.items s.outcomes.items s.found.items s.places s.cache.pairs s.cache.capacity s.out.items s.given
+    is_due s.keys s.ids.items s.outcomes.items s.numbers.items s.places s.cache.pairs s.cache.capacity s.jobs_out.items s.jobs_given
     c.self.invariant.kept c.args.at schedule.dependents.items (heap_items schedule.queue) are.1 c.in-Some.place c.in-Some.key is
 
 pub returns-in_err-give-clause-tells : goal.returns-in_err-give-clause-tells
@@ -113,11 +113,11 @@ returns-in_err-give-clause-tells c =
     let p = err_from_is_err_and c.from_residual-in_err-give.result c.from_residual-in_err-give.ensures.1 in
     rw (p.1, p.2)
     (subst (λ (old : StoreValue). TellsTakeFor old c.args.at (Err c.in_err-give.field-0.0) c.give.new.self) c.self.view_is
-    (refusal_told (viewed s.keys s.ids.items s.outcomes.items s.found.items s.places s.cache.pairs s.cache.capacity s.out.items s.given)
+    (refusal_told (viewed s.keys s.ids.items s.outcomes.items s.numbers.items s.places s.cache.pairs s.cache.capacity s.jobs_out.items s.jobs_given)
     c.args.at c.in-Some.place c.in_err-give.field-0.0 c.give.new.self
-    (is_needed s.keys s.ids.items s.outcomes.items s.found.items s.places s.cache.pairs s.cache.capacity s.out.items s.given
+    (is_needed s.keys s.ids.items s.outcomes.items s.numbers.items s.places s.cache.pairs s.cache.capacity s.jobs_out.items s.jobs_given
     c.self.invariant.kept c.args.at schedule.dependents.items (heap_items schedule.queue) are.1 c.in-Some.place c.in-Some.key is)
-    (is_due s.keys s.ids.items s.outcomes.items s.found.items s.places s.cache.pairs s.cache.capacity s.out.items s.given
+    (is_due s.keys s.ids.items s.outcomes.items s.numbers.items s.places s.cache.pairs s.cache.capacity s.jobs_out.items s.jobs_given
     c.self.invariant.kept c.args.at schedule.dependents.items (heap_items schedule.queue) are.1 c.in-Some.place c.in-Some.key is) c.in_err-give.ensures))
 
 pub returns-clause-tells : goal.returns-clause-tells
@@ -129,6 +129,6 @@ returns-clause-tells c =
     let schedule = c.in_ok-schedule.schedule in
     let is = rw (c.deref-5.ensures.value, c.deref-6.ensures.value) at c.in-Some.ensures.due in
     rw (← c.self.view_is)
-    (job_told s.keys s.ids.items s.outcomes.items s.found.items s.places s.cache.pairs s.cache.capacity s.out.items s.given
+    (job_told s.keys s.ids.items s.outcomes.items s.numbers.items s.places s.cache.pairs s.cache.capacity s.jobs_out.items s.jobs_given
     c.self.invariant.kept c.args.at schedule.dependents.items (heap_items schedule.queue) are.1 c.in-Some.place c.in-Some.key is c.in_ok-give.field-0
     c.give.new.self c.in_ok-give.ensures)

@@ -1,9 +1,6 @@
 use Rattle.std.proofs.Common.{◌≡◌, ℕ, ◌+◌, length, ap, ◌∙◌, arith}
 use Rattle.std.specs.Prelude.{unwrap_or}
-use Rattle.request_core.specs.States.{no_units}
-use Rattle.stream_fold.specs.Refolding.{end_of}
-use Rattle.stream_fold.proofs.Folds.{length-outcomes_from}
-use Rattle.stream_fold.proofs.Committed.{stays_of, can_shift_as, from_to, to_inside, folded_by}
+use Rattle.stream_fold.proofs.Committed.{stays_of, can_shift_as, folded_by}
 use Rattle.stream_fold.proofs.Reaching.{reached_after}
 use Rattle.stream_fold.proofs.folded.Folded.commit.Goals as goal
 
@@ -13,52 +10,20 @@ store_anew-requires-clause-apart c =
     let long : c.len-end.result ≡ length c.self.inside.units.items = omega (arith, c.len-end.ensures, c.self.inside.units.ok.0) in
     let stays : c.unwrap_or.result ≡ stays_of c.self.inside.units.items c.args.prepared.met =
     c.unwrap_or.ensures ∙ ap (λ (n : ℕ). unwrap_or c.args.prepared.met (n + 1)) long in
-    can_shift_as c.args.prepared.change c.self.inside.units.items c.self.inside.outcomes.items c.self.inside.stored.states c.self.inside.end
+    can_shift_as c.args.prepared.change c.self.inside.units.items c.self.inside.stored.states c.self.inside.end
     c.self.invariant.0 prepared.inside c.args.prepared.fold c.args.prepared.met prepared.made c.unwrap_or.result c.length_change.result stays
     c.length_change.ensures prepared.short
-
-pub replace_range-requires-clause-ordered : goal.replace_range-requires-clause-ordered
-replace_range-requires-clause-ordered c =
-    let prepared = rw (← c.self.view_is) at c.requires in
-    let long : c.len-end.result ≡ length c.self.inside.units.items = omega (arith, c.len-end.ensures, c.self.inside.units.ok.0) in
-    let ends : c.unwrap_or-2.result ≡ end_of c.self.inside.units.items c.args.prepared.met =
-    c.unwrap_or-2.ensures ∙ ap (λ (n : ℕ). unwrap_or c.args.prepared.met n) long in
-    omega (
-      arith,
-      ends,
-      from_to c.args.prepared.change c.self.inside.units.items c.self.inside.outcomes.items c.self.inside.stored.states c.self.inside.end
-          c.self.invariant.0 prepared.inside c.args.prepared.fold c.args.prepared.met prepared.made,
-    )
-
-pub replace_range-requires-clause-inside : goal.replace_range-requires-clause-inside
-replace_range-requires-clause-inside c =
-    let prepared = rw (← c.self.view_is) at c.requires in
-    let long : c.len-end.result ≡ length c.self.inside.units.items = omega (arith, c.len-end.ensures, c.self.inside.units.ok.0) in
-    let ends : c.unwrap_or-2.result ≡ end_of c.self.inside.units.items c.args.prepared.met =
-    c.unwrap_or-2.ensures ∙ ap (λ (n : ℕ). unwrap_or c.args.prepared.met n) long in
-    let inside = to_inside c.args.prepared.change c.self.inside.units.items c.self.inside.outcomes.items c.self.inside.stored.states c.self.inside.end
-    c.self.invariant.0 prepared.inside c.args.prepared.fold c.args.prepared.met prepared.made in
-    omega (
-      arith,
-      ends,
-      inside,
-      ap length c.self.invariant.0.outcomes_are,
-      length-outcomes_from no_units c.self.inside.units.items,
-      c.self.inside.outcomes.ok.0,
-    )
 
 pub invariant_of-self : goal.invariant_of-self
 invariant_of-self c =
     let prepared = rw (← c.self.view_is) at c.requires in
     let long : c.len-end.result ≡ length c.self.inside.units.items = omega (arith, c.len-end.ensures, c.self.inside.units.ok.0) in
     let stays : c.unwrap_or.result ≡ stays_of c.self.inside.units.items c.args.prepared.met =
-    c.unwrap_or.ensures ∙ ap (λ (n : ℕ). unwrap_or c.args.prepared.met (n + 1)) long in
-    let ends : c.unwrap_or-2.result ≡ end_of c.self.inside.units.items c.args.prepared.met =
-    c.unwrap_or-2.ensures ∙ ap (λ (n : ℕ). unwrap_or c.args.prepared.met n) long in (
-      folded_by c.args.prepared.change c.self.inside.units.items c.self.inside.outcomes.items c.self.inside.stored.states c.self.inside.end
+    c.unwrap_or.ensures ∙ ap (λ (n : ℕ). unwrap_or c.args.prepared.met (n + 1)) long in (
+      folded_by c.args.prepared.change c.self.inside.units.items c.self.inside.stored.states c.self.inside.end
           c.self.invariant.0 prepared.inside c.args.prepared.fold c.args.prepared.met prepared.made c.keep_end.new.end c.keep_end.ensures.none
-          c.keep_end.ensures.some c.make.new.units.items c.replace_range.new.items.items c.store_anew.new.stored.states
-          c.thin.new.stored.states c.thin-2.new.stored.states c.unwrap_or-2.result c.unwrap_or.result c.length_change.result c.make.ensures
-          c.replace_range.ensures.items ends c.store_anew.ensures stays c.length_change.ensures c.thin.ensures c.thin-2.ensures,
+          c.keep_end.ensures.some c.make.new.units.items c.store_anew.new.stored.states c.thin.new.stored.states c.thin-2.new.stored.states
+          c.unwrap_or.result c.length_change.result c.make.ensures c.store_anew.ensures stays c.length_change.ensures c.thin.ensures
+          c.thin-2.ensures,
       rw (c.make.ensures) (reached_after c.args.prepared.change c.self.inside.units.items prepared.inside c.args.prepared.reached prepared.reached),
     )

@@ -10,7 +10,6 @@ returns-clause-ready c =
       made = search rules;
       reached = search rules;
       units_room = omega (arith, c.in_ok-reserve.ensures.ok, c.len.ensures, ap length c.units.ensures);
-      outcomes_room = omega (arith, c.in_ok-reserve-2.ensures.ok, c.len-2.ensures);
       states_room = search rules;
     }
 
@@ -19,4 +18,4 @@ returns-clause-anew c =
     let inside = rw (← c.self.view_is) at c.requires.inside in
     let made = rw (← c.self.view_is) at c.in_ok-fold.ensures.made in
     rw (← c.self.view_is)
-    (is_anew c.self.inside.units.items c.self.inside.outcomes.items c.self.inside.stored.states c.self.inside.end c.self.invariant.0 _ inside made)
+    (is_anew c.self.inside.units.items c.self.inside.stored.states c.self.inside.end c.self.invariant.0 _ inside made)

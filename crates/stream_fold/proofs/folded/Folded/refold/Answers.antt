@@ -1,4 +1,4 @@
-use Rattle.std.proofs.Common.{◌≡◌, ◌-◌, [], length, take, drop, ◌∙◌, subst, arith}
+use Rattle.std.proofs.Common.{◌≡◌, ◌-◌, [], length, take, drop, subst, arith}
 use Rattle.std.proofs.lemmas.List.{append-nil}
 use Rattle.request_core.specs.Agreement.{Stream}
 use Rattle.stream_edits.specs.Changes.{at_of}
@@ -13,8 +13,8 @@ pub slice_bounds-share-end : goal.slice_bounds-share-end
 slice_bounds-share-end c =
     let stream = c.self.inside.units.items in
     let inside = rw (← c.self.view_is) at c.requires.inside in
-    let long : length c.deref-2.result.now ≡ length stream =
-    as_many stream c.deref-2.result.now (c.deref-2.ensures.value ∙ c.self.invariant.0.outcomes_are) in
+    let outcomes = rw (← c.self.view_is) at c.requires.outcomes in
+    let long : length c.args.outcomes.now ≡ length stream = as_many stream c.args.outcomes.now outcomes in
     rw c.at-at.ensures (omega (arith, long, at_inside c.args.change.now stream inside))
 
 pub share-requires : goal.share-requires
@@ -23,8 +23,9 @@ share-requires c =
     let inside = rw (← c.self.view_is) at c.requires.inside in
     let start = rw (← c.self.view_is, c.at-at.ensures) at c.in_ok-fold.ensures in
     let before = rw (c.deref.ensures.value, c.at-at.ensures) at c.in_ok-go_over.ensures in
+    let outcomes = rw (← c.self.view_is) at c.requires.outcomes in
     rw c.at-at.ensures
-    (are_kept stream c.deref-2.result.now (c.deref-2.ensures.value ∙ c.self.invariant.0.outcomes_are) (at_of c.args.change.now)
+    (are_kept stream c.args.outcomes.now outcomes (at_of c.args.change.now)
     (at_inside c.args.change.now stream inside) c.in_ok-fold.fold c.go_over.new.self start.before start.refolded before)
 
 pub reached_at-requires : goal.reached_at-requires
@@ -52,6 +53,6 @@ returns-clause-made c =
     let behind = rw (← c.self.view_is, c.rest_from.ensures) at c.in_ok-met.ensures in
     let changed = rw (c.units.ensures) at c.in_ok-go_over-2.ensures in
     rw (← c.self.view_is)
-    (made_anew c.args.change.now stream c.self.inside.outcomes.items c.self.inside.stored.states c.self.inside.end c.self.invariant.0
+    (made_anew c.args.change.now stream c.self.inside.stored.states c.self.inside.end c.self.invariant.0
     inside c.in_ok-fold.fold c.share.new.self c.go_over-2.new.self c.catch_up.new.fold c.in_ok-met.met start shared
     changed behind)

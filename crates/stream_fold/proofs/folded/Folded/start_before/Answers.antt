@@ -14,7 +14,7 @@ pub new-requires-clause-near : goal.new-requires-clause-near
 new-requires-clause-near c =
     let within = rw (← c.self.view_is) at c.requires in
     let found = rw c.in-Some.is at c.if_between.ensures in
-    let near = before_near c.self.inside.units.items c.self.inside.outcomes.items c.self.inside.stored.states c.self.inside.end c.self.invariant.0
+    let near = before_near c.self.inside.units.items c.self.inside.stored.states c.self.inside.end c.self.invariant.0
     c.args.at c.before-before.result.place c.before-before.result.state.now within c.before-before.ensures in
     omega (arith, found.2, near)
 
@@ -29,7 +29,7 @@ returns-in-Some c =
     rw (← c.self.view_is)
     (if_ok (Begins reached.place c.before-before.result.place reached.state) (IsStart c.args.at c.self.inside.units.items c.self.inside.stored.states)
     c.new.result
-    (λ fold begun. starts_where_reached c.self.inside.units.items c.self.inside.outcomes.items c.self.inside.stored.states c.self.inside.end
+    (λ fold begun. starts_where_reached c.self.inside.units.items c.self.inside.stored.states c.self.inside.end
     c.self.invariant.0 c.args.at c.before-before.result.place reached.place c.before-before.result.state.now reached.state fold within
     c.before-before.ensures found.1 found.2 is.1 begun)
     c.new.ensures)
@@ -40,6 +40,6 @@ returns-in-None c =
     rw (← c.self.view_is)
     (if_ok (Begins c.before-before.result.place c.before-before.result.place c.before-before.result.state.now)
     (IsStart c.args.at c.self.inside.units.items c.self.inside.stored.states) c.new-in-None.result
-    (λ fold begun. starts_before c.self.inside.units.items c.self.inside.outcomes.items c.self.inside.stored.states c.self.inside.end
+    (λ fold begun. starts_before c.self.inside.units.items c.self.inside.stored.states c.self.inside.end
     c.self.invariant.0 c.args.at c.before-before.result.place c.before-before.result.state.now fold within c.before-before.ensures begun)
     c.new-in-None.ensures)

@@ -6,7 +6,7 @@ pub returns-then-are_settled : goal.returns-then-are_settled
 returns-then-are_settled c =
     let wants = c.args.self.now in
     let off : wants.rest ≡ false = sym c.is_rest_wanted.ensures ∙ c.if-is_rest_wanted.false in
-    let out : length c.args.session.now.out ≡ 0 = omega (arith, c.jobs_out.ensures) in
+    let out : length c.args.session.now.jobs_out ≡ 0 = omega (arith, c.jobs_out.ensures) in
     rests c.args.session.now wants c.numbers.result.0.now c.numbers.result.1.now c.are_settled-then-are_settled.result
     c.numbers.ensures.waited c.numbers.ensures.listed off out c.if-are_settled.ensures
     c.are_settled-then-are_settled.ensures

@@ -1,0 +1,9 @@
+//! What a change of the stream costs.
+
+/// What a change came to: how many steps of the fold it made, and how many pictures are lost, as
+/// their keys went out of use and no memory was found to cache them.
+#[derive(Clone, Copy, Debug)]
+pub(crate) struct ChangeCosts {
+    pub(crate) steps: u64,
+    pub(crate) lost_pictures: u64,
+}

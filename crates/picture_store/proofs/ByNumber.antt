@@ -1,0 +1,82 @@
+-- Jobs that are out, by their numbers.
+use Rattle.std.proofs.Common.{◌≡◌, ℕ, zero, suc, ◌<◌, ◌≤◌, ◌==◌, Bool, true, List, [], ◌∷◌, length, get_or, map, Option, None, Some, option_map, refl, ap, sym, ◌∙◌, inl, inr, arith}
+use Rattle.std.specs.Prelude.{All, Contains, position, slice_get, slice_index_or, option_and_then}
+use Rattle.std.specs.List.{position_or_len}
+use Rattle.std.proofs.lemmas.Bool.{cases_lt, eq-eqb, eqb-true, lt-ltb}
+use Rattle.std.proofs.lemmas.List.{length-map}
+use Rattle.std.proofs.lemmas.List.Elements.{All-map}
+use Rattle.std.proofs.lemmas.List.Quantifiers.{position-Some}
+use Rattle.key_slots.proofs.Members.{All-from_contains}
+use Rattle.std.proofs.lemmas.List.Sums.{fails_before_first}
+use Rattle.stand_in_device.specs.Jobs.{JobValue}
+use Rattle.picture_store.specs.declared.job_out.JobOut.{JobOut}
+use Rattle.picture_store.specs.Jobs.{IsOf, input_of}
+use Rattle.picture_store.specs.Kept.{Trees, jobs_for}
+use Rattle.picture_store.specs.Stores.{OutValue}
+use Rattle.picture_store.proofs.Landed.{got_at}
+use Rattle.picture_store.proofs.Viewed.{seen}
+
+-- the first that passes among what is made of a list
+pub position_map : {X Y : Type 0} (test : Y → Bool) (f : X → Y) (xs : List X) → position test (map f xs) ≡ position (λ x. test (f x)) xs
+position_map {X} {Y} test f xs = rw (first xs, length-map xs f) refl
+  where
+    first : (ys : List X) → position_or_len test (map f ys) ≡ position_or_len (λ x. test (f x)) ys
+    first [] = refl
+    first (y ∷ ys) = rw (first ys) refl
+
+-- where none is the first that passes, none passes
+pub none_passes : {X : Type 0} (test : X → Bool) (xs : List X) → position test xs ≡ None → (x : X) → Contains xs x → test x ≡ true → ⊥
+none_passes test xs none x among is =
+    let first : ℕ = position_or_len test xs in
+    let passes : test (get_or xs among.0 x) ≡ true = ap test among.2 ∙ is in
+    let low : first ≤ among.0 =
+    elim (cases_lt among.0 first) [
+      | inl high ↦ absurd (let fails = sym passes ∙ fails_before_first test xs among.0 x high in cc)
+      | inr low ↦ low
+    ] in
+    let within : first < length xs = omega (arith, low, among.1) in
+    let there : position test xs ≡ Some first = rw (lt-ltb first (length xs) within) refl in
+    let no = sym none ∙ there in cc
+
+-- what the first job of a number was given
+pub input_at : (keys : Trees) (out : List JobOut) (number at : ℕ) (job : JobOut) → at < length out → job ≡ slice_index_or out at job
+    → position (λ (j : JobOut). j.number == number) out ≡ Some at → input_of (jobs_for keys out) number ≡ Some job.input
+input_at keys out number at job within is first =
+    ap (λ (place : Option ℕ). option_map (λ (j : OutValue). j.input) (option_and_then (slice_get (jobs_for keys out)) place))
+    (position_map (λ (j : OutValue). j.number == number) (seen keys) out ∙ first)
+    ∙ ap (option_map (λ (j : OutValue). j.input)) (got_at (seen keys) out at job within is)
+
+-- and where there is none
+pub input_none : (keys : Trees) (out : List JobOut) (number : ℕ) → position (λ (j : JobOut). j.number == number) out ≡ None
+    → input_of (jobs_for keys out) number ≡ None
+input_none keys out number none =
+    ap (λ (place : Option ℕ). option_map (λ (j : OutValue). j.input) (option_and_then (slice_get (jobs_for keys out)) place))
+    (position_map (λ (j : OutValue). j.number == number) (seen keys) out ∙ none)
+
+pub none_numbered : (keys : Trees) (out : List JobOut) (number : ℕ) → position (λ (j : JobOut). j.number == number) out ≡ None
+    → All (λ (other : OutValue). other.number ≡ number → ⊥) (jobs_for keys out)
+none_numbered keys out number none =
+    All-map (λ (other : OutValue). other.number ≡ number → ⊥) (seen keys) out
+    (All-from_contains {P = λ (job : JobOut). job.number ≡ number → ⊥} out (λ job among is.
+    none_passes (λ (j : JobOut). j.number == number) out none job among (eq-eqb job.number number is)))
+
+-- the first job of a number is out
+pub numbered_there : (keys : Trees) (out : List JobOut) (number at : ℕ) → at < length out
+    → position (λ (j : JobOut). j.number == number) out ≡ Some at
+    → (other : OutValue) × (slice_get (jobs_for keys out) at ≡ Some other) × (other.number ≡ number)
+numbered_there keys out number at within first =
+    there out at within (λ d. eqb-true (get_or out at d).number number (position-Some (λ (j : JobOut). j.number == number) out at d first).1)
+  where
+    there : (jobs : List JobOut) (place : ℕ) → place < length jobs → ((d : JobOut) → (get_or jobs place d).number ≡ number)
+        → (other : OutValue) × (slice_get (jobs_for keys jobs) place ≡ Some other) × (other.number ≡ number)
+    there [] place within is = absurd (omega (arith, within))
+    there (job ∷ jobs) zero within is = (seen keys job, refl, is job)
+    there (job ∷ jobs) (suc place) within is = there jobs place (omega (arith, within)) is
+
+-- and so is one of a number and an input
+pub job_there : (keys : Trees) (out : List JobOut) (at : ℕ) (job : JobValue) → at < length out
+    → ((d : JobOut) → (slice_index_or out at d).number ≡ job.number) → ((d : JobOut) → (slice_index_or out at d).input ≡ job.input)
+    → (other : OutValue) × (slice_get (jobs_for keys out) at ≡ Some other) × IsOf job other
+job_there keys [] at job within number input = absurd (omega (arith, within))
+job_there keys (first ∷ out) zero job within number input = (seen keys first, refl, (number first, input first))
+job_there keys (first ∷ out) (suc at) job within number input = job_there keys out at job (omega (arith, within)) number input

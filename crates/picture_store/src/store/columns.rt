@@ -1,0 +1,24 @@
+//! The units of a store: their ids and their outcomes.
+
+ghost use Rattle.std.specs.Prelude.{◌≡◌};
+
+use super::PictureStore;
+use base_types::Shared;
+use picture_keys::HashedOutcome;
+use pictures::AuId;
+
+impl PictureStore {
+    /// The ids of the units, in the order of the stream.
+    pub fn ids(&self) -> &[AuId]
+        ensures { result.now ≡ self.now.ids }
+    {
+        self.ids.as_slice()
+    }
+
+    /// Each unit's outcome, in the order of the stream.
+    pub fn outcomes(&self) -> &[Shared<HashedOutcome>]
+        ensures { result.now ≡ self.now.outcomes }
+    {
+        self.outcomes.as_slice()
+    }
+}

@@ -7,7 +7,7 @@ use Rattle.request_core.specs.Fold.{fold_step, outcomes_of}
 use Rattle.request_core.specs.Agreement.{state_from}
 use Rattle.request_core.proofs.Agreement.{outcomes_from-append, state_from-append}
 use Rattle.unit_lines.specs.UnitLines.{outcome_tail}
-use Rattle.plan_stream.specs.declared.folded.Folded.{Folded}
+use Rattle.plan_stream.specs.declared.plan_fold.PlanFold.{PlanFold}
 use Rattle.plan_stream.specs.Shown.{shown_of}
 use Rattle.plan_stream.specs.Folds.{IsFoldOf, tails_from}
 use Rattle.plan_stream.specs.Streams.{numbered_from}
@@ -27,41 +27,41 @@ tails_from-push id (first ∷ outcomes) outcome =
     let next : (id + 1) + length outcomes ≡ id + length (first ∷ outcomes) = omega arith in
     ap (λ l. outcome_tail id first ∷ l) (rw next at rest)
 
-module _ (done : List (List (List ℕ))) (folded : Folded) (is : IsFoldOf done folded) where
+module _ (done : List (List (List ℕ))) (fold : PlanFold) (is : IsFoldOf done fold) where
   abbrev stream : List (ℕ × List (List ℕ))
   stream = numbered_from 1 done
 
   -- a unit is kept for each
-  pub count_is : length folded.tails ≡ length done
+  pub count_is : length fold.tails ≡ length done
   count_is =
       ap length is.tails_are ∙ length-tails_from 1 (outcomes_of stream)
       ∙ length-outcomes_of stream ∙ length-numbered_from 1 done
 
   module _ (unit : List (List ℕ)) (id : ℕ) (id_is : id ≡ 1 + length done) where
     abbrev after : FoldState × Outcome
-    after = fold_step folded.state id unit
+    after = fold_step fold.state id unit
 
     stream_more : numbered_from 1 (done ++ unit ∷ []) ≡ stream ++ (id, unit) ∷ []
     stream_more = numbered_from-push 1 done unit ∙ ap (λ (n : ℕ). stream ++ (n, unit) ∷ []) (sym id_is)
 
-    outcomes_next : outcomes_of (numbered_from 1 (done ++ unit ∷ [])) ≡ outcomes_of stream ++ (fold_step folded.state id unit).1 ∷ []
+    outcomes_next : outcomes_of (numbered_from 1 (done ++ unit ∷ [])) ≡ outcomes_of stream ++ (fold_step fold.state id unit).1 ∷ []
     outcomes_next =
         ap outcomes_of stream_more ∙ outcomes_from-append no_units stream ((id, unit) ∷ [])
         ∙ ap (λ state. outcomes_of stream ++ (fold_step state id unit).1 ∷ []) (sym is.state_is)
 
     -- the fold goes on by one step
-    pub state_more : (fold_step folded.state id unit).0 ≡ state_from no_units (numbered_from 1 (done ++ unit ∷ []))
+    pub state_more : (fold_step fold.state id unit).0 ≡ state_from no_units (numbered_from 1 (done ++ unit ∷ []))
     state_more =
         ap (λ state. (fold_step state id unit).0) is.state_is ∙ sym (state_from-append no_units stream ((id, unit) ∷ []))
         ∙ ap (state_from no_units) (sym stream_more)
 
-    pub outcomes_more : folded.outcomes.items ++ shown_of (fold_step folded.state id unit).1 ∷ []
+    pub outcomes_more : fold.outcomes.items ++ shown_of (fold_step fold.state id unit).1 ∷ []
         ≡ map shown_of (outcomes_of (numbered_from 1 (done ++ unit ∷ [])))
     outcomes_more =
         ap (λ l. l ++ shown_of after.1 ∷ []) is.outcomes_are ∙ sym (map-append shown_of (outcomes_of stream) (after.1 ∷ []))
         ∙ ap (map shown_of) (sym outcomes_next)
 
-    pub tails_more : folded.tails ++ outcome_tail id (fold_step folded.state id unit).1 ∷ []
+    pub tails_more : fold.tails ++ outcome_tail id (fold_step fold.state id unit).1 ∷ []
         ≡ tails_from 1 (outcomes_of (numbered_from 1 (done ++ unit ∷ [])))
     tails_more =
         let place : 1 + length (outcomes_of stream) ≡ id = omega (arith, length-outcomes_of stream, length-numbered_from 1 done, id_is) in

@@ -9,7 +9,7 @@ use Rattle.console_io.proofs.Chunked.{adds-after, adds-more, front-wider}
 use Rattle.request_core.specs.Fold.{outcomes_of}
 use Rattle.output_order.specs.OutputOrder.{positions_of}
 use Rattle.unit_lines.specs.UnitLines.{outcome_head}
-use Rattle.plan_stream.specs.declared.folded.Folded.{Folded}
+use Rattle.plan_stream.specs.declared.plan_fold.PlanFold.{PlanFold}
 use Rattle.plan_stream.specs.Shown.{shown_of}
 use Rattle.plan_stream.specs.Folds.{IsFoldOf, kept_text, tails_from}
 use Rattle.plan_stream.specs.Streams.{numbered_from}
@@ -33,10 +33,10 @@ kept_is id (unit ∷ done) (outcome ∷ stream) [] same = refl
 kept_is id (unit ∷ done) (outcome ∷ stream) (position ∷ positions) same =
     rw (same_head id position outcome, kept_is (id + 1) done stream positions (omega arith)) refl
 
-pub kept_all : (done : List (List (List ℕ))) (folded : Folded) (positions : List (Option ℕ)) → IsFoldOf done folded
-    → positions ≡ positions_of folded.outcomes.items
-    → kept_text 1 folded.outcomes.items positions folded.tails ≡ stream_text (numbered_from 1 done)
-kept_all done folded positions is placed =
+pub kept_all : (done : List (List (List ℕ))) (fold : PlanFold) (positions : List (Option ℕ)) → IsFoldOf done fold
+    → positions ≡ positions_of fold.outcomes.items
+    → kept_text 1 fold.outcomes.items positions fold.tails ≡ stream_text (numbered_from 1 done)
+kept_all done fold positions is placed =
     let stream = outcomes_of (numbered_from 1 done) in
     let there : positions ≡ positions_of stream = placed ∙ ap positions_of is.outcomes_are ∙ same_positions stream in
     rw (is.outcomes_are, is.tails_are, there) (kept_is 1 done stream (positions_of stream) (length-outcomes_of (numbered_from 1 done) ∙ length-numbered_from 1 done))

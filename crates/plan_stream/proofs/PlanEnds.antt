@@ -8,16 +8,16 @@ use Rattle.console_io.specs.Chunks.{AppendsFront}
 use Rattle.console_io.specs.declared.chunks.PrintFault.{PrintFault}
 use Rattle.console_io.specs.declared.chunks.PrintFault.TheVariants as print
 use Rattle.unit_lines.specs.Refusals.{refusal_text}
-use Rattle.plan_stream.specs.declared.folded.Folded.{Folded}
 use Rattle.plan_stream.specs.Faults.{fault_of_print}
-use Rattle.plan_stream.specs.Folds.{IsFoldOfStream}
+use Rattle.plan_stream.specs.Gathering.{IsFoldOfStream}
 use Rattle.plan_stream.specs.Plans.{EndsBy, IsPlanned, IsRefused}
 use Rattle.plan_stream.specs.Streams.{numbered_from}
 use Rattle.plan_stream.specs.StreamText.{stream_text}
 
 -- the lines of a stream that was folded
-pub planned : (text : List ℕ) (folded : Folded) (is : IsFoldOfStream text folded) → IsPlanned text (stream_text (numbered_from 1 is.parts))
-planned text folded is = record { parts = is.parts; stream = is.stream; bounded = is.bounded; lines_are = refl }
+pub planned : {F : Type 0} (folds : List (List (List ℕ)) → F → Type 0) (text : List ℕ) (fold : F) (is : IsFoldOfStream folds text fold)
+    → IsPlanned text (stream_text (numbered_from 1 is.parts))
+planned folds text fold is = record { parts = is.parts; stream = is.stream; bounded = is.bounded; lines_are = refl }
 
 -- the line of one that is refused
 pub refused : (text : List ℕ) (refusal : Refusal) → IsStreamRefused text most_units refusal → IsRefused text (refusal_text refusal)

@@ -1,12 +1,11 @@
 -- The fold over a stream's units, and what is kept of each for its lines.
-use Rattle.std.specs.Prelude.{◌≡◌, ℕ, ◌+◌, ◌≤◌, ◌++◌, List, [], ◌∷◌, Option, length, map}
+use Rattle.std.specs.Prelude.{◌≡◌, ℕ, ◌+◌, ◌++◌, List, [], ◌∷◌, Option, map}
 use Rattle.unit_outcomes.specs.declared.outcome.Outcome.{Outcome}
-use Rattle.access_unit.specs.Rooms.{IsStream, most_units}
 use Rattle.request_core.specs.States.{no_units}
 use Rattle.request_core.specs.Fold.{outcomes_of}
 use Rattle.request_core.specs.Agreement.{state_from}
 use Rattle.unit_lines.specs.UnitLines.{outcome_head, outcome_tail}
-use Rattle.plan_stream.specs.declared.folded.Folded.{Folded}
+use Rattle.plan_stream.specs.declared.plan_fold.PlanFold.{PlanFold}
 use Rattle.plan_stream.specs.Shown.{shown_of}
 use Rattle.plan_stream.specs.Streams.{numbered_from}
 
@@ -22,14 +21,7 @@ kept_text id (outcome ∷ outcomes) (position ∷ positions) (tail ∷ tails) =
 kept_text id outcomes positions tails = []
 
 -- these access units were folded
-pub record IsFoldOf (done : List (List (List ℕ))) (folded : Folded) : Type 0 where
-  pub state_is : folded.state ≡ state_from no_units (numbered_from 1 done)
-  pub outcomes_are : folded.outcomes.items ≡ map shown_of (outcomes_of (numbered_from 1 done))
-  pub tails_are : folded.tails ≡ tails_from 1 (outcomes_of (numbered_from 1 done))
-
--- the text is a stream, of which all access units were folded
-pub record IsFoldOfStream (text : List ℕ) (folded : Folded) : Type 0 where
-  pub parts : List (List (List ℕ))
-  pub stream : IsStream text parts
-  pub bounded : length parts ≤ most_units
-  pub fold : IsFoldOf parts folded
+pub record IsFoldOf (done : List (List (List ℕ))) (fold : PlanFold) : Type 0 where
+  pub state_is : fold.state ≡ state_from no_units (numbered_from 1 done)
+  pub outcomes_are : fold.outcomes.items ≡ map shown_of (outcomes_of (numbered_from 1 done))
+  pub tails_are : fold.tails ≡ tails_from 1 (outcomes_of (numbered_from 1 done))

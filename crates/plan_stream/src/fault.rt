@@ -3,9 +3,11 @@
 ghost use Rattle.std.specs.Prelude.{◌≡◌};
 ghost use Rattle.console_io.specs.Messages.{Tells};
 ghost use Rattle.plan_stream.specs.Faults.{fault_of_input, fault_of_print, plan_fault_text};
+ghost use Rattle.plan_stream.specs.declared.fault.PlanFault.TheVariants.{Memory};
 
 use access_unit::Refusal;
 use console_io::{InputFault, PrintFault, Sink, say_out_of_memory, say_unread, write_bytes};
+use std::alloc::AllocError;
 
 /// Why a plan isn't printed whole.
 #[derive(Clone, Copy, Debug, PartialEq, Eq)]
@@ -18,6 +20,14 @@ pub enum PlanFault {
     Memory,
     /// The writer takes no more.
     Unwritten,
+}
+
+impl From<AllocError> for PlanFault {
+    ghost from_gives = { λ _ fault. fault ≡ Memory };
+
+    fn from(_error: AllocError) -> PlanFault {
+        PlanFault::Memory
+    }
 }
 
 impl From<InputFault> for PlanFault {

@@ -1,30 +1,34 @@
 //! `preview plan`: a stream read through a window, planned and printed.
 //!
 //! `Window::next` shows the text of the next access unit of what a reader gives, and forgets the
-//! one before it, so that its memory is used again; `read_front` reads such a text. `plan_on` reads
-//! a byte stream to its end in this way, has each access unit folded by request_core and keeps of
-//! it what its lines need; then it writes the lines, or the line of the stream's refusal. What it
-//! reads and writes is generic; below are console_io and unit_lines, and access_unit, whose
-//! definitions say which access units a stream has.
+//! one before it, so that its memory is used again; `read_front` reads such a text. `gather` reads
+//! a byte stream to its end in this way, and has a `UnitFold` take each access unit, or says why
+//! the stream is refused. `plan_on` has each folded by request_core and keeps of it what its lines
+//! need; then it writes the lines, or the line of the stream's refusal. What is read and written is
+//! generic; below are console_io and unit_lines, and access_unit, whose definitions say which
+//! access units a stream has.
 #![tactic(auto)]
 
 mod fault;
-mod folded;
 mod front;
-mod gathered;
+mod gathering;
 mod laws;
 mod plan;
+mod plan_fold;
 mod printing;
 mod reading;
 mod room;
 mod shown;
 mod tails;
+mod unit_fold;
 mod walk;
 mod window;
 
 pub use fault::{PlanFault, say_plan_fault};
+pub use gathering::{StreamGathering, gather};
 pub use laws::fronts;
 pub use plan::{plan_on, print_refusal};
 pub use reading::read_front;
 pub use shown::shown_of;
+pub use unit_fold::UnitFold;
 pub use window::Window;

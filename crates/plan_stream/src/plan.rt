@@ -5,13 +5,15 @@ ghost use Rattle.std.specs.Io.KnownBytes.{Appends, Keeps};
 ghost use Rattle.console_io.specs.Chunks.{AppendsFront};
 ghost use Rattle.console_io.specs.Messages.{Tells};
 ghost use Rattle.plan_stream.specs.Faults.{plan_fault_text};
+ghost use Rattle.plan_stream.specs.Folds.{IsFoldOf};
 ghost use Rattle.plan_stream.specs.Gathering.{IsGathered};
 ghost use Rattle.plan_stream.specs.Plans.{EndsBy, WritesPlan};
 ghost use Rattle.plan_stream.specs.declared.fault.PlanFault.{PlanFault};
 ghost use Rattle.unit_lines.specs.Refusals.{refusal_text};
 
 use crate::fault::{PlanFault, say_plan_fault};
-use crate::gathered::{Gathered, gather};
+use crate::gathering::{StreamGathering, gather};
+use crate::plan_fold::PlanFold;
 use crate::printing::print_all;
 use access_unit::Refusal;
 use console_io::{Ended, PrintFault, Sink, Status, write_bytes};
@@ -54,23 +56,24 @@ fn plan<R: Read, W: Sink>(alloc: Global, reader: &mut R, writer: &mut W) -> Resu
     ensures ends { IfErr result (λ fault. IfSome (R.remaining reader.old) (λ text.
         EndsBy text fault (W.refuses writer.new) (W.contents writer.old) (W.contents writer.new))) }
 {
-    let gathered = gather(alloc, reader)?;
-    print_gathered(alloc, gathered, writer)
+    let fold = PlanFold::new(alloc)?;
+    let gathering = gather(alloc, fold, reader)?;
+    print_gathered(alloc, gathering, writer)
 }
 
 /// Prints what the stream came to.
 fn print_gathered<W: Sink>(
     alloc: Global,
-    gathered: Gathered,
+    gathering: StreamGathering<PlanFold>,
     writer: &mut W,
 ) -> Result<(), PlanFault>
-    ensures planned { (text : List ℕ) → IsGathered text [] gathered
+    ensures planned { (text : List ℕ) → IsGathered IsFoldOf text [] gathering
         → OnOk result (WritesPlan text (W.contents writer.old) (W.contents writer.new)) }
-    ensures ends { (text : List ℕ) → IsGathered text [] gathered → IfErr result (λ fault.
+    ensures ends { (text : List ℕ) → IsGathered IsFoldOf text [] gathering → IfErr result (λ fault.
         EndsBy text fault (W.refuses writer.new) (W.contents writer.old) (W.contents writer.new)) }
 {
-    match gathered.finish() {
-        Ok(folded) => match print_all(alloc, &folded, writer) {
+    match gathering.finish() {
+        Ok(fold) => match print_all(alloc, &fold, writer) {
             Ok(()) => Ok(()),
             Err(fault) => Err(PlanFault::from(fault)),
         },

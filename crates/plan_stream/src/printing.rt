@@ -9,7 +9,7 @@ ghost use Rattle.plan_stream.specs.Streams.{numbered_from};
 ghost use Rattle.plan_stream.specs.StreamText.{stream_text};
 ghost use Rattle.unit_lines.specs.UnitLines.{unit_head};
 
-use crate::folded::Folded;
+use crate::plan_fold::PlanFold;
 use crate::tails::Tails;
 use console_io::{Chunks, PrintFault, Sink};
 use pictures::AuId;
@@ -20,23 +20,23 @@ use unit_outcomes::Outcome;
 /// Prints the lines of all units that were folded.
 pub(crate) fn print_all<W: Sink>(
     alloc: Global,
-    folded: &Folded,
+    fold: &PlanFold,
     writer: &mut W,
 ) -> Result<(), PrintFault>
-    ensures ok { (done : List (List (List ℕ))) → IsFoldOf done folded.now → OnOk result
+    ensures ok { (done : List (List (List ℕ))) → IsFoldOf done fold.now → OnOk result
         (Appends (W.contents writer.old) (W.contents writer.new)
         (stream_text (numbered_from 1 done))) }
-    ensures written { (done : List (List (List ℕ))) → IsFoldOf done folded.now → AppendsFront (W.contents writer.old)
+    ensures written { (done : List (List (List ℕ))) → IsFoldOf done fold.now → AppendsFront (W.contents writer.old)
         (W.contents writer.new) (stream_text (numbered_from 1 done)) }
     ensures refused { IsErrOf result PrintFault.Unwritten → W.refuses writer.new }
 {
-    let positions = output_order::positions(alloc, &folded.outcomes)?;
+    let positions = output_order::positions(alloc, &fold.outcomes)?;
     let mut line = String::new(alloc);
     let mut chunks = Chunks::new(alloc);
     print_lines(
-        &folded.outcomes,
+        &fold.outcomes,
         &positions,
-        &folded.tails,
+        &fold.tails,
         &mut line,
         &mut chunks,
         writer,

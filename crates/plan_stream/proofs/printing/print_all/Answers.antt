@@ -16,20 +16,20 @@ print_lines-requires-clause-positions g c =
 pub returns-in_err-print_lines-clause-written : goal.returns-in_err-print_lines-clause-written
 returns-in_err-print_lines-clause-written g c = λ done is.
     let placed = c.in_ok-positions.ensures ∙ ap positions_of c.deref.ensures.value in
-    let text = kept_all done c.args.folded.now c.in_ok-positions.positions.items is placed in
+    let text = kept_all done c.args.fold.now c.in_ok-positions.positions.items is placed in
     rw (c.new-chunks.ensures, c.deref-2.ensures.value, c.deref-3.ensures.value, text) at c.in_err-print_lines.ensures.written
 
 pub returns-clause-ok : goal.returns-clause-ok
 returns-clause-ok g c = λ done is.
     let placed = c.in_ok-positions.ensures ∙ ap positions_of c.deref.ensures.value in
-    let text = kept_all done c.args.folded.now c.in_ok-positions.positions.items is placed in
+    let text = kept_all done c.args.fold.now c.in_ok-positions.positions.items is placed in
     let added = rw (c.deref-2.ensures.value, c.deref-3.ensures.value, text) at c.in_ok-print_lines.ensures.ok in
     on_ok_weaker c.pass_on.result (adds-all _ _ _ _ _ _ c.new-chunks.ensures added) c.pass_on.ensures.ok
 
 pub returns-clause-written : goal.returns-clause-written
 returns-clause-written g c = λ done is.
     let placed = c.in_ok-positions.ensures ∙ ap positions_of c.deref.ensures.value in
-    let text = kept_all done c.args.folded.now c.in_ok-positions.positions.items is placed in
+    let text = kept_all done c.args.fold.now c.in_ok-positions.positions.items is placed in
     let added = rw (c.deref-2.ensures.value, c.deref-3.ensures.value, text) at c.in_ok-print_lines.ensures.ok in
     let rest = front-either c.pass_on.result _ _ _ c.pass_on.ensures.ok c.pass_on.ensures.unwritten in
     let all = adds-rest _ _ _ _ _ _ added rest in

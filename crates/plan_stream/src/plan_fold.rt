@@ -1,10 +1,11 @@
-//! The fold over the units of a stream, with what is kept of each.
+//! The fold over the units of a stream, with what is kept of each for its lines.
 
-ghost use Rattle.std.specs.Prelude.{◌+◌, ◌<◌, ◌≤◌, ◌++◌, [], ◌∷◌, List, ℕ, IfOk, OnOk, length, vec_len};
+ghost use Rattle.std.specs.Prelude.{◌≤◌, [], IfOk, length, vec_len};
 ghost use Rattle.access_unit.specs.Rooms.{most_units};
 
 use crate::shown::shown_in;
 use crate::tails::Tails;
+use crate::unit_fold::UnitFold;
 use access_unit::Unit;
 use pictures::AuId;
 use request_core::{State, UnitRead};
@@ -14,7 +15,7 @@ use unit_outcomes::Outcome;
 
 /// The fold over the units so far, with what their lines need.
 #[derive(Drop)]
-pub(crate) struct Folded {
+pub(crate) struct PlanFold {
     pub(crate) state: State,
     /// Each unit's outcome, without its requests.
     pub(crate) outcomes: Vec<Outcome>,
@@ -25,27 +26,34 @@ pub(crate) struct Folded {
     ghost few: { length tails ≤ most_units },
 }
 
-impl Folded {
+impl PlanFold {
     ghost use Rattle.plan_stream.specs.Folds.{IsFoldOf};
 
     /// Before the first unit.
-    pub(crate) fn new(alloc: Global) -> Result<Folded, AllocError>
+    pub(crate) fn new(alloc: Global) -> Result<PlanFold, AllocError>
         ensures { IfOk result (IsFoldOf []) }
     {
-        Ok(Folded {
+        Ok(PlanFold {
             state: State::new(alloc)?,
             outcomes: Vec::new(alloc),
             tails: Tails::new(alloc),
             text: String::new(alloc),
         })
     }
+}
 
-    /// Takes one unit more.
-    pub(crate) fn add(&mut self, alloc: Global, unit: &Unit) -> Result<(), AllocError>
-        requires { length self.old.tails < most_units }
-        ensures { (done : List (List (List ℕ))) → IsFoldOf done self.old
-            → OnOk result (IsFoldOf (done ++ unit.now ∷ []) self.new) }
-    {
+impl UnitFold for PlanFold {
+    ghost use Rattle.plan_stream.specs.Folds.{IsFoldOf};
+
+    ghost folds = { λ _. IsFoldOf };
+
+    ghost count = { λ fold. length fold.tails };
+
+    fn len(&self) -> usize {
+        self.tails.len()
+    }
+
+    fn add(&mut self, alloc: Global, unit: &Unit) -> Result<(), AllocError> {
         let id = AuId::new(self.tails.len() as u32 + 1);
         let read = UnitRead::of(alloc, &self.state, unit)?;
         let (state, finding) = read.step(alloc, id)?;

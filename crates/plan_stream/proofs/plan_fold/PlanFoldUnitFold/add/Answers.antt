@@ -4,10 +4,10 @@ use Rattle.request_core.specs.States.{FoldState}
 use Rattle.unit_lines.specs.UnitLines.{outcome_tail}
 use Rattle.plan_stream.specs.Shown.{shown_of}
 use Rattle.plan_stream.proofs.FoldSteps.{count_is, outcomes_more, state_more, tails_more}
-use Rattle.plan_stream.proofs.folded.Folded.add.Goals as goal
+use Rattle.plan_stream.proofs.plan_fold.PlanFoldUnitFold.add.Goals as goal
 
 pub returns : goal.returns
-returns c = λ done is.
+returns c = λ first done is.
     let old = c.args.self.now in
     let unit = c.args.unit.now in
     let id = c.new-id.result in

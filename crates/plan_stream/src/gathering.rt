@@ -1,19 +1,18 @@
-//! What a stream comes to, access unit after access unit.
+//! A stream read and folded, access unit after access unit, or its refusal.
 
-ghost use Rattle.std.specs.Prelude.{◌≡◌, ◌≢◌, ◌<◌, ◌≤◌, ◌+◌, [], List, ℕ, length, IfOk, IfErr, IfSome, OnOk};
+ghost use Rattle.std.specs.Prelude.{◌≡◌, ◌≢◌, ◌<◌, ◌+◌, [], List, ℕ, length, IfOk, IfErr, IfSome, OnOk};
 ghost use Rattle.annexb.specs.ByteStream.{HasUnits, joined};
 ghost use Rattle.access_unit.specs.Answers.{IsAccepted};
-ghost use Rattle.access_unit.specs.Rooms.{IsStream, IsStreamRefused, most_units};
+ghost use Rattle.access_unit.specs.Rooms.{IsStreamRefused, most_units};
 ghost use Rattle.plan_stream.specs.Fronts.{IsFront};
 ghost use Rattle.plan_stream.specs.Readings.{IsFrontReadAs, IsFrontRefused};
-ghost use Rattle.plan_stream.specs.Folds.{IsFoldOf, IsFoldOfStream};
-ghost use Rattle.plan_stream.specs.Gathering.{ComesTo, IsGathered};
+ghost use Rattle.plan_stream.specs.Gathering.{ComesTo, IsFoldOfStream, IsGathered};
 ghost use Rattle.plan_stream.specs.RefusalWith.{refusal_with};
 ghost use Rattle.plan_stream.specs.Walks.{AreKnown};
 
-use crate::folded::Folded;
 use crate::reading::read_held;
 use crate::room::Room;
+use crate::unit_fold::UnitFold;
 use crate::{Window, read_front};
 use access_unit::{MOST_BYTES, MOST_UNITS, Refusal, Refused, Unit};
 use console_io::InputFault;
@@ -21,44 +20,51 @@ use std::alloc::{AllocError, Global};
 use std::io::Read;
 use std::ops::Range;
 
-/// What a stream comes to so far.
+/// A stream as far as it was read: the fold of its access units, or why it is refused.
 #[derive(Drop)]
-pub(crate) struct Gathered {
+pub struct StreamGathering<F> {
     /// How many access units were read.
     count: usize,
     /// Why the stream is refused, if it is.
     refusal: Option<Refusal>,
-    folded: Folded,
+    fold: F,
 }
 
-/// What the stream comes to that the reader gives.
-pub(crate) fn gather<R: Read>(alloc: Global, reader: &mut R) -> Result<Gathered, InputFault>
-    ensures { IfOk result (λ gathered. IfSome (R.remaining reader.old)
-        (λ text. IsGathered text [] gathered)) }
+/// Reads the stream that the reader gives to its end, and folds its access units. An error says
+/// that the reader failed or memory ran out.
+pub fn gather<R: Read, F: UnitFold + Drop>(
+    alloc: Global,
+    fold: F,
+    reader: &mut R,
+) -> Result<StreamGathering<F>, InputFault>
+    requires { F.folds fold [] fold }
+    ensures { IfOk result (λ gathering. IfSome (R.remaining reader.old)
+        (λ text. IsGathered (F.folds fold) text [] gathering)) }
 {
     let mut window = Window::new(alloc)?;
-    let mut gathered = Gathered::new(alloc)?;
+    let mut gathering = StreamGathering::new(fold);
     let mut room = Room::new(alloc);
     'units: for turn in 0..u64::MAX {
         let is_some = window.next_split(reader)?;
         if !is_some {
-            return Ok(gathered);
+            return Ok(gathering);
         }
-        gathered.add(alloc, &mut room, window.text(), window.places())?;
+        gathering.add(alloc, &mut room, window.text(), window.places())?;
     }
     Err(InputFault::Memory)
 }
 
-impl Gathered {
+impl<F: UnitFold + Drop> StreamGathering<F> {
     /// Before the first access unit.
-    fn new(alloc: Global) -> Result<Gathered, AllocError>
-        ensures { (text : List ℕ) → IfOk result (IsGathered text text) }
+    fn new(fold: F) -> StreamGathering<F>
+        requires { F.folds fold [] fold }
+        ensures { (text : List ℕ) → IsGathered (F.folds fold) text text result }
     {
-        Ok(Gathered {
+        StreamGathering {
             count: 0,
             refusal: None,
-            folded: Folded::new(alloc)?,
-        })
+            fold,
+        }
     }
 
     /// Takes the text of the next access unit, which is read where there is room for it.
@@ -70,8 +76,9 @@ impl Gathered {
         places: &[Range<usize>],
     ) -> Result<(), AllocError>
         requires { AreKnown front.now places.now }
-        ensures { (text left rest : List ℕ) → 0 < length left → IsFront left front.now rest
-            → IsGathered text left self.old → OnOk result (IsGathered text rest self.new) }
+        ensures { (first : F) (text left rest : List ℕ) → 0 < length left
+            → IsFront left front.now rest → IsGathered (F.folds first) text left self.old
+            → OnOk result (IsGathered (F.folds first) text rest self.new) }
     {
         if front.len() > MOST_BYTES {
             return self.take(alloc, read_front(alloc, front));
@@ -84,9 +91,10 @@ impl Gathered {
 
     /// Takes what the text of the next access unit is read as.
     fn take(&mut self, alloc: Global, read: Result<Unit, Refused>) -> Result<(), AllocError>
-        ensures { (text left front rest : List ℕ) → 0 < length left → IsFront left front rest
-            → IsFrontReadAs front read
-            → IsGathered text left self.old → OnOk result (IsGathered text rest self.new) }
+        ensures { (first : F) (text left front rest : List ℕ) → 0 < length left
+            → IsFront left front rest → IsFrontReadAs front read
+            → IsGathered (F.folds first) text left self.old
+            → OnOk result (IsGathered (F.folds first) text rest self.new) }
     {
         match read {
             Ok(unit) => self.accept(alloc, &unit),
@@ -96,27 +104,29 @@ impl Gathered {
 
     /// Takes an access unit.
     fn accept(&mut self, alloc: Global, unit: &Unit) -> Result<(), AllocError>
-        ensures { (text left front rest : List ℕ) → IsFront left front rest
+        ensures { (first : F) (text left front rest : List ℕ) → IsFront left front rest
             → HasUnits front unit.now → IsAccepted (joined unit.now) unit.now
-            → IsGathered text left self.old → OnOk result (IsGathered text rest self.new) }
+            → IsGathered (F.folds first) text left self.old
+            → OnOk result (IsGathered (F.folds first) text rest self.new) }
     {
         let count = self.next_count()?;
-        self.fold(alloc, unit)?;
+        self.fold_unit(alloc, unit)?;
         self.count = count;
         Ok(())
     }
 
     /// Folds an access unit, where the stream isn't refused and has room for it.
-    fn fold(&mut self, alloc: Global, unit: &Unit) -> Result<(), AllocError>
+    fn fold_unit(&mut self, alloc: Global, unit: &Unit) -> Result<(), AllocError>
         ensures count { self.new.count ≡ self.old.count }
-        ensures folded { (text left front rest : List ℕ) → IsFront left front rest
+        ensures folded { (first : F) (text left front rest : List ℕ) → IsFront left front rest
             → HasUnits front unit.now → IsAccepted (joined unit.now) unit.now
-            → IsGathered text left self.old → OnOk result (ComesTo text rest
-            self.new.refusal (self.old.count + 1) self.new.folded) }
+            → IsGathered (F.folds first) text left self.old
+            → OnOk result (ComesTo (F.folds first) text rest
+            self.new.refusal (self.old.count + 1) self.new.fold) }
     {
         match self.refusal {
             Some(_) => Ok(()),
-            None if self.folded.tails.len() < MOST_UNITS => self.folded.add(alloc, unit),
+            None if self.fold.len() < MOST_UNITS => self.fold.add(alloc, unit),
             None => {
                 self.refusal = Some(Refusal::StreamFull);
                 Ok(())
@@ -126,9 +136,10 @@ impl Gathered {
 
     /// Takes an access unit that is refused.
     fn refuse(&mut self, refused: Refused) -> Result<(), AllocError>
-        ensures { (text left front rest : List ℕ) → 0 < length left → IsFront left front rest
-            → IsFrontRefused front refused
-            → IsGathered text left self.old → OnOk result (IsGathered text rest self.new) }
+        ensures { (first : F) (text left front rest : List ℕ) → 0 < length left
+            → IsFront left front rest → IsFrontRefused front refused
+            → IsGathered (F.folds first) text left self.old
+            → OnOk result (IsGathered (F.folds first) text rest self.new) }
     {
         match refused {
             Refused::Memory => Err(AllocError),
@@ -139,9 +150,10 @@ impl Gathered {
     /// Notes why an access unit is refused.
     fn note(&mut self, refused: Refused) -> Result<(), AllocError>
         requires { refused ≢ Refused.Memory }
-        ensures { (text left front rest : List ℕ) → 0 < length left → IsFront left front rest
-            → IsFrontRefused front refused
-            → IsGathered text left self.old → OnOk result (IsGathered text rest self.new) }
+        ensures { (first : F) (text left front rest : List ℕ) → 0 < length left
+            → IsFront left front rest → IsFrontRefused front refused
+            → IsGathered (F.folds first) text left self.old
+            → OnOk result (IsGathered (F.folds first) text rest self.new) }
     {
         let count = self.next_count()?;
         self.refusal = refusal_with(self.refusal, self.count, refused);
@@ -156,17 +168,18 @@ impl Gathered {
         self.count.checked_add(1).ok_or(AllocError)
     }
 
-    /// The fold over the whole stream, or the stream's refusal.
-    pub(crate) fn finish(self) -> Result<Folded, Refusal>
-        ensures ok { IfOk result (λ folded. (text : List ℕ) → IsGathered text [] self
-            → IsFoldOfStream text folded) }
-        ensures err { IfErr result (λ refusal. (text : List ℕ) → IsGathered text [] self
-            → IsStreamRefused text most_units refusal) }
+    /// The fold over the whole stream, or why the stream is refused: it doesn't split, or else the
+    /// first access unit that is refused, or it has more than `MOST_UNITS`.
+    pub fn finish(self) -> Result<F, Refusal>
+        ensures ok { IfOk result (λ fold. (first : F) (text : List ℕ)
+            → IsGathered (F.folds first) text [] self → IsFoldOfStream (F.folds first) text fold) }
+        ensures err { IfErr result (λ refusal. (first : F) (text : List ℕ)
+            → IsGathered (F.folds first) text [] self → IsStreamRefused text most_units refusal) }
     {
         match self.refusal {
             Some(refusal) => Err(refusal),
             None if self.count == 0 => Err(Refusal::Split),
-            None => Ok(self.folded),
+            None => Ok(self.fold),
         }
     }
 }

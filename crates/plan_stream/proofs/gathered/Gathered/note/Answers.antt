@@ -1,8 +1,0 @@
-use Rattle.plan_stream.proofs.Gathers.{comes-refused}
-use Rattle.plan_stream.proofs.gathered.Gathered.note.Goals as goal
-
-pub returns : goal.returns
-returns c = λ text left front rest some is refused comes.
-    let old = c.args.self.now in
-    rw (c.refusal_with-self.ensures, c.in_ok-count.ensures)
-    (comes-refused text left front rest is some c.args.refused c.requires refused old.refusal old.count old.folded comes)

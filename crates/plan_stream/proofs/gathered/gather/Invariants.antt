@@ -1,5 +1,0 @@
-use Rattle.plan_stream.proofs.Windows.{Goes}
-use Rattle.plan_stream.proofs.gathered.gather.Given as goal
-
-abbrev pub invariant-units : goal.invariant-units
-invariant-units g l = Goes (g.R.Read.remaining l.fn.reader) l.window (g.R.Read.remaining l.reader) l.gathered

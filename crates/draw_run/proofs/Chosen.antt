@@ -4,7 +4,7 @@ use Rattle.std.proofs.lemmas.List.{drop-append-le, length-take, take-append-le, 
 use Rattle.std.proofs.Math.ListN.{drop_of_length-le}
 use Rattle.unit_outcomes.specs.declared.outcome.Outcome.{Outcome}
 use Rattle.draw_run.specs.Chosen.{chosen, kept_from}
-use Rattle.draw_run.specs.declared.folded.KeptUnit.{KeptUnit}
+use Rattle.draw_run.specs.declared.drawn_fold.KeptUnit.{KeptUnit}
 
 -- one more has the next id
 pub kept_from-push : (id : ℕ) (outcomes : List Outcome) (outcome : Outcome)

@@ -11,40 +11,40 @@ use Rattle.plan_stream.specs.Streams.{numbered_from}
 use Rattle.plan_stream.proofs.Streams.{length-numbered_from, numbered_from-push}
 use Rattle.plan_stream.proofs.UnitTexts.{length-outcomes_of}
 use Rattle.draw_run.specs.Chosen.{kept_from}
-use Rattle.draw_run.specs.declared.folded.Folded.{Folded}
-use Rattle.draw_run.specs.declared.folded.KeptUnit.{KeptUnit}
+use Rattle.draw_run.specs.declared.drawn_fold.DrawnFold.{DrawnFold}
+use Rattle.draw_run.specs.declared.drawn_fold.KeptUnit.{KeptUnit}
 use Rattle.draw_run.specs.Folds.{IsFoldOf}
 use Rattle.draw_run.proofs.Chosen.{kept_from-push, length-kept_from}
 
-module _ (done : List (List (List ℕ))) (folded : Folded) (is : IsFoldOf done folded) where
+module _ (first : DrawnFold) (done : List (List (List ℕ))) (fold : DrawnFold) (is : IsFoldOf first done fold) where
   abbrev stream : List (ℕ × List (List ℕ))
   stream = numbered_from 1 done
 
   -- an outcome is kept for each
-  pub count_is : length folded.outcomes.items ≡ length done
+  pub count_is : length fold.outcomes.items ≡ length done
   count_is =
       ap length is.outcomes_are ∙ length-map (outcomes_of stream) shown_of
       ∙ length-outcomes_of stream ∙ length-numbered_from 1 done
 
   module _ (unit : List (List ℕ)) (id : ℕ) (id_is : id ≡ 1 + length done) where
     abbrev after : FoldState × Outcome
-    after = fold_step folded.state id unit
+    after = fold_step fold.state id unit
 
     stream_more : numbered_from 1 (done ++ unit ∷ []) ≡ stream ++ (id, unit) ∷ []
     stream_more = numbered_from-push 1 done unit ∙ ap (λ (n : ℕ). stream ++ (n, unit) ∷ []) (sym id_is)
 
-    outcomes_next : outcomes_of (numbered_from 1 (done ++ unit ∷ [])) ≡ outcomes_of stream ++ (fold_step folded.state id unit).1 ∷ []
+    outcomes_next : outcomes_of (numbered_from 1 (done ++ unit ∷ [])) ≡ outcomes_of stream ++ (fold_step fold.state id unit).1 ∷ []
     outcomes_next =
         ap outcomes_of stream_more ∙ outcomes_from-append no_units stream ((id, unit) ∷ [])
         ∙ ap (λ state. outcomes_of stream ++ (fold_step state id unit).1 ∷ []) (sym is.state_is)
 
     -- the fold goes on by one step
-    pub state_more : (fold_step folded.state id unit).0 ≡ state_from no_units (numbered_from 1 (done ++ unit ∷ []))
+    pub state_more : (fold_step fold.state id unit).0 ≡ state_from no_units (numbered_from 1 (done ++ unit ∷ []))
     state_more =
         ap (λ state. (fold_step state id unit).0) is.state_is ∙ sym (state_from-append no_units stream ((id, unit) ∷ []))
         ∙ ap (state_from no_units) (sym stream_more)
 
-    pub outcomes_more : folded.outcomes.items ++ shown_of (fold_step folded.state id unit).1 ∷ []
+    pub outcomes_more : fold.outcomes.items ++ shown_of (fold_step fold.state id unit).1 ∷ []
         ≡ map shown_of (outcomes_of (numbered_from 1 (done ++ unit ∷ [])))
     outcomes_more =
         ap (λ l. l ++ shown_of after.1 ∷ []) is.outcomes_are ∙ sym (map-append shown_of (outcomes_of stream) (after.1 ∷ []))
@@ -57,7 +57,7 @@ module _ (done : List (List (List ℕ))) (folded : Folded) (is : IsFoldOf done f
     pub next_id : id ≡ length kept_so_far + 1
     next_id = omega (arith, id_is, length-kept_from 1 (outcomes_of stream), length-outcomes_of stream, length-numbered_from 1 done)
 
-    pub kept_more : kept_so_far ++ record { id = id; outcome = (fold_step folded.state id unit).1 } ∷ []
+    pub kept_more : kept_so_far ++ record { id = id; outcome = (fold_step fold.state id unit).1 } ∷ []
         ≡ kept_from 1 (outcomes_of (numbered_from 1 (done ++ unit ∷ [])))
     kept_more =
         let place : 1 + length (outcomes_of stream) ≡ id = omega (arith, length-outcomes_of stream, length-numbered_from 1 done, id_is) in

@@ -1,8 +1,6 @@
 pub mod Chosen
 pub mod DrawnTitles
 pub mod FoldSteps
-pub mod Gathers
-pub mod Windows
 mod Inserted
 mod Landed
 mod Opened

@@ -5,7 +5,7 @@ use Rattle.output_order.specs.OutputOrder.{positions_of}
 use Rattle.request_core.specs.Fold.{outcomes_of}
 use Rattle.unit_lines.specs.UnitLines.{outcome_lines}
 use Rattle.plan_stream.specs.Streams.{numbered_from}
-use Rattle.draw_run.specs.declared.folded.KeptUnit.{KeptUnit}
+use Rattle.draw_run.specs.declared.drawn_fold.KeptUnit.{KeptUnit}
 
 -- units with ids from this one on, by the outcome of each
 abbrev pub kept_from : ℕ → List Outcome → List KeptUnit

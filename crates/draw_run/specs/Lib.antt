@@ -1,7 +1,5 @@
 pub mod Chosen
 pub mod Folds
-pub mod Gathering
-pub mod RefusalWith
 pub mod Drawings
 pub mod Choosing
 pub mod Marks

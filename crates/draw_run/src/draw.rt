@@ -4,17 +4,16 @@ ghost use Rattle.std.specs.Prelude.{◌≡◌, ◌≢◌, ℕ, List, [], IfErr, 
 ghost use Rattle.std.specs.Io.KnownBytes.{Keeps};
 ghost use Rattle.console_io.specs.Messages.{Tells};
 ghost use Rattle.plan_stream.specs.Faults.{plan_fault_text};
+ghost use Rattle.plan_stream.specs.Gathering.{IsFoldOfStream, IsGathered};
 ghost use Rattle.plan_stream.specs.declared.fault.PlanFault.{PlanFault};
 ghost use Rattle.draw_run.specs.Drawings.{EndsBy, IsDrawn, WritesDrawing};
-ghost use Rattle.draw_run.specs.Folds.{IsFoldOfStream};
-ghost use Rattle.draw_run.specs.Gathering.{IsGathered};
+ghost use Rattle.draw_run.specs.Folds.{IsFoldOf};
 
 use crate::choice::Choice;
 use crate::drawn::{captions_of, drawn_units};
-use crate::folded::Folded;
-use crate::gathered::{Gathered, gather};
+use crate::drawn_fold::DrawnFold;
 use console_io::{Ended, Sink, Status, write_bytes};
-use plan_stream::{PlanFault, print_refusal, say_plan_fault};
+use plan_stream::{PlanFault, StreamGathering, gather, print_refusal, say_plan_fault};
 use std::alloc::{AllocError, Global};
 use std::io::Read;
 use stream_svg::{document, lay_out};
@@ -64,25 +63,26 @@ fn draw<R: Read, W: Sink>(
         EndsBy choice.from choice.units text fault (W.refuses writer.new)
         (W.contents writer.old) (W.contents writer.new))) }
 {
-    let gathered = gather(alloc, choice, reader)?;
-    print_gathered(alloc, gathered, writer)
+    let fold = DrawnFold::new(alloc, choice)?;
+    let gathering = gather(alloc, fold, reader)?;
+    print_gathered(alloc, gathering, writer)
 }
 
 /// Writes what the stream came to.
 fn print_gathered<W: Sink>(
     alloc: Global,
-    gathered: Gathered,
+    gathering: StreamGathering<DrawnFold>,
     writer: &mut W,
 ) -> Result<(), PlanFault>
-    ensures drawn { (text : List ℕ) → IsGathered text [] gathered
-        → OnOk result (WritesDrawing gathered.folded.choice.from gathered.folded.choice.units text
+    ensures drawn { (first : _) (text : List ℕ) → IsGathered (IsFoldOf first) text [] gathering
+        → OnOk result (WritesDrawing first.choice.from first.choice.units text
         (W.contents writer.old) (W.contents writer.new)) }
-    ensures ends { (text : List ℕ) → IsGathered text [] gathered → IfErr result (λ fault.
-        EndsBy gathered.folded.choice.from gathered.folded.choice.units text fault
+    ensures ends { (first : _) (text : List ℕ) → IsGathered (IsFoldOf first) text [] gathering
+        → IfErr result (λ fault. EndsBy first.choice.from first.choice.units text fault
         (W.refuses writer.new) (W.contents writer.old) (W.contents writer.new)) }
 {
-    match gathered.finish() {
-        Ok(folded) => match document_of(alloc, &folded) {
+    match gathering.finish() {
+        Ok(fold) => match document_of(alloc, &fold) {
             Ok(document) => match write_bytes(writer, document.as_slice()) {
                 Ok(()) => Ok(()),
                 Err(fault) => Err(PlanFault::from(fault)),
@@ -97,20 +97,21 @@ fn print_gathered<W: Sink>(
 }
 
 /// The document of what is kept of a stream.
-fn document_of(alloc: Global, folded: &Folded) -> Result<Vec<u8>, AllocError>
-    ensures { (text : List ℕ) → IsFoldOfStream text folded.now → IfOk result (λ document.
-        IsDrawn folded.now.choice.from folded.now.choice.units text document.items) }
+fn document_of(alloc: Global, fold: &DrawnFold) -> Result<Vec<u8>, AllocError>
+    ensures { (first : _) (text : List ℕ) → IsFoldOfStream (IsFoldOf first) text fold.now
+        → IfOk result (λ document.
+        IsDrawn first.choice.from first.choice.units text document.items) }
 {
-    let positions = output_order::positions(alloc, &folded.outcomes)?;
-    let units = drawn_units(alloc, &folded.kept, &positions)?;
-    let captions = captions_of(alloc, &folded.kept, &positions)?;
+    let positions = output_order::positions(alloc, &fold.outcomes)?;
+    let units = drawn_units(alloc, &fold.kept, &positions)?;
+    let captions = captions_of(alloc, &fold.kept, &positions)?;
     let layout = lay_out(alloc, &units)?;
     document(
         alloc,
         &layout,
         &units,
         &captions,
-        folded.outcomes.len(),
+        fold.outcomes.len(),
         false,
     )
 }

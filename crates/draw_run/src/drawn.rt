@@ -5,7 +5,7 @@ ghost use Rattle.stream_svg.specs.Captions.{lines_of};
 ghost use Rattle.stream_svg.specs.Documents.{AreUnmarked};
 ghost use Rattle.draw_run.specs.Chosen.{kept_lines, position_in};
 
-use crate::folded::KeptUnit;
+use crate::drawn_fold::KeptUnit;
 use h264_controls::Request;
 use pictures::AuId;
 use slice_header_types::SliceType;

@@ -1,7 +1,7 @@
 //! `preview draw`: a stream read, planned and drawn, as it is or after the edits of a script.
 //!
-//! `draw_on` reads a byte stream to its end as plan_stream does, folds each access unit once, and
-//! keeps what is drawn alone; then it writes the document, or the line of the stream's refusal.
+//! `draw_on` has plan_stream read a byte stream to its end, folds each access unit once, and keeps
+//! what is drawn alone; then it writes the document, or the line of the stream's refusal.
 //! `draw_edited` makes a session of the stream with all its pictures held, makes the script's edits
 //! on it, and writes the document of the stream that they leave: the mark of each unit says whether
 //! its outcome or its key differs from before, and whether its picture is held or pending. What is
@@ -13,12 +13,11 @@ mod comparison;
 mod document;
 mod draw;
 mod drawn;
+mod drawn_fold;
 mod edited;
 mod edited_choice;
 mod edits;
 mod fault;
-mod folded;
-mod gathered;
 mod loading;
 mod same_outcome;
 mod settling;

@@ -4,23 +4,24 @@ use Rattle.request_core.specs.States.{FoldState}
 use Rattle.plan_stream.specs.Shown.{shown_of}
 use Rattle.draw_run.specs.Chosen.{chosen}
 use Rattle.draw_run.proofs.FoldSteps.{count_is, kept_more, kept_so_far, next_id, outcomes_more, state_more}
-use Rattle.draw_run.proofs.folded.Folded.add.Goals as goal
+use Rattle.draw_run.proofs.drawn_fold.DrawnFoldUnitFold.add.Goals as goal
 
-pub returns-clause-folded : goal.returns-clause-folded
-returns-clause-folded c = λ done is.
+pub returns : goal.returns
+returns c = λ first done is.
     let old = c.args.self.now in
     let unit = c.args.unit.now in
     let id = c.new-id.result in
-    let id_is : id ≡ 1 + length done = omega (arith, c.new-id.ensures, c.len.ensures, old.outcomes.ok.0, count_is done old is) in
+    let id_is : id ≡ 1 + length done = omega (arith, c.new-id.ensures, c.len.ensures, old.outcomes.ok.0, count_is first done old is) in
     let pair = c.in_ok-state.ensures.value in
     record {
-      state_is = ap (λ (p : FoldState × Outcome). p.0) pair ∙ state_more done old is unit id id_is;
+      choice_is = is.choice_is;
+      state_is = ap (λ (p : FoldState × Outcome). p.0) pair ∙ state_more first done old is unit id id_is;
       outcomes_are =
           c.in_ok-push.ensures.items
           ∙ ap (λ (o : Outcome). old.outcomes.items ++ o ∷ []) (c.shown_of.ensures ∙ ap (λ (p : FoldState × Outcome). shown_of p.1) pair)
-          ∙ outcomes_more done old is unit id id_is;
+          ∙ outcomes_more first done old is unit id id_is;
       kept_are =
           rw (ap (λ (p : FoldState × Outcome). p.1) pair) at
-          (c.in_ok-keep.ensures.kept (kept_so_far done old is unit id id_is) is.kept_are (next_id done old is unit id id_is))
-          ∙ ap (chosen old.choice.from old.choice.units) (kept_more done old is unit id id_is);
+          (c.in_ok-keep.ensures.kept (kept_so_far first done old is unit id id_is) is.kept_are (next_id first done old is unit id id_is))
+          ∙ ap (chosen old.choice.from old.choice.units) (kept_more first done old is unit id id_is);
     }

@@ -1,21 +1,21 @@
 //! The fold over the units of a stream, with what is kept of those that are drawn.
 
-ghost use Rattle.std.specs.Prelude.{◌≡◌, ◌≢◌, ◌⊎◌, ◌+◌, ◌<◌, ◌≤◌, ◌++◌, [], ◌∷◌, List, ℕ, length, IfOk, OnOk, true, false, vec_len};
+ghost use Rattle.std.specs.Prelude.{◌≡◌, ◌≢◌, ◌⊎◌, ◌+◌, ◌<◌, ◌≤◌, ◌++◌, [], ◌∷◌, List, length, IfOk, OnOk, true, false, vec_len};
 ghost use Rattle.access_unit.specs.Rooms.{most_units};
 ghost use Rattle.draw_run.specs.Chosen.{chosen};
-ghost use Rattle.draw_run.specs.declared.folded.KeptUnit.{KeptUnit as KeptUnitValue};
+ghost use Rattle.draw_run.specs.declared.drawn_fold.KeptUnit.{KeptUnit as KeptUnitValue};
 
 use crate::choice::Choice;
 use access_unit::Unit;
 use pictures::AuId;
-use plan_stream::shown_of;
+use plan_stream::{UnitFold, shown_of};
 use request_core::{State, Steps, step};
 use std::alloc::{AllocError, Global};
 use unit_outcomes::Outcome;
 
 /// The fold over the units so far, with what is kept of those that are drawn.
 #[derive(Drop)]
-pub(crate) struct Folded {
+pub(crate) struct DrawnFold {
     pub(crate) state: State,
     /// Each unit's outcome, without its requests.
     pub(crate) outcomes: Vec<Outcome>,
@@ -33,29 +33,35 @@ pub(crate) struct KeptUnit {
     pub(crate) outcome: Outcome,
 }
 
-impl Folded {
+impl DrawnFold {
     ghost use Rattle.draw_run.specs.Folds.{IsFoldOf};
 
     /// Before the first unit.
-    pub(crate) fn new(alloc: Global, choice: Choice) -> Result<Folded, AllocError>
-        ensures folded { IfOk result (IsFoldOf []) }
-        ensures choice { IfOk result (λ folded. folded.choice ≡ choice) }
+    pub(crate) fn new(alloc: Global, choice: Choice) -> Result<DrawnFold, AllocError>
+        ensures folded { IfOk result (λ fold. IsFoldOf fold [] fold) }
+        ensures choice { IfOk result (λ fold. fold.choice ≡ choice) }
     {
-        Ok(Folded {
+        Ok(DrawnFold {
             state: State::new(alloc)?,
             outcomes: Vec::new(alloc),
             choice,
             kept: Vec::new(alloc),
         })
     }
+}
 
-    /// Takes one unit more.
-    pub(crate) fn add(&mut self, alloc: Global, unit: &Unit) -> Result<(), AllocError>
-        requires { vec_len self.old.outcomes < most_units }
-        ensures choice { self.new.choice ≡ self.old.choice }
-        ensures folded { (done : List (List (List ℕ))) → IsFoldOf done self.old
-            → OnOk result (IsFoldOf (done ++ unit.now ∷ []) self.new) }
-    {
+impl UnitFold for DrawnFold {
+    ghost use Rattle.draw_run.specs.Folds.{IsFoldOf};
+
+    ghost folds = { IsFoldOf };
+
+    ghost count = { λ fold. vec_len fold.outcomes };
+
+    fn len(&self) -> usize {
+        self.outcomes.len()
+    }
+
+    fn add(&mut self, alloc: Global, unit: &Unit) -> Result<(), AllocError> {
         let id = AuId::new(self.outcomes.len() as u32 + 1);
         let mut steps = Steps::new();
         let (state, outcome) = step(alloc, &self.state, id, unit, &mut steps)?;

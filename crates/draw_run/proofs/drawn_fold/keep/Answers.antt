@@ -1,6 +1,6 @@
 use Rattle.std.proofs.Common.{◌∙◌, ◌++◌, ◌∷◌, [], arith, ap, length}
 use Rattle.draw_run.proofs.Chosen.{chosen-more, chosen-stays}
-use Rattle.draw_run.proofs.folded.keep.Goals as goal
+use Rattle.draw_run.proofs.drawn_fold.keep.Goals as goal
 
 pub returns-then-not-is_shown-clause-kept : goal.returns-then-not-is_shown-clause-kept
 returns-then-not-is_shown-clause-kept c = λ all old id_is.

@@ -10,7 +10,8 @@ pub fn replace_range<T: Drop>(items: &mut Vec<T>, from: usize, to: usize, mut ma
     requires ordered { from ≤ to }
     requires inside { to ≤ vec_len items.old }
     requires room { vec_len items.old + vec_len made ≤ vec_capacity items.old + (to - from) }
-    ensures items { items.new.items ≡ take from items.old.items ++ made.items ++ drop to items.old.items }
+    ensures items { items.new.items
+        ≡ take from items.old.items ++ made.items ++ drop to items.old.items }
     ensures capacity { vec_capacity items.old ≤ vec_capacity items.new }
 {
     let count = made.len();
@@ -27,7 +28,8 @@ pub fn replace_range<T: Drop>(items: &mut Vec<T>, from: usize, to: usize, mut ma
 fn write_over<T: Drop>(items: &mut Vec<T>, from: usize, to: usize, mut made: Vec<T>)
     requires inside { to ≤ vec_len items.old }
     requires equal { from + vec_len made ≡ to }
-    ensures items { items.new.items ≡ take from items.old.items ++ made.items ++ drop to items.old.items }
+    ensures items { items.new.items
+        ≡ take from items.old.items ++ made.items ++ drop to items.old.items }
     ensures capacity { vec_capacity items.old ≤ vec_capacity items.new }
 {
     items[from..to].swap_with_slice(made.as_mut_slice());
@@ -62,7 +64,8 @@ fn swap_first<T: Drop>(made: &mut [T], over: &mut [T])
 fn put_in<T: Drop>(items: &mut Vec<T>, at: usize, mut made: Vec<T>)
     requires inside { at ≤ vec_len items.old }
     requires room { vec_len items.old + vec_len made ≤ vec_capacity items.old }
-    ensures items { items.new.items ≡ take at items.old.items ++ made.items ++ drop at items.old.items }
+    ensures items { items.new.items
+        ≡ take at items.old.items ++ made.items ++ drop at items.old.items }
     ensures capacity { vec_capacity items.old ≤ vec_capacity items.new }
 {
     let count = made.len();
@@ -82,7 +85,8 @@ fn put_one_in<T: Drop>(items: &mut Vec<T>, at: usize, mut made: Vec<T>)
     requires inside { at ≤ vec_len items.old }
     requires one { vec_len made ≡ 1 }
     requires room { vec_len items.old + 1 ≤ vec_capacity items.old }
-    ensures items { items.new.items ≡ take at items.old.items ++ made.items ++ drop at items.old.items }
+    ensures items { items.new.items
+        ≡ take at items.old.items ++ made.items ++ drop at items.old.items }
     ensures capacity { vec_capacity items.old ≤ vec_capacity items.new }
 {
     let item = made.swap_remove(0);

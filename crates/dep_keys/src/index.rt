@@ -26,7 +26,8 @@ impl Model for Index {
 
     ghost view = { λ index. index.fingerprints.items };
 
-    ghost invariant = { λ index. AreIndexed index.fingerprints.items index.newest index.older.items };
+    ghost invariant = { λ index.
+        AreIndexed index.fingerprints.items index.newest index.older.items };
 }
 
 impl Index {

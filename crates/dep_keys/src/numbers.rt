@@ -31,7 +31,8 @@ impl Model for Numbers {
 
     ghost view = { λ numbers. numbers.live.items };
 
-    ghost invariant = { λ numbers. AreNumbered numbers.live.items numbers.places.items numbers.spare.items };
+    ghost invariant = { λ numbers.
+        AreNumbered numbers.live.items numbers.places.items numbers.spare.items };
 }
 
 impl Numbers {

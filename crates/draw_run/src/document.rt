@@ -58,7 +58,8 @@ fn document_of(
     edited: Edited<'_>,
 ) -> Result<Vec<u8>, AllocError>
     ensures { (stream : Stream) → IsOf stream edited.entry.before.now
-        → AreOfBoth stream edited.entry.after.now.register.stream edited.entry.keys.now.before.items edited.entry.keys.now.after.items
+        → AreOfBoth stream edited.entry.after.now.register.stream
+        edited.entry.keys.now.before.items edited.entry.keys.now.after.items
         → IfOk result (λ document. (openings : List (List ℕ))
         × AreOpenedAs stream edited.entry.after.now
         (chosen_ids choice.from choice.units

@@ -40,7 +40,8 @@ pub(crate) fn shown_units(
     ensures units { IfOk result (λ shown. length shown.units.items ≡ length ids.now) }
     ensures captions { IfOk result (λ shown. length shown.captions.items ≡ length ids.now) }
     ensures opened { (stream : Stream) → IsOf stream edited.entry.before.now
-        → AreOfBoth stream edited.entry.after.now.register.stream edited.entry.keys.now.before.items edited.entry.keys.now.after.items
+        → AreOfBoth stream edited.entry.after.now.register.stream
+        edited.entry.keys.now.before.items edited.entry.keys.now.after.items
         → IfOk result (λ shown. AreOpenedAs stream edited.entry.after.now ids.now
         (openings_of shown.units.items shown.captions.items)) }
 {
@@ -63,7 +64,8 @@ fn shown_unit(
     id: AuId,
 ) -> Result<(DrawnUnit, Caption), AllocError>
     ensures { (stream : Stream) → IsOf stream edited.entry.before.now
-        → AreOfBoth stream edited.entry.after.now.register.stream edited.entry.keys.now.before.items edited.entry.keys.now.after.items
+        → AreOfBoth stream edited.entry.after.now.register.stream
+        edited.entry.keys.now.before.items edited.entry.keys.now.after.items
         → IfOk result (λ shown. IsOpenedAs stream edited.entry.after.now id
         (opening_of shown.0.mark (lines_of shown.1))) }
 {

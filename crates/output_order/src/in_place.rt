@@ -93,7 +93,8 @@ pub(crate) fn put_in(keys: &mut Vec<OrderKey>, place: usize, units: &[Option<Sho
     requires room { vec_len keys.old + length units.now ≤ vec_capacity keys.old }
     requires fits { place + length units.now < 2 ^ 64 }
     ensures sorted { IsSortedBy is_first keys.new.items }
-    ensures permutation { IsPermutation (order_keys_from place units.now ++ keys.old.items) keys.new.items }
+    ensures permutation { IsPermutation
+        (order_keys_from place units.now ++ keys.old.items) keys.new.items }
     ensures capacity { vec_capacity keys.old ≤ vec_capacity keys.new }
 {
     for (index, unit) in units.iter().enumerate() {

@@ -16,5 +16,9 @@ impl Model for Inside {
 
     ghost Value = { InsideValue };
 
-    ghost view = { λ inside. record { low = inside.low; high = inside.high; units = inside.units.items } };
+    ghost view = { λ inside. record {
+      low = inside.low;
+      high = inside.high;
+      units = inside.units.items;
+    } };
 }

@@ -101,7 +101,8 @@ fn beginning(alloc: Global, bits: &mut Bits<'_>) -> Result<Sps, SetFault>
 // chroma_format_idc, but for 4:4:4.
 fn chroma_format_idc(bits: &mut Bits<'_>) -> Result<u32, SetFault>
     ensures { Reads pos result bits.new
-        (value_at Unsigned SetFault.Cut (SetFault.Range SetField.ChromaFormat) chroma_range bits.old) }
+        (value_at Unsigned SetFault.Cut (SetFault.Range SetField.ChromaFormat) chroma_range
+        bits.old) }
 {
     let wrong = SetFault::Range {
         field: SetField::ChromaFormat,

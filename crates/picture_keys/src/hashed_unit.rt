@@ -52,7 +52,8 @@ impl Model for HashedUnit {
 
     ghost view = { λ hashed. hashed.unit };
 
-    ghost invariant = { λ hashed. IsHashed hashed.unit hashed.hash.digest.bytes hashed.hash.hashed };
+    ghost invariant = { λ hashed.
+        IsHashed hashed.unit hashed.hash.digest.bytes hashed.hash.hashed };
 }
 
 impl HashedUnit {

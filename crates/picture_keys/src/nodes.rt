@@ -26,7 +26,10 @@ pub fn node_of(
 ) -> Result<Node<Works>, AllocError>
     requires { digest.bytes ≡ slices_digest (bytes_of requests.now) }
     ensures ok { IfOk result (λ node. node
-        ≡ record { work = works_of requests.now; entries = numbers_named numbers.old requests.now }) }
+        ≡ record {
+          work = works_of requests.now;
+          entries = numbers_named numbers.old requests.now;
+        }) }
     ensures same { numbers.new ≡ numbers.old }
 {
     let works = Works::of(alloc, requests, digest)?;

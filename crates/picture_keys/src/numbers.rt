@@ -32,7 +32,8 @@ impl<'a> Model for KeyNumbers<'a> {
 
     ghost view = { λ keys. keys.later.entries ++ numbers_over [] keys.ids.now keys.found.now };
 
-    ghost invariant = { λ keys. AreSeen keys.seen.entries (numbers_over [] keys.ids.now keys.found.now) };
+    ghost invariant = { λ keys.
+        AreSeen keys.seen.entries (numbers_over [] keys.ids.now keys.found.now) };
 }
 
 impl<'a> KeyNumbers<'a> {

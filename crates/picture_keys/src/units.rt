@@ -29,7 +29,8 @@ fn hashes_of(
     alloc: Global,
     units: &[Unit],
 ) -> Result<Vec<UnitHash>, AllocError>
-    ensures { IfOk result (λ hashes. AllZip (λ unit hash. IsHashed unit hash.digest.bytes hash.hashed)
+    ensures { IfOk result (λ hashes.
+        AllZip (λ unit hash. IsHashed unit hash.digest.bytes hash.hashed)
         units.now hashes.items) }
 {
     units
@@ -49,7 +50,8 @@ fn pair(
     units: Vec<Unit>,
     hashes: Vec<UnitHash>,
 ) -> Result<Vec<HashedUnit>, AllocError>
-    requires { AllZip (λ unit hash. IsHashed unit hash.digest.bytes hash.hashed) units.items hashes.items }
+    requires { AllZip (λ unit hash. IsHashed unit hash.digest.bytes hash.hashed)
+        units.items hashes.items }
     ensures { IfOk result (λ hashed. hashed.items ≡ units.items) }
 {
     let mut hashed = Vec::with_capacity(alloc, units.len())?;

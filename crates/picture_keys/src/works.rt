@@ -38,7 +38,8 @@ impl Model for Works {
     ghost use Rattle.std.specs.Prelude.{◌≡◌, map};
     ghost use Rattle.picture_keys.specs.SliceBytes.{slices_digest};
 
-    ghost invariant = { λ works. works.digest.bytes ≡ slices_digest (map (λ work. work.bytes) works.slices.items) };
+    ghost invariant = { λ works.
+        works.digest.bytes ≡ slices_digest (map (λ work. work.bytes) works.slices.items) };
 }
 
 impl Works {

@@ -26,8 +26,9 @@ pub(crate) fn print_all<W: Sink>(
     ensures ok { (done : List (List (List ℕ))) → IsFoldOf done fold.now → OnOk result
         (Appends (W.contents writer.old) (W.contents writer.new)
         (stream_text (numbered_from 1 done))) }
-    ensures written { (done : List (List (List ℕ))) → IsFoldOf done fold.now → AppendsFront (W.contents writer.old)
-        (W.contents writer.new) (stream_text (numbered_from 1 done)) }
+    ensures written { (done : List (List (List ℕ))) → IsFoldOf done fold.now →
+        AppendsFront (W.contents writer.old) (W.contents writer.new)
+        (stream_text (numbered_from 1 done)) }
     ensures refused { IsErrOf result PrintFault.Unwritten → W.refuses writer.new }
 {
     let positions = output_order::positions(alloc, &fold.outcomes)?;
@@ -82,8 +83,8 @@ fn print_unit<W: Sink>(
     chunks: &mut Chunks,
     writer: &mut W,
 ) -> Result<(), PrintFault>
-    ensures ok { OnOk result (Adds chunks.old (W.contents writer.old) (unit_head head.now ++ tail.now)
-        chunks.new (W.contents writer.new)) }
+    ensures ok { OnOk result (Adds chunks.old (W.contents writer.old)
+        (unit_head head.now ++ tail.now) chunks.new (W.contents writer.new)) }
     ensures written { OnErr result (AppendsFront (W.contents writer.old) (W.contents writer.new)
         (waiting_of chunks.old ++ (unit_head head.now ++ tail.now))) }
     ensures refused { IsErrOf result PrintFault.Unwritten → W.refuses writer.new }

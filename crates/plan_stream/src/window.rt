@@ -238,7 +238,8 @@ impl Window {
         ensures none { self.new.start ≡ self.new.cut }
         ensures over { self.new.is_over ≡ self.old.is_over }
         ensures walk { self.new.walk ≡ self.old.walk }
-        ensures ok { IfOk result (λ count. (more : List ℕ) × (held_by self.new ≡ held_by self.old ++ more)
+        ensures ok { IfOk result (λ count.
+            (more : List ℕ) × (held_by self.new ≡ held_by self.old ++ more)
             × Consumes (R.remaining reader.old) (R.remaining reader.new) more) }
         ensures end { IfOk result (λ count. count ≡ 0 → IsAtEnd (R.remaining reader.new)) }
         ensures err { OnErr result ((held_by self.new ≡ held_by self.old)

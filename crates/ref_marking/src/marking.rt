@@ -27,8 +27,8 @@ use slice_header_types::{
 /// current one is last. Where several frames of the set have the number that an operation names,
 /// the first in decode order is meant.
 ///
-/// - `BadMarking`: an operation names a frame that isn't there or an index above the greatest; operation 4 is above
-///   max_num_ref_frames; 4, 5 or 6 stands twice; 5 stands with 1, 2 or 3.
+/// - `BadMarking`: an operation names a frame that isn't there or an index above the greatest;
+///   operation 4 is above max_num_ref_frames; 4, 5 or 6 stands twice; 5 stands with 1, 2 or 3.
 /// - `NoShortTerm`: the sliding window is full and has no short-term frame.
 /// - `TooManyReferences`: as many frames are marked already as may be. It is looked for last.
 #[tactic(auto, using(crate::proofs::MarkingLaws::marks, crate::proofs::MarkingLaws::marks_only))]

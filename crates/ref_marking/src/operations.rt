@@ -70,9 +70,11 @@ fn with_long_term(
 ) -> Result<(), MarkFault>
     requires { IfSome place (λ at. at < length marks.old.frames) }
     ensures none { IsNone place → leaves result marks.new ≡ Err BadMarking }
-    ensures some { (other : Frame) → IfSome place (λ at. leaves result marks.new ≡ Ok (record marks.old {
-      frames = slice_set marks.old.frames at (as_long_term long_term_frame_idx (slice_index_or marks.old.frames at other));
-    })) }
+    ensures some { (other : Frame) → IfSome place (λ at.
+        leaves result marks.new ≡ Ok (record marks.old {
+          frames = slice_set marks.old.frames at
+              (as_long_term long_term_frame_idx (slice_index_or marks.old.frames at other));
+        })) }
 {
     let at = place.ok_or(MarkFault::BadMarking)?;
     let frame = &mut marks.frames.as_mut_slice()[at];

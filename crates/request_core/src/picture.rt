@@ -24,7 +24,11 @@ impl<'a> Model for Listed<'a> {
 
     ghost Value = { ListedSlice };
 
-    ghost view = { λ listed. record { slice = listed.slice.now; list_0 = listed.list_0; list_1 = listed.list_1 } };
+    ghost view = { λ listed. record {
+      slice = listed.slice.now;
+      list_0 = listed.list_0;
+      list_1 = listed.list_1;
+    } };
 }
 
 impl<'a> Listed<'a> {
@@ -71,7 +75,14 @@ impl<'a> Model for Picture<'a> {
 
     ghost Value = { Pictured };
 
-    ghost view = { λ picture. record { id = picture.id; frames = picture.marks.now.frames; counts = picture.counts; order = picture.order; begins_period = picture.begins_period; slices = picture.slices.items } };
+    ghost view = { λ picture. record {
+      id = picture.id;
+      frames = picture.marks.now.frames;
+      counts = picture.counts;
+      order = picture.order;
+      begins_period = picture.begins_period;
+      slices = picture.slices.items;
+    } };
 }
 
 impl<'a> Picture<'a> {

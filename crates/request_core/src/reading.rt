@@ -36,7 +36,10 @@ impl Model for UnitRead {
 
     ghost Value = { ReadUnit };
 
-    ghost view = { λ read. record { state = read.state; slices = found read.slices.items read.fault } };
+    ghost view = { λ read. record {
+      state = read.state;
+      slices = found read.slices.items read.fault;
+    } };
 }
 
 impl UnitRead {

@@ -42,7 +42,13 @@ impl Model for State {
 
     ghost Value = { FoldState };
 
-    ghost view = { λ state. record { tables = state.tables; active = state.active; anchor = state.anchor; prev_ref_frame_num = state.prev_ref_frame_num; marks = state.marks } };
+    ghost view = { λ state. record {
+      tables = state.tables;
+      active = state.active;
+      anchor = state.anchor;
+      prev_ref_frame_num = state.prev_ref_frame_num;
+      marks = state.marks;
+    } };
 }
 
 impl State {

@@ -1,7 +1,7 @@
 -- The first fields of a slice whose second byte tells them.
 use Rattle.std.proofs.Common.{◌≡◌, ℕ, ◌/◌, ◌<◌, ◌≤◌, Bool, true, false, List, [], ◌∷◌, ◌++◌, Result, Ok, refl, ◌∙◌, ap, arith}
 use Rattle.annexb.specs.EmulationPrevention.{payload_of}
-use Rattle.expgolomb.specs.Bits.{Place, bit_of, bits_of}
+use Rattle.expgolomb.specs.Bits.{Place, bit_of}
 use Rattle.expgolomb.specs.Ranges.{any}
 use Rattle.expgolomb.specs.Structures.{table_at}
 use Rattle.expgolomb.specs.TableReading.{value_at, rows_at}

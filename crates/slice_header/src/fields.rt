@@ -73,7 +73,8 @@ pub fn se_any(bits: &mut Bits<'_>) -> Result<i32, HeaderFault>
 /// Reads a signed number from the least to the most, se(v).
 pub fn se(bits: &mut Bits<'_>, least: i32, most: i32) -> Result<i32, HeaderFault>
     ensures exact { Reads (λ v. v) result bits.new
-        (value_at Signed HeaderFault.Cut HeaderFault.Value (between least most HeaderFault.Value) bits.old) }
+        (value_at Signed HeaderFault.Cut HeaderFault.Value (between least most HeaderFault.Value)
+        bits.old) }
     ensures bounds { IfOk result (λ v. IsTrue (int_le least v && int_le v most)) }
     ensures near { bits.new.before ≤ bits.old.before + 63 }
 {

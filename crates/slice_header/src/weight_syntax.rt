@@ -196,7 +196,8 @@ fn chroma_weight(
 
 fn weight_value(bits: &mut Bits<'_>) -> Result<i16, HeaderFault>
     ensures exact { Reads (λ v. v) result bits.new
-        (value_at Signed HeaderFault.Cut HeaderFault.Value (between (negsuc 127) (pos 127) HeaderFault.Value) bits.old) }
+        (value_at Signed HeaderFault.Cut HeaderFault.Value
+        (between (negsuc 127) (pos 127) HeaderFault.Value) bits.old) }
     ensures near { bits.new.before ≤ bits.old.before + 63 }
 {
     let weight = se(bits, -128, 127)?;
@@ -205,7 +206,8 @@ fn weight_value(bits: &mut Bits<'_>) -> Result<i16, HeaderFault>
 
 fn offset_value(bits: &mut Bits<'_>) -> Result<i8, HeaderFault>
     ensures exact { Reads (λ v. v) result bits.new
-        (value_at Signed HeaderFault.Cut HeaderFault.Value (between (negsuc 127) (pos 127) HeaderFault.Value) bits.old) }
+        (value_at Signed HeaderFault.Cut HeaderFault.Value
+        (between (negsuc 127) (pos 127) HeaderFault.Value) bits.old) }
     ensures near { bits.new.before ≤ bits.old.before + 63 }
 {
     let offset = se(bits, -128, 127)?;

@@ -78,7 +78,8 @@ impl<T: Drop> Gathered<T> {
 
     /// The last item, also where there is a fault.
     pub(crate) fn last(&self) -> Option<&T>
-        ensures { (items : List T) → self.now ≡ Ok items → option_copied result ≡ slice_get items (length items - 1) }
+        ensures { (items : List T) → self.now ≡ Ok items
+            → option_copied result ≡ slice_get items (length items - 1) }
     {
         self.items.last()
     }

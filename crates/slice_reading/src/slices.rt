@@ -49,7 +49,12 @@ impl Model for Slice {
 
     ghost Value = { SliceRead };
 
-    ghost view = { λ slice. record { nal = slice.nal; sps = slice.sets.sps; pps = slice.sets.pps; header = slice.header } };
+    ghost view = { λ slice. record {
+      nal = slice.nal;
+      sps = slice.sets.sps;
+      pps = slice.sets.pps;
+      header = slice.header;
+    } };
 }
 
 impl Slice {

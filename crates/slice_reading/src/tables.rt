@@ -107,7 +107,8 @@ impl Tables {
     /// The place of the picture parameter set under an id as it is to be, where its set has to be
     /// paired anew.
     fn pairing(&self, alloc: Global, id: u8) -> Result<Option<Shared<PpsPlace>>, AllocError>
-        ensures { IfOk result (λ paired. IfSome paired (λ place. pps_under self.now id ≡ Some place)) }
+        ensures { IfOk result (λ paired. IfSome paired (λ place.
+            pps_under self.now id ≡ Some place)) }
     {
         let Some(pps) = self.pps(id) else {
             return Ok(None);

@@ -41,7 +41,10 @@ impl Model for Input {
 
     ghost Value = { InputValue };
 
-    ghost view = { λ input. record { requests = input.requests.items; references = input.references.items } };
+    ghost view = { λ input. record {
+      requests = input.requests.items;
+      references = input.references.items;
+    } };
 }
 
 impl Input {

@@ -98,7 +98,8 @@ impl SliceDigest {
     #[tactic(auto, unfolding(crate::specs::Pictures::slice_record))]
     fn begin(&mut self, controls: &SliceControls, bytes: &[u8]) -> Result<(), AllocError>
         ensures hashed { OnOk result (Holds256 self.new.hasher
-            (slice_record self.old.frames.items controls.now.work.controls controls.now.references bytes.now)) }
+            (slice_record self.old.frames.items controls.now.work.controls controls.now.references
+            bytes.now)) }
         ensures frames { self.new.frames.items ≡ self.old.frames.items }
     {
         digest_in_two_parts();
@@ -168,7 +169,8 @@ fn feed_slice(
 )
     ensures { (m : List ℕ) → Holds256 hasher.old m
         → Holds256 hasher.new (m ++ form.now ++ size_bytes bytes.now ++ bytes.now
-        ++ flat_map (entry_bytes frames.now controls.now.references) (entries_of controls.now.work.controls)) }
+        ++ flat_map (entry_bytes frames.now controls.now.references)
+        (entries_of controls.now.work.controls)) }
 {
     hasher.update(form);
     feed_bytes(hasher, bytes);

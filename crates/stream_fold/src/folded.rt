@@ -50,7 +50,11 @@ impl Model for Folded {
 
     ghost Value = { FoldedValue };
 
-    ghost view = { λ f. record { stream = f.units.items; stored = f.stored; units_room = vec_capacity f.units - vec_len f.units } };
+    ghost view = { λ f. record {
+      stream = f.units.items;
+      stored = f.stored;
+      units_room = vec_capacity f.units - vec_len f.units;
+    } };
 
     ghost invariant = { λ f. IsFolded f.units.items f.stored.states f.end
         × IsReached f.units.items (length f.units.items) f.reached };
@@ -216,7 +220,8 @@ impl Folded {
         requires outcomes { outcomes.now ≡ outcomes_of self.now.stream }
         ensures made { IfOk result (λ made.
             IsMadeAnew change.now self.now.stream self.now.stored.states made.0 made.1) }
-        ensures reached { IfOk result (λ made. IsReached self.now.stream (at_of change.now) made.2) }
+        ensures reached { IfOk result (λ made.
+            IsReached self.now.stream (at_of change.now) made.2) }
     {
         let at = change.at();
         let mut fold = self.start(alloc, at)?;

@@ -27,7 +27,8 @@ pub fn lay_out(alloc: Global, units: &[DrawnUnit]) -> Result<Layout, AllocError>
     requires { length units.now ≤ 1000 }
     ensures units { IfOk result (λ layout. layout.grid.units ≡ length units.now) }
     // The second row has all pictures, each once, in output order.
-    ensures all { IfOk result (λ layout. IsPermutation (shown_units units.now) layout.output.items) }
+    ensures all { IfOk result (λ layout.
+        IsPermutation (shown_units units.now) layout.output.items) }
     ensures order { IfOk result (λ layout. IsSortedBy is_before layout.output.items) }
 {
     let output = output_row(alloc, units)?;

@@ -35,7 +35,8 @@ impl Page {
 
     /// Opens the shapes of a unit, with the classes of its mark, and with its lines as their title.
     pub(crate) fn open(&mut self, mark: Option<EditMark>, lines: &str) -> Result<(), AllocError>
-        ensures { OnOk result (self.new.bytes.items ≡ self.old.bytes.items ++ opening_of mark lines.now) }
+        ensures { OnOk result
+            (self.new.bytes.items ≡ self.old.bytes.items ++ opening_of mark lines.now) }
     {
         self.bytes.extend_from_slice(b"<g class=\"")?;
         self.bytes.extend_from_slice(classes_of(mark).as_bytes())?;
@@ -47,7 +48,8 @@ impl Page {
 
     /// Adds all of another page.
     pub(crate) fn append(&mut self, page: &Page) -> Result<(), AllocError>
-        ensures { OnOk result (self.new.bytes.items ≡ self.old.bytes.items ++ page.now.bytes.items) }
+        ensures { OnOk result
+            (self.new.bytes.items ≡ self.old.bytes.items ++ page.now.bytes.items) }
     {
         self.bytes.extend_from_slice(page.bytes.as_slice())
     }

@@ -27,7 +27,8 @@ pub fn document(
     requires captions { length captions.now ≡ length units.now }
     // Each unit's shapes are opened with the classes of its mark and with its lines as their title,
     // in stream order.
-    ensures openings { IfOk result (λ document. HasParts (openings_of units.now captions.now) document.items) }
+    ensures openings { IfOk result (λ document.
+        HasParts (openings_of units.now captions.now) document.items) }
     ensures titles { AreUnmarked units.now
         → IfOk result (λ document. HasTitles (map lines_of captions.now) document.items) }
 {

@@ -20,10 +20,6 @@ use Rattle.edit_engine.specs.Machines.{Machine, store_of}
 use Rattle.edit_engine.specs.Runs.{GivesJobBack}
 use Rattle.edit_engine.specs.Taken.{as_taken, input_among, taken_of}
 
--- what holds of each among them holds of all
-all_from : {X : Type 0} (P : X → Type 0) (xs : List X) → ((x : X) → Contains xs x → P x) → All P xs
-all_from P xs each k d within = each (slice_index_or xs k d) (Contains-get_or xs k d within)
-
 -- a machine is its stream's and its pictures'
 pub same_machine : (old new : Machine) → store_of new ≡ store_of old → KeepsStream old new → new ≡ old
 same_machine old new pictures stream =
@@ -72,9 +68,9 @@ module _ (jobs : List JobValue) (number : ℕ) where
 
   -- where there is none, no job has the number
   pub none_taken : input_among jobs number ≡ None → All (λ job. job.number ≡ number → ⊥) jobs
-  none_taken none =
-      all_from (λ job. job.number ≡ number → ⊥) jobs (λ job among is.
-      at_place (position (λ (other : JobValue). other.number == number) jobs) refl none job among is)
+  none_taken none k d within =
+      at_place (position (λ (other : JobValue). other.number == number) jobs) refl none (slice_index_or jobs k d)
+      (Contains-get_or jobs k d within)
     where
       at_place : (place : Option ℕ) → position (λ (other : JobValue). other.number == number) jobs ≡ place
           → option_map (λ (other : JobValue). other.input) (option_and_then (slice_get jobs) place) ≡ None

@@ -1,18 +1,14 @@
 -- What a unit waits for while jobs for it are taken and land.
-use Rattle.std.proofs.Common.{◌≡◌, ◌∙◌, ℕ, zero, suc, ◌+◌, ◌<◌, ◌≤◌, ◌==◌, eqb, true, false, Bool, List, [], ◌∷◌, ◌++◌, length, map, drop, take, remove, get_or, refl, sym, ap, subst, inl, inr, ◌⊎◌, arith}
-use Rattle.std.specs.Prelude.{Contains, slice_get, position, slice_index_or, option_and_then, Option, Some, None, Result, Ok, Err}
-use Rattle.std.specs.Option.{option_map}
-use Rattle.std.specs.List.{position_or_len, zip}
-use Rattle.std.proofs.lemmas.Bool.{cases_lt, eq-eqb, lt-ltb}
-use Rattle.std.proofs.lemmas.List.Elements.{Contains-append_cases, Contains-push_cases}
-use Rattle.std.proofs.lemmas.List.Sums.{fails_before_first}
-use Rattle.std.proofs.lemmas.Option.{slice_get-get_or}
+use Rattle.std.proofs.Common.{◌≡◌, ◌∙◌, ℕ, zero, suc, ◌+◌, List, [], ◌∷◌, ◌++◌, map, remove, refl, sym, ap, subst, inl, inr}
+use Rattle.std.specs.Prelude.{Contains, slice_get, Option, Some, None, Result, Ok, Err}
+use Rattle.std.specs.List.{zip}
+use Rattle.std.proofs.lemmas.List.Elements.{All-contains, Contains-push_cases}
 use Rattle.stand_in_device.specs.Jobs.{JobValue}
 use Rattle.picture_keys.specs.Keys.{Key}
 use Rattle.picture_keys.specs.Known.{keys_of}
 use Rattle.key_slots.specs.Needed.{IsNeeded}
 use Rattle.key_slots.proofs.Closing.{needed_more}
-use Rattle.key_slots.proofs.Members.{among_map, among_source, first_or_among, nowhere, there, here}
+use Rattle.key_slots.proofs.Members.{among_map, among_source, first_or_among, there, here}
 use Rattle.picture_store.proofs.Waiting.{never_stuck}
 use Rattle.picture_store.specs.declared.answers.Landing.{Landing}
 use Rattle.picture_store.specs.declared.answers.Landing.TheVariants as landing
@@ -24,14 +20,13 @@ use Rattle.stream_edits.specs.Edits.{Register}
 use Rattle.stream_edits.specs.Streams.{ids_of, place_of}
 use Rattle.request_core.specs.Fold.{outcomes_of}
 use Rattle.edit_engine.specs.declared.refusals.NotOut.{NotOut}
-use Rattle.edit_engine.specs.declared.replies.Reply.{Reply}
-use Rattle.edit_engine.specs.declared.replies.Reply.TheVariants as replies
 use Rattle.edit_engine.specs.declared.replies.TakenJob.{TakenJob}
 use Rattle.edit_engine.specs.declared.commands.Command.TheVariants as told
 use Rattle.edit_engine.specs.Machines.{Machine, store_of}
 use Rattle.edit_engine.specs.Needing.{IsAnyOutFor, IsPendingIn, TakesFor, TellsTakeFor}
-use Rattle.edit_engine.specs.Runs.{Answers as Replies, LandsJob, TakesJob, TakesJobFor}
-use Rattle.edit_engine.specs.Taken.{as_taken, input_among, input_of, taken_of}
+use Rattle.edit_engine.specs.Runs.{LandsJob, TakesJob, TakesJobFor}
+use Rattle.edit_engine.specs.Taken.{as_taken, taken_of}
+use Rattle.edit_engine.proofs.ByNumber.{none_taken}
 use Rattle.script_run.specs.Settling.{Lands, Settles, Takes}
 
 -- the keys of the jobs that are out
@@ -159,27 +154,6 @@ lands_no_more old number (Ok landing.Taken) new is =
       given = ap (λ (s : StoreValue). s.jobs_given) lands.6;
     }
 
--- where the jobs have nothing of a number, none has it
-none_has : (jobs : List JobValue) (number : ℕ) → input_among jobs number ≡ None → (job : JobValue) → Contains jobs job
-    → job.number ≡ number → ⊥
-none_has jobs number none job among is =
-    let test : JobValue → Bool = λ it. it.number == number in
-    let first : ℕ = position_or_len test jobs in
-    let passes : test (get_or jobs among.0 job) ≡ true =
-    eq-eqb (get_or jobs among.0 job).number number (ap (λ (it : JobValue). it.number) among.2 ∙ is) in
-    let low : first ≤ among.0 =
-    elim (cases_lt among.0 first) [
-      | inl high ↦ absurd (let fails = sym passes ∙ fails_before_first test jobs among.0 job high in cc)
-      | inr low ↦ low
-    ] in
-    let within : first < length jobs = omega (arith, low, among.1) in
-    let found : position test jobs ≡ Some first = rw (lt-ltb first (length jobs) within) refl in
-    let there : slice_get jobs first ≡ Some (get_or jobs first job) = slice_get-get_or jobs first job within in
-    let some : input_among jobs number ≡ Some (get_or jobs first job).input =
-    ap (λ (p : Option ℕ). option_map (λ (it : JobValue). it.input) (option_and_then (slice_get jobs) p)) found
-    ∙ ap (option_map (λ (it : JobValue). it.input)) there in
-    let no = sym none ∙ some in cc
-
 -- a job that is taken and lands is one more that was given
 pub lands_given : (unit : Option ℕ) (old : Machine) (job : TakenJob) (new : Machine) → Lands unit old job new
     → new.jobs ≡ old.jobs + 1
@@ -193,7 +167,7 @@ lands_eases old unit job new lands =
     let between : Machine = lands.0 in
     let one = takes_one old unit job between lands.2 in
     let none_more = lands_no_more between job.number lands.3.0 new lands.3.2 in
-    let gone = none_has (taken_of new) job.number lands.4 in
+    let gone = All-contains (λ (it : JobValue). it.number ≡ job.number → ⊥) (taken_of new) in
     record {
       stream = none_more.stream ∙ one.stream;
       held = λ key held. none_more.held key (subst (λ (l : List Key). Contains l key) (sym one.held) held);
@@ -205,7 +179,8 @@ lands_eases old unit job new lands =
             | inl there ↦
                 subst (Contains (keys_out old)) source.2 (among_map (λ (it : OutValue). it.key) old.jobs_out source.0 there)
             | inr last ↦
-                absurd (gone (as_taken source.0) (among_map as_taken new.jobs_out source.0 source.1)
+                absurd (gone (as_taken source.0) (none_taken (taken_of new) job.number lands.4)
+                (among_map as_taken new.jobs_out source.0 source.1)
                 (ap (λ (it : OutValue). it.number) (sym last) ∙ one.number_is))
           ];
     }

@@ -165,3 +165,27 @@ fn replaces_and_inserts_first(rt: HostRuntime) {
         row_holds(&rt, row, holds(&mut session, step));
     }
 }
+
+/// A P picture that is no reference, before P2.
+const NO_REFERENCE: &[u8] = &[0, 0, 1, 0x01, 0x9A, 0x47];
+
+/// A picture that is no reference is deleted: from the first unit to it, and the one behind it, as
+/// no state is stored in front of it but the first.
+const WITHOUT: [Step; 8] = [
+    Step::Edit(First(A), Ok((1, 1, 1))),
+    Step::Edit(After(1, P1), Ok((2, 2, 1))),
+    Step::Edit(After(2, NO_REFERENCE), Ok((3, 3, 1))),
+    Step::Edit(After(3, P2), Ok((4, 4, 1))),
+    Unit(4, At(3)),
+    Step::Edit(Delete(3), Ok((5, 3, 3))),
+    Unit(3, Gone),
+    Unit(4, At(2)),
+];
+
+#[test]
+fn deletes_a_picture_that_is_no_reference(rt: HostRuntime) {
+    let mut session = empty_session(&rt);
+    for (row, step) in WITHOUT.iter().enumerate() {
+        row_holds(&rt, row, holds(&mut session, step));
+    }
+}

@@ -1,6 +1,7 @@
 //! A desk: a session under a lock.
 
 ghost use Rattle.std.specs.Prelude.{◌≡◌, ◌<◌, ◌≤◌, ◌↔◌, [], length, IfOk, IsErr};
+ghost use Rattle.decode_pool.specs.Batches.{LandsAll};
 ghost use Rattle.decode_pool.specs.Seats.{AreNew, WaitsForOne, WaitsForUnit};
 
 use crate::seat::Seat;
@@ -175,6 +176,8 @@ impl Desk {
     /// A worker comes back, and brings all results that it has in hand. It wakes the seats that
     /// wait for single units, of which one may be there, and who waits for news.
     pub(crate) fn come_back(&self, state: &mut DeskState, tally: &mut Tally)
+        ensures landed { LandsAll state.old.session tally.old.results.items tally.old.counts
+            state.new.session tally.new.counts }
         ensures results { tally.new.results.items ≡ [] }
         ensures jobs { tally.new.jobs.items ≡ tally.old.jobs.items }
     {

@@ -29,11 +29,11 @@ WritesFront from units text old new =
     ⊎ ((refusal : Refusal) × IsStreamRefused text most_units refusal × AppendsFront old new (refusal_text refusal))
     ⊎ ((document : List ℕ) × IsDrawn from units text document × AppendsFront old new document)
 
--- what was written of a text whose drawing ended by this fault: nothing where it wasn't read, the
--- whole line of its refusal, or a prefix where memory runs out or the writer refused
+-- what was written of a text whose drawing ended by this fault: nothing where it wasn't read or
+-- memory runs out, the whole line of its refusal, or a prefix where the writer refused
 abbrev pub EndsBy : ℕ → ℕ → List ℕ → PlanFault → Type 0 → Option (List ℕ) → Option (List ℕ) → Type 0
 EndsBy from units text Unread refused old new = Keeps old new
 EndsBy from units text (Refused refusal) refused old new =
     IsStreamRefused text most_units refusal × Appends old new (refusal_text refusal)
-EndsBy from units text Memory refused old new = WritesFront from units text old new
+EndsBy from units text Memory refused old new = Keeps old new
 EndsBy from units text Unwritten refused old new = refused × WritesFront from units text old new

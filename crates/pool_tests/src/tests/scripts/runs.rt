@@ -2,6 +2,7 @@
 
 use super::{Files, OPTIONS, REPAIRED, Row, is_as};
 use console_io::Status;
+use script_run::Options;
 use shared_run::script_with_workers;
 use std::process::Abort;
 use std::sync::Wait;
@@ -48,13 +49,51 @@ const ROWS: [Row; 7] = [
     },
 ];
 
-/// Whether a script ends as its row says, by two workers.
-fn ends_so<R: Abort + AllocGlobal + Threads + Wait + Sync>(rt: &R, row: &Row) -> bool {
+/// A unit has three pictures in turn, and then the first one's text again while nobody decodes.
+const RECALLED: &str = "insert first 000001 6742000ADA79 000001 68CE3880 000001 65888480\n\
+    settle\n\
+    replace 1 000001 6742000ADA79 000001 68CE3880 000001 65888481\n\
+    settle\n\
+    replace 1 000001 6742000ADA79 000001 68CE3880 000001 65888482\n\
+    settle\n\
+    rest off\n\
+    replace 1 000001 6742000ADA79 000001 68CE3880 000001 65888480\n\
+    show 1\n";
+
+/// With a cache of room for one picture.
+const SMALL: Options<'static> = Options {
+    name: "a script",
+    cache: 1,
+    hex: false,
+};
+
+/// How that script ends there: the cache has the second picture alone.
+const PENDING: Row = Row {
+    script: RECALLED,
+    status: Status::Success,
+    lines: "edit 1 id 1\nsettled\nedit 2 id 1\nsettled\nedit 3 id 1\nsettled\nrest off\nedit 4 id 1\nshow 1 pending\n",
+    message: "",
+};
+
+/// How it ends where there is room for both.
+const READY: Row = Row {
+    script: RECALLED,
+    status: Status::Success,
+    lines: "edit 1 id 1\nsettled\nedit 2 id 1\nsettled\nedit 3 id 1\nsettled\nrest off\nedit 4 id 1\nshow 1 ready\n",
+    message: "",
+};
+
+/// Whether a script ends as its row says, by two workers, with these options.
+fn ends_so<R: Abort + AllocGlobal + Threads + Wait + Sync>(
+    rt: &R,
+    options: Options<'static>,
+    row: &Row,
+) -> bool {
     let (mut output, mut errors) = (Vec::new(rt.alloc()), Vec::new(rt.alloc()));
     let ended = script_with_workers(
         rt,
         rt.alloc(),
-        OPTIONS,
+        options,
         2,
         &mut row.script.as_bytes(),
         Files,
@@ -67,6 +106,12 @@ fn ends_so<R: Abort + AllocGlobal + Threads + Wait + Sync>(rt: &R, row: &Row) ->
 #[test]
 fn scripts_of_a_seat_end_so(rt: HostRuntime) {
     for (number, row) in ROWS.iter().enumerate() {
-        assert!(rt; ends_so(&rt, row), "row {number}");
+        assert!(rt; ends_so(&rt, OPTIONS, row), "row {number}");
     }
+}
+
+#[test]
+fn the_cache_beside_workers_has_the_room_that_is_asked_for(rt: HostRuntime) {
+    assert!(rt; ends_so(&rt, SMALL, &PENDING));
+    assert!(rt; ends_so(&rt, OPTIONS, &READY));
 }

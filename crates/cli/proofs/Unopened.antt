@@ -50,7 +50,7 @@ module _ {T : Type 0} (files : Files) (standard : Option (List ℕ)) (told : Res
   draw-unopened name from units input.Unread tells =
       (fault.Unread, some-all (text_named files standard name) (λ text. Keeps-refl old), tells)
   draw-unopened name from units input.Memory tells =
-      (fault.Memory, some-all (text_named files standard name) (λ text. inl (Keeps-refl old)), tells)
+      (fault.Memory, some-all (text_named files standard name) (λ text. Keeps-refl old), tells)
 
   -- of a run
   pub run-unopened : (name : Bor (List ℕ)) (workers : Option ℕ) (room : ℕ) (hex : Bool) (it : InputFault)

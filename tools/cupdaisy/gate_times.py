@@ -299,7 +299,8 @@ def measure(name):
         (checks if isinstance(it, Check) else said).append(it)
 
     with tempfile.TemporaryDirectory(prefix="gate-times-") as room:
-        folder = workspace.copy_of(name, pathlib.Path(room), is_built=False)
+        workspace.copy_of([name], pathlib.Path(room))
+        folder = pathlib.Path(room) / "crates" / name
         top = next(file for file in (folder / "src/main.rt", folder / "src/lib.rt") if file.exists())
         top.write_text(top.read_text() + f"\n// measured at {time.time_ns()}\n")
         status = watched(["rt", "ci", name], room, write)

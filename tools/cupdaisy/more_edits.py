@@ -2,13 +2,15 @@
 import pathlib
 import re
 import shutil
+import subprocess
+import sys
 import tempfile
+from collections import deque
 
 from cupdaisy import workspace
 from cupdaisy.command_line import parser_of
-from cupdaisy.processes import printed_with_errors
 
-VERDICT = re.compile(r"must-fail \w+/[\w.-]+\.edit: (refused, as it must be|NOT REFUSED|BAD EDIT)")
+VERDICT = re.compile(r"must-fail \w+/[\w.-]+\.edit: (refused, as it must be|NOT REFUSED|BAD EDIT|NOT TRIED)")
 
 
 def edits_of(name):
@@ -16,19 +18,24 @@ def edits_of(name):
     return sorted((workspace.TOP / "crates" / name / "more-edits").glob("*.edit"))
 
 
-def tried(name):
-    """Tries a crate's edits and prints the verdicts; how many were refused."""
+def verdicts(names):
+    """Tries the edits of crates, prints each verdict, and gives the verdicts and the last lines of what was said."""
+    found, said = [], deque(maxlen=20)
     with tempfile.TemporaryDirectory(prefix="more-edits-") as room:
-        folder = workspace.copy_of(name, pathlib.Path(room))
-        shutil.rmtree(folder / "must-fail", ignore_errors=True)
-        (folder / "more-edits").rename(folder / "must-fail")
-        _, told = printed_with_errors(["rt", "must-fail", name], cwd=room)
-    verdicts = [found for found in map(VERDICT.search, told.splitlines()) if found]
-    if len(verdicts) != len(edits_of(name)):
-        print(f"{name}: its edits couldn't be tried\n{told}", flush=True)
-    for verdict in verdicts:
-        print(verdict.string[verdict.start():], flush=True)
-    return sum(verdict[1].startswith("refused") for verdict in verdicts)
+        workspace.copy_of(names, pathlib.Path(room))
+        for name in names:
+            folder = pathlib.Path(room) / "crates" / name
+            shutil.rmtree(folder / "must-fail", ignore_errors=True)
+            (folder / "more-edits").rename(folder / "must-fail")
+        with subprocess.Popen(["rt", "ci", *names], cwd=room, stdin=subprocess.DEVNULL, stdout=subprocess.PIPE,
+                              stderr=subprocess.STDOUT, text=True, errors="replace") as run:
+            for line in run.stdout:
+                said.append(line)
+                verdict = VERDICT.search(line)
+                if verdict:
+                    print(line[verdict.start():], end="", flush=True)
+                    found.append(verdict[1])
+    return found, said
 
 
 def main(doc):
@@ -39,6 +46,10 @@ def main(doc):
     for name in names:
         if name not in with_some:
             parser.error(f"{name} is no crate with a folder more-edits")
-    count, refused = sum(len(edits_of(name)) for name in names), sum(map(tried, names))
+    count = sum(len(edits_of(name)) for name in names)
+    found, said = verdicts(names)
+    if len(found) != count:
+        print(f"edits couldn't be tried; the run ended so:\n{''.join(said)}", end="", file=sys.stderr)
+    refused = sum(verdict.startswith("refused") for verdict in found)
     print(f"{refused} refused, {count - refused} not")
     return 0 if refused == count else 1

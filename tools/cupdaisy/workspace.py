@@ -38,16 +38,14 @@ def lines_of(names):
     return "".join(line for line in lines if re.match(r"\w*", line)[0] in names)
 
 
-def copy_of(name, folder, is_built=True):
-    """Copies a crate and those below it, with what was built of these where `is_built`, into a folder; the crate's there."""
-    low = below(name)
-    (folder / "crates.txt").write_text(lines_of((*low, name)))
+def copy_of(names, folder):
+    """Copies crates and those below them into a folder, these without their edits, and all without what was built of them."""
+    copied = below_all(names)
+    (folder / "crates.txt").write_text(lines_of(copied))
     shutil.copy(TOP / "HANDLES", folder)
-    for crate in (*low, name):
-        made = "incremental" if is_built else "out"
-        left_out = shutil.ignore_patterns(*(["out"] if crate == name else [made, "must-fail", "more-edits"]))
+    for crate in copied:
+        left_out = shutil.ignore_patterns("out", *([] if crate in names else ["must-fail", "more-edits"]))
         shutil.copytree(TOP / "crates" / crate, folder / "crates" / crate, ignore=left_out)
-    return folder / "crates" / name
 
 
 def sources_of(*names):

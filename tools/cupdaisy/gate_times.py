@@ -12,6 +12,7 @@ from typing import NamedTuple
 
 from cupdaisy import workspace
 from cupdaisy.command_line import parser_of
+from cupdaisy.processes import begun
 
 INTERVAL = 0.5
 TICKS = os.sysconf("SC_CLK_TCK")
@@ -140,8 +141,7 @@ def looked(watch):
 
 def watched(command, folder, write):
     """Runs a command and calls `write` with each of its lines and each check that ended; its status."""
-    child = subprocess.Popen(command, cwd=folder, stdin=subprocess.DEVNULL, stdout=subprocess.PIPE,
-                             stderr=subprocess.STDOUT, text=True, errors="replace")
+    child = begun(command, cwd=folder)
     reader = threading.Thread(target=lambda: [write(line.rstrip("\n")) for line in child.stdout])
     reader.start()
     watch = Watch(child.pid)

@@ -2,13 +2,13 @@
 import pathlib
 import re
 import shutil
-import subprocess
 import sys
 import tempfile
 from collections import deque
 
 from cupdaisy import workspace
 from cupdaisy.command_line import parser_of
+from cupdaisy.processes import begun
 
 VERDICT = re.compile(r"must-fail \w+/[\w.-]+\.edit: (refused, as it must be|NOT REFUSED|BAD EDIT|NOT TRIED)")
 
@@ -27,8 +27,7 @@ def verdicts(names):
             folder = pathlib.Path(room) / "crates" / name
             shutil.rmtree(folder / "must-fail", ignore_errors=True)
             (folder / "more-edits").rename(folder / "must-fail")
-        with subprocess.Popen(["rt", "ci", *names], cwd=room, stdin=subprocess.DEVNULL, stdout=subprocess.PIPE,
-                              stderr=subprocess.STDOUT, text=True, errors="replace") as run:
+        with begun(["rt", "ci", *names], cwd=room) as run:
             for line in run.stdout:
                 said.append(line)
                 verdict = VERDICT.search(line)
@@ -42,7 +41,7 @@ def main(doc):
     with_some = [name for name in workspace.crates() if edits_of(name)]
     parser = parser_of(doc)
     parser.add_argument("names", metavar="NAME", nargs="*")
-    names = parser.parse_args().names or with_some
+    names = list(dict.fromkeys(parser.parse_args().names)) or with_some
     for name in names:
         if name not in with_some:
             parser.error(f"{name} is no crate with a folder more-edits")

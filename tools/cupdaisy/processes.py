@@ -41,6 +41,12 @@ def printed_with_errors(command, **how):
     return ran.returncode, ran.stdout
 
 
+def begun(command, **how):
+    """Begins a command, whose lines on either stream are read while it runs."""
+    return subprocess.Popen(command, stdin=subprocess.DEVNULL, stdout=subprocess.PIPE, stderr=subprocess.STDOUT, text=True,
+                            errors="replace", **how)
+
+
 def piped(source, command):
     """Runs a command on what another prints: whether both end with status 0, and what the command says on standard error."""
     before = subprocess.Popen(source, stdout=subprocess.PIPE)

@@ -1,0 +1,109 @@
+//! A walk over the units of a stream.
+
+ghost use Rattle.std.specs.Prelude.{◌≡◌, ◌⊎◌, ℕ, ◌+◌, List, Some, IfOk, slice_get};
+ghost use Rattle.doubts.specs.SeenUnits.{IsIdrAt, SeenUnit, is_break};
+ghost use Rattle.doubts.specs.InDoubt.{IdsDiffer, IsDoubt};
+ghost use Rattle.doubts.specs.Sets.{has};
+ghost use Rattle.doubts.specs.Walks.{IsBefore, doubt_of, first_after, followed, sound_after};
+
+use crate::breaks::{is_break, is_idr_picture};
+use crate::doubt::Doubt;
+use crate::entries::names_sound;
+use crate::id_set::IdSet;
+use pictures::AuId;
+use std::alloc::{AllocError, Global};
+use unit_outcomes::Outcome;
+
+/// What was found of the units that were gone over, since the last valid IDR picture.
+#[derive(Debug, Drop)]
+pub struct Walk {
+    /// The first break.
+    first: Option<AuId>,
+    /// The units behind the last break that aren't in doubt. Kept once there is a break.
+    sound: IdSet,
+}
+
+impl Walk {
+    /// A walk that begins at the first unit, or at a valid IDR picture.
+    pub fn new(alloc: Global) -> Walk
+        ensures { (units : List SeenUnit) (at : ℕ) → (at ≡ 0) ⊎ IsIdrAt units at
+            → IsBefore units at result }
+    {
+        Walk {
+            first: None,
+            sound: IdSet::new(alloc),
+        }
+    }
+
+    /// Goes over the next unit, by its id, whether nal_ref_idc of its first slice isn't 0, and its
+    /// outcome. It takes a time that grows with the entries of the unit's lists, and with the
+    /// logarithm of how many units there were.
+    pub fn pass(
+        self,
+        alloc: Global,
+        id: AuId,
+        is_reference: bool,
+        outcome: &Outcome,
+    ) -> Result<(Walk, Doubt), AllocError>
+        ensures { IfOk result (λ passed. (units : List SeenUnit) (at : ℕ) → IdsDiffer units
+            → slice_get units at ≡ Some (record {
+              id = id;
+              is_reference = is_reference;
+              outcome = outcome.now;
+            })
+            → IsBefore units at self
+            → IsDoubt units at passed.1 × IsBefore units (at + 1) passed.0) }
+    {
+        let doubt = self.doubt(outcome);
+        let walk = self.after(alloc, id, is_break(is_reference, outcome), &doubt)?;
+        Ok((walk, doubt))
+    }
+
+    /// What is told of a unit.
+    fn doubt(&self, outcome: &Outcome) -> Doubt
+        ensures { result ≡ doubt_of self.now.first (has self.now.sound) outcome.now }
+    {
+        let follows = self.follows(outcome);
+        Doubt {
+            follows,
+            in_doubt: follows.is_some() && !names_sound(outcome, &self.sound),
+        }
+    }
+
+    /// The break that a unit follows.
+    fn follows(&self, outcome: &Outcome) -> Option<AuId>
+        ensures { result ≡ followed self.now.first outcome.now }
+    {
+        if is_idr_picture(outcome) {
+            None
+        } else {
+            self.first
+        }
+    }
+
+    /// The walk after a unit of which this is told.
+    fn after(self, alloc: Global, id: AuId, breaks: bool, doubt: &Doubt) -> Result<Walk, AllocError>
+        ensures first { IfOk result (λ walk. walk.first ≡ first_after id breaks doubt.now.follows) }
+        ensures sound { IfOk result (λ walk. (other : ℕ) → has walk.sound other
+            ≡ sound_after id breaks doubt.now (has self.sound) other) }
+    {
+        let first = first_after(id, breaks, doubt.follows);
+        let Walk { first: _, sound } = self;
+        let mut sound = if breaks { IdSet::new(alloc) } else { sound };
+        if first.is_some() && !doubt.in_doubt {
+            sound.add(id)?;
+        }
+        Ok(Walk { first, sound })
+    }
+}
+
+/// The first break after a unit that follows this one.
+fn first_after(id: AuId, breaks: bool, follows: Option<AuId>) -> Option<AuId>
+    ensures { result ≡ first_after id breaks follows }
+{
+    match follows {
+        Some(first) => Some(first),
+        None if breaks => Some(id),
+        None => None,
+    }
+}

@@ -1,0 +1,14 @@
+pub mod Cuts
+pub mod Trims
+pub mod Sequences
+pub mod Portions
+pub mod Open
+pub mod Steps
+pub mod Sound
+pub mod Rebuilt
+pub mod Units
+pub mod Linked
+pub mod Written
+pub mod Accepted
+pub mod Unchanged
+pub mod Drawn

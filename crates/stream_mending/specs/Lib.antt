@@ -1,0 +1,10 @@
+pub mod Stretches
+pub mod Pieces
+pub mod Faults
+pub mod Portions
+pub mod Mended
+pub mod Told
+pub mod Runs
+pub mod OpenPortions
+pub mod Mending
+pub mod Kept

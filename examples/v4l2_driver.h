@@ -3,8 +3,8 @@
  * Interface" and "Request API"): made on a device, or printed where there is none. Each function answers whether its calls
  * were made; where one fails, it has said so on standard error.
  *
- * There is one OUTPUT buffer and one request, used again for each slice; each CAPTURE buffer is a surface. A host with more
- * of them keeps the hardware busier.
+ * Each OUTPUT buffer has a request of its own, and both are used again, in turn; each CAPTURE buffer is a surface. With one
+ * OUTPUT buffer the host waits for each request, with several it queues the next ones while the hardware is busy.
  */
 #ifndef V4L2_DRIVER_H
 #define V4L2_DRIVER_H
@@ -22,8 +22,8 @@
 #include <sys/ioctl.h>
 #include <sys/mman.h>
 
-/* The most bytes that the slices of a picture have, and how long a decode may take. */
-enum { MOST_BYTES = 4194304, MILLISECONDS = 5000 };
+/* The most bytes that the slices of a picture have, how long a decode may take, and the most requests that are in flight. */
+enum { MOST_BYTES = 4194304, MILLISECONDS = 5000, MOST_REQUESTS = 16 };
 
 struct queue {
     const char *name;
@@ -32,17 +32,28 @@ struct queue {
     uint32_t planes; /* 0 where the device has the calls without planes */
 };
 
+/* An OUTPUT buffer with its request. */
+struct slot {
+    uint32_t index;
+    int request;
+    uint8_t *bytes;
+    size_t room;
+};
+
 struct driver {
     int video; /* -1 without a device */
     int media;
-    int request;
     bool is_frame_based;
     bool has_start_codes;
-    bool holds; /* whether the CAPTURE buffer can be held over several slices */
+    bool holds;            /* whether the CAPTURE buffer can be held over several slices */
+    bool has_matrices;     /* whether it has the control of scaling matrices; tegra-vde has none */
+    uint32_t requests;     /* how many are wanted in flight */
+    uint32_t has_requests; /* how many were allocated */
     struct queue output;
     struct queue capture;
-    uint8_t *bytes; /* of the OUTPUT buffer */
-    size_t room;
+    struct slot slots[MOST_REQUESTS];
+    uint64_t queued;   /* how many requests were queued */
+    uint64_t finished; /* how many of these came back */
 };
 
 /* Prints a call where there is no device to make it on. */
@@ -61,6 +72,14 @@ static bool failed(const char *what)
     return false;
 }
 
+/* Says what the device can't do where it has to. */
+static bool is_able(bool able, const char *otherwise)
+{
+    if (!able)
+        fprintf(stderr, "v4l2_request: %s\n", otherwise);
+    return able;
+}
+
 static bool is_made(const struct driver *driver, int file, unsigned long call, void *argument, const char *name)
 {
     int answer = 0;
@@ -73,7 +92,7 @@ static bool is_made(const struct driver *driver, int file, unsigned long call, v
 /* Opens both devices; with one name missing there is none, and each call is printed. */
 static bool open_driver(struct driver *driver, const char *video, const char *media)
 {
-    driver->video = driver->media = driver->request = -1;
+    driver->video = driver->media = -1;
     if (video == NULL || media == NULL)
         return true;
     driver->media = open(media, O_RDWR | O_CLOEXEC);
@@ -93,10 +112,8 @@ static bool query(struct driver *driver)
         return false;
     uint32_t able = capability.capabilities & V4L2_CAP_DEVICE_CAPS ? capability.device_caps : capability.capabilities;
     bool has_planes = driver->video < 0 || (able & V4L2_CAP_VIDEO_M2M_MPLANE) != 0;
-    if (!has_planes && (able & V4L2_CAP_VIDEO_M2M) == 0) {
-        fprintf(stderr, "v4l2_request: the device is no decoder\n");
+    if (!is_able(has_planes || (able & V4L2_CAP_VIDEO_M2M) != 0, "the device is no decoder"))
         return false;
-    }
     driver->output.name = "OUTPUT";
     driver->output.type = has_planes ? V4L2_BUF_TYPE_VIDEO_OUTPUT_MPLANE : V4L2_BUF_TYPE_VIDEO_OUTPUT;
     driver->output.planes = has_planes ? 1 : 0;
@@ -106,7 +123,16 @@ static bool query(struct driver *driver)
     return true;
 }
 
-/* Sets the coded format. */
+/* Whether the pictures of a format, which the device may change, are of a size at least. Some make them larger: visl 64x64. */
+static bool has_room(const struct queue *queue, const struct v4l2_format *format, const struct v4l2_ctrl_h264_sps *sps)
+{
+    uint32_t width = queue->planes != 0 ? format->fmt.pix_mp.width : format->fmt.pix.width;
+    uint32_t height = queue->planes != 0 ? format->fmt.pix_mp.height : format->fmt.pix.height;
+    return is_able(width >= 16u * (sps->pic_width_in_mbs_minus1 + 1u) && height >= 16u * (sps->pic_height_in_map_units_minus1 + 1u),
+                   "the device has no pictures as large as the stream's");
+}
+
+/* Sets the coded format, and looks at what the device made of it. */
 static bool set_format(const struct driver *driver, const struct v4l2_ctrl_h264_sps *sps)
 {
     struct v4l2_format format;
@@ -127,7 +153,21 @@ static bool set_format(const struct driver *driver, const struct v4l2_ctrl_h264_
         format.fmt.pix.sizeimage = MOST_BYTES;
     }
     tell(driver, "VIDIOC_S_FMT OUTPUT S264 %ux%u sizeimage %u\n", (unsigned)width, (unsigned)height, (unsigned)MOST_BYTES);
-    return is_made(driver, driver->video, VIDIOC_S_FMT, &format, "VIDIOC_S_FMT OUTPUT");
+    if (!is_made(driver, driver->video, VIDIOC_S_FMT, &format, "VIDIOC_S_FMT OUTPUT"))
+        return false;
+    uint32_t coded = driver->output.planes != 0 ? format.fmt.pix_mp.pixelformat : format.fmt.pix.pixelformat;
+    return is_able(coded == V4L2_PIX_FMT_H264_SLICE, "the device doesn't decode slices of H.264")
+           && has_room(&driver->output, &format, sps);
+}
+
+/* Asks whether the device has the control of scaling matrices. */
+static void ask_matrices(struct driver *driver)
+{
+    struct v4l2_query_ext_ctrl asked;
+    memset(&asked, 0, sizeof asked);
+    asked.id = V4L2_CID_STATELESS_H264_SCALING_MATRIX;
+    tell(driver, "VIDIOC_QUERY_EXT_CTRL scaling_matrix\n");
+    driver->has_matrices = driver->video < 0 || ioctl(driver->video, VIDIOC_QUERY_EXT_CTRL, &asked) == 0;
 }
 
 /* Adds a control to those of a call. */
@@ -146,12 +186,13 @@ static void add_number(struct v4l2_ext_control *controls, uint32_t *count, uint3
     controls[*count - 1].value = value;
 }
 
-static bool set_controls(const struct driver *driver, struct v4l2_ext_control *controls, uint32_t count, bool of_request)
+/* Sets controls of the request of a slot, or without one of the device. */
+static bool set_controls(const struct driver *driver, struct v4l2_ext_control *controls, uint32_t count, const struct slot *slot)
 {
     struct v4l2_ext_controls all;
     memset(&all, 0, sizeof all);
-    all.which = of_request ? V4L2_CTRL_WHICH_REQUEST_VAL : V4L2_CTRL_WHICH_CUR_VAL;
-    all.request_fd = of_request ? driver->request : 0;
+    all.which = slot != NULL ? V4L2_CTRL_WHICH_REQUEST_VAL : V4L2_CTRL_WHICH_CUR_VAL;
+    all.request_fd = slot != NULL ? slot->request : 0;
     all.count = count;
     all.controls = controls;
     return is_made(driver, driver->video, VIDIOC_S_EXT_CTRLS, &all, "VIDIOC_S_EXT_CTRLS");
@@ -170,24 +211,26 @@ static bool set_modes(const struct driver *driver, struct v4l2_ctrl_h264_sps *sp
     add(controls, &count, V4L2_CID_STATELESS_H264_SPS, sps, sizeof *sps);
     tell(driver, "VIDIOC_S_EXT_CTRLS decode_mode %s start_code %s sps\n", driver->is_frame_based ? "frame_based" : "slice_based",
          driver->has_start_codes ? "annex_b" : "none");
-    return set_controls(driver, controls, count, false);
+    return set_controls(driver, controls, count, NULL);
 }
 
-/* Asks how many planes a surface has, in the format that the driver chose. */
-static bool get_format(struct driver *driver)
+/* Asks how many planes a surface has, and how large it is, in the format that the driver chose. */
+static bool get_format(struct driver *driver, const struct v4l2_ctrl_h264_sps *sps)
 {
     struct v4l2_format format;
     memset(&format, 0, sizeof format);
     format.type = driver->capture.type;
     tell(driver, "VIDIOC_G_FMT CAPTURE\n");
+    if (driver->video < 0)
+        return true;
     if (!is_made(driver, driver->video, VIDIOC_G_FMT, &format, "VIDIOC_G_FMT CAPTURE"))
         return false;
-    if (driver->capture.planes != 0 && driver->video >= 0)
+    if (driver->capture.planes != 0)
         driver->capture.planes = format.fmt.pix_mp.num_planes;
-    return true;
+    return has_room(&driver->capture, &format, sps);
 }
 
-/* Asks for buffers; what the queue is able to, where it gives some. */
+/* Asks for buffers, of which the device may give fewer or more, or with 0 has those that there are freed; what it is able to. */
 static bool ask_buffers(const struct driver *driver, struct queue *queue, uint32_t count, uint32_t *able)
 {
     struct v4l2_requestbuffers asked;
@@ -198,7 +241,7 @@ static bool ask_buffers(const struct driver *driver, struct queue *queue, uint32
     tell(driver, "VIDIOC_REQBUFS %s %u\n", queue->name, (unsigned)count);
     if (!is_made(driver, driver->video, VIDIOC_REQBUFS, &asked, "VIDIOC_REQBUFS"))
         return false;
-    queue->buffers = asked.count;
+    queue->buffers = asked.count < count ? asked.count : count;
     *able = driver->video < 0 ? V4L2_BUF_CAP_SUPPORTS_REQUESTS | V4L2_BUF_CAP_SUPPORTS_M2M_HOLD_CAPTURE_BUF : asked.capabilities;
     return true;
 }
@@ -215,25 +258,45 @@ static void prepare(const struct queue *queue, struct v4l2_buffer *buffer, struc
     }
 }
 
-/* Maps the OUTPUT buffer; without a device it has memory of the caller's. */
-static bool map_output(struct driver *driver, uint8_t *memory)
+/* Maps an OUTPUT buffer; without a device it has memory of the caller's. */
+static bool map_output(const struct driver *driver, struct slot *slot, uint8_t *memory)
 {
     struct v4l2_buffer buffer;
     struct v4l2_plane planes[VIDEO_MAX_PLANES];
     prepare(&driver->output, &buffer, planes);
-    tell(driver, "VIDIOC_QUERYBUF OUTPUT\nmmap\n");
-    driver->bytes = memory;
-    driver->room = MOST_BYTES;
+    buffer.index = slot->index;
+    tell(driver, "VIDIOC_QUERYBUF OUTPUT index %u\nmmap\n", (unsigned)slot->index);
+    slot->bytes = memory;
+    slot->room = MOST_BYTES;
     if (driver->video < 0)
         return true;
     if (!is_made(driver, driver->video, VIDIOC_QUERYBUF, &buffer, "VIDIOC_QUERYBUF"))
         return false;
-    driver->room = driver->output.planes != 0 ? planes[0].length : buffer.length;
+    slot->room = driver->output.planes != 0 ? planes[0].length : buffer.length;
     off_t offset = (off_t)(driver->output.planes != 0 ? planes[0].m.mem_offset : buffer.m.offset);
-    void *mapped = mmap(NULL, driver->room, PROT_READ | PROT_WRITE, MAP_SHARED, driver->video, offset);
+    void *mapped = mmap(NULL, slot->room, PROT_READ | PROT_WRITE, MAP_SHARED, driver->video, offset);
     if (mapped == MAP_FAILED)
         return failed("mmap");
-    driver->bytes = (uint8_t *)mapped;
+    slot->bytes = (uint8_t *)mapped;
+    return true;
+}
+
+/* Maps each OUTPUT buffer, and allocates the requests that are missing. */
+static bool make_slots(struct driver *driver, uint8_t *memory)
+{
+    for (uint32_t i = 0; i < driver->output.buffers; i++) {
+        struct slot *slot = &driver->slots[i];
+        slot->index = i;
+        if (!map_output(driver, slot, memory + (size_t)i * MOST_BYTES))
+            return false;
+        if (i < driver->has_requests)
+            continue;
+        tell(driver, "MEDIA_IOC_REQUEST_ALLOC\n");
+        if (!is_made(driver, driver->media, MEDIA_IOC_REQUEST_ALLOC, &slot->request, "MEDIA_IOC_REQUEST_ALLOC"))
+            return false;
+        driver->has_requests = i + 1;
+    }
+    driver->queued = driver->finished = 0;
     return true;
 }
 
@@ -249,84 +312,37 @@ static bool set_up(struct driver *driver, struct v4l2_ctrl_h264_sps *sps, uint32
 {
     uint32_t able = 0;
     uint32_t able_to_capture = 0;
-    if (!query(driver) || !set_format(driver, sps) || !set_modes(driver, sps) || !get_format(driver)
-        || !ask_buffers(driver, &driver->output, 1, &able)
+    if (!query(driver) || !set_format(driver, sps) || !set_modes(driver, sps) || !get_format(driver, sps)
+        || !ask_buffers(driver, &driver->output, driver->requests, &able)
         || !ask_buffers(driver, &driver->capture, surfaces, &able_to_capture))
         return false;
+    ask_matrices(driver);
     driver->holds = (able & V4L2_BUF_CAP_SUPPORTS_M2M_HOLD_CAPTURE_BUF) != 0;
-    if ((able & V4L2_BUF_CAP_SUPPORTS_REQUESTS) == 0) {
-        fprintf(stderr, "v4l2_request: the device has no requests\n");
-        return false;
-    }
-    if (!map_output(driver, memory))
-        return false;
-    tell(driver, "MEDIA_IOC_REQUEST_ALLOC\n");
-    return is_made(driver, driver->media, MEDIA_IOC_REQUEST_ALLOC, &driver->request, "MEDIA_IOC_REQUEST_ALLOC")
-           && start(driver, &driver->output) && start(driver, &driver->capture);
+    return is_able((able & V4L2_BUF_CAP_SUPPORTS_REQUESTS) != 0, "the device has no requests")
+           && is_able(driver->output.buffers > 0, "the device gives no OUTPUT buffer")
+           && is_able(driver->capture.buffers > sps->max_num_ref_frames, "the device gives fewer surfaces than a picture needs")
+           && make_slots(driver, memory) && start(driver, &driver->output) && start(driver, &driver->capture);
 }
 
-/* Queues a surface to be decoded into. */
-static bool queue_capture(const struct driver *driver, uint32_t index)
+/* Stops a queue. Its buffers are the host's again, whatever the hardware was about. */
+static bool stop_queue(const struct driver *driver, const struct queue *queue)
 {
-    struct v4l2_buffer buffer;
-    struct v4l2_plane planes[VIDEO_MAX_PLANES];
-    prepare(&driver->capture, &buffer, planes);
-    buffer.index = index;
-    tell(driver, "VIDIOC_QBUF CAPTURE index %u\n", (unsigned)index);
-    return is_made(driver, driver->video, VIDIOC_QBUF, &buffer, "VIDIOC_QBUF CAPTURE");
+    int type = (int)queue->type;
+    tell(driver, "VIDIOC_STREAMOFF %s\n", queue->name);
+    return is_made(driver, driver->video, VIDIOC_STREAMOFF, &type, "VIDIOC_STREAMOFF");
 }
 
-/* Queues the OUTPUT buffer, with so many bytes, into the request. */
-static bool queue_output(const struct driver *driver, size_t bytes, uint64_t timestamp, bool hold)
+/* Stops both queues and frees their buffers, so that another format can be set. No request is in flight. */
+static bool take_down(struct driver *driver)
 {
-    struct v4l2_buffer buffer;
-    struct v4l2_plane planes[VIDEO_MAX_PLANES];
-    prepare(&driver->output, &buffer, planes);
-    buffer.flags = V4L2_BUF_FLAG_REQUEST_FD | (hold ? V4L2_BUF_FLAG_M2M_HOLD_CAPTURE_BUF : 0u);
-    buffer.request_fd = driver->request;
-    buffer.timestamp.tv_sec = (time_t)(timestamp / 1000000000u);
-    buffer.timestamp.tv_usec = (suseconds_t)(timestamp % 1000000000u / 1000u);
-    planes[0].bytesused = (uint32_t)bytes;
-    if (driver->output.planes == 0)
-        buffer.bytesused = (uint32_t)bytes;
-    tell(driver, "VIDIOC_QBUF OUTPUT bytes %lu timestamp %llu hold %d\n", (unsigned long)bytes, (unsigned long long)timestamp,
-         (int)hold);
-    return is_made(driver, driver->video, VIDIOC_QBUF, &buffer, "VIDIOC_QBUF OUTPUT");
-}
-
-/* Takes a buffer back, which has to be free of errors. */
-static bool dequeue(const struct driver *driver, const struct queue *queue)
-{
-    struct v4l2_buffer buffer;
-    struct v4l2_plane planes[VIDEO_MAX_PLANES];
-    prepare(queue, &buffer, planes);
-    tell(driver, "VIDIOC_DQBUF %s\n", queue->name);
-    if (!is_made(driver, driver->video, VIDIOC_DQBUF, &buffer, "VIDIOC_DQBUF"))
+    uint32_t able = 0;
+    if (!stop_queue(driver, &driver->output) || !stop_queue(driver, &driver->capture))
         return false;
-    if ((buffer.flags & V4L2_BUF_FLAG_ERROR) != 0)
-        fprintf(stderr, "v4l2_request: the device could not decode\n");
-    return (buffer.flags & V4L2_BUF_FLAG_ERROR) == 0;
-}
-
-/* Sends the request off, waits for its end, and makes it ready to be used again. */
-static bool run_request(const struct driver *driver)
-{
-    tell(driver, "MEDIA_REQUEST_IOC_QUEUE\npoll\n");
-    if (!is_made(driver, driver->request, MEDIA_REQUEST_IOC_QUEUE, NULL, "MEDIA_REQUEST_IOC_QUEUE"))
-        return false;
-    struct pollfd waited = {driver->request, POLLPRI, 0};
-    int answer = 1;
-    do
-        answer = driver->video < 0 ? 1 : poll(&waited, 1, MILLISECONDS);
-    while (answer < 0 && errno == EINTR);
-    if (answer == 0)
-        errno = ETIMEDOUT;
-    if (answer <= 0)
-        return failed("poll");
-    if (!dequeue(driver, &driver->output))
-        return false;
-    tell(driver, "MEDIA_REQUEST_IOC_REINIT\n");
-    return is_made(driver, driver->request, MEDIA_REQUEST_IOC_REINIT, NULL, "MEDIA_REQUEST_IOC_REINIT");
+    tell(driver, "munmap\n");
+    for (uint32_t i = 0; driver->video >= 0 && i < driver->output.buffers; i++)
+        if (munmap(driver->slots[i].bytes, driver->slots[i].room) != 0)
+            return failed("munmap");
+    return ask_buffers(driver, &driver->output, 0, &able) && ask_buffers(driver, &driver->capture, 0, &able);
 }
 
 #endif

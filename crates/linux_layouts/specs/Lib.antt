@@ -5,3 +5,4 @@ pub mod PredWeightsLayout
 pub mod SliceParamsLayout
 pub mod DpbLayout
 pub mod DecodeParamsLayout
+pub mod FrameControlsLayout

@@ -3,6 +3,7 @@
 
 mod distinct;
 mod flags;
+mod frames;
 mod growth;
 
 use self::distinct::distinct_controls;

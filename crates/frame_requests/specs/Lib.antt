@@ -1,0 +1,3 @@
+pub mod FrameFlags
+pub mod FrameRequests
+pub mod FrameBytes

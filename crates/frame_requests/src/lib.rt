@@ -1,0 +1,15 @@
+//! The request of a whole picture, for decoders that take pictures and not slices
+//! (V4L2_STATELESS_H264_DECODE_MODE_FRAME_BASED).
+//!
+//! It is made of the requests of the picture's slices: `FrameRequest` shares what the first of them
+//! has, with the flags of all, and `frame_bytes` joins their bytes. Below is h264_controls; above is
+//! linux_layouts.
+#![tactic(auto)]
+
+mod flags;
+mod joining;
+mod request;
+
+pub use flags::FrameFlags;
+pub use joining::{StartCode, frame_bytes, frame_size};
+pub use request::FrameRequest;

@@ -15,6 +15,11 @@
     scripts         scripts that run on one, and the lines that answer them
     serve_model     what `preview serve` answers
     kernel_structs  the structs of the kernel's header, and records of requests made of them
+    kernel_guest    a guest of qemu with Debian's kernel and its virtual decoder
+    kernel_trace    what that kernel's trace has of requests
+    kernel_jobs     runs of the example host in the guest, and what the kernel was told by them
+    frame_places    where a driver puts frames that it numbers by the entries of the buffer
+    kernel_spoils   the same with spoiled controls
     decode_stream   the program bench/decode_stream, built where it is missing
     damage          damaged copies of streams
 

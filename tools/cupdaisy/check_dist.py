@@ -10,22 +10,24 @@ import time
 from typing import NamedTuple
 
 from cupdaisy import processes
-from cupdaisy.command_line import parser_of
+from cupdaisy.command_line import are_installed, parser_of
+from cupdaisy.dist import wanted_files
 from cupdaisy.workspace import TOP
 
 SECONDS, NOBODY = 2, 65534
 # What a shell script of tools/ may call.
 COMMANDS = "awk cat date dirname find mkdir mv rm sh sha256sum sort uname xargs".split()
-PROGRAM = "dist/x86_64-linux/preview"
+PROGRAM, FOR_ARM = "dist/x86_64-linux/preview", "dist/aarch64-linux/libcupdaisy.a"
+CROSS_COMPILER, EMULATOR = "aarch64-linux-gnu-gcc", "qemu-aarch64"
+# Where commands are, but for the toolchain.
+SYSTEM = "/usr/sbin:/usr/bin:/sbin:/bin"
 OTHER_SOURCES = "dist/'s program was built from other sources"
 README_LINES = re.compile(r"```sh\nbin/preview plan samples/clock.264\n```.*?```text\n(.*?)```", re.DOTALL)
 PASSED = "7 passed, 0 failed"
-RT = """#!/bin/sh
-case $1 in
+RT = """case $1 in
   ci) echo "$SAID"; case $SAID in *' 0 failed') ;; *) exit 1 ;; esac ;;
   *) exec {rt} "$@" ;;
-esac
-"""
+esac"""
 
 
 class Ran(NamedTuple):
@@ -43,7 +45,7 @@ class Checker:
     """Runs commands in a clone, and counts what isn't as expected."""
 
     def __init__(self, room, root):
-        self.root, self.clone, self.path = root, room / "clone", "/usr/sbin:/usr/bin:/sbin:/bin"
+        self.root, self.clone, self.path = root, room / "clone", SYSTEM
         subprocess.run(["git", "clone", "-q", TOP, self.clone], check=True)
         self.commands, self.failures = room / "commands", 0
         self.runs = 0
@@ -81,9 +83,13 @@ class Checker:
     def serves(self, what, **how):
         """Expects README.md's lines, from dist's program."""
         ran = self.run("plan", "samples/clock.264", **how)
-        begins = README_LINES.search((self.clone / "README.md").read_text())[1]
-        self.expect(what, ran.status == 0 and ran.output.startswith(begins) and not ran.errors, ran)
+        self.expect(what, self.is_planned(ran), ran)
         return ran.seconds
+
+    def is_planned(self, ran):
+        """Whether a run printed README.md's lines."""
+        begins = README_LINES.search((self.clone / "README.md").read_text())[1]
+        return ran.status == 0 and ran.output.startswith(begins) and not ran.errors
 
     def refuses(self, what, why, **how):
         """Expects that dist's program isn't run for this reason, and that nothing else is without the toolchain."""
@@ -106,6 +112,20 @@ def changed(path):
     yield
     path.write_bytes(text)
     os.utime(path, ns=(times.st_atime_ns, times.st_mtime_ns))
+
+
+def put_command(path, lines):
+    """Puts a command there, of lines of a shell."""
+    path.write_text(f"#!/bin/sh\n{lines}\n")
+    path.chmod(0o755)
+
+
+@contextlib.contextmanager
+def command(path, line):
+    """Another command, a line of a shell."""
+    put_command(path, line)
+    yield
+    path.unlink()
 
 
 def check_first_run(it):
@@ -166,9 +186,12 @@ def check_refusals(it):
     it.refuses("CUPDAISY_BUILD=1", "CUPDAISY_BUILD is 1", CUPDAISY_BUILD="1")
     other = it.clone / "crates/preview/out/commands"
     other.mkdir()
-    (other / "uname").write_text("#!/bin/sh\necho Linux aarch64\n")
-    (other / "uname").chmod(0o755)
-    it.refuses("another processor", "no program for Linux aarch64", path=f"{it.inside(other)}:{it.path}")
+    with command(other / "uname", "echo Linux aarch64"):
+        it.refuses("another processor", "no program for Linux aarch64", path=f"{it.inside(other)}:{it.path}")
+    with command(other / "cat", "echo 'flags : fpu cx16 lahf_lm pni sse4_1 sse4_2 avx ssse3x'"):
+        ran = it.run("plan", "samples/clock.264", path=f"{it.inside(other)}:{it.path}")
+        told = "x86-64-v2" in ran.errors and ran.errors.endswith(" lacks popcnt ssse3\n")
+        it.expect("an old processor", ran.status == 1 and not ran.output and told, ran)
     (it.clone / "dist").rename(it.clone / "gone")
     it.refuses("no dist", "has no program")
     (it.clone / "gone").rename(it.clone / "dist")
@@ -185,41 +208,71 @@ def check_unwritable(it):
             print("a checkout that can't be written was written")
 
 
+def check_arm(it):
+    """The library for ARM boards in a clone without the toolchain: what a compiler for these makes prints README.md's lines under
+    the emulator; then one for this machine makes all anew."""
+    def make(compiler, *words):
+        ran = it.run("--silent", f"CC={compiler}", *words, command=shutil.which("make"), path=SYSTEM)
+        it.expect(f"make CC={compiler} {words}", ran.status == 0, ran)
+        return ran
+
+    make(CROSS_COMPILER, "examples")
+    ran = it.run("-L", "/usr/aarch64-linux-gnu", "build/plan_lines", "samples/clock.264", command=shutil.which(EMULATOR))
+    it.expect("README.md's lines under the emulator", it.is_planned(ran), ran)
+    ran = make(CROSS_COMPILER, "install", "DESTDIR=build/board")
+    board = it.clone / "build/board/usr/local"
+    is_whole = (board / "lib/libcupdaisy.a").exists() and not (board / "bin/preview").exists()
+    it.expect("what is installed for a board", is_whole, ran)
+    make("gcc", "build/plan_lines")
+    it.expect("README.md's lines by this machine", it.is_planned(it.run("samples/clock.264", command="build/plan_lines")), ran)
+
+
+def put_where_built(it):
+    """Puts each file of dist/ where it would have been built; the paths."""
+    places = [it.clone / file.built for file in wanted_files()]
+    for file, built in zip(wanted_files(), places):
+        built.parent.mkdir(parents=True, exist_ok=True)
+        shutil.copy(it.clone / "dist" / file.path, built)
+    return places
+
+
 def check_make(it, built):
-    """`tools/dist --make` makes of dist's program what is there, and nothing of one that isn't built of what git knows."""
+    """`tools/dist --make` makes of dist's files what is there, and nothing of one that isn't built of what git knows."""
     def expect(what, holds, words):
         ran = it.run("--make", command="tools/dist", path=os.environ["PATH"])
         same = not processes.printed(["git", "status", "--porcelain", "dist"], cwd=it.clone)
         it.expect(what, same and (ran.status == 0) == holds and words in ran.output, ran)
 
-    expect("dist made anew", True, f"wrote {PROGRAM}")
+    for path in (PROGRAM, FOR_ARM):
+        expect("dist made anew", True, f"wrote {path}")
     more = it.clone / "crates/annexb/src/more"
     more.touch()
     expect("dist made of a source that git doesn't know", False, "git doesn't know crates/annexb/src/more")
     more.unlink()
-    os.utime(built, (0, 0))
+    os.utime(built[0], (0, 0))
     expect("dist made of an old program", False, "is older than")
 
 
 def check_gate(it, rt, built):
-    """.ci/run, with an rt whose `ci` only says that it passed, and with dist's program as what it built."""
-    commands = built.parent / "commands"
+    """.ci/run, with an rt whose `ci` only says that it passed, and with dist's files as what it built."""
+    commands = built[0].parent / "commands"
     commands.mkdir()
-    (commands / "rt").write_text(RT.format(rt=rt))
-    (commands / "rt").chmod(0o755)
+    put_command(commands / "rt", RT.format(rt=rt))
 
     def gate(what, last, *words, said=PASSED):
-        built.touch()
+        for path in built:
+            path.touch()
         ran = it.run(command=".ci/run", path=f"{commands}:{os.environ['PATH']}", SAID=said)
         named = all(word in ran.output for word in words)
         passes = (ran.status == 0) == last.endswith(" 0 failed")
         it.expect(f"the gate with {what}", passes and named and f"\n{ran.output}".endswith(f"\n{last}\n"), ran)
 
     gate("all as it is", PASSED, "each file is what was built")
+    put_command(commands / "make", "exit 0")    # so the tests of the C interface are run once
     gate("a failure of rt ci", "6 passed, 1 failed", said="6 passed, 1 failed")
-    for path in (it.clone / PROGRAM, built):
+    for path, named in ((it.clone / PROGRAM, PROGRAM), (built[0], PROGRAM), (it.clone / FOR_ARM, FOR_ARM), (built[-1], FOR_ARM)):
         with changed(path):
-            gate(f"a byte of {path.name} changed", "7 passed, 1 failed", f"{PROGRAM} differs")
+            gate(f"a byte of {path} changed", "7 passed, 1 failed", f"{named} differs")
     with changed(it.file("crates/edit_engine/src/*.rt")):
         gate("other sources", PASSED, "other sources")
     manifest = it.clone / "dist/MANIFEST"
@@ -227,7 +280,7 @@ def check_gate(it, rt, built):
     manifest.write_text(re.sub("(?m)^toolchain .*", "toolchain another", text))
     gate("another toolchain", PASSED, "another toolchain, another")
     manifest.write_text(re.sub("(?m)^file .", "file x", text))
-    gate("another checksum", "7 passed, 1 failed", f"{PROGRAM} has another checksum")
+    gate("another checksum", "7 passed, 1 failed", f"{PROGRAM} has another checksum", f"{FOR_ARM} has another checksum")
     manifest.write_text(text)
     (it.clone / "dist/x86_64-linux/more").touch()
     gate("a file more", "7 passed, 1 failed", "dist/x86_64-linux/more")
@@ -242,11 +295,13 @@ def main(doc):
         it = Checker(pathlib.Path(room), root)
         for check in (check_first_run, check_passing, check_sources, check_refusals, check_unwritable):
             check(it)
+        if are_installed("make", CROSS_COMPILER, EMULATOR) and not root:
+            check_arm(it)
+        else:
+            print("the library for ARM boards wasn't tried: that takes a compiler for these, qemu-user, and no --root")
         rt = shutil.which("rt")
         if rt and not root:
-            built = it.clone / "crates/preview/out/preview"
-            built.parent.mkdir(parents=True)
-            shutil.copy(it.clone / PROGRAM, built)
+            built = put_where_built(it)
             check_make(it, built)
             check_gate(it, rt, built)
         else:

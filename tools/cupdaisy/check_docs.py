@@ -16,7 +16,7 @@ WORDS, BYTES, LINES = 30, 8192, 200
 BLOCK = re.compile(r"^```(\w+)\n(.*?)^```$", re.DOTALL | re.MULTILINE)
 PATH = re.compile(r"(?<![\w/.`])((?:docs|tools|bench|samples|bin|examples|include|dist|crates)/[\w./-]*\w)")
 # What is made, and no part of the repository.
-MADE = ("bin/preview", "dist/x86_64-linux", "crates/NAME", "crates/preview/out")
+MADE = ("bin/preview", "dist/x86_64-linux", "dist/aarch64-linux", "crates/NAME", "crates/preview/out")
 
 
 class Block(NamedTuple):

@@ -7,6 +7,7 @@ import subprocess
 import tempfile
 from typing import NamedTuple
 
+from cupdaisy.build_library import TARGETS
 from cupdaisy.command_line import are_installed, parser_of
 from cupdaisy.processes import printed, printed_with_errors
 from cupdaisy.workspace import TOP, checksum_of, crates, kit, sources_of
@@ -25,9 +26,14 @@ class File(NamedTuple):
     build: tuple = ()
 
 
+def library_for(target):
+    """The library for a machine."""
+    return File("cupdaisy", f"{target}/libcupdaisy.a", f"crates/cupdaisy/out/{target}/libcupdaisy.a",
+                build=("tools/build-library", "cupdaisy", target))
+
+
 FILES = (File("preview", "x86_64-linux/preview", "crates/preview/out/preview", strip=("--strip-all",)),
-         File("cupdaisy", "x86_64-linux/libcupdaisy.a", "crates/cupdaisy/out/libcupdaisy.a",
-              build=("tools/build-library", "cupdaisy")))
+         *map(library_for, TARGETS))
 
 
 class Manifest(NamedTuple):
@@ -99,7 +105,7 @@ def stop_on_unknown(names):
 
 def make():
     """Writes dist/ anew; whether it could."""
-    names = [file.crate for file in wanted_files()]
+    names = list(dict.fromkeys(file.crate for file in wanted_files()))
     try:
         stop_on_unknown(names)
         contents = [(file, content_of(file)) for file in wanted_files()]

@@ -3,7 +3,7 @@
 ghost use Rattle.session_calls.specs.Jobs.{GivesBackTo, LandsTo, TakesForTo, TakesTo};
 ghost use Rattle.session_calls.specs.JobInputs.{TellsPicture, input_told, reference_told};
 ghost use Rattle.session_calls.specs.Telling.{Tells};
-ghost use Rattle.edit_engine.specs.Taken.{input_of};
+ghost use Rattle.stream_session.specs.Taken.{input_of};
 ghost use Rattle.cupdaisy.specs.Calls.{Asks, Changes, Does};
 
 use crate::Handle;

@@ -1,7 +1,7 @@
 //! Sessions that are opened and closed.
 
 ghost use Rattle.std.specs.Prelude.{◌≡◌, ◌⊎◌, MatchResult};
-ghost use Rattle.edit_engine.specs.Machines.{empty};
+ghost use Rattle.stream_session.specs.Machines.{empty};
 ghost use Rattle.session_calls.specs.Statuses.{cache_range, memory};
 ghost use Rattle.cupdaisy.specs.Opening.{Closes, IsRoom, Opens};
 

@@ -5,7 +5,8 @@ use Rattle.std.proofs.lemmas.Bool.{cases_lt}
 use Rattle.std.proofs.lemmas.Option.{slice_get_within, slice_get-map}
 use Rattle.std.specs.declared.alloc.AllocError.{AllocError}
 use Rattle.stand_in_device.specs.Jobs.{JobValue}
-use Rattle.picture_keys.specs.Keys.{Key}
+use Rattle.stand_in_device.specs.KeyPictures.{IsPicture}
+use Rattle.decode_jobs.specs.Keys.{Key}
 use Rattle.picture_keys.specs.Known.{key_of, known_after}
 use Rattle.picture_store.specs.declared.refusals.TakeRefused.{TakeRefused}
 use Rattle.picture_store.specs.declared.refusals.TakeRefused.TheVariants as take
@@ -13,18 +14,19 @@ use Rattle.picture_store.specs.declared.answers.Landing.{Landing}
 use Rattle.picture_store.specs.declared.answers.Landing.TheVariants as landings
 use Rattle.picture_store.specs.declared.answers.Returning.{Returning}
 use Rattle.picture_store.specs.declared.answers.Returning.TheVariants as returnings
-use Rattle.picture_store.specs.Stores.{OutValue, StoreValue}
+use Rattle.edit_engine.specs.Machines.{OutValue, StoreValue, Machine}
 use Rattle.picture_store.specs.Jobs as pictures
 use Rattle.stream_edits.specs.declared.edits.Edit.{Edit}
 use Rattle.stream_edits.specs.declared.group_refused.GroupRefused.{GroupRefused}
 use Rattle.stream_edits.specs.declared.receipts.GroupReceipt.{GroupReceipt}
 use Rattle.stream_edits.specs.declared.receipts.Receipt.{Receipt}
 use Rattle.stream_edits.specs.declared.refusals.EditRefused.{EditRefused}
-use Rattle.edit_engine.specs.declared.showing.Dropping.{Dropping}
-use Rattle.edit_engine.specs.declared.showing.Dropping.TheVariants as dropping
-use Rattle.edit_engine.specs.Grouping.{AnswersGroup}
-use Rattle.edit_engine.specs.Machines.{Machine, AnswersEdit, empty, store_of}
-use Rattle.edit_engine.specs.Jobs.{AnswersTake, AnswersLand, AnswersGiveBack}
+use Rattle.edit_engine.specs.declared.dropping.Dropping.{Dropping}
+use Rattle.edit_engine.specs.declared.dropping.Dropping.TheVariants as dropping
+use Rattle.stream_session.specs.Grouping.{AnswersGroup}
+use Rattle.stream_session.specs.Machines.{AnswersEdit, empty, store_of, uncached}
+use Rattle.edit_engine.specs.Jobs.{AnswersTake, AnswersLand}
+use Rattle.stream_session.specs.Jobs.{AnswersGiveBack}
 use Rattle.edit_engine.specs.Needing.{AnswersTakeFor}
 use Rattle.worker_jobs.specs.Taking.{AnswersTakeFirst}
 use Rattle.decode_pool.specs.Jobs.{JobsDiffer}
@@ -143,7 +145,7 @@ less_differ old new gone within outs jobs apart = record {
 pub taken_differ : (old new : Machine) (answer : Result (Option JobValue) TakeRefused) → AnswersTake old answer new
     → JobsDiffer old → JobsDiffer new
 taken_differ old new (Ok (Some job)) answers apart =
-    let takes : pictures.Takes (store_of old) job (store_of new) = answers.0 in
+    let takes : pictures.Takes IsPicture (store_of old) job (store_of new) = answers.0 in
     let more : OutValue = record {
       number = job.number;
       key = key_of (known_after [] takes.before) takes.plan.requests;
@@ -165,7 +167,7 @@ taken_differ old new (Err take.Memory) answers apart =
 taken_for_differ : (old new : Machine) (id : ℕ) (answer : Result (Option JobValue) TakeRefused)
     → AnswersTakeFor old id answer new → JobsDiffer old → JobsDiffer new
 taken_for_differ old new id (Ok (Some job)) answers apart =
-    let gives : pictures.Gives (store_of old) answers.1.at job (store_of new) = answers.1.takes.gives in
+    let gives : pictures.Gives IsPicture (store_of old) answers.1.at job (store_of new) = answers.1.takes.gives in
     let more : OutValue = record {
       number = job.number;
       key = key_of (known_after [] gives.before) gives.plan.requests;
@@ -223,16 +225,16 @@ took_differ old new before (Err refused) after takes apart =
 pub landed_differ : (old new : Machine) (job : JobValue) (landing : Landing) → AnswersLand old job landing new
     → JobsDiffer old → JobsDiffer new
 landed_differ old new job landings.Foreign answers apart =
-    same_differ old new (ap (λ (store : StoreValue). store.jobs_out) answers.0.1)
-    (ap (λ (store : StoreValue). store.jobs_given) answers.0.1) apart
+    same_differ old new (ap (λ (store : StoreValue). store.jobs_out) answers.0.2.1)
+    (ap (λ (store : StoreValue). store.jobs_given) answers.0.2.1) apart
 landed_differ old new job landings.Stale answers apart =
-    let gone = answers.0 in
+    let gone = answers.0.2 in
     less_differ old new gone.0 (slice_get_within old.jobs_out gone.0 gone.1 gone.2.stands)
-    (ap (λ (store : StoreValue). store.jobs_out) gone.4) (ap (λ (store : StoreValue). store.jobs_given) gone.4) apart
+    (ap (λ (store : StoreValue). store.jobs_out) gone.3.1) (ap (λ (store : StoreValue). store.jobs_given) gone.3.1) apart
 landed_differ old new job landings.Taken answers apart =
-    let gone = answers.0 in
+    let gone = answers.0.2 in
     less_differ old new gone.0 (slice_get_within old.jobs_out gone.0 gone.1 gone.2.stands)
-    (ap (λ (store : StoreValue). store.jobs_out) gone.6) (ap (λ (store : StoreValue). store.jobs_given) gone.6) apart
+    (ap (λ (store : StoreValue). store.jobs_out) gone.3.4) (ap (λ (store : StoreValue). store.jobs_given) gone.3.4) apart
 
 -- after a worker gives a job back
 pub given_back_differ : (old new : Machine) (job : JobValue) (returning : Returning)
@@ -275,8 +277,8 @@ group_differ old new edits (Err refused) made apart =
 pub dropped_differ : (old new : Machine) (id : ℕ) (answer : Result Dropping AllocError)
     → AnswersDropIn old id answer new → JobsDiffer old → JobsDiffer new
 dropped_differ old new id (Ok dropping.Dropped) answers apart =
-    same_differ old new (ap (λ (store : StoreValue). store.jobs_out) answers.2.4)
-    (ap (λ (store : StoreValue). store.jobs_given) answers.2.4) apart
+    same_differ old new (ap (λ (store : StoreValue). store.jobs_out) answers.1.2.6)
+    (ap (λ (store : StoreValue). store.jobs_given) answers.1.2.6) apart
 dropped_differ old new id (Ok dropping.NotHeld) answers apart =
     same_differ old new (ap (λ (store : StoreValue). store.jobs_out) answers.2.1)
     (ap (λ (store : StoreValue). store.jobs_given) answers.2.1) apart
@@ -288,6 +290,6 @@ dropped_differ old new id (Err wanted) answers apart =
     (ap (λ (machine : Machine). machine.jobs) answers) apart
 
 -- after the cache is cleared
-pub cleared_differ : (old new : Machine) → new ≡ record old { cached = [] } → JobsDiffer old → JobsDiffer new
+pub cleared_differ : (old new : Machine) → new ≡ uncached old → JobsDiffer old → JobsDiffer new
 cleared_differ old new same apart =
     same_differ old new (ap (λ (machine : Machine). machine.jobs_out) same) (ap (λ (machine : Machine). machine.jobs) same) apart

@@ -5,7 +5,8 @@ use Rattle.picture_store.specs.declared.answers.Landing.{Landing}
 use Rattle.picture_store.specs.declared.answers.Returning.{Returning}
 use Rattle.picture_store.specs.declared.refusals.TakeRefused.{TakeRefused}
 use Rattle.edit_engine.specs.Machines.{Machine}
-use Rattle.edit_engine.specs.Jobs.{AnswersGiveBack, AnswersLand, AnswersTake}
+use Rattle.edit_engine.specs.Jobs.{AnswersTake, AnswersLand}
+use Rattle.stream_session.specs.Jobs.{AnswersGiveBack}
 use Rattle.worker_jobs.specs.Taking.{AnswersTakeFirst, NoneDue}
 use Rattle.worker_jobs.specs.Wanted.{Wants, urgent}
 use Rattle.worker_jobs.specs.declared.tally.Counts.{Counts}

@@ -1,6 +1,6 @@
 -- The jobs that are out.
 use Rattle.std.specs.Prelude.{◌≡◌, ℕ, ◌<◌, ◌≤◌, Some, slice_get}
-use Rattle.picture_store.specs.Stores.{OutValue}
+use Rattle.edit_engine.specs.Machines.{OutValue}
 use Rattle.edit_engine.specs.Machines.{Machine}
 
 -- the jobs that are out have different numbers, from 1 to how many were given, and different keys

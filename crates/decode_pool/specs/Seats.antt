@@ -8,16 +8,16 @@ use Rattle.stream_edits.specs.declared.receipts.Receipt.{Receipt}
 use Rattle.stream_edits.specs.declared.receipts.Last.{Last}
 use Rattle.stream_edits.specs.declared.refusals.EditRefused.{EditRefused}
 use Rattle.stream_edits.specs.declared.refusals.EditRefused.TheVariants as refusals
-use Rattle.edit_engine.specs.declared.showing.Dropping.{Dropping}
-use Rattle.edit_engine.specs.declared.showing.Shown.{Shown}
-use Rattle.edit_engine.specs.declared.showing.Shown.TheVariants as shown
+use Rattle.edit_engine.specs.declared.dropping.Dropping.{Dropping}
+use Rattle.edit_engine.specs.Showing.{Shown, Shows}
+use Rattle.stream_session.specs.declared.showing.Shown.TheVariants as shown
 use Rattle.stream_edits.specs.Streams.{ids_of, last_of}
 use Rattle.stream_edits.specs.Edits.{no_units, Replays}
 use Rattle.stream_edits.specs.Journals.{edits_of}
-use Rattle.edit_engine.specs.Grouping.{AnswersGroup}
-use Rattle.edit_engine.specs.Machines.{Machine, AnswersEdit}
+use Rattle.stream_session.specs.Grouping.{AnswersGroup}
+use Rattle.edit_engine.specs.Machines.{Machine}
+use Rattle.stream_session.specs.Machines.{AnswersEdit}
 use Rattle.edit_engine.specs.Needing.{AnswersDrop}
-use Rattle.edit_engine.specs.Showing.{Shows}
 use Rattle.seat_books.specs.declared.receipts.SeatReceipt.{SeatReceipt}
 use Rattle.seat_books.specs.declared.receipts.SeatReceipt.TheVariants as receipts
 use Rattle.decode_pool.specs.declared.seat.Seat.{Seat}

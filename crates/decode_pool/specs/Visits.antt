@@ -5,9 +5,10 @@ use Rattle.stream_edits.specs.declared.group_refused.GroupRefused.{GroupRefused}
 use Rattle.stream_edits.specs.declared.receipts.GroupReceipt.{GroupReceipt}
 use Rattle.stream_edits.specs.declared.receipts.Receipt.{Receipt}
 use Rattle.stream_edits.specs.declared.refusals.EditRefused.{EditRefused}
-use Rattle.edit_engine.specs.declared.showing.Dropping.{Dropping}
-use Rattle.edit_engine.specs.Grouping.{AnswersGroup}
-use Rattle.edit_engine.specs.Machines.{Machine, AnswersEdit}
+use Rattle.edit_engine.specs.declared.dropping.Dropping.{Dropping}
+use Rattle.stream_session.specs.Grouping.{AnswersGroup}
+use Rattle.edit_engine.specs.Machines.{Machine}
+use Rattle.stream_session.specs.Machines.{AnswersEdit}
 use Rattle.edit_engine.specs.Needing.{AnswersDrop}
 use Rattle.decode_pool.specs.Seats.{IsReached}
 

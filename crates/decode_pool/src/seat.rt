@@ -3,7 +3,7 @@
 ghost use Rattle.std.specs.Prelude.{◌≡◌, [], length, IfOk};
 ghost use Rattle.stream_edits.specs.Groups.{IsSized};
 ghost use Rattle.stream_edits.specs.Streams.{last_of};
-ghost use Rattle.edit_engine.specs.Grouping.{AnswersGroup};
+ghost use Rattle.stream_session.specs.Grouping.{AnswersGroup};
 ghost use Rattle.edit_engine.specs.Showing.{Shows};
 ghost use Rattle.decode_pool.specs.Seats.{AnswersDropIn, AnswersEditIn, DropsOne, EditsGroupOne, EditsOne, IsLastOfOne, NotesDrop, NotesEdit, NotesGroup, NotesShow, ShowsOne, WaitsForOne};
 
@@ -12,7 +12,7 @@ use crate::group_note::GroupNote;
 use crate::state::Settled;
 use edit_engine::{
     Dropping, Edit, EditRefused, GroupReceipt, GroupRefused, Last, ReadEdit, ReadGroup, Receipt,
-    Session, Shown,
+    Session, Shown, drop_picture,
 };
 use pictures::AuId;
 use seat_books::{SeatBook, SeatReceipt};
@@ -155,7 +155,7 @@ impl Seat {
         ensures book { NotesDrop self.old id result (length session.new.journal) self.new }
     {
         self.book.receipts.reserve(1)?;
-        let answer = session.drop_picture(id);
+        let answer = drop_picture(session, id);
         let length = session.journal().len() as u64;
         let receipt = SeatReceipt::Drop { id, answer, length };
         self.book.receipts.push_reserved(receipt);

@@ -3,8 +3,8 @@
 ghost use Rattle.std.specs.Prelude.{◌≡◌, ◌≢◌, ◌<◌, ◌≤◌, ◌^◌, [], false, length, IfOk};
 ghost use Rattle.stream_edits.specs.Groups.{IsSized};
 ghost use Rattle.stream_edits.specs.Streams.{last_of};
-ghost use Rattle.edit_engine.specs.Grouping.{AnswersGroup};
-ghost use Rattle.edit_engine.specs.Machines.{empty};
+ghost use Rattle.stream_session.specs.Grouping.{AnswersGroup};
+ghost use Rattle.stream_session.specs.Machines.{empty, uncached};
 ghost use Rattle.edit_engine.specs.Showing.{Shows};
 ghost use Rattle.decode_pool.specs.Jobs.{JobsDiffer};
 ghost use Rattle.worker_jobs.specs.Wanted.{urgent};
@@ -129,7 +129,7 @@ impl DeskState {
 
     /// Drops the pictures that are cached.
     pub(crate) fn clear_cache(&mut self)
-        ensures session { self.new.session ≡ record self.old.session { cached = [] } }
+        ensures session { self.new.session ≡ uncached self.old.session }
         ensures status { self.new.status ≡ self.old.status }
     {
         self.session.clear_cache();

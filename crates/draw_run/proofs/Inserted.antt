@@ -7,13 +7,13 @@ use Rattle.annexb.proofs.Readings.{same_reading}
 use Rattle.access_unit.specs.Answers.{IsAccepted}
 use Rattle.plan_stream.specs.Streams.{numbered_from}
 use Rattle.plan_stream.proofs.Streams.{length-numbered_from, numbered_from-push}
-use Rattle.picture_store.specs.Stores.{OutValue}
+use Rattle.edit_engine.specs.Machines.{OutValue, Machine}
 use Rattle.stream_edits.specs.declared.edits.Edit.TheVariants.{Insert}
 use Rattle.stream_edits.specs.declared.edits.Place.{Place}
 use Rattle.stream_edits.specs.declared.receipts.Receipt.{Receipt}
 use Rattle.stream_edits.specs.Edits.{Register}
 use Rattle.stream_edits.specs.Streams.{Stream, start_of}
-use Rattle.edit_engine.specs.Machines.{Edits, Machine}
+use Rattle.stream_session.specs.Machines.{Edits}
 use Rattle.draw_run.specs.Loading.{HasLoaded, IsLoaded}
 
 one_value : (o : Option ℕ) (a b : ℕ) → o ≡ Some a → o ≡ Some b → a ≡ b

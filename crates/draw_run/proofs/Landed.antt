@@ -3,19 +3,19 @@ use Rattle.std.proofs.Common.{◌≡◌, ◌∙◌, ℕ, zero, suc, List, [], �
 use Rattle.std.specs.Prelude.{Contains, remove, slice_get}
 use Rattle.std.specs.List.{All}
 use Rattle.std.proofs.lemmas.List.Elements.{All-head}
-use Rattle.picture_keys.specs.Keys.{Key}
+use Rattle.decode_jobs.specs.Keys.{Key}
 use Rattle.picture_keys.specs.Known.{key_of, known_after}
-use Rattle.picture_store.specs.Jobs.{IsOf}
+use Rattle.picture_store.specs.Jobs.{IsSameJob}
 use Rattle.picture_store.specs.Pending.{IsPending}
-use Rattle.picture_store.specs.Stores.{OutValue, StoreValue}
+use Rattle.edit_engine.specs.Machines.{OutValue, StoreValue, Machine}
 use Rattle.picture_store.specs.declared.answers.Landing.{Landing}
 use Rattle.picture_store.specs.declared.answers.Landing.TheVariants as landings
 use Rattle.stand_in_device.specs.Jobs.{JobValue}
 use Rattle.stream_edits.specs.Edits.{Register}
 use Rattle.stream_edits.specs.Streams.{place_of}
-use Rattle.edit_engine.specs.Jobs.{AnswersLand, AnswersTake}
-use Rattle.edit_engine.specs.Machines.{Machine, store_of}
-use Rattle.edit_engine.specs.Needing.{IsAnyOutFor, IsPendingIn}
+use Rattle.edit_engine.specs.Jobs.{AnswersTake, AnswersLand}
+use Rattle.stream_session.specs.Machines.{store_of}
+use Rattle.stream_session.specs.Needing.{IsAnyOutFor, IsPendingIn}
 use Rattle.draw_run.specs.Marks.{HoldsAll}
 
 none_among : (key : Key) → Contains [] key → ⊥
@@ -48,21 +48,21 @@ only_place out job zero is = refl
 only_place out job (suc at) is = absurd (nothing_there at out is)
 
 landed : (between new : Machine) (job : JobValue) (only : OutValue) (answer : Landing) → between.jobs_out ≡ only ∷ []
-    → IsOf job only → AnswersLand between job answer new → new.jobs_out ≡ []
+    → IsSameJob job only → AnswersLand between job answer new → new.jobs_out ≡ []
 landed between new job only landings.Foreign outs is lands =
-    absurd (All-head (λ (out : OutValue). IsOf job out → ⊥) only []
-    (subst (λ (l : List OutValue). All (λ (out : OutValue). IsOf job out → ⊥) l) outs lands.0.0) is)
+    absurd (All-head (λ (out : OutValue). IsSameJob job out → ⊥) only []
+    (subst (λ (l : List OutValue). All (λ (out : OutValue). IsSameJob job out → ⊥) l) outs lands.0.2.0) is)
 landed between new job only landings.Stale outs is lands =
-    let at = lands.0.0 in
-    let out = lands.0.1 in
-    let stands : slice_get between.jobs_out at ≡ Some out = lands.0.2.stands in
-    ap (λ (s : StoreValue). s.jobs_out) lands.0.4 ∙ (ap (λ (l : List OutValue). remove l at) outs
+    let at = lands.0.2.0 in
+    let out = lands.0.2.1 in
+    let stands : slice_get between.jobs_out at ≡ Some out = lands.0.2.2.stands in
+    ap (λ (s : StoreValue). s.jobs_out) lands.0.2.3.1 ∙ (ap (λ (l : List OutValue). remove l at) outs
     ∙ only_place out only at (subst (λ (l : List OutValue). slice_get l at ≡ Some out) outs stands))
 landed between new job only landings.Taken outs is lands =
-    let at = lands.0.0 in
-    let out = lands.0.1 in
-    let stands : slice_get between.jobs_out at ≡ Some out = lands.0.2.stands in
-    ap (λ (s : StoreValue). s.jobs_out) lands.0.6 ∙ (ap (λ (l : List OutValue). remove l at) outs
+    let at = lands.0.2.0 in
+    let out = lands.0.2.1 in
+    let stands : slice_get between.jobs_out at ≡ Some out = lands.0.2.2.stands in
+    ap (λ (s : StoreValue). s.jobs_out) lands.0.2.3.4 ∙ (ap (λ (l : List OutValue). remove l at) outs
     ∙ only_place out only at (subst (λ (l : List OutValue). slice_get l at ≡ Some out) outs stands))
 
 -- the job that is out alone lands

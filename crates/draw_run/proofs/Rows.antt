@@ -8,16 +8,16 @@ use Rattle.unit_outcomes.specs.declared.outcome.Outcome.{Outcome}
 use Rattle.unit_outcomes.specs.declared.outcome.Outcome.TheVariants.{Plan, Fault, Empty}
 use Rattle.unit_outcomes.specs.declared.outcome.Plan.{Plan as PlanValue}
 use Rattle.dep_keys.specs.KeyMaps.{Extends, IsKeyMap, KeyMap, tree_at}
-use Rattle.picture_keys.specs.Keys.{Key}
+use Rattle.decode_jobs.specs.Keys.{Key}
 use Rattle.picture_keys.specs.Known.{Known, key_of_outcome, keys_after, keys_of, known_with}
 use Rattle.picture_keys.specs.Numbered.{AllStandFor, StandsFor}
 use Rattle.picture_keys.proofs.Following.{all_extended}
 use Rattle.picture_store.proofs.Numbered.{stands_at}
 use Rattle.request_core.specs.Fold.{outcomes_of}
 use Rattle.stream_edits.specs.Streams.{Stream, ids_of, place_among, place_of}
-use Rattle.edit_engine.specs.Showing.{HasKey, keys_in}
-use Rattle.edit_engine.specs.Streams.{outcome_in}
-use Rattle.edit_engine.proofs.Looked.{length-outcomes_of}
+use Rattle.stream_session.specs.Showing.{HasKey, keys_in}
+use Rattle.stream_session.specs.Streams.{outcome_in}
+use Rattle.stream_session.proofs.Looked.{length-outcomes_of}
 use Rattle.unit_outcomes.specs.declared.validity_fault.ValidityFault.{ValidityFault}
 use Rattle.draw_run.specs.declared.snapshot.Snapshot.{Snapshot}
 use Rattle.draw_run.specs.Columns.{AreOfBoth, IsOf, IsRow}

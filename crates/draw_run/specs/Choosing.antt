@@ -2,7 +2,7 @@
 use Rattle.std.specs.Prelude.{◌≡◌, ℕ, List, [], ◌∷◌, Option, None, Some, take, drop}
 use Rattle.unit_outcomes.specs.declared.outcome.Outcome.{Outcome}
 use Rattle.stream_edits.specs.Streams.{Stream, place_among}
-use Rattle.edit_engine.specs.Streams.{outcome_in, position_in}
+use Rattle.stream_session.specs.Streams.{outcome_in, position_in}
 use Rattle.unit_lines.specs.UnitLines.{outcome_lines}
 
 -- the items from a place on; none where there is no place

@@ -8,7 +8,7 @@ use Rattle.picture_keys.specs.Known.{keys_of}
 use Rattle.picture_keys.specs.Numbered.{AllStandFor}
 use Rattle.request_core.specs.Fold.{outcomes_of}
 use Rattle.stream_edits.specs.Streams.{Stream, ids_of, place_among}
-use Rattle.edit_engine.specs.Showing.{keys_in}
+use Rattle.stream_session.specs.Showing.{keys_in}
 use Rattle.draw_run.specs.declared.snapshot.Snapshot.{Snapshot}
 
 -- the ids and outcomes are those of the stream

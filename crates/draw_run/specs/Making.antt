@@ -5,8 +5,9 @@ use Rattle.stream_edits.specs.declared.group_refused.GroupRefused.{GroupRefused}
 use Rattle.stream_edits.specs.declared.receipts.GroupReceipt.{GroupReceipt}
 use Rattle.stream_edits.specs.declared.receipts.Receipt.{Receipt}
 use Rattle.stream_edits.specs.declared.refusals.EditRefused.{EditRefused}
-use Rattle.edit_engine.specs.Grouping.{AnswersGroup}
-use Rattle.edit_engine.specs.Machines.{Machine, AnswersEdit}
+use Rattle.stream_session.specs.Grouping.{AnswersGroup}
+use Rattle.edit_engine.specs.Machines.{Machine}
+use Rattle.stream_session.specs.Machines.{AnswersEdit}
 use Rattle.edit_script.specs.declared.edit_commands.EditCommand.{EditCommand}
 use Rattle.edit_script.specs.declared.edit_commands.EditCommand.TheVariants as commands
 use Rattle.script_run.specs.Answers.{refused_line}

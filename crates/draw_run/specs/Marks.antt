@@ -1,11 +1,11 @@
 -- What edits did to the units of a stream.
 use Rattle.std.specs.Prelude.{◌≡◌, ◌↔◌, ℕ, IsTrue, List, [], ◌∷◌, Option, None, Some, Contains, slice_get, option_and_then, ⊤}
-use Rattle.picture_keys.specs.Keys.{Key}
+use Rattle.decode_jobs.specs.Keys.{Key}
 use Rattle.stream_edits.specs.Streams.{Stream, place_of}
 use Rattle.edit_engine.specs.Machines.{Machine}
-use Rattle.edit_engine.specs.Needing.{IsPendingIn}
-use Rattle.edit_engine.specs.Showing.{HasKey, keys_in}
-use Rattle.edit_engine.specs.Streams.{outcome_in}
+use Rattle.stream_session.specs.Needing.{IsPendingIn}
+use Rattle.stream_session.specs.Showing.{HasKey, keys_in}
+use Rattle.stream_session.specs.Streams.{outcome_in}
 use Rattle.stream_svg.specs.declared.unit.EditMark.{EditMark}
 use Rattle.stream_svg.specs.declared.unit.PictureState.{PictureState}
 use Rattle.stream_svg.specs.declared.unit.PictureState.TheVariants.{Stayed, Pending}

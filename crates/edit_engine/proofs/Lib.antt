@@ -1,14 +1,2 @@
-pub mod Placed
-pub mod Ends
-pub mod Looked
-pub mod Stretched
 pub mod Ran
-pub mod Accepted
-pub mod Pictured
-pub mod Stored
-pub mod Seen
 pub mod ByNumber
-pub mod Told
-pub mod Needed
-pub mod Meetings
-pub mod Moved

@@ -5,7 +5,7 @@ use Rattle.edit_engine.specs.declared.commands.Command.TheVariants as commands
 use Rattle.edit_engine.specs.declared.replies.Reply.{Reply}
 use Rattle.stream_edits.specs.declared.edits.Edit.{Edit}
 use Rattle.edit_engine.specs.Copies.{IsCopy}
-use Rattle.edit_engine.specs.Grouping.{AnswersGroup}
+use Rattle.stream_session.specs.Grouping.{AnswersGroup}
 use Rattle.edit_engine.specs.Machines.{Machine}
 use Rattle.edit_engine.specs.Runs.{Answers, Runs}
 

@@ -1,14 +1,6 @@
-pub mod Streams
 pub mod Machines
-pub mod MeetingPoints
-pub mod Grouping
-pub mod Moves
-pub mod Stretches
 pub mod Showing
 pub mod Jobs
 pub mod Needing
-pub mod Taken
-pub mod Numbers
-pub mod Kept
 pub mod Runs
 pub mod Copies

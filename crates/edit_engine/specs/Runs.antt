@@ -11,22 +11,23 @@ use Rattle.stream_edits.specs.declared.group_refused.GroupRefused.{GroupRefused}
 use Rattle.stream_edits.specs.declared.receipts.GroupReceipt.{GroupReceipt}
 use Rattle.stream_edits.specs.declared.receipts.Receipt.{Receipt}
 use Rattle.stream_edits.specs.declared.refusals.EditRefused.{EditRefused}
-use Rattle.edit_engine.specs.declared.refusals.NoSuchUnit.{NoSuchUnit}
+use Rattle.stream_session.specs.declared.refusals.NoSuchUnit.{NoSuchUnit}
 use Rattle.edit_engine.specs.declared.refusals.NotOut.{NotOut}
-use Rattle.edit_engine.specs.declared.showing.Dropping.{Dropping}
-use Rattle.edit_engine.specs.declared.showing.Shown.{Shown}
+use Rattle.edit_engine.specs.declared.dropping.Dropping.{Dropping}
+use Rattle.edit_engine.specs.Showing.{Shown, Shows}
 use Rattle.edit_engine.specs.declared.replies.Reply.{Reply}
 use Rattle.edit_engine.specs.declared.replies.Reply.TheVariants as replies
 use Rattle.edit_engine.specs.declared.replies.TakenJob.{TakenJob}
 use Rattle.edit_engine.specs.declared.replies.UnitReport.{UnitReport}
 use Rattle.stream_edits.specs.Streams.{Stream, place_of}
-use Rattle.edit_engine.specs.Streams.{outcome_in, position_in}
-use Rattle.edit_engine.specs.Machines.{Machine, empty, AnswersEdit}
-use Rattle.edit_engine.specs.Grouping.{AnswersGroup}
-use Rattle.edit_engine.specs.Jobs.{AnswersTake, AnswersLand, AnswersGiveBack, IsUnitOf}
-use Rattle.edit_engine.specs.Needing.{AnswersDrop, TakesFor, TellsTakeFor}
-use Rattle.edit_engine.specs.Showing.{Shows}
-use Rattle.edit_engine.specs.Taken.{taken_of}
+use Rattle.stream_session.specs.Streams.{outcome_in, position_in}
+use Rattle.edit_engine.specs.Machines.{Machine}
+use Rattle.stream_session.specs.Machines.{empty, uncached, AnswersEdit}
+use Rattle.stream_session.specs.Grouping.{AnswersGroup}
+use Rattle.edit_engine.specs.Jobs.{AnswersTake, AnswersLand}
+use Rattle.stream_session.specs.Jobs.{AnswersGiveBack, IsUnitOf}
+use Rattle.edit_engine.specs.Needing.{TakesFor, TellsTakeFor, AnswersDrop}
+use Rattle.stream_session.specs.Taken.{taken_of}
 
 -- what is reported of a unit of the stream: its outcome and its position, or that it isn't there
 abbrev pub Reports : Stream → ℕ → Result UnitReport NoSuchUnit → Type 0
@@ -92,7 +93,7 @@ Answers old (commands.Show id) reply new =
     (answer : Shown) × (reply ≡ replies.Show answer) × Shows old id answer × (new ≡ old)
 Answers old (commands.Drop id) reply new =
     (answer : Dropping) × (reply ≡ replies.Dropped answer) × AnswersDrop old id answer new
-Answers old commands.ClearCache reply new = (reply ≡ replies.Cleared) × (new ≡ record old { cached = [] })
+Answers old commands.ClearCache reply new = (reply ≡ replies.Cleared) × (new ≡ uncached old)
 
 -- each command has its reply, in turn
 abbrev pub Runs : Machine → List Command → List Reply → Machine → Type 0

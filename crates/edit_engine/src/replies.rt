@@ -1,10 +1,12 @@
 //! Replies to commands.
 
-use crate::refusals::{NoSuchUnit, NotOut};
-use crate::showing::{Dropping, Shown};
+use crate::dropping::Dropping;
+use crate::refusals::NotOut;
+use crate::session::Shown;
 use picture_store::{Landing, Returning, TakeRefused};
 use pictures::AuId;
 use stream_edits::{EditRefused, GroupReceipt, GroupRefused, Receipt};
+use stream_session::NoSuchUnit;
 use unit_outcomes::Outcome;
 
 /// What a command is answered, by the variant of the command's name.

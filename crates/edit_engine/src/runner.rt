@@ -2,25 +2,24 @@
 
 ghost use Rattle.std.specs.Prelude.{◌≡◌, [], ◌==◌, ◌≤◌, ◌↔◌, None, Some, IfOk, IfSome, IsErrOf, IsTrue, MatchOption, OnErr};
 ghost use Rattle.picture_cache.specs.Bounded.{most_room};
-ghost use Rattle.edit_engine.specs.Grouping.{AnswersGroup};
-ghost use Rattle.edit_engine.specs.Machines.{AnswersEdit, empty};
+ghost use Rattle.stream_session.specs.Grouping.{AnswersGroup};
+ghost use Rattle.stream_session.specs.Machines.{AnswersEdit, empty, uncached};
 ghost use Rattle.edit_engine.specs.Needing.{AnswersDrop};
 ghost use Rattle.edit_engine.specs.Runs.{Answers, IsRun, Reports};
-ghost use Rattle.edit_engine.specs.Taken.{input_of};
-ghost use Rattle.stand_in_device.specs.Inputs.{is_whole};
+ghost use Rattle.stream_session.specs.Taken.{input_of};
+ghost use Rattle.decode_jobs.specs.Inputs.{is_whole};
 
 use crate::commands::Command;
-use crate::config::{Config, ConfigFault};
+use crate::dropping::{Dropping, drop_picture};
 use crate::jobs::{give_back, land, take, take_for};
-use crate::refusals::NoSuchUnit;
 use crate::replies::{Reply, UnitReport};
 use crate::session::Session;
-use crate::showing::Dropping;
 use pictures::AuId;
 use stand_in_device::{Device, Input};
 use std::alloc::{AllocError, Global};
 use std::marker::Model;
 use stream_edits::{EditRefused, GroupReceipt, GroupRefused, ReadEdit, ReadGroup, Receipt};
+use stream_session::{Config, ConfigFault, NoSuchUnit};
 
 /// A session that follows commands, one at a time, with a device that decodes its jobs. Clauses see
 /// it as the session, which knows the jobs that are out.
@@ -88,7 +87,7 @@ impl Runner {
                 Ok(Reply::GiveBack(give_back(&mut self.session, number)))
             }
             Command::Show(id) => Ok(Reply::Show(self.session.show(id))),
-            Command::Drop(id) => Ok(Reply::Dropped(self.session.drop_picture(id))),
+            Command::Drop(id) => Ok(Reply::Dropped(drop_picture(&mut self.session, id))),
             Command::ClearCache => {
                 self.session.clear_cache();
                 Ok(Reply::Cleared)
@@ -115,13 +114,13 @@ impl Runner {
     pub fn drop_picture(&mut self, id: AuId) -> Dropping
         ensures { AnswersDrop self.old id result self.new }
     {
-        self.session.drop_picture(id)
+        drop_picture(&mut self.session, id)
     }
 
     /// Drops the pictures that are cached, as `step` does at `Command::ClearCache`. It takes no
     /// memory.
     pub fn clear_cache(&mut self)
-        ensures { self.new ≡ record self.old { cached = [] } }
+        ensures { self.new ≡ uncached self.old }
     {
         self.session.clear_cache();
     }

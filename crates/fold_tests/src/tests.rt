@@ -1,3 +1,4 @@
+mod doubt;
 mod fold;
 mod keys;
 mod refold;

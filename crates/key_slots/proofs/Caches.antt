@@ -1,12 +1,13 @@
 -- What becomes of a cache's keys and pairs where a pair is put or taken.
-use Rattle.std.proofs.Common.{◌≡◌, refl, ap, sym, subst, ℕ, Bool, true, false, cond, eqb, List, [], ◌∷◌, take, inl, inr, ◌⊎◌}
+use Rattle.std.proofs.Common.{◌≡◌, refl, ap, sym, subst, ◌∙◌, ℕ, Bool, true, false, cond, eqb, List, [], ◌∷◌, take, Option, None, Some, inl, inr, ◌⊎◌}
 use Rattle.std.specs.Prelude.{Contains}
 use Rattle.std.specs.List.{IsDistinct, AllByRecursion}
-use Rattle.std.specs.Map.{keys_of, remove_entry}
+use Rattle.std.specs.Map.{keys_of, lookup, remove_entry}
 use Rattle.std.proofs.lemmas.Bool.{eqb-true, eqb-false}
 use Rattle.std.proofs.lemmas.List.{take-map}
+use Rattle.std.proofs.lemmas.Map.Views.{exact_unsigned_eq, Contains-from_lookup}
 use Rattle.key_slots.specs.Left.{IsLeft, IsPut}
-use Rattle.key_slots.proofs.Members.{here, there, first_or_among, among_take}
+use Rattle.key_slots.proofs.Members.{here, there, first_or_among, among_map, among_take}
 
 -- where no key is the one that goes, all are left
 all_stay : (key : ℕ) (numbers : List ℕ) → AllByRecursion (λ n. eqb key n ≡ false) numbers
@@ -14,6 +15,10 @@ all_stay : (key : ℕ) (numbers : List ℕ) → AllByRecursion (λ n. eqb key n 
 all_stay key [] apart = refl
 all_stay key (n ∷ numbers) apart =
     inr (λ same. eqb-false key n apart.0 (sym same), (numbers, refl, all_stay key numbers apart.1))
+
+other_not : (number key other : ℕ) (b : Bool) → eqb number other ≡ b → (number ≡ key → ⊥) → key ≡ other → b ≡ false
+other_not number key other true is apart same = absurd (apart (eqb-true number other is ∙ sym same))
+other_not number key other false is apart same = refl
 
 module _ {X : Type 0} where
   left_one : (key : ℕ) (e : ℕ × X) (es : List (ℕ × X)) (b : Bool) → eqb key e.0 ≡ b
@@ -73,3 +78,28 @@ module _ {X : Type 0} where
     left_of_remove key es once,
     sym (take-map (λ p. p.0) room ((key, x) ∷ remove_entry (eqb key) es)),
   )
+
+  others_by : (key number : ℕ) (e : ℕ × X) (es : List (ℕ × X)) (b : Bool) → eqb key e.0 ≡ b → (number ≡ key → ⊥)
+      → lookup (eqb number) (remove_entry (eqb key) es) ≡ lookup (eqb number) es
+      → lookup (eqb number) (cond b es (e ∷ remove_entry (eqb key) es)) ≡ lookup (eqb number) (e ∷ es)
+  others_by key number e es true is apart rest =
+      let not : eqb number e.0 ≡ false = other_not number key e.0 (eqb number e.0) refl apart (eqb-true key e.0 is) in
+      ap (λ (b : Bool). cond b (Some e.1) (lookup (eqb number) es)) (sym not)
+  others_by key number e es false is apart rest = ap (cond (eqb number e.0) (Some e.1)) rest
+
+  -- what is found under the other keys stays
+  pub others_found : (key number : ℕ) (es : List (ℕ × X)) → (number ≡ key → ⊥)
+      → lookup (eqb number) (remove_entry (eqb key) es) ≡ lookup (eqb number) es
+  others_found key number [] apart = refl
+  others_found key number (e ∷ es) apart =
+      others_by key number e es (eqb key e.0) refl apart (others_found key number es apart)
+
+  not_found : (found : Option X) → ((x : X) → found ≡ Some x → ⊥) → found ≡ None
+  not_found None none = refl
+  not_found (Some x) none = absurd (none x refl)
+
+  -- a key that isn't there is found nowhere
+  pub none_found : (number : ℕ) (es : List (ℕ × X)) → (Contains (keys_of es) number → ⊥) → lookup (eqb number) es ≡ None
+  none_found number es not =
+      not_found (lookup (eqb number) es)
+      (λ x is. not (among_map (λ (pair : ℕ × X). pair.0) es (number, x) (Contains-from_lookup exact_unsigned_eq number x es is)))

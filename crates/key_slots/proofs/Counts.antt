@@ -6,7 +6,7 @@ use Rattle.std.proofs.lemmas.List.Sums.{sum_by-cons}
 use Rattle.key_slots.specs.Counting.{once_if, once_at, times, times_in}
 use Rattle.key_slots.proofs.Members.{here, there, nowhere, first_or_among}
 
-once_own : (key : ℕ) → once_if key key ≡ 1
+pub once_own : (key : ℕ) → once_if key key ≡ 1
 once_own key = ap (λ (b : Bool). if b then 1 else 0) (eq-eqb key key refl)
 
 -- an entry that stands in a list is counted
@@ -24,7 +24,8 @@ counted_at : (b : Bool) (number key : ℕ) → b ≡ (key == number) → (◌≡
 counted_at true number key is = inr (eqb-true key number (sym is))
 counted_at false number key is = inl refl
 
-once_or : (number : ℕ) (key : Option ℕ) → (once_at number key ≡ 0) ⊎ (key ≡ Some number)
+-- an entry is none of the key, or it is it
+pub once_or : (number : ℕ) (key : Option ℕ) → (once_at number key ≡ 0) ⊎ (key ≡ Some number)
 once_or number None = inl refl
 once_or number (Some key) =
     elim (counted_at (key == number) number key refl) [ inl none ↦ inl none | inr same ↦ inr (ap Some same) ]
@@ -50,3 +51,7 @@ counted_in number (key ∷ keys) is =
           omega (arith, sum_by-cons (once_if number) key keys, one)
       | inr later ↦ omega (arith, sum_by-cons (once_if number) key keys, counted_in number keys later)
     ]
+
+-- an entry that names the key is counted
+pub once_named : (number : ℕ) (key : Option ℕ) → key ≡ Some number → once_at number key ≡ 1
+once_named number key is = ap (once_at number) is ∙ once_own number

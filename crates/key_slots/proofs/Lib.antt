@@ -2,10 +2,12 @@ pub mod Members
 pub mod Turns
 pub mod Caches
 pub mod Slots
+pub mod Bags
 pub mod Taking
 pub mod Going
 pub mod Held
 pub mod Counts
+pub mod Apart
 pub mod UnitAt
 pub mod Entries
 pub mod Entered

@@ -8,8 +8,7 @@ use Rattle.unit_outcomes.specs.declared.outcome.Outcome.TheVariants.{Plan as Pla
 use Rattle.unit_outcomes.specs.declared.outcome.Plan.{Plan}
 use Rattle.dep_keys.specs.KeyMaps.{KeyMap, IsKeyMap, tree_at}
 use Rattle.key_slots.specs.declared.places.Slot.{Slot}
-use Rattle.stand_in_device.specs.declared.picture.Picture.{Picture}
-use Rattle.picture_keys.specs.Keys.{Key}
+use Rattle.decode_jobs.specs.Keys.{Key}
 use Rattle.picture_keys.specs.Known.{Known, key_at, key_of, key_of_outcome, known_with, known_after, keys_after, keys_of}
 use Rattle.picture_keys.specs.Numbered.{StandsFor, AllStandFor}
 use Rattle.key_slots.specs.Held.{IsHeld, IsWaiting}
@@ -121,7 +120,7 @@ module _ (keys : KeyMap (List Work)) (ids : List ℕ) (outcomes : List Outcome) 
       let valid = valid_there (zip ids outcomes) at key.0 (tree.1 ∙ ap Some key.1) in
       (valid.0, valid.1, valid.2, key.2 ∙ ap Some valid.3)
 
-  module _ (one : IsKeyMap keys) (places : List (Slot Picture)) (at number : ℕ) (number_is : slice_get found at ≡ Some (Some number))
+  module _ {P : Type 0} (one : IsKeyMap keys) (places : List (Slot P)) (at number : ℕ) (number_is : slice_get found at ≡ Some (Some number))
       (other : ℕ) (names : Names (zip ids outcomes) at other) (waits : IsWaiting found places other) where
     -- the keys that are known where a unit is
     abbrev pub known_there : Known

@@ -3,7 +3,7 @@ use Rattle.std.proofs.Common.{◌≡◌, refl, ap, ℕ, zero, suc, ◌<◌, List
 use Rattle.std.specs.Prelude.{slice_get, slice_index_or}
 use Rattle.std.specs.List.{zip}
 use Rattle.unit_outcomes.specs.declared.outcome.Outcome.{Outcome}
-use Rattle.picture_keys.specs.Keys.{Key}
+use Rattle.decode_jobs.specs.Keys.{Key}
 use Rattle.picture_keys.specs.Known.{Known, key_of_outcome, known_with, known_after, keys_after}
 use Rattle.picture_keys.specs.Numbered.{AllStandFor}
 use Rattle.picture_keys.specs.Decodable.{OutcomeCanDecode, AllCanDecode}

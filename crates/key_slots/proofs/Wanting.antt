@@ -13,8 +13,7 @@ use Rattle.unit_outcomes.specs.declared.outcome.Plan.{Plan}
 use Rattle.dep_keys.specs.KeyMaps.{KeyMap, IsNodeOf, named, tree_at, tree_of}
 use Rattle.dep_keys.specs.Nodes.{NodeOf}
 use Rattle.key_slots.specs.declared.places.Slot.{Slot}
-use Rattle.stand_in_device.specs.declared.picture.Picture.{Picture}
-use Rattle.picture_keys.specs.Keys.{Key, named_by_all, works_of}
+use Rattle.decode_jobs.specs.Keys.{Key, named_by_all, works_of}
 use Rattle.picture_keys.specs.Known.{Known, key_at, key_of}
 use Rattle.key_slots.specs.Held.{AreWanted, IsHeld}
 use Rattle.key_slots.specs.Needed.{IsValid}
@@ -63,7 +62,7 @@ id_of_valid (own ∷ ids) (first ∷ outcomes) zero id (plan, is) =
     ap (λ (unit : ℕ × Outcome). Some unit.0) (same_Some (own, first) (id, Planned plan) is)
 id_of_valid (own ∷ ids) (first ∷ outcomes) (suc at) id (plan, is) = id_of_valid ids outcomes at id (plan, is)
 
-module _ (keys : KeyMap (List Work)) (places : List (Slot Picture)) (key : ℕ) (node : NodeOf (List Work))
+module _ {P : Type 0} (keys : KeyMap (List Work)) (places : List (Slot P)) (key : ℕ) (node : NodeOf (List Work))
     (is_node : IsNodeOf keys key node) (known : Known) (plan : Plan)
     (tree_is : tree_at keys key ≡ Some (key_of known plan.requests)) where
   same_key : tree_of keys node ≡ key_of known plan.requests

@@ -2,18 +2,18 @@
 use Rattle.std.specs.Prelude.{◌≡◌, ℕ, List, Option, Some, Contains, slice_get}
 use Rattle.key_slots.specs.declared.places.Slot.{Slot}
 use Rattle.key_slots.specs.Places.{place_at}
-use Rattle.stand_in_device.specs.declared.picture.Picture.{Picture}
 
--- the picture of the key of this number is held
-abbrev pub IsHeld : List (Slot Picture) → ℕ → Type 0
-IsHeld places number = (picture : Picture) × (place_at places number ≡ Some (Some picture))
+module _ {P : Type 0} where
+  -- the picture of the key of this number is held
+  abbrev pub IsHeld : List (Slot P) → ℕ → Type 0
+  IsHeld places number = (picture : P) × (place_at places number ≡ Some (Some picture))
 
--- the unit at a place is valid, and the picture of its key isn't held
-abbrev pub IsWaiting : List (Option ℕ) → List (Slot Picture) → ℕ → Type 0
-IsWaiting numbers places at = (number : ℕ) × (slice_get numbers at ≡ Some (Some number)) × (IsHeld places number → ⊥)
+  -- the unit at a place is valid, and the picture of its key isn't held
+  abbrev pub IsWaiting : List (Option ℕ) → List (Slot P) → ℕ → Type 0
+  IsWaiting numbers places at = (number : ℕ) × (slice_get numbers at ≡ Some (Some number)) × (IsHeld places number → ⊥)
 
--- each id is there at whose entry stands a key whose picture isn't held
-abbrev pub AreWanted : List (Slot Picture) → List (Option ℕ) → List (Option ℕ) → List ℕ → Type 0
-AreWanted places units entries wanted =
-    (i id number : ℕ) → slice_get units i ≡ Some (Some id) → slice_get entries i ≡ Some (Some number)
-    → (IsHeld places number → ⊥) → Contains wanted id
+  -- each id is there at whose entry stands a key whose picture isn't held
+  abbrev pub AreWanted : List (Slot P) → List (Option ℕ) → List (Option ℕ) → List ℕ → Type 0
+  AreWanted places units entries wanted =
+      (i id number : ℕ) → slice_get units i ≡ Some (Some id) → slice_get entries i ≡ Some (Some number)
+      → (IsHeld places number → ⊥) → Contains wanted id

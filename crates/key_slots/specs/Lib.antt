@@ -1,6 +1,7 @@
 pub mod Left
 pub mod Counting
 pub mod Places
+pub mod Accounts
 pub mod Going
 pub mod Columns
 pub mod Held

@@ -3,7 +3,7 @@ use Rattle.std.specs.Prelude.{◌≡◌, ℕ, ◌<◌, ◌↔◌, List, [], ◌�
 use Rattle.unit_outcomes.specs.declared.outcome.Outcome.{Outcome}
 use Rattle.unit_outcomes.specs.declared.outcome.Outcome.TheVariants as outcomes
 use Rattle.unit_outcomes.specs.declared.outcome.Plan.{Plan}
-use Rattle.picture_keys.specs.Keys.{named_by_all}
+use Rattle.decode_jobs.specs.Keys.{named_by_all}
 
 -- the unit at a place is valid and has the id
 abbrev pub IsValid : List (ℕ × Outcome) → ℕ → ℕ → Type 0

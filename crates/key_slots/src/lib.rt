@@ -3,8 +3,8 @@
 //!
 //! A key's number is its slot's place in a list, so that a change of a few units touches the slots
 //! of their keys alone: `Places` finds a slot at once, `take_up_all` and `let_go_all` count the
-//! units that come and that go, and the picture of a key that no unit uses any more goes into the
-//! cache. `needed_places` goes from a unit down to the earliest one that it needs, its own and
+//! units that come and that go. The picture of a key that no unit uses any more goes into the
+//! cache, and what goes out of that is released. `needed_places` goes from a unit down to the earliest one that it needs, its own and
 //! those that the lists of needed ones name, as far as their pictures aren't held, over each place
 //! once. dep_keys and picture_keys give the numbers, picture_cache keeps what is cached; above is
 //! picture_store.
@@ -17,7 +17,6 @@ mod scan;
 mod units;
 mod using;
 
-pub use caching::take_out;
 pub use naming::is_held;
 pub use places::Places;
 pub use scan::needed_places;

@@ -4,7 +4,7 @@ ghost use Rattle.std.specs.Prelude.{◌≡◌, ℕ, ◌==◌, ◌⊎◌, ◌↔�
 ghost use Rattle.dep_keys.specs.KeyMaps.{tree_at};
 ghost use Rattle.unit_outcomes.specs.declared.outcome.Outcome.TheVariants as becomes;
 ghost use Rattle.unit_outcomes.specs.declared.outcome.Plan.{Plan};
-ghost use Rattle.picture_keys.specs.Keys.{Key, named_by_all};
+ghost use Rattle.decode_jobs.specs.Keys.{Key, named_by_all};
 ghost use Rattle.picture_keys.specs.Known.{Known, key_at, key_of_outcome};
 ghost use Rattle.key_slots.specs.Held.{AreWanted, IsHeld};
 
@@ -12,22 +12,21 @@ use crate::Places;
 use dep_keys::{Fingerprint, KeyId, Keys};
 use picture_keys::{Works, units_named};
 use pictures::AuId;
-use stand_in_device::Picture;
 use std::alloc::{AllocError, Global};
 use unit_outcomes::Outcome;
 
 /// Whether the picture of a key is held.
-pub fn is_held(places: &Places<Picture>, key: KeyId) -> bool
+pub fn is_held<P: Copy + Drop>(places: &Places<P>, key: KeyId) -> bool
     ensures { IsTrue result ↔ IsHeld places.now key }
 {
     places.is_held(key)
 }
 
 /// Adds the ids that the lists of a unit with this key have, of units whose pictures aren't held.
-pub(crate) fn want_named<F: Fingerprint<Works>>(
+pub(crate) fn want_named<F: Fingerprint<Works>, P: Copy + Drop>(
     alloc: Global,
     keys: &Keys<Works, F>,
-    places: &Places<Picture>,
+    places: &Places<P>,
     outcome: &Outcome,
     key: KeyId,
     wanted: &mut Vec<AuId>,
@@ -53,8 +52,8 @@ pub(crate) fn want_named<F: Fingerprint<Works>>(
 }
 
 /// Adds the ids at whose entries stand keys whose pictures aren't held.
-fn want_all(
-    places: &Places<Picture>,
+fn want_all<P: Copy + Drop>(
+    places: &Places<P>,
     units: &[Option<AuId>],
     entries: &[Option<KeyId>],
     wanted: &mut Vec<AuId>,
@@ -72,8 +71,8 @@ fn want_all(
 }
 
 /// Adds the id at an entry, where a key stands there whose picture isn't held.
-fn want_entry(
-    places: &Places<Picture>,
+fn want_entry<P: Copy + Drop>(
+    places: &Places<P>,
     unit: Option<AuId>,
     entry: Option<KeyId>,
     wanted: &mut Vec<AuId>,
@@ -92,8 +91,8 @@ fn want_entry(
 }
 
 /// Adds the id of a unit with this key, where its picture isn't held.
-fn want(
-    places: &Places<Picture>,
+fn want<P: Copy + Drop>(
+    places: &Places<P>,
     id: AuId,
     key: KeyId,
     wanted: &mut Vec<AuId>,

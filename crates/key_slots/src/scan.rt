@@ -26,9 +26,9 @@ pub(crate) struct Scan {
 /// The places of the units that the picture of the unit at a place needs, the last one first: none
 /// where that unit isn't valid, or its picture is held. Each place from there down to the earliest
 /// of them is gone over once.
-pub fn needed_places<F: Fingerprint<Works>>(
+pub fn needed_places<F: Fingerprint<Works>, P: Copy + Drop>(
     alloc: Global,
-    units: &Units<'_, F>,
+    units: &Units<'_, F, P>,
     target: usize,
 ) -> Result<Vec<usize>, AllocError>
     requires columns { AreColumns units.now.keys.now units.now.ids.now units.now.outcomes.now
@@ -50,7 +50,10 @@ pub fn needed_places<F: Fingerprint<Works>>(
 }
 
 /// The key of the unit at a place, where its picture isn't held.
-fn waiting_key<F: Fingerprint<Works>>(units: &Units<'_, F>, at: usize) -> Option<KeyId>
+fn waiting_key<F: Fingerprint<Works>, P: Copy + Drop>(
+    units: &Units<'_, F, P>,
+    at: usize,
+) -> Option<KeyId>
     requires { at < length units.now.numbers.now }
     ensures { MatchOption result
         (IsWaiting units.now.numbers.now units.now.places.now at → ⊥)
@@ -66,9 +69,9 @@ fn waiting_key<F: Fingerprint<Works>>(units: &Units<'_, F>, at: usize) -> Option
 
 /// Goes over the places below one, down to where no unit is wanted any more: within the period, as
 /// no lists name a unit before it.
-fn go_down<F: Fingerprint<Works>>(
+fn go_down<F: Fingerprint<Works>, P: Copy + Drop>(
     alloc: Global,
-    units: &Units<'_, F>,
+    units: &Units<'_, F, P>,
     from: usize,
     scan: &mut Scan,
 ) -> Result<(), AllocError>
@@ -92,9 +95,9 @@ fn go_down<F: Fingerprint<Works>>(
 }
 
 /// Goes over the unit at a place, below which no place was gone over.
-fn meet<F: Fingerprint<Works>>(
+fn meet<F: Fingerprint<Works>, P: Copy + Drop>(
     alloc: Global,
-    units: &Units<'_, F>,
+    units: &Units<'_, F, P>,
     at: usize,
     scan: &mut Scan,
 ) -> Result<(), AllocError>
@@ -121,9 +124,9 @@ fn meet<F: Fingerprint<Works>>(
 }
 
 /// Adds the place of a needed unit, and wants the waiting units that its lists name.
-fn find<F: Fingerprint<Works>>(
+fn find<F: Fingerprint<Works>, P: Copy + Drop>(
     alloc: Global,
-    units: &Units<'_, F>,
+    units: &Units<'_, F, P>,
     at: usize,
     key: KeyId,
     scan: &mut Scan,

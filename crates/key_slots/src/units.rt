@@ -5,14 +5,13 @@ use base_types::Shared;
 use dep_keys::{Fingerprint, KeyId, Keys};
 use picture_keys::{HashedOutcome, Works};
 use pictures::AuId;
-use stand_in_device::Picture;
 
 /// The units of a stream column by column: their ids, their outcomes and the numbers of their keys;
 /// and beside them the keys, and the pictures that are held.
 #[derive(Drop)]
-pub struct Units<'a, F: Fingerprint<Works>> {
+pub struct Units<'a, F: Fingerprint<Works>, P> {
     pub keys: &'a Keys<Works, F>,
-    pub places: &'a Places<Picture>,
+    pub places: &'a Places<P>,
     pub ids: &'a [AuId],
     pub outcomes: &'a [Shared<HashedOutcome>],
     pub numbers: &'a [Option<KeyId>],

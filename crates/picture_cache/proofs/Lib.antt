@@ -1,3 +1,5 @@
 pub mod Keys
 pub mod Puts
 pub mod Finds
+pub mod Accounts
+pub mod Oldest

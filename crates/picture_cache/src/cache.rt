@@ -1,6 +1,7 @@
-ghost use Rattle.std.specs.Prelude.{◌≡◌, ◌≤◌, ◌==◌, [], length, is_some, option_copied, IfOk, OnOk, OnErr, IsSome, IsOk};
-ghost use Rattle.std.specs.Map.{lookup, keys_of};
-ghost use Rattle.picture_cache.specs.Bounded.{IsStructural, IsBounded, most_room, with_first, without};
+ghost use Rattle.std.specs.Prelude.{◌≡◌, ◌≤◌, ◌==◌, [], ◌∷◌, ◌++◌, length, is_some, option_copied, option_map, IfErr, IfOk, IsOk, IsPermutation, IsSome, MatchOption};
+ghost use Rattle.std.specs.Option.{option_to_list};
+ghost use Rattle.std.specs.Map.{lookup, keys_of, values_of};
+ghost use Rattle.picture_cache.specs.Bounded.{IsStructural, IsBounded, most_room, pushed_out, with_first, without};
 
 use lru::LruCache;
 use std::alloc::{AllocError, Global};
@@ -46,25 +47,47 @@ impl<K: Eq + Hash + Drop, P: Drop> PictureCache<K, P> {
         Ok(PictureCache { cache })
     }
 
-    /// Puts a pair first. One that had its key goes, and where there are too many, the last one.
-    /// For lack of memory the new pair alone is dropped; where the key is there, none is wanted.
-    pub fn put(&mut self, key: K, picture: P) -> Result<(), AllocError>
-        ensures ok { OnOk result (self.new ≡ with_first K.eq self.old key picture) }
-        ensures err { OnErr result (self.new ≡ self.old) }
+    /// Puts a pair first. One that had its key goes, and where there are too many, the last one:
+    /// the picture of the one that goes. For lack of memory the new picture is given back; where
+    /// the key is there, none is wanted.
+    pub fn put(&mut self, key: K, picture: P) -> Result<Option<P>, P>
+        ensures ok { IfOk result (λ out. (self.new ≡ with_first K.eq self.old key picture)
+            × (out ≡ pushed_out K.eq self.old key)) }
+        ensures err { IfErr result (λ back. (back ≡ picture) × (self.new ≡ self.old)) }
+        ensures accounts { IfOk result (λ out. IsPermutation (picture ∷ values_of self.old.pairs)
+            (values_of self.new.pairs ++ option_to_list out)) }
         ensures there { IsSome (lookup (K.eq key) self.old.pairs) → IsOk result }
         ensures bounded { IsBounded K.eq self.new }
     {
-        self.cache.put(key, picture)?;
-        Ok(())
+        match self.cache.push(key, picture) {
+            Ok(out) => Ok(second(out)),
+            Err(failed) => {
+                let (_, back) = failed.value;
+                Err(back)
+            }
+        }
     }
 
     /// Takes the picture out that was put under the key, if it is there. Takes no memory.
     pub fn take(&mut self, key: K) -> Option<P>
         ensures value { result ≡ lookup (K.eq key) self.old.pairs }
         ensures after { self.new ≡ without K.eq self.old key }
+        ensures accounts { IsPermutation (values_of self.old.pairs)
+            (values_of self.new.pairs ++ option_to_list result) }
         ensures bounded { IsBounded K.eq self.new }
     {
         self.cache.pop(&key)
+    }
+
+    /// Takes the picture out that was put first of those that are there, the last one. Takes no
+    /// memory.
+    pub fn take_oldest(&mut self) -> Option<P>
+        ensures oldest { MatchOption result ((self.old.pairs ≡ []) × (self.new ≡ self.old))
+            (λ picture. (key : K) × (self.old.pairs ≡ self.new.pairs ++ (key, picture) ∷ [])
+            × (self.new.capacity ≡ self.old.capacity)) }
+        ensures bounded { IsBounded K.eq self.new }
+    {
+        second(self.cache.pop_lru())
     }
 
     /// Takes all pairs out. Takes no memory.
@@ -117,5 +140,15 @@ impl<K: Eq + Hash + Drop, P: Drop> PictureCache<K, P> {
         ensures { result ≡ self.now.capacity }
     {
         self.cache.cap().get()
+    }
+}
+
+/// The picture of a pair, if there is one.
+fn second<K: Drop, P>(pair: Option<(K, P)>) -> Option<P>
+    ensures { result ≡ option_map (λ pair. pair.1) pair }
+{
+    match pair {
+        Some((_, picture)) => Some(picture),
+        None => None,
     }
 }

@@ -1,5 +1,4 @@
 pub mod Slices
-pub mod Pictured
 pub mod Numbering
 pub mod Following
 pub mod Naming

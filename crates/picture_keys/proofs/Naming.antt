@@ -3,7 +3,7 @@ use Rattle.std.proofs.Common.{◌≡◌, ◌∙◌, ap, sym, ℕ, ◌+◌, ◌<�
 use Rattle.std.proofs.lemmas.List.{take_more, append-nil}
 use Rattle.std.proofs.lemmas.List.Concat.{flat_map-append}
 use Rattle.h264_controls.specs.declared.request.Request.{Request}
-use Rattle.picture_keys.specs.Keys.{named_by, named_by_all}
+use Rattle.decode_jobs.specs.Keys.{named_by, named_by_all}
 
 -- those of one request more
 pub named_more : (requests : List Request) (i : ℕ) (request : Request) → i < length requests

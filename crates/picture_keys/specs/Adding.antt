@@ -7,7 +7,7 @@ use Rattle.unit_outcomes.specs.declared.outcome.Outcome.TheVariants.{Plan, Fault
 use Rattle.dep_keys.specs.Interning.{IsInterned}
 use Rattle.dep_keys.specs.KeyMaps.{KeyMap, tree_of}
 use Rattle.dep_keys.specs.Nodes.{NodeOf}
-use Rattle.picture_keys.specs.Keys.{Key, works_of}
+use Rattle.decode_jobs.specs.Keys.{Key, works_of}
 use Rattle.picture_keys.specs.Numbered.{Numbers, numbers_named}
 
 -- the node of the key of requests, over the numbers of the keys of the units that they name

@@ -1,11 +1,10 @@
 pub mod SliceBytes
 pub mod Digests
-pub mod Keys
 pub mod Known
 pub mod Depending
 pub mod Decodable
 pub mod Numbered
 pub mod Following
 pub mod Adding
-pub mod KeyPictures
+pub mod Referred
 pub mod Messages

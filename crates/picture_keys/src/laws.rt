@@ -4,18 +4,19 @@ ghost use Rattle.std.specs.Prelude.{◌≡◌, List};
 ghost use Rattle.h264_controls.specs.declared.request.Request.{Request};
 ghost use Rattle.h264_controls.specs.declared.work.Work.{Work};
 ghost use Rattle.dep_keys.specs.KeyMaps.{AreLive, KeyMap, tree_of};
-ghost use Rattle.stand_in_device.specs.Inputs.{InputValue};
-ghost use Rattle.stand_in_device.specs.Pictures.{picture_of};
-ghost use Rattle.picture_keys.specs.Keys.{works_of};
+ghost use Rattle.decode_jobs.specs.Inputs.{InputValue};
+ghost use Rattle.decode_jobs.specs.Keys.{works_of};
 ghost use Rattle.picture_keys.specs.Known.{Known, key_of};
 ghost use Rattle.picture_keys.specs.Numbered.{AreNumbered, Numbers, numbers_named};
-ghost use Rattle.picture_keys.specs.KeyPictures.{ShowsKnown, picture_of_key};
+ghost use Rattle.picture_keys.specs.Referred.{ShowsKnown};
 
-/// Where the pictures that an input refers to are those of the keys that are known, its own picture
-/// is that of its key.
-pub fn picture_is_that_of_its_key()
-    ensures { (known : Known) (input : InputValue) → ShowsKnown known input
-        → picture_of input ≡ picture_of_key (key_of known input.requests) }
+use decode_jobs::Decoded;
+
+/// Where the pictures that an input refers to are of the keys that are known, what the decoder makes
+/// of it is a picture of its key.
+pub fn picture_is_of_its_key<P: Decoded>()
+    ensures { (known : Known) (input : InputValue P) (picture : P) → ShowsKnown P.IsOf known input
+        → P.IsDecoded input picture → P.IsOf (key_of known input.requests) picture }
 {}
 
 /// Where numbers stand for the keys that are known, the node that is made over them names live keys

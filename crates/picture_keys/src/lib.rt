@@ -3,7 +3,7 @@
 //! The key of a valid unit is the tree of its slices' works with, at each entry of their reference
 //! lists, the key of the picture that the entry names; timestamps are no part of it. dep_keys keeps
 //! such trees under numbers: here are the works that stand in its nodes, the node of a unit, and
-//! the law that the picture of a unit is the one of its key.
+//! the law that what a decoder makes for a unit is a picture of its key.
 //!
 //! A unit's bytes are hashed once, when the unit is read: `HashedUnit` keeps the digest and how
 //! many bytes were hashed beside the unit, and `HashedOutcome` the digest beside its outcome, so
@@ -26,7 +26,7 @@ pub use digest::SlicesDigest;
 pub use hashed_bytes::HashedBytes;
 pub use hashed_outcome::HashedOutcome;
 pub use hashed_unit::HashedUnit;
-pub use laws::{node_is_that_of_its_key, picture_is_that_of_its_key};
+pub use laws::{node_is_that_of_its_key, picture_is_of_its_key};
 pub use named::units_named;
 pub use nodes::node_of;
 pub use numbers::KeyNumbers;

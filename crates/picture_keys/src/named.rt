@@ -1,7 +1,7 @@
 //! The units that requests name.
 
 ghost use Rattle.std.specs.Prelude.{◌≡◌, ◌++◌, IfOk, OnOk, map};
-ghost use Rattle.picture_keys.specs.Keys.{named_by, named_by_all, unit_named};
+ghost use Rattle.decode_jobs.specs.Keys.{named_by, named_by_all, unit_named};
 
 use h264_controls::{References, Request};
 use pictures::AuId;

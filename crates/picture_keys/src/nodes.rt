@@ -3,7 +3,7 @@
 ghost use Rattle.std.specs.Prelude.{◌≡◌, IfOk};
 ghost use Rattle.picture_keys.specs.Digests.{bytes_of};
 ghost use Rattle.picture_keys.specs.SliceBytes.{slices_digest};
-ghost use Rattle.picture_keys.specs.Keys.{works_of};
+ghost use Rattle.decode_jobs.specs.Keys.{works_of};
 ghost use Rattle.picture_keys.specs.Numbered.{number_named, numbers_named};
 
 use crate::SlicesDigest;

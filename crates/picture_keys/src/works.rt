@@ -4,7 +4,7 @@ ghost use Rattle.std.specs.Prelude.{◌≡◌, ◌++◌, ℕ, List, IfOk};
 ghost use Rattle.std.specs.Bool.{Decides};
 ghost use Rattle.sha2.specs.Hashers.{Holds256};
 ghost use Rattle.param_set_controls.specs.Words.{s32};
-ghost use Rattle.picture_keys.specs.Keys.{works_of};
+ghost use Rattle.decode_jobs.specs.Keys.{works_of};
 ghost use Rattle.std.specs.List.{flat_map};
 ghost use Rattle.picture_keys.specs.Digests.{bytes_of};
 ghost use Rattle.picture_keys.specs.SliceBytes.{slices_digest};

@@ -8,9 +8,9 @@ use Rattle.std.proofs.lemmas.List.Elements.{All-map}
 use Rattle.std.proofs.lemmas.List.Quantifiers.{position-Some}
 use Rattle.key_slots.proofs.Members.{All-from_contains}
 use Rattle.std.proofs.lemmas.List.Sums.{fails_before_first}
-use Rattle.stand_in_device.specs.Jobs.{JobValue}
+use Rattle.decode_jobs.specs.Jobs.{JobValue}
 use Rattle.picture_store.specs.declared.job_out.JobOut.{JobOut}
-use Rattle.picture_store.specs.Jobs.{IsOf, input_of}
+use Rattle.picture_store.specs.Jobs.{IsSameJob, input_of}
 use Rattle.picture_store.specs.Kept.{Trees, jobs_for}
 use Rattle.picture_store.specs.Stores.{OutValue}
 use Rattle.picture_store.proofs.Landed.{got_at}
@@ -39,44 +39,53 @@ none_passes test xs none x among is =
     let no = sym none ∙ there in cc
 
 -- what the first job of a number was given
-pub input_at : (keys : Trees) (out : List JobOut) (number at : ℕ) (job : JobOut) → at < length out → job ≡ slice_index_or out at job
-    → position (λ (j : JobOut). j.number == number) out ≡ Some at → input_of (jobs_for keys out) number ≡ Some job.input
-input_at keys out number at job within is first =
-    ap (λ (place : Option ℕ). option_map (λ (j : OutValue). j.input) (option_and_then (slice_get (jobs_for keys out)) place))
-    (position_map (λ (j : OutValue). j.number == number) (seen keys) out ∙ first)
-    ∙ ap (option_map (λ (j : OutValue). j.input)) (got_at (seen keys) out at job within is)
+pub input_at : {P : Type 0} (keys : Trees) (out : List (JobOut P)) (number at : ℕ) (job : JobOut P) → at < length out → job ≡ slice_index_or out at job
+    → position (λ (j : JobOut P). j.number == number) out ≡ Some at → input_of (jobs_for keys out) number ≡ Some job.input
+input_at {P = P} keys out number at job within is first =
+    ap (λ (place : Option ℕ). option_map (λ (j : OutValue P). j.input) (option_and_then (slice_get (jobs_for keys out)) place))
+    (position_map (λ (j : OutValue P). j.number == number) (seen keys) out ∙ first)
+    ∙ ap (option_map (λ (j : OutValue P). j.input)) (got_at (seen keys) out at job within is)
+
+-- the same by what stands at its place
+pub input_there : {P : Type 0} (keys : Trees) (out : List (JobOut P)) (number at : ℕ) (other : OutValue P)
+    → slice_get (jobs_for keys out) at ≡ Some other → position (λ (j : JobOut P). j.number == number) out ≡ Some at
+    → input_of (jobs_for keys out) number ≡ Some other.input
+input_there {P = P} keys out number at other there first =
+    ap (λ (place : Option ℕ). option_map (λ (j : OutValue P). j.input) (option_and_then (slice_get (jobs_for keys out)) place))
+    (position_map (λ (j : OutValue P). j.number == number) (seen keys) out ∙ first)
+    ∙ ap (option_map (λ (j : OutValue P). j.input)) there
 
 -- and where there is none
-pub input_none : (keys : Trees) (out : List JobOut) (number : ℕ) → position (λ (j : JobOut). j.number == number) out ≡ None
+pub input_none : {P : Type 0} (keys : Trees) (out : List (JobOut P)) (number : ℕ) → position (λ (j : JobOut P). j.number == number) out ≡ None
     → input_of (jobs_for keys out) number ≡ None
-input_none keys out number none =
-    ap (λ (place : Option ℕ). option_map (λ (j : OutValue). j.input) (option_and_then (slice_get (jobs_for keys out)) place))
-    (position_map (λ (j : OutValue). j.number == number) (seen keys) out ∙ none)
+input_none {P = P} keys out number none =
+    ap (λ (place : Option ℕ). option_map (λ (j : OutValue P). j.input) (option_and_then (slice_get (jobs_for keys out)) place))
+    (position_map (λ (j : OutValue P). j.number == number) (seen keys) out ∙ none)
 
-pub none_numbered : (keys : Trees) (out : List JobOut) (number : ℕ) → position (λ (j : JobOut). j.number == number) out ≡ None
-    → All (λ (other : OutValue). other.number ≡ number → ⊥) (jobs_for keys out)
-none_numbered keys out number none =
-    All-map (λ (other : OutValue). other.number ≡ number → ⊥) (seen keys) out
-    (All-from_contains {P = λ (job : JobOut). job.number ≡ number → ⊥} out (λ job among is.
-    none_passes (λ (j : JobOut). j.number == number) out none job among (eq-eqb job.number number is)))
+pub none_numbered : {P : Type 0} (keys : Trees) (out : List (JobOut P)) (number : ℕ) → position (λ (j : JobOut P). j.number == number) out ≡ None
+    → All (λ (other : OutValue P). other.number ≡ number → ⊥) (jobs_for keys out)
+none_numbered {P = P} keys out number none =
+    All-map (λ (other : OutValue P). other.number ≡ number → ⊥) (seen keys) out
+    (All-from_contains {P = λ (job : JobOut P). job.number ≡ number → ⊥} out (λ job among is.
+    none_passes (λ (j : JobOut P). j.number == number) out none job among (eq-eqb job.number number is)))
 
 -- the first job of a number is out
-pub numbered_there : (keys : Trees) (out : List JobOut) (number at : ℕ) → at < length out
-    → position (λ (j : JobOut). j.number == number) out ≡ Some at
-    → (other : OutValue) × (slice_get (jobs_for keys out) at ≡ Some other) × (other.number ≡ number)
-numbered_there keys out number at within first =
-    there out at within (λ d. eqb-true (get_or out at d).number number (position-Some (λ (j : JobOut). j.number == number) out at d first).1)
+pub numbered_there : {P : Type 0} (keys : Trees) (out : List (JobOut P)) (number at : ℕ) → at < length out
+    → position (λ (j : JobOut P). j.number == number) out ≡ Some at
+    → (other : OutValue P) × (slice_get (jobs_for keys out) at ≡ Some other) × (other.number ≡ number)
+numbered_there {P = P} keys out number at within first =
+    there out at within (λ d. eqb-true (get_or out at d).number number (position-Some (λ (j : JobOut P). j.number == number) out at d first).1)
   where
-    there : (jobs : List JobOut) (place : ℕ) → place < length jobs → ((d : JobOut) → (get_or jobs place d).number ≡ number)
-        → (other : OutValue) × (slice_get (jobs_for keys jobs) place ≡ Some other) × (other.number ≡ number)
+    there : (jobs : List (JobOut P)) (place : ℕ) → place < length jobs → ((d : JobOut P) → (get_or jobs place d).number ≡ number)
+        → (other : OutValue P) × (slice_get (jobs_for keys jobs) place ≡ Some other) × (other.number ≡ number)
     there [] place within is = absurd (omega (arith, within))
     there (job ∷ jobs) zero within is = (seen keys job, refl, is job)
     there (job ∷ jobs) (suc place) within is = there jobs place (omega (arith, within)) is
 
 -- and so is one of a number and an input
-pub job_there : (keys : Trees) (out : List JobOut) (at : ℕ) (job : JobValue) → at < length out
-    → ((d : JobOut) → (slice_index_or out at d).number ≡ job.number) → ((d : JobOut) → (slice_index_or out at d).input ≡ job.input)
-    → (other : OutValue) × (slice_get (jobs_for keys out) at ≡ Some other) × IsOf job other
+pub job_there : {P : Type 0} (keys : Trees) (out : List (JobOut P)) (at : ℕ) (job : JobValue P) → at < length out
+    → ((d : JobOut P) → (slice_index_or out at d).number ≡ job.number) → ((d : JobOut P) → (slice_index_or out at d).input ≡ job.input)
+    → (other : OutValue P) × (slice_get (jobs_for keys out) at ≡ Some other) × IsSameJob job other
 job_there keys [] at job within number input = absurd (omega (arith, within))
 job_there keys (first ∷ out) zero job within number input = (seen keys first, refl, (number first, input first))
 job_there keys (first ∷ out) (suc at) job within number input = job_there keys out at job (omega (arith, within)) number input

@@ -6,7 +6,7 @@ use Rattle.std.proofs.lemmas.Option.{none-some, same_Some}
 use Rattle.h264_controls.specs.declared.work.Work.{Work}
 use Rattle.unit_outcomes.specs.declared.outcome.Outcome.{Outcome}
 use Rattle.dep_keys.specs.KeyMaps.{IsKeyMap, entered, tree_at}
-use Rattle.picture_keys.specs.Keys.{Key, named_by_all, tree_with, works_of}
+use Rattle.decode_jobs.specs.Keys.{Key, named_by_all, tree_with, works_of}
 use Rattle.picture_keys.specs.Known.{Known, key_at, key_of, known_after, keys_of}
 use Rattle.picture_keys.specs.Numbered.{AllStandFor}
 use Rattle.key_slots.proofs.Lookups.{known_of}

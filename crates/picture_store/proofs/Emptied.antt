@@ -3,8 +3,7 @@ use Rattle.std.proofs.Common.{◌≡◌, refl, sym, ap, subst, ◌∙◌, ℕ, L
 use Rattle.std.proofs.lemmas.Bool.{eqb-true, eq-eqb}
 use Rattle.unit_outcomes.specs.declared.outcome.Outcome.{Outcome}
 use Rattle.dep_keys.specs.KeyMaps.{tree_at}
-use Rattle.stand_in_device.specs.declared.picture.Picture.{Picture}
-use Rattle.picture_keys.specs.Keys.{Key}
+use Rattle.decode_jobs.specs.Keys.{Key}
 use Rattle.key_slots.specs.Places.{place_at, numbers_held}
 use Rattle.key_slots.proofs.Held.{held_found, found_held}
 use Rattle.picture_store.specs.declared.job_out.JobOut.{JobOut}
@@ -13,13 +12,14 @@ use Rattle.picture_store.specs.Due.{IsHeld}
 use Rattle.picture_store.specs.Kept.{Trees, key_for, keys_for, IsRight, IsKept}
 use Rattle.picture_store.proofs.Lifting.{for_contains, contains_for}
 use Rattle.picture_store.proofs.Stays.{key_is}
+use Rattle.decode_jobs.specs.Inputs.{InputValue}
 
-module _ (keys : Trees) (ids : List ℕ) (outcomes : List Outcome) (numbers : List (Option ℕ)) (places more : PlacesValue)
-    (cached : List (ℕ × Picture)) (out : List JobOut) (kept : IsKept keys ids outcomes numbers places cached out) (number : ℕ)
+module _ {P : Type 0} {IsDecoded : InputValue P → P → Type 0} {IsOf : Key → P → Type 0} (keys : Trees) (ids : List ℕ) (outcomes : List Outcome) (numbers : List (Option ℕ)) (places more : PlacesValue P)
+    (cached : List (ℕ × P)) (out : List (JobOut P)) (kept : IsKept IsDecoded IsOf keys ids outcomes numbers places cached out) (number : ℕ)
     (held : IsHeld places number)
     (emptied : (other : ℕ) → place_at more other ≡ (if number == other then Some None else place_at places other)) where
   -- a picture that is held afterwards was held, and is of another key
-  still_held : (other : ℕ) (picture : Picture) → place_at more other ≡ Some (Some picture)
+  still_held : (other : ℕ) (picture : P) → place_at more other ≡ Some (Some picture)
       → (place_at places other ≡ Some (Some picture)) × (number ≡ other → ⊥)
   still_held other picture is = by_same (number == other) refl (sym (emptied other) ∙ is)
     where
@@ -30,7 +30,7 @@ module _ (keys : Trees) (ids : List ℕ) (outcomes : List Outcome) (numbers : Li
       by_same false same place = (place, λ one. let yes : (number == other) ≡ true = eq-eqb number other one in cc)
 
   -- and the other way round
-  held_still : (other : ℕ) (picture : Picture) → place_at places other ≡ Some (Some picture) → (number ≡ other → ⊥)
+  held_still : (other : ℕ) (picture : P) → place_at places other ≡ Some (Some picture) → (number ≡ other → ⊥)
       → place_at more other ≡ Some (Some picture)
   held_still other picture is apart = emptied other ∙ by_same (number == other) refl
     where
@@ -40,7 +40,7 @@ module _ (keys : Trees) (ids : List ℕ) (outcomes : List Outcome) (numbers : Li
       by_same false same = is
 
   used_some : (other : ℕ) → IsSome (place_at more other) ↔ IsSome (place_at places other)
-  used_some other = subst (λ (place : Option (Option Picture)). IsSome place ↔ IsSome (place_at places other)) (sym (emptied other)) (by_same (number == other) refl)
+  used_some other = subst (λ (place : Option (Option P)). IsSome place ↔ IsSome (place_at places other)) (sym (emptied other)) (by_same (number == other) refl)
     where
       by_same : (b : Bool) → b ≡ (number == other)
           → IsSome (if b then Some None else place_at places other) ↔ IsSome (place_at places other)
@@ -51,7 +51,7 @@ module _ (keys : Trees) (ids : List ℕ) (outcomes : List Outcome) (numbers : Li
       by_same false same = (λ some. some, λ some. some)
 
   -- what is kept then
-  pub kept_emptied : IsKept keys ids outcomes numbers more cached out
+  pub kept_emptied : IsKept IsDecoded IsOf keys ids outcomes numbers more cached out
   kept_emptied = record {
     right = record {
       one = kept.right.one;
@@ -76,10 +76,10 @@ module _ (keys : Trees) (ids : List ℕ) (outcomes : List Outcome) (numbers : Li
       forth is =
           let source : (n : ℕ) × Contains (numbers_held more) n × (key_for keys n ≡ other) =
           for_contains keys (numbers_held more) other is in
-          let there : (picture : Picture) × (place_at more source.0 ≡ Some (Some picture)) =
+          let there : (picture : P) × (place_at more source.0 ≡ Some (Some picture)) =
           held_found more source.0 source.1 in
           let was = still_held source.0 there.0 there.1 in
-          let right : IsRight keys source.0 there.0 = kept.right.held source.0 there.0 was.0 in
+          let right : IsRight IsDecoded IsOf keys source.0 there.0 = kept.right.held source.0 there.0 was.0 in
           let live : tree_at keys source.0 ≡ Some other =
           right.1 ∙ ap Some (sym (key_is keys source.0 right.0 right.1) ∙ source.2) in (
             subst (Contains (keys_for keys (numbers_held places))) source.2
@@ -92,7 +92,7 @@ module _ (keys : Trees) (ids : List ℕ) (outcomes : List Outcome) (numbers : Li
       back is apart =
           let source : (n : ℕ) × Contains (numbers_held places) n × (key_for keys n ≡ other) =
           for_contains keys (numbers_held places) other is in
-          let there : (picture : Picture) × (place_at places source.0 ≡ Some (Some picture)) =
+          let there : (picture : P) × (place_at places source.0 ≡ Some (Some picture)) =
           held_found places source.0 source.1 in
           let still = held_still source.0 there.0 there.1
           (λ one. apart (sym source.2 ∙ ap (key_for keys) (sym one) ∙ key_is keys number key tree)) in

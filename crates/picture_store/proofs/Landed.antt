@@ -3,21 +3,20 @@ use Rattle.std.proofs.Common.{◌≡◌, refl, ap, sym, ◌∙◌, subst, ℕ, z
 use Rattle.std.specs.Prelude.{All, Contains, remove, slice_get, slice_index_or}
 use Rattle.std.specs.Option.{is_some}
 use Rattle.std.specs.List.{zip}
-use Rattle.std.proofs.lemmas.List.{map-append, take-map, drop-map}
+use Rattle.std.proofs.lemmas.List.{length-map, map-append, take-map, drop-map}
 use Rattle.std.proofs.lemmas.List.Elements.{All-append, All-take, All-drop, All-map}
 use Rattle.std.proofs.lemmas.Bool.{eqb-true, eq-eqb}
+use Rattle.std.proofs.lemmas.Option.{same_Some}
 use Rattle.unit_outcomes.specs.declared.outcome.Outcome.{Outcome}
 use Rattle.dep_keys.specs.KeyMaps.{tree_at}
-use Rattle.stand_in_device.specs.declared.picture.Picture.{Picture}
-use Rattle.stand_in_device.specs.Jobs.{JobValue}
-use Rattle.picture_keys.specs.Keys.{Key}
+use Rattle.decode_jobs.specs.Jobs.{JobValue}
+use Rattle.decode_jobs.specs.Keys.{Key}
 use Rattle.picture_keys.specs.Known.{Known, key_of_outcome, known_with, keys_after, keys_of}
-use Rattle.picture_keys.specs.KeyPictures.{picture_of_key}
 use Rattle.picture_keys.specs.Numbered.{StandsFor, AllStandFor}
 use Rattle.picture_store.specs.declared.job_out.JobOut.{JobOut}
 use Rattle.picture_store.specs.Stores.{OutValue}
 use Rattle.picture_store.specs.Showing.{IsPictureAt}
-use Rattle.picture_store.specs.Jobs.{IsOf, IsOut, without}
+use Rattle.picture_store.specs.Jobs.{IsSameJob, without}
 use Rattle.key_slots.specs.Places.{place_at, numbers_held}
 use Rattle.picture_store.specs.Places.{PlacesValue}
 use Rattle.picture_store.specs.Kept.{Trees, key_for, keys_for, jobs_for, IsRight, IsJobRight, IsKept}
@@ -26,6 +25,7 @@ use Rattle.picture_store.proofs.Lifting.{for_contains, contains_for}
 use Rattle.picture_store.proofs.Tables.{none_not_some}
 use Rattle.picture_store.proofs.Viewed.{seen, viewed}
 use Rattle.picture_store.proofs.Stays.{key_is, stand_live, stand_number}
+use Rattle.decode_jobs.specs.Inputs.{InputValue}
 
 -- the item at a place, as it is seen
 pub got_at : {X Y : Type 0} (f : X → Y) (xs : List X) (i : ℕ) (x : X) → i < length xs → x ≡ slice_index_or xs i x
@@ -33,6 +33,10 @@ pub got_at : {X Y : Type 0} (f : X → Y) (xs : List X) (i : ℕ) (x : X) → i 
 got_at f [] i x within is = absurd (omega (arith, within))
 got_at f (first ∷ xs) zero x within is = ap (λ y. Some (f y)) (sym is)
 got_at f (first ∷ xs) (suc i) x within is = got_at f xs i x (omega (arith, within)) is
+
+-- a place among the jobs that are seen is one among those that are out
+pub within_out : {P : Type 0} (keys : Trees) (out : List (JobOut P)) (at : ℕ) → at < length (jobs_for keys out) → at < length out
+within_out keys out at within = omega (arith, within, length-map out (seen keys))
 
 -- without an item, as it is seen
 pub map_remove : {X Y : Type 0} (f : X → Y) (xs : List X) (i : ℕ) → map f (remove xs i) ≡ remove (map f xs) i
@@ -45,35 +49,23 @@ pub all_without : {X : Type 0} (P : X → Type 0) (xs : List X) (i : ℕ) → Al
 all_without P xs i all = All-append P (take i xs) (drop (suc i) xs) (All-take P i xs all) (All-drop P (suc i) xs all)
 
 -- a job that is not out isn't seen to be
-pub foreign_for : (keys : Trees) (out : List JobOut) (job : JobValue)
-    → All (λ (other : JobOut). (other.number ≡ job.number) × (other.input ≡ job.input) → ⊥) out
-    → All (λ other. IsOf job other → ⊥) (jobs_for keys out)
-foreign_for keys out job none = All-map (λ other. IsOf job other → ⊥) (seen keys) out none
+pub foreign_for : {P : Type 0} (keys : Trees) (out : List (JobOut P)) (job : JobValue P)
+    → All (λ (other : JobOut P). (other.number ≡ job.number) × (other.input ≡ job.input) → ⊥) out
+    → All (λ other. IsSameJob job other → ⊥) (jobs_for keys out)
+foreign_for keys out job none = All-map (λ other. IsSameJob job other → ⊥) (seen keys) out none
 
 -- without a job that is out
-pub seen_without : (keys : Trees) (ids : List ℕ) (outcomes : List Outcome) (numbers : List (Option ℕ)) (places : PlacesValue)
-    (cached : List (ℕ × Picture)) (room : ℕ) (out more : List JobOut) (given at : ℕ) → more ≡ remove out at
-    → viewed keys ids outcomes numbers places cached room more given
-    ≡ without (viewed keys ids outcomes numbers places cached room out given) at
-seen_without keys ids outcomes numbers places cached room out more given at is =
-    ap (λ (jobs : List OutValue). record (viewed keys ids outcomes numbers places cached room out given) { jobs_out = jobs })
+pub seen_without : {P : Type 0} (keys : Trees) (ids : List ℕ) (outcomes : List Outcome) (numbers : List (Option ℕ)) (places : PlacesValue P)
+    (cached : List (ℕ × P)) (room : ℕ) (out more : List (JobOut P)) (given : ℕ) (released : List P) (at : ℕ) → more ≡ remove out at
+    → viewed keys ids outcomes numbers places cached room more given released
+    ≡ without (viewed keys ids outcomes numbers places cached room out given released) at
+seen_without {P = P} keys ids outcomes numbers places cached room out more given released at is =
+    ap (λ (jobs : List (OutValue P)). record (viewed keys ids outcomes numbers places cached room out given released) { jobs_out = jobs })
     (ap (jobs_for keys) is ∙ map_remove (seen keys) out at)
 
--- the job at a place is out
-pub out_seen : (keys : Trees) (ids : List ℕ) (outcomes : List Outcome) (numbers : List (Option ℕ)) (places : PlacesValue)
-    (cached : List (ℕ × Picture)) (room : ℕ) (out : List JobOut) (given at : ℕ) (job : JobValue) (other : JobOut)
-    → at < length out → other ≡ slice_index_or out at other
-    → ((d : JobOut) → (slice_index_or out at d).number ≡ job.number)
-    → ((d : JobOut) → (slice_index_or out at d).input ≡ job.input)
-    → IsOut (viewed keys ids outcomes numbers places cached room out given) job at (seen keys other)
-out_seen keys ids outcomes numbers places cached room out given at job other within is number input = record {
-  stands = got_at (seen keys) out at other within is;
-  is = (ap (λ (j : JobOut). j.number) is ∙ number other, ap (λ (j : JobOut). j.input) is ∙ input other);
-}
-
-module _ (keys : Trees) (ids : List ℕ) (outcomes : List Outcome) (numbers : List (Option ℕ)) (places : PlacesValue)
-    (cached : List (ℕ × Picture)) (out : List JobOut) (kept : IsKept keys ids outcomes numbers places cached out) where
-  pub kept_without : (at : ℕ) → IsKept keys ids outcomes numbers places cached (remove out at)
+module _ {P : Type 0} {IsDecoded : InputValue P → P → Type 0} {IsOf : Key → P → Type 0} (keys : Trees) (ids : List ℕ) (outcomes : List Outcome) (numbers : List (Option ℕ)) (places : PlacesValue P)
+    (cached : List (ℕ × P)) (out : List (JobOut P)) (kept : IsKept IsDecoded IsOf keys ids outcomes numbers places cached out) where
+  pub kept_without : (at : ℕ) → IsKept IsDecoded IsOf keys ids outcomes numbers places cached (remove out at)
   kept_without at = record {
     right = kept.right;
     same = kept.same;
@@ -81,7 +73,7 @@ module _ (keys : Trees) (ids : List ℕ) (outcomes : List Outcome) (numbers : Li
     decodable = kept.decodable;
     used = kept.used;
     stored = kept.stored;
-    jobs = all_without (IsJobRight keys) out at kept.jobs;
+    jobs = all_without (IsJobRight IsDecoded IsOf keys) out at kept.jobs;
   }
 
   module _ (number : ℕ) (key : Key) (live : tree_at keys number ≡ Some key) where
@@ -99,20 +91,20 @@ module _ (keys : Trees) (ids : List ℕ) (outcomes : List Outcome) (numbers : Li
     unused_for none is = none_not_some (place_at places number) none (place_of_use is)
 
     -- a key whose place has a picture is held
-    pub held_for : (picture : Picture) → place_at places number ≡ Some (Some picture)
+    pub held_for : (picture : P) → place_at places number ≡ Some (Some picture)
         → Contains (keys_for keys (numbers_held places)) (key_for keys number)
     held_for picture is =
         contains_for keys (numbers_held places) number (found_held places number picture is)
 
     -- a key that has a place is in use
-    pub used_for_place : (picture : Option Picture) → place_at places number ≡ Some picture
+    pub used_for_place : (picture : Option P) → place_at places number ≡ Some picture
         → Contains (keys_of (zip ids outcomes)) (Some (key_for keys number))
     used_for_place picture is =
         let unit : (k : Key) × (tree_at keys number ≡ Some k) × Contains (keys_of (zip ids outcomes)) (Some k) =
         stand_live keys numbers (keys_of (zip ids outcomes)) kept.stand number ((kept.used number).0 (ap is_some is)) in
         subst (λ (k : Key). Contains (keys_of (zip ids outcomes)) (Some k)) (sym (key_is keys number unit.0 unit.1)) unit.2
 
-    two_places : (o : Option (Option Picture)) (picture : Picture) → o ≡ Some (Some picture) → o ≡ Some None → ⊥
+    two_places : (o : Option (Option P)) (picture : P) → o ≡ Some (Some picture) → o ≡ Some None → ⊥
     two_places o picture held awaited = cc
 
     -- a key whose place has none isn't held
@@ -121,22 +113,22 @@ module _ (keys : Trees) (ids : List ℕ) (outcomes : List Outcome) (numbers : Li
     awaited_for awaited is =
         let source : (n : ℕ) × Contains (numbers_held places) n × (key_for keys n ≡ key_for keys number) =
         for_contains keys (numbers_held places) (key_for keys number) is in
-        let held : (picture : Picture) × (place_at places source.0 ≡ Some (Some picture)) =
+        let held : (picture : P) × (place_at places source.0 ≡ Some (Some picture)) =
         held_found places source.0 source.1 in
-        let right : IsRight keys source.0 held.0 = kept.right.held source.0 held.0 held.1 in
+        let right : IsRight IsDecoded IsOf keys source.0 held.0 = kept.right.held source.0 held.0 held.1 in
         let tree : tree_at keys source.0 ≡ Some key =
         right.1 ∙ ap Some (sym (key_is keys source.0 right.0 right.1) ∙ source.2 ∙ key_is keys number key live) in
         let same : source.0 ≡ number = kept.right.one.trees source.0 number key tree live in
         two_places (place_at places number) held.0 (subst (λ n. place_at places n ≡ Some (Some held.0)) same held.1) awaited
 
-    picked : (b : Bool) (place other : Option (Option Picture)) → IsSome other → IsSome place
+    picked : (b : Bool) (place other : Option (Option P)) → IsSome other → IsSome place
         → IsSome (if b then place else other)
     picked true place other others is = is
     picked false place other others is = others
 
     -- a picture is put into the place of the key
-    module _ (picture : Picture) (right : IsRight keys number picture) (awaited : place_at places number ≡ Some None)
-        (more : PlacesValue)
+    module _ (picture : P) (right : IsRight IsDecoded IsOf keys number picture) (awaited : place_at places number ≡ Some None)
+        (more : PlacesValue P)
         (put : (other : ℕ) → place_at more other
         ≡ (if number == other then Some (Some picture) else place_at places other)) where
       put_there : place_at more number ≡ Some (Some picture)
@@ -144,19 +136,19 @@ module _ (keys : Trees) (ids : List ℕ) (outcomes : List Outcome) (numbers : Li
           put number
           ∙ ap (λ b. if b then Some (Some picture) else place_at places number) (eq-eqb number number refl)
 
-      split : (b : Bool) (other : ℕ) (shown : Picture) → b ≡ (number == other)
+      split : (b : Bool) (other : ℕ) (shown : P) → b ≡ (number == other)
           → (if b then Some (Some picture) else place_at places other) ≡ Some (Some shown)
           → ((number ≡ other) × (picture ≡ shown)) ⊎ (place_at places other ≡ Some (Some shown))
       split true other shown is same = inl (eqb-true number other (sym is), cc)
       split false other shown is same = inr same
 
       -- a picture that is held afterwards is the new one, or was held
-      held_then : (other : ℕ) (shown : Picture) → place_at more other ≡ Some (Some shown)
+      held_then : (other : ℕ) (shown : P) → place_at more other ≡ Some (Some shown)
           → ((number ≡ other) × (picture ≡ shown)) ⊎ (place_at places other ≡ Some (Some shown))
       held_then other shown is = split (number == other) other shown refl (sym (put other) ∙ is)
 
-      stays_held : (b : Bool) (other : ℕ) (shown : Picture) → place_at places other ≡ Some (Some shown)
-          → (kept_picture : Picture) × ((if b then Some (Some picture) else place_at places other) ≡ Some (Some kept_picture))
+      stays_held : (b : Bool) (other : ℕ) (shown : P) → place_at places other ≡ Some (Some shown)
+          → (kept_picture : P) × ((if b then Some (Some picture) else place_at places other) ≡ Some (Some kept_picture))
       stays_held true other shown is = (picture, refl)
       stays_held false other shown is = (shown, is)
 
@@ -173,15 +165,15 @@ module _ (keys : Trees) (ids : List ℕ) (outcomes : List Outcome) (numbers : Li
             (picked (number == other) (Some (Some picture)) (place_at places other) ((kept.used other).1 is) refl),
       )
 
-      right_then : (other : ℕ) (shown : Picture) → place_at more other ≡ Some (Some shown) → IsRight keys other shown
+      right_then : (other : ℕ) (shown : P) → place_at more other ≡ Some (Some shown) → IsRight IsDecoded IsOf keys other shown
       right_then other shown is =
           elim (held_then other shown is) [
             | inl same ↦
-                subst (λ n. IsRight keys n shown) same.0 (subst (λ p. IsRight keys number p) same.1 right)
+                subst (λ n. IsRight IsDecoded IsOf keys n shown) same.0 (subst (λ p. IsRight IsDecoded IsOf keys number p) same.1 right)
             | inr before ↦ kept.right.held other shown before
           ]
 
-      pub kept_landed : IsKept keys ids outcomes numbers more cached out
+      pub kept_landed : IsKept IsDecoded IsOf keys ids outcomes numbers more cached out
       kept_landed = record {
         right = record { one = kept.right.one; held = right_then };
         same = kept.same;
@@ -199,7 +191,7 @@ module _ (keys : Trees) (ids : List ℕ) (outcomes : List Outcome) (numbers : Li
         λ is.
             let source : (n : ℕ) × Contains (numbers_held more) n × (key_for keys n ≡ other) =
             for_contains keys (numbers_held more) other is in
-            let held : (shown : Picture) × (place_at more source.0 ≡ Some (Some shown)) =
+            let held : (shown : P) × (place_at more source.0 ≡ Some (Some shown)) =
             held_found more source.0 source.1 in
             elim (held_then source.0 held.0 held.1) [
               | inl same ↦ inr (sym source.2 ∙ ap (key_for keys) (sym same.0))
@@ -210,9 +202,9 @@ module _ (keys : Trees) (ids : List ℕ) (outcomes : List Outcome) (numbers : Li
           | inl was ↦
               let source : (n : ℕ) × Contains (numbers_held places) n × (key_for keys n ≡ other) =
               for_contains keys (numbers_held places) other was in
-              let held : (shown : Picture) × (place_at places source.0 ≡ Some (Some shown)) =
+              let held : (shown : P) × (place_at places source.0 ≡ Some (Some shown)) =
               held_found places source.0 source.1 in
-              let still : (shown : Picture) × ((if number == source.0 then Some (Some picture) else place_at places source.0) ≡ Some (Some shown)) =
+              let still : (shown : P) × ((if number == source.0 then Some (Some picture) else place_at places source.0) ≡ Some (Some shown)) =
               stays_held (number == source.0) source.0 held.0 held.1 in
               subst (Contains (keys_for keys (numbers_held more))) source.2
               (contains_for keys (numbers_held more) source.0
@@ -255,9 +247,9 @@ length-zip_same [] (y ∷ ys) same = refl
 length-zip_same (x ∷ xs) [] same = absurd (omega (arith, same))
 length-zip_same (x ∷ xs) (y ∷ ys) same = ap suc (length-zip_same xs ys (omega (arith, same)))
 
-module _ (keys : Trees) (ids : List ℕ) (outcomes : List Outcome) (numbers : List (Option ℕ)) (places : PlacesValue)
-    (cached : List (ℕ × Picture)) (room : ℕ) (out : List JobOut) (given : ℕ)
-    (kept : IsKept keys ids outcomes numbers places cached out) where
+module _ {P : Type 0} {IsDecoded : InputValue P → P → Type 0} {IsOf : Key → P → Type 0} (keys : Trees) (ids : List ℕ) (outcomes : List Outcome) (numbers : List (Option ℕ)) (places : PlacesValue P)
+    (cached : List (ℕ × P)) (room : ℕ) (out : List (JobOut P)) (given : ℕ) (released : List P)
+    (kept : IsKept IsDecoded IsOf keys ids outcomes numbers places cached out) where
   -- each unit has a number, or nothing
   pub found_length : length numbers ≡ length ids
   found_length =
@@ -281,7 +273,7 @@ module _ (keys : Trees) (ids : List ℕ) (outcomes : List Outcome) (numbers : Li
 
     -- a unit without a key shows no picture
     pub shows_none : None ≡ slice_index_or numbers at None
-        → IsPictureAt (viewed keys ids outcomes numbers places cached room out given) at None
+        → IsPictureAt IsOf (viewed keys ids outcomes numbers places cached room out given released) at None
     shows_none is key has held =
         let got : (tree : Option Key) × (slice_get (keys_of (zip ids outcomes)) at ≡ Some tree) × StandsFor keys None tree =
         got_keys keys numbers (keys_of (zip ids outcomes)) kept.stand at None within is in
@@ -296,46 +288,46 @@ module _ (keys : Trees) (ids : List ℕ) (outcomes : List Outcome) (numbers : Li
           (some.0, got.1 ∙ ap Some some.1, some.2)
 
       -- a picture that is held is shown
-      pub shows_held : (picture : Picture) → place_at places number ≡ Some (Some picture)
-          → IsPictureAt (viewed keys ids outcomes numbers places cached room out given) at (Some picture)
+      pub shows_held : (picture : P) → place_at places number ≡ Some (Some picture)
+          → IsPictureAt IsOf (viewed keys ids outcomes numbers places cached room out given released) at (Some picture)
       shows_held picture held =
-          let right : IsRight keys number picture = kept.right.held number picture held in
+          let right : IsRight IsDecoded IsOf keys number picture = kept.right.held number picture held in
           let same : key_for keys number ≡ keyed.0 = key_is keys number keyed.0 keyed.2 in (
             keyed.0,
             keyed.1,
             subst (Contains (keys_for keys (numbers_held places))) same
                 (contains_for keys (numbers_held places) number (found_held places number picture held)),
-            right.2 ∙ ap picture_of_key (sym (key_is keys number right.0 right.1) ∙ same),
+            subst (λ k. IsOf k picture) (same_Some right.0 keyed.0 (sym right.1 ∙ keyed.2)) right.2,
           )
 
       -- else none is
-      pub shows_waited : ((picture : Picture) → place_at places number ≡ Some (Some picture) → ⊥)
-          → IsPictureAt (viewed keys ids outcomes numbers places cached room out given) at None
+      pub shows_waited : ((picture : P) → place_at places number ≡ Some (Some picture) → ⊥)
+          → IsPictureAt IsOf (viewed keys ids outcomes numbers places cached room out given released) at None
       shows_waited not key has held =
           let same : keyed.0 ≡ key = one_key keyed.0 key keyed.1 has in
           let source : (n : ℕ) × Contains (numbers_held places) n × (key_for keys n ≡ key) =
           for_contains keys (numbers_held places) key held in
-          let there : (picture : Picture) × (place_at places source.0 ≡ Some (Some picture)) =
+          let there : (picture : P) × (place_at places source.0 ≡ Some (Some picture)) =
           held_found places source.0 source.1 in
-          let right : IsRight keys source.0 there.0 = kept.right.held source.0 there.0 there.1 in
+          let right : IsRight IsDecoded IsOf keys source.0 there.0 = kept.right.held source.0 there.0 there.1 in
           let tree : tree_at keys source.0 ≡ Some keyed.0 =
           right.1 ∙ ap Some (sym (key_is keys source.0 right.0 right.1) ∙ source.2 ∙ sym same) in
           let one : source.0 ≡ number = kept.right.one.trees source.0 number keyed.0 tree keyed.2 in
           not there.0 (subst (λ n. place_at places n ≡ Some (Some there.0)) one there.1)
 
-      no_picture : (o : Option (Option Picture)) (picture : Picture) → o ≡ None → o ≡ Some (Some picture) → ⊥
+      no_picture : (o : Option (Option P)) (picture : P) → o ≡ None → o ≡ Some (Some picture) → ⊥
       no_picture o picture none some = cc
 
-      no_inner : (o : Option (Option Picture)) (picture : Picture) → o ≡ Some None → o ≡ Some (Some picture) → ⊥
+      no_inner : (o : Option (Option P)) (picture : P) → o ≡ Some None → o ≡ Some (Some picture) → ⊥
       no_inner o picture none some = cc
 
       -- what stands at the key's place is shown
-      pub shows_place : (shown : Option Picture) → place_at places number ≡ Some shown
-          → IsPictureAt (viewed keys ids outcomes numbers places cached room out given) at shown
+      pub shows_place : (shown : Option P) → place_at places number ≡ Some shown
+          → IsPictureAt IsOf (viewed keys ids outcomes numbers places cached room out given released) at shown
       shows_place None is = shows_waited (λ picture held. no_inner (place_at places number) picture is held)
       shows_place (Some picture) is = shows_held picture is
 
       -- where the key has no place, none is
       pub shows_unused : place_at places number ≡ None
-          → IsPictureAt (viewed keys ids outcomes numbers places cached room out given) at None
+          → IsPictureAt IsOf (viewed keys ids outcomes numbers places cached room out given released) at None
       shows_unused is = shows_waited (λ picture held. no_picture (place_at places number) picture is held)

@@ -18,6 +18,9 @@ pub mod Refitted
 pub mod Landed
 pub mod ByNumber
 pub mod Filled
+pub mod Landings
+pub mod Uncached
+pub mod Freed
 pub mod Taken
 pub mod Waiting
 pub mod Pended

@@ -6,9 +6,7 @@ use Rattle.std.proofs.lemmas.List.{map-append, take_all}
 use Rattle.std.proofs.lemmas.List.Elements.{All-contains, All-get_or, All-push, Contains-append_left}
 use Rattle.std.proofs.lemmas.Option.{none-some, same_Some}
 use Rattle.unit_outcomes.specs.declared.outcome.Outcome.{Outcome}
-use Rattle.stand_in_device.specs.declared.picture.Picture.{Picture}
-use Rattle.stand_in_device.specs.Pictures.{picture_of}
-use Rattle.picture_keys.specs.Keys.{Key}
+use Rattle.decode_jobs.specs.Keys.{Key}
 use Rattle.picture_keys.specs.Known.{keys_of}
 use Rattle.picture_store.specs.declared.answers.Landing.{Landing}
 use Rattle.picture_store.specs.declared.answers.Landing.TheVariants.{Taken, Stale, Foreign}
@@ -17,7 +15,7 @@ use Rattle.key_slots.specs.Places.{AreSame, place_of}
 use Rattle.key_slots.proofs.Members.{here, there, nowhere, first_or_among, All-from_contains}
 use Rattle.picture_store.specs.Places.{PlacesValue}
 use Rattle.picture_store.specs.Filling.{IsFilled}
-use Rattle.picture_store.specs.Kept.{Trees, keys_for, numbers_out, IsRight, IsJobRight, IsKept, KeepsStored}
+use Rattle.picture_store.specs.Kept.{Trees, keys_for, numbers_out, IsJobRight, IsKept, KeepsStored}
 use Rattle.picture_store.specs.Due.{IsDueNumber, IsNotDue}
 use Rattle.picture_store.specs.Looked.{AreNotDue, IsBehind}
 use Rattle.picture_store.specs.Settled.{AreSettled}
@@ -28,6 +26,7 @@ use Rattle.picture_store.proofs.Scheduling.{due_given, due_or, due_stale}
 use Rattle.picture_store.proofs.Settled.{none_due_before}
 use Rattle.picture_store.proofs.Stays.{held_stay, stand_live}
 use Rattle.picture_store.proofs.Waiting.{got_among}
+use Rattle.decode_jobs.specs.Inputs.{InputValue}
 
 -- what stands at a place is among the first items of a list, where the place is
 pub taken_there : {X : Type 0} (xs : List X) (count at : ℕ) (x : X) → at < count → slice_get xs at ≡ Some x
@@ -52,7 +51,7 @@ there_taken (first ∷ xs) (suc count) x among =
           (suc rest.0, omega (arith, rest.1), rest.2)
     ]
 
-module _ (keys : Trees) (places : PlacesValue) (out : List JobOut) (numbers : List (Option ℕ)) where
+module _ {P : Type 0} (keys : Trees) (places : PlacesValue P) (out : List (JobOut P)) (numbers : List (Option ℕ)) where
   -- a unit before a place before which none is due isn't
   pub not_there : (count : ℕ) → AreNotDue keys places out numbers count → (at number : ℕ) → at < count
       → slice_get numbers at ≡ Some (Some number) → IsDueNumber keys places out number → ⊥
@@ -121,23 +120,23 @@ module _ (keys : Trees) (places : PlacesValue) (out : List JobOut) (numbers : Li
       each at number below = by_place at number (either at settled looked (omega (arith, below, is)))
 
   -- a key that is due is that of no unit before a place before which none is
-  pub behind_given : (count : ℕ) → AreNotDue keys places out numbers count → (job : JobOut) → job.first_place ≡ count
+  pub behind_given : (count : ℕ) → AreNotDue keys places out numbers count → (job : JobOut P) → job.first_place ≡ count
       → IsDueNumber keys places out job.key → IsBehind numbers job
   behind_given count are job from due =
       λ at below is. not_there count are at job.key (omega (arith, below, from)) is due
 
   -- so each job is behind its place where one is given
-  pub behind_more : (count : ℕ) → AreNotDue keys places out numbers count → (job : JobOut) (more : List JobOut)
+  pub behind_more : (count : ℕ) → AreNotDue keys places out numbers count → (job : JobOut P) (more : List (JobOut P))
       → more ≡ out ++ job ∷ [] → job.first_place ≡ count → IsDueNumber keys places out job.key → All (IsBehind numbers) out
       → All (IsBehind numbers) more
   behind_more count are job more is from due behind =
       subst (All (IsBehind numbers)) (sym is) (All-push (IsBehind numbers) out job behind (behind_given count are job from due))
 
 -- nor is one of them due where a job more is out
-pub looked_more : (keys : Trees) (places : PlacesValue) (out : List JobOut) (numbers : List (Option ℕ)) (job : JobOut)
-    (more : List JobOut) → more ≡ out ++ job ∷ [] → (count : ℕ) → AreNotDue keys places out numbers count
+pub looked_more : {P : Type 0} (keys : Trees) (places : PlacesValue P) (out : List (JobOut P)) (numbers : List (Option ℕ)) (job : JobOut P)
+    (more : List (JobOut P)) → more ≡ out ++ job ∷ [] → (count : ℕ) → AreNotDue keys places out numbers count
     → AreNotDue keys places more numbers count
-looked_more keys places out numbers job more is count are =
+looked_more {P = P} keys places out numbers job more is count are =
     none_before keys places more numbers count are.0
     (λ at number below there due.
     not_there keys places out numbers count are at number below there (due_given keys places out more stay number due))
@@ -145,12 +144,12 @@ looked_more keys places out numbers job more is count are =
     stay : (number : ℕ) → Contains (numbers_out out) number → Contains (numbers_out more) number
     stay number among =
         subst (λ jobs. Contains (numbers_out jobs) number) (sym is)
-        (subst (λ numbers. Contains numbers number) (sym (map-append (λ (j : JobOut). j.key) out (job ∷ [])))
+        (subst (λ numbers. Contains numbers number) (sym (map-append (λ (j : JobOut P). j.key) out (job ∷ [])))
         (Contains-append_left (numbers_out out) (numbers_out (job ∷ [])) number among))
 
 -- what isn't due where the keys that are stored stay
-module _ (keys more : Trees) (ids : List ℕ) (outcomes : List Outcome) (numbers : List (Option ℕ)) (places : PlacesValue)
-    (cached : List (ℕ × Picture)) (out : List JobOut) (kept : IsKept keys ids outcomes numbers places cached out)
+module _ {P : Type 0} {IsDecoded : InputValue P → P → Type 0} {IsOf : Key → P → Type 0} (keys more : Trees) (ids : List ℕ) (outcomes : List Outcome) (numbers : List (Option ℕ)) (places : PlacesValue P)
+    (cached : List (ℕ × P)) (out : List (JobOut P)) (kept : IsKept IsDecoded IsOf keys ids outcomes numbers places cached out)
     (stay : KeepsStored numbers cached out keys more) where
   due_stays : (number : ℕ) → Contains numbers (Some number) → IsDueNumber more places out number → IsDueNumber keys places out number
   due_stays number among due =
@@ -171,8 +170,8 @@ module _ (keys more : Trees) (ids : List ℕ) (outcomes : List Outcome) (numbers
       (λ at number below is due. not_there keys places out numbers count are at number below is (due_stays number (got_among numbers at (Some number) is) due))
 
 -- what isn't due where the slots of keys are the same
-module _ (places grown : PlacesValue) (same : AreSame places grown) where
-  pub looked_same : (keys : Trees) (out : List JobOut) (numbers : List (Option ℕ)) (count : ℕ) → AreNotDue keys places out numbers count
+module _ {P : Type 0} (places grown : PlacesValue P) (same : AreSame places grown) where
+  pub looked_same : (keys : Trees) (out : List (JobOut P)) (numbers : List (Option ℕ)) (count : ℕ) → AreNotDue keys places out numbers count
       → AreNotDue keys grown out numbers count
   looked_same keys out numbers count are =
       none_before keys grown out numbers count are.0
@@ -184,18 +183,18 @@ module _ (places grown : PlacesValue) (same : AreSame places grown) where
         ready = subst (λ held. IsReady (keys_for keys held) due.key) same.held due.ready;
       }))
 
-module _ (keys : Trees) (ids : List ℕ) (outcomes : List Outcome) (numbers : List (Option ℕ)) (places : PlacesValue)
-    (cached : List (ℕ × Picture)) (out : List JobOut) (kept : IsKept keys ids outcomes numbers places cached out) where
+module _ {P : Type 0} {IsDecoded : InputValue P → P → Type 0} {IsOf : Key → P → Type 0} (keys : Trees) (ids : List ℕ) (outcomes : List Outcome) (numbers : List (Option ℕ)) (places : PlacesValue P)
+    (cached : List (ℕ × P)) (out : List (JobOut P)) (kept : IsKept IsDecoded IsOf keys ids outcomes numbers places cached out) where
   -- where a result lands, units become due that refer to its key; they stand behind its job's place
-  module _ (at : ℕ) (within : at < length out) (other : JobOut) (stands : other ≡ slice_index_or out at other) where
-    right : IsRight keys other.key (picture_of other.input)
+  module _ (at : ℕ) (within : at < length out) (other : JobOut P) (stands : other ≡ slice_index_or out at other) where
+    right : IsJobRight IsDecoded IsOf keys other
     right =
-        (subst (IsJobRight keys) (sym stands) (All-get_or (IsJobRight keys) out at other within kept.jobs)).0
+        subst (IsJobRight IsDecoded IsOf keys) (sym stands) (All-get_or (IsJobRight IsDecoded IsOf keys) out at other within kept.jobs)
 
     behind : All (IsBehind numbers) out → IsBehind numbers other
     behind all = subst (IsBehind numbers) (sym stands) (All-get_or (IsBehind numbers) out at other within all)
 
-    pub looked_landed : (picture : Picture) (landing : Landing) (more : PlacesValue) (left : List JobOut) (count less : ℕ)
+    pub looked_landed : (picture : P) (landing : Landing) (more : PlacesValue P) (left : List (JobOut P)) (count less : ℕ)
         → left ≡ remove out at → IsFilled places other.key picture landing more → less ≤ count
         → (landing ≡ Taken → less ≤ other.first_place) → All (IsBehind numbers) out
         → AreNotDue keys places out numbers count → AreNotDue keys more left numbers less
@@ -222,5 +221,5 @@ module _ (keys : Trees) (ids : List ℕ) (outcomes : List Outcome) (numbers : Li
                   behind all before.0 (omega (arith, before.1, under, front refl)) before.2
             ]
 
-    pub behind_left : (left : List JobOut) → left ≡ remove out at → All (IsBehind numbers) out → All (IsBehind numbers) left
+    pub behind_left : (left : List (JobOut P)) → left ≡ remove out at → All (IsBehind numbers) out → All (IsBehind numbers) left
     behind_left left gone all = subst (All (IsBehind numbers)) (sym gone) (all_without (IsBehind numbers) out at all)

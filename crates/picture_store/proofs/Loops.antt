@@ -83,10 +83,10 @@ same : (a b : ℕ) → IsTrue (a == b) → a ≡ b
 same a b h = grind (arith, nat_tests)
 
 -- some job has the key exactly where the key is among those of the jobs
-pub key_among : (key : ℕ) (jobs : List JobOut) → IsTrue (list_any (λ job. job.key == key) jobs) → Contains (numbers_out jobs) key
+pub key_among : {P : Type 0} (key : ℕ) (jobs : List (JobOut P)) → IsTrue (list_any (λ job. job.key == key) jobs) → Contains (numbers_out jobs) key
 key_among key [] h = cc
-key_among key (job ∷ jobs) h =
-    elim (either (job.key == key) (list_any (λ (other : JobOut). other.key == key) jobs) h) [
+key_among {P = P} key (job ∷ jobs) h =
+    elim (either (job.key == key) (list_any (λ (other : JobOut P). other.key == key) jobs) h) [
       | inl here ↦ (0, omega arith, same job.key key here)
       | inr later ↦ later_in job.key (numbers_out jobs) key (key_among key jobs later)
     ]
@@ -102,10 +102,10 @@ there_or false b h = h
 equal_test : (a b : ℕ) → a ≡ b → IsTrue (a == b)
 equal_test a b h = grind (arith, nat_tests)
 
-pub among_key : (key : ℕ) (jobs : List JobOut) → Contains (numbers_out jobs) key → IsTrue (list_any (λ job. job.key == key) jobs)
+pub among_key : {P : Type 0} (key : ℕ) (jobs : List (JobOut P)) → Contains (numbers_out jobs) key → IsTrue (list_any (λ job. job.key == key) jobs)
 among_key key [] (k, within, is) = absurd (omega (arith, within))
-among_key key (job ∷ jobs) there =
+among_key {P = P} key (job ∷ jobs) there =
     elim (in_cases job.key (numbers_out jobs) key there) [
-      | inl here ↦ here_or (job.key == key) (list_any (λ (other : JobOut). other.key == key) jobs) (equal_test job.key key here)
-      | inr later ↦ there_or (job.key == key) (list_any (λ (other : JobOut). other.key == key) jobs) (among_key key jobs later)
+      | inl here ↦ here_or (job.key == key) (list_any (λ (other : JobOut P). other.key == key) jobs) (equal_test job.key key here)
+      | inr later ↦ there_or (job.key == key) (list_any (λ (other : JobOut P). other.key == key) jobs) (among_key key jobs later)
     ]

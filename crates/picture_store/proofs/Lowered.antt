@@ -7,8 +7,7 @@ use Rattle.std.proofs.lemmas.List.{length-append, length-take-le}
 use Rattle.std.proofs.lemmas.List.Elements.{All-contains, All-map}
 use Rattle.unit_outcomes.specs.declared.outcome.Outcome.{Outcome}
 use Rattle.dep_keys.specs.Trees.Tree.{Bare, Gap, With}
-use Rattle.stand_in_device.specs.declared.picture.Picture.{Picture}
-use Rattle.picture_keys.specs.Keys.{Key}
+use Rattle.decode_jobs.specs.Keys.{Key}
 use Rattle.picture_keys.specs.Known.{keys_of}
 use Rattle.picture_keys.specs.Numbered.{AllStandFor}
 use Rattle.key_slots.specs.Places.{place_at, numbers_held, uses_at}
@@ -29,25 +28,26 @@ use Rattle.picture_store.proofs.Refitted.{held_before}
 use Rattle.picture_store.proofs.Settled.{settled_stay}
 use Rattle.picture_store.proofs.Viewed.{seen}
 use Rattle.picture_store.proofs.Waiting.{got_among}
+use Rattle.decode_jobs.specs.Inputs.{InputValue}
 
 -- what else is said of jobs stays where their places are lowered
-pub map_lowered : {Y : Type 0} (f : JobOut → Y) (from : ℕ) → ((job : JobOut) → f (lowered from job) ≡ f job)
-    → (out : List JobOut) → map f (map (lowered from) out) ≡ map f out
+pub map_lowered : {P : Type 0} {Y : Type 0} (f : JobOut P → Y) (from : ℕ) → ((job : JobOut P) → f (lowered from job) ≡ f job)
+    → (out : List (JobOut P)) → map f (map (lowered from) out) ≡ map f out
 map_lowered f from same [] = refl
 map_lowered {Y} f from same (job ∷ out) =
     ap (λ (y : Y). y ∷ map f (map (lowered from) out)) (same job) ∙ ap (λ (ys : List Y). f job ∷ ys) (map_lowered f from same out)
 
-pub numbers_lowered : (from : ℕ) (out : List JobOut) → numbers_out (map (lowered from) out) ≡ numbers_out out
-numbers_lowered from out = map_lowered (λ (job : JobOut). job.key) from (λ job. refl) out
+pub numbers_lowered : {P : Type 0} (from : ℕ) (out : List (JobOut P)) → numbers_out (map (lowered from) out) ≡ numbers_out out
+numbers_lowered {P = P} from out = map_lowered (λ (job : JobOut P). job.key) from (λ job. refl) out
 
-pub jobs_lowered : (keys : Trees) (from : ℕ) (out : List JobOut) → jobs_for keys (map (lowered from) out) ≡ jobs_for keys out
+pub jobs_lowered : {P : Type 0} (keys : Trees) (from : ℕ) (out : List (JobOut P)) → jobs_for keys (map (lowered from) out) ≡ jobs_for keys out
 jobs_lowered keys from out = map_lowered (seen keys) from (λ job. refl) out
 
 -- what is kept
-pub kept_lowered : (keys : Trees) (ids : List ℕ) (outcomes : List Outcome) (numbers : List (Option ℕ)) (places : PlacesValue)
-    (cached : List (ℕ × Picture)) (out more : List JobOut) (from : ℕ) → more ≡ map (lowered from) out
-    → IsKept keys ids outcomes numbers places cached out → IsKept keys ids outcomes numbers places cached more
-kept_lowered keys ids outcomes numbers places cached out more from is kept = record {
+pub kept_lowered : {P : Type 0} {IsDecoded : InputValue P → P → Type 0} {IsOf : Key → P → Type 0} (keys : Trees) (ids : List ℕ) (outcomes : List Outcome) (numbers : List (Option ℕ)) (places : PlacesValue P)
+    (cached : List (ℕ × P)) (out more : List (JobOut P)) (from : ℕ) → more ≡ map (lowered from) out
+    → IsKept IsDecoded IsOf keys ids outcomes numbers places cached out → IsKept IsDecoded IsOf keys ids outcomes numbers places cached more
+kept_lowered {IsDecoded = IsDecoded} {IsOf = IsOf} keys ids outcomes numbers places cached out more from is kept = record {
   right = kept.right;
   same = kept.same;
   stand = kept.stand;
@@ -55,13 +55,13 @@ kept_lowered keys ids outcomes numbers places cached out more from is kept = rec
   used = kept.used;
   stored = kept.stored;
   jobs =
-      subst (All (IsJobRight keys)) (sym is)
-      (All-map (IsJobRight keys) (lowered from) out
-      (All-from_contains out (λ job among. All-contains (IsJobRight keys) out job kept.jobs among)));
+      subst (All (IsJobRight IsDecoded IsOf keys)) (sym is)
+      (All-map (IsJobRight IsDecoded IsOf keys) (lowered from) out
+      (All-from_contains out (λ job among. All-contains (IsJobRight IsDecoded IsOf keys) out job kept.jobs among)));
 }
 
 -- what needs no job
-pub settled_lowered : (places : PlacesValue) (out more : List JobOut) (from : ℕ) (numbers : List (Option ℕ)) (count : ℕ)
+pub settled_lowered : {P : Type 0} (places : PlacesValue P) (out more : List (JobOut P)) (from : ℕ) (numbers : List (Option ℕ)) (count : ℕ)
     → more ≡ map (lowered from) out → AreSettled places out numbers count → AreSettled places more numbers count
 settled_lowered places out more from numbers count is are =
     subst (λ jobs. AreSettled places jobs numbers count) (sym is)
@@ -76,7 +76,7 @@ settled_lowered places out more from numbers count is are =
     ]
 
 -- what isn't due
-pub looked_lowered : (keys : Trees) (places : PlacesValue) (out more : List JobOut) (from : ℕ) (numbers : List (Option ℕ)) (count : ℕ)
+pub looked_lowered : {P : Type 0} (keys : Trees) (places : PlacesValue P) (out more : List (JobOut P)) (from : ℕ) (numbers : List (Option ℕ)) (count : ℕ)
     → more ≡ map (lowered from) out → AreNotDue keys places out numbers count → AreNotDue keys places more numbers count
 looked_lowered keys places out more from numbers count is are =
     subst (λ jobs. AreNotDue keys places jobs numbers count) (sym is)
@@ -99,19 +99,19 @@ got_front (suc at) (suc from) (first ∷ xs) ys x below within is =
     got_front at from xs ys x (omega (arith, below)) (omega (arith, within)) is
 
 -- no unit before a job's place has its key
-pub behind_lowered : (numbers later : List (Option ℕ)) (out more : List JobOut) (from : ℕ) → from ≤ length numbers
+pub behind_lowered : {P : Type 0} (numbers later : List (Option ℕ)) (out more : List (JobOut P)) (from : ℕ) → from ≤ length numbers
     → more ≡ map (lowered from) out → All (IsBehind numbers) out → All (IsBehind (take from numbers ++ later)) more
-behind_lowered numbers later out more from within is behind =
+behind_lowered {P = P} numbers later out more from within is behind =
     subst (All (IsBehind (take from numbers ++ later))) (sym is)
     (All-map (IsBehind (take from numbers ++ later)) (lowered from) out (All-from_contains out each))
   where
-    each : (job : JobOut) → Contains out job → IsBehind (take from numbers ++ later) (lowered from job)
+    each : (job : JobOut P) → Contains out job → IsBehind (take from numbers ++ later) (lowered from job)
     each job among = λ at below there.
         All-contains (IsBehind numbers) out job behind among at (omega (arith, below))
         (got_front at from numbers later (Some job.key) (omega (arith, below)) within there)
 
 -- where a place waits for a picture, it waited before
-awaited_before : (place : Option (Option Picture)) (other : Option Picture) → held_or place other ≡ None → IsSome place
+awaited_before : {P : Type 0} (place : Option (Option P)) (other : Option P) → held_or place other ≡ None → IsSome place
     → place ≡ Some None
 awaited_before None other none some = absurd cc
 awaited_before (Some None) other none some = refl
@@ -127,20 +127,20 @@ ready_before held more (With first rest) each ready = (
   ready_before held more rest (λ other among. each other (inr among)) ready.1,
 )
 
-inner : (place : Option (Option Picture)) (shown : Option Picture) → place ≡ Some None → place ≡ Some shown → shown ≡ None
+inner : {P : Type 0} (place : Option (Option P)) (shown : Option P) → place ≡ Some None → place ≡ Some shown → shown ≡ None
 inner place shown none some = cc
 
-unplaced : (place : Option (Option Picture)) → place ≡ None → place ≡ Some None → ⊥
+unplaced : {P : Type 0} (place : Option (Option P)) → place ≡ None → place ≡ Some None → ⊥
 unplaced place none some = cc
 
-module _ (keys : Trees) (ids : List ℕ) (outcomes : List Outcome) (numbers : List (Option ℕ)) (places : PlacesValue)
-    (cached : List (ℕ × Picture)) (out : List JobOut) (kept : IsKept keys ids outcomes numbers places cached out)
+module _ {P : Type 0} {IsDecoded : InputValue P → P → Type 0} {IsOf : Key → P → Type 0} (keys : Trees) (ids : List ℕ) (outcomes : List Outcome) (numbers : List (Option ℕ)) (places : PlacesValue P)
+    (cached : List (ℕ × P)) (out : List (JobOut P)) (kept : IsKept IsDecoded IsOf keys ids outcomes numbers places cached out)
     (apart : (number : ℕ) → 0 < uses_at places number → Contains (numbers_of cached) number → ⊥)
-    (more_ids : List ℕ) (more_outcomes : List Outcome) (more_found : List (Option ℕ)) (more_places : PlacesValue)
+    (more_ids : List ℕ) (more_outcomes : List Outcome) (more_found : List (Option ℕ)) (more_places : PlacesValue P)
     (stand : AllStandFor keys more_found (keys_of (zip more_ids more_outcomes)))
-    (placed : ArePlaced more_found places cached more_places) (right : AreRight keys more_places) where
+    (placed : ArePlaced more_found places cached more_places) (right : AreRight IsDecoded IsOf keys more_places) where
   -- a key in use whose picture is held now was held
-  held_still : (number : ℕ) → Contains numbers (Some number) → (picture : Picture) → place_at more_places number ≡ Some (Some picture)
+  held_still : (number : ℕ) → Contains numbers (Some number) → (picture : P) → place_at more_places number ≡ Some (Some picture)
       → place_at places number ≡ Some (Some picture)
   held_still number used picture is =
       elim (held_before keys ids outcomes numbers places cached out kept more_ids more_outcomes more_found more_places stand placed
@@ -148,7 +148,7 @@ module _ (keys : Trees) (ids : List ℕ) (outcomes : List Outcome) (numbers : Li
         | inl held ↦ held
         | inr stored ↦
             absurd (apart number (used_some places number ((kept.used number).1 used))
-            (among_map (λ (pair : ℕ × Picture). pair.0) cached (number, picture) stored))
+            (among_map (λ (pair : ℕ × P). pair.0) cached (number, picture) stored))
       ]
 
   -- a unit that is due now was due

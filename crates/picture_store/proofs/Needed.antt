@@ -6,7 +6,7 @@ use Rattle.std.proofs.lemmas.List.Elements.{All-nil, All-cons, All-head, All-tai
 use Rattle.unit_outcomes.specs.declared.outcome.Outcome.{Outcome}
 use Rattle.pictures.specs.declared.frames.Frame.{Frame}
 use Rattle.request_core.specs.States.{FoldState, marked_ids}
-use Rattle.picture_keys.specs.Keys.{Key}
+use Rattle.decode_jobs.specs.Keys.{Key}
 use Rattle.picture_keys.specs.Known.{Known, key_at, known_after, keys_after, keys_of}
 use Rattle.picture_keys.specs.Depending.{AreAlike, DependOn}
 use Rattle.picture_keys.specs.Numbered.{Numbers, number_at, numbers_over, StandsFor, AreNumbered, AllStandFor}

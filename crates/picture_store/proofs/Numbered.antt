@@ -3,7 +3,7 @@ use Rattle.std.proofs.Common.{◌≡◌, refl, ap, sym, subst, ◌∙◌, ℕ, z
 use Rattle.std.specs.Prelude.{slice_get, Contains}
 use Rattle.std.proofs.lemmas.Option.{slice_get_read, slice_get_within, get_or_from_slice_get}
 use Rattle.dep_keys.specs.KeyMaps.{tree_at, IsKeyMap}
-use Rattle.picture_keys.specs.Keys.{Key}
+use Rattle.decode_jobs.specs.Keys.{Key}
 use Rattle.picture_keys.specs.Numbered.{StandsFor, AllStandFor}
 use Rattle.picture_store.specs.Stores.{AreNumbered, IsNumberInUse, StoreValue, unit_keys}
 use Rattle.picture_store.specs.Showing.{IsNumberAt}
@@ -63,7 +63,7 @@ some_key keys number None stands = absurd stands
 some_key keys number (Some key) stands = (key, refl)
 
 -- what is stored at a place is the number of the key of the unit that stands there
-pub number_seen : (keys : Trees) (store : StoreValue) → AllStandFor keys store.numbers (unit_keys store)
+pub number_seen : {P : Type 0} (keys : Trees) (store : StoreValue P) → AllStandFor keys store.numbers (unit_keys store)
     → (at : ℕ) (number : Option ℕ) → slice_get store.numbers at ≡ Some number → IsNumberAt store at number
 number_seen keys store all at None is =
     let stands : (tree : Option Key) × (slice_get (unit_keys store) at ≡ Some tree) × StandsFor keys None tree =
@@ -76,7 +76,7 @@ number_seen keys store all at (Some number) is =
     (some.0, stands.1 ∙ ap (λ (tree : Option Key). Some tree) some.1, is)
 
 -- a number that stands at some unit is that of a key in use
-pub in_use_listed : (keys : Trees) (store : StoreValue) → AllStandFor keys store.numbers (unit_keys store)
+pub in_use_listed : {P : Type 0} (keys : Trees) (store : StoreValue P) → AllStandFor keys store.numbers (unit_keys store)
     → (number : ℕ) → Contains store.numbers (Some number) → IsNumberInUse store number
 in_use_listed keys store all number (at, within, is) =
     let read : slice_get store.numbers at ≡ Some (Some number) =
@@ -85,7 +85,7 @@ in_use_listed keys store all number (at, within, is) =
     (seen.0, (at, seen.1, seen.2))
 
 -- and no other is
-pub listed_in_use : (store : StoreValue) (number : ℕ) → IsNumberInUse store number → Contains store.numbers (Some number)
+pub listed_in_use : {P : Type 0} (store : StoreValue P) (number : ℕ) → IsNumberInUse store number → Contains store.numbers (Some number)
 listed_in_use store number (key, (at, has, is)) =
     (at, slice_get_within store.numbers at (Some number) is, get_or_from_slice_get store.numbers at (Some number) (Some number) is)
 
@@ -107,7 +107,7 @@ key_numbered keys (first ∷ numbers) (tree ∷ trees) all zero key is =
 key_numbered keys (first ∷ numbers) (tree ∷ trees) all (suc at) key is = key_numbered keys numbers trees all.1 at key is
 
 -- so each key in use has one
-pub all_numbered : (keys : Trees) (store : StoreValue) → AllStandFor keys store.numbers (unit_keys store) → AreNumbered store
+pub all_numbered : {P : Type 0} (keys : Trees) (store : StoreValue P) → AllStandFor keys store.numbers (unit_keys store) → AreNumbered store
 all_numbered keys store all key (at, within, is) =
     let read : slice_get (unit_keys store) at ≡ Some (Some key) =
     slice_get_read (unit_keys store) (length (unit_keys store)) at (Some key) refl within (sym is) in

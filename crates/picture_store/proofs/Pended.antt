@@ -5,8 +5,7 @@ use Rattle.std.proofs.lemmas.Bool.{eqb-true, eq-eqb}
 use Rattle.std.proofs.lemmas.Option.{get_or_from_slice_get, same_Some}
 use Rattle.unit_outcomes.specs.declared.outcome.Outcome.{Outcome}
 use Rattle.dep_keys.specs.KeyMaps.{tree_at}
-use Rattle.stand_in_device.specs.declared.picture.Picture.{Picture}
-use Rattle.picture_keys.specs.Keys.{Key}
+use Rattle.decode_jobs.specs.Keys.{Key}
 use Rattle.picture_keys.specs.Known.{keys_of}
 use Rattle.key_slots.specs.Places.{place_at}
 use Rattle.key_slots.proofs.Members.{here, there, nowhere, first_or_among}
@@ -26,6 +25,7 @@ use Rattle.picture_store.proofs.Stays.{key_is, none_is_not_some, stand_number}
 use Rattle.picture_store.proofs.Taken.{due_for, due_from, out_seen_key, seen_out_key}
 use Rattle.picture_store.proofs.Viewed.{viewed}
 use Rattle.picture_store.proofs.Waiting.{got_among, ready_needed}
+use Rattle.decode_jobs.specs.Inputs.{InputValue}
 
 among_first : (first : ℕ) (numbers : List ℕ) (number : ℕ) (b : Bool) → b ≡ (first == number)
     → Contains numbers number ⊎ (Contains numbers number → ⊥)
@@ -48,28 +48,28 @@ among_or_not (first ∷ numbers) number =
     among_first first numbers number (first == number) refl (among_or_not numbers number)
 
 -- a picture isn't nothing
-apart_none : (picture : Picture) → ◌≡◌ {A = Option (Option Picture)} None (Some (Some picture)) → ⊥
+apart_none : {P : Type 0} (picture : P) → ◌≡◌ {A = Option (Option P)} None (Some (Some picture)) → ⊥
 apart_none picture same = cc
 
-apart_empty : (picture : Picture) → ◌≡◌ {A = Option (Option Picture)} (Some None) (Some (Some picture)) → ⊥
+apart_empty : {P : Type 0} (picture : P) → ◌≡◌ {A = Option (Option P)} (Some None) (Some (Some picture)) → ⊥
 apart_empty picture same = cc
 
 -- a picture is held, or it isn't
-pub held_or_not : (places : PlacesValue) (number : ℕ) → IsHeld places number ⊎ (IsHeld places number → ⊥)
-held_or_not places number = by_place (place_at places number) refl
+pub held_or_not : {P : Type 0} (places : PlacesValue P) (number : ℕ) → IsHeld places number ⊎ (IsHeld places number → ⊥)
+held_or_not {P = P} places number = by_place (place_at places number) refl
   where
-    by_place : (place : Option (Option Picture)) → place_at places number ≡ place
+    by_place : (place : Option (Option P)) → place_at places number ≡ place
         → IsHeld places number ⊎ (IsHeld places number → ⊥)
     by_place None is = inr (λ held. apart_none held.0 (sym is ∙ held.1))
     by_place (Some None) is = inr (λ held. apart_empty held.0 (sym is ∙ held.1))
     by_place (Some (Some picture)) is = inl (picture, is)
 
-module _ (keys : Trees) (ids : List ℕ) (outcomes : List Outcome) (numbers : List (Option ℕ)) (places : PlacesValue)
-    (cached : List (ℕ × Picture)) (room : ℕ) (out : List JobOut) (given : ℕ)
-    (kept : IsKept keys ids outcomes numbers places cached out) where
+module _ {P : Type 0} {IsDecoded : InputValue P → P → Type 0} {IsOf : Key → P → Type 0} (keys : Trees) (ids : List ℕ) (outcomes : List Outcome) (numbers : List (Option ℕ)) (places : PlacesValue P)
+    (cached : List (ℕ × P)) (room : ℕ) (out : List (JobOut P)) (given : ℕ) (released : List P)
+    (kept : IsKept IsDecoded IsOf keys ids outcomes numbers places cached out) where
   -- the store as contracts see it
-  abbrev store : StoreValue
-  store = viewed keys ids outcomes numbers places cached room out given
+  abbrev store : StoreValue P
+  store = viewed keys ids outcomes numbers places cached room out given released
 
   -- the number of a unit's key
   pub number_at_place : (at : ℕ) (key : Key) → HasKey store at key
@@ -112,12 +112,12 @@ module _ (keys : Trees) (ids : List ℕ) (outcomes : List Outcome) (numbers : Li
   pub due_of : (at : ℕ) → IsDueThere keys places out numbers at → IsDueAt store at
   due_of at (n, is, due) =
       let key = key_at_place at n is in
-      (key.0, key.1, due_for keys ids outcomes numbers places cached room out given kept n key.0 key.2 (got_among numbers at (Some n) is) due)
+      (key.0, key.1, due_for keys ids outcomes numbers places cached room out given released kept n key.0 key.2 (got_among numbers at (Some n) is) due)
 
   pub due_there : (at : ℕ) → IsDueAt store at → IsDueThere keys places out numbers at
   due_there at (key, has, due) =
       let number = number_at_place at key has in
-      let from = due_from keys ids outcomes numbers places cached room out given kept key due in
+      let from = due_from keys ids outcomes numbers places cached room out given released kept key due in
       let same : from.0 ≡ number.0 = kept.right.one.trees from.0 number.0 key from.2 number.2 in
       (number.0, number.1, subst (IsDueNumber keys places out) same from.3)
 
@@ -155,8 +155,8 @@ module _ (keys : Trees) (ids : List ℕ) (outcomes : List Outcome) (numbers : Li
         (
           key,
           has,
-          subst (Contains (map (λ (job : OutValue). job.key) (jobs_for keys out))) (key_is keys n key tree)
-              (out_seen_key keys ids outcomes numbers places cached room out given kept n among),
+          subst (Contains (map (λ (job : OutValue P). job.key) (jobs_for keys out))) (key_is keys n key tree)
+              (out_seen_key keys ids outcomes numbers places cached room out given released kept n among),
         ),
       )
       by_out at key needed has not is_ready n tree (inr free) =
@@ -166,7 +166,7 @@ module _ (keys : Trees) (ids : List ℕ) (outcomes : List Outcome) (numbers : Li
             record {
               in_use = got_among (keys_of (zip ids outcomes)) at (Some key) has;
               awaited = not;
-              free = λ is. free (seen_out_key keys ids outcomes numbers places cached room out given kept n key tree is);
+              free = λ is. free (seen_out_key keys ids outcomes numbers places cached room out given released kept n key tree is);
               ready = is_ready;
             },
           ))

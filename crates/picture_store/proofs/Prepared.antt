@@ -1,6 +1,7 @@
 -- The input of a unit that is due: each of its references is held, and shown.
 use Rattle.std.proofs.Common.{◌≡◌, refl, sym, ap, subst, ◌∙◌, ℕ, ◌≤◌, List, length, Option, Some, All, arith}
 use Rattle.std.proofs.lemmas.Option.{same_Some}
+use Rattle.std.proofs.lemmas.List.Elements.{All-weaker}
 use Rattle.h264_controls.specs.declared.request.Request.{Request}
 use Rattle.h264_controls.specs.declared.work.Work.{Work}
 use Rattle.unit_outcomes.specs.declared.outcome.Outcome.{Outcome}
@@ -8,9 +9,9 @@ use Rattle.unit_outcomes.specs.declared.outcome.Outcome.TheVariants as outcomes
 use Rattle.unit_outcomes.specs.declared.outcome.Plan.{Plan}
 use Rattle.dep_keys.specs.KeyMaps.{tree_at, tree_of, IsNodeOf}
 use Rattle.dep_keys.specs.Nodes.{NodeOf}
-use Rattle.stand_in_device.specs.declared.input.Reference.{Reference}
-use Rattle.stand_in_device.specs.Inputs.{InputValue}
-use Rattle.picture_keys.specs.Keys.{Key, works_of, named_by_all}
+use Rattle.decode_jobs.specs.declared.input.Reference.{Reference}
+use Rattle.decode_jobs.specs.Inputs.{InputValue}
+use Rattle.decode_jobs.specs.Keys.{Key, works_of, named_by_all}
 use Rattle.picture_keys.specs.Known.{Known, key_of, key_of_outcome}
 use Rattle.picture_keys.specs.Decodable.{CanDecode, OutcomeCanDecode}
 use Rattle.key_slots.specs.Places.{numbers_held}
@@ -18,12 +19,12 @@ use Rattle.picture_store.specs.Places.{PlacesValue}
 use Rattle.picture_store.specs.Stores.{IsReady}
 use Rattle.picture_store.specs.Kept.{Trees, AreRight, keys_for}
 use Rattle.picture_store.specs.Due.{AreHeld}
-use Rattle.picture_store.specs.Naming.{AreCovered, AreShown, AreThere, IsShown}
+use Rattle.picture_store.specs.Naming.{AreCovered, AreThere, IsShown}
 use Rattle.picture_store.specs.Inputs.{HasKnown, IsInputOf}
 use Rattle.picture_store.proofs.Ready.{are_held}
 use Rattle.key_slots.proofs.Entries.{entries_many}
-use Rattle.picture_store.proofs.Entries.{IsKnown, all_known, covered, shown, shown_of}
-use Rattle.picture_store.proofs.Shown.{all_there, shows_known, whole}
+use Rattle.picture_store.proofs.Entries.{IsKnown, all_known, covered, of_unit}
+use Rattle.picture_store.proofs.Shown.{IsOfItsUnit, all_there, shows_known, whole}
 
 module _ (keys : Trees) (key : ℕ) (node : NodeOf (List Work)) (is_node : IsNodeOf keys key node) (outcome : Outcome)
     (plan : Plan) (plan_is : outcome ≡ outcomes.Plan plan) (known : Known) (has : HasKnown keys outcome key known) where
@@ -44,7 +45,7 @@ module _ (keys : Trees) (key : ℕ) (node : NodeOf (List Work)) (is_node : IsNod
         let same : length units ≡ length entries = ap length units_are ∙ (many ∙ sym (ap length entries_are)) in
         omega arith
 
-    module _ (places : PlacesValue) (right : AreRight keys places)
+    module _ {P : Type 0} {IsDecoded : InputValue P → P → Type 0} {IsOf : Key → P → Type 0} (places : PlacesValue P) (right : AreRight IsDecoded IsOf keys places)
         (ready : (tree : Key) × (tree_at keys key ≡ Some tree) × IsReady (keys_for keys (numbers_held places)) tree) where
       held : AreHeld places node.entries
       held =
@@ -62,21 +63,27 @@ module _ (keys : Trees) (key : ℕ) (node : NodeOf (List Work)) (is_node : IsNod
           (covered keys places right known node.work (works_of plan.requests) node.entries (named_by_all plan.requests) held
           same_key known_all))
 
-      pub units_shown : AreShown places (shown_of known) units entries
-      units_shown =
-          subst (λ us. AreShown places (shown_of known) us entries) (sym units_are)
-          (subst (λ es. AreShown places (shown_of known) (named_by_all plan.requests) es) (sym entries_are)
-          (shown keys places right known node.work (works_of plan.requests) node.entries (named_by_all plan.requests) held
-          same_key known_all))
+      -- the references are pictures of the keys that are known of their units
+      of_units : (references : List (Reference P)) → All (IsShown places units entries) references
+          → All (IsOfItsUnit IsOf known) references
+      of_units references all =
+          All-weaker (IsShown places (named_by_all plan.requests) node.entries) (IsOfItsUnit IsOf known)
+          (of_unit keys places right known node.work (works_of plan.requests) node.entries (named_by_all plan.requests) held
+          same_key known_all) references
+          (subst (λ us. All (IsShown places us node.entries) references) units_are
+          (subst (λ es. All (IsShown places units es) references) entries_are all))
 
-    pub is_input : (references : List Reference) (requests : List Request) (input : InputValue)
-        → All (IsShown (shown_of known)) references → AreThere references units → requests ≡ plan.requests
-        → input ≡ record { requests = requests; references = references } → IsInputOf known outcome input
-    is_input references requests input all there requests_are input_is =
-        let whole_input : InputValue = record { requests = plan.requests; references = references } in
-        let same : input ≡ whole_input =
-        input_is ∙ ap (λ rs. record { requests = rs; references = references }) requests_are in
-        let are = all_there references (named_by_all plan.requests) (subst (AreThere references) units_are there) in
-        subst (λ o. IsInputOf known o input) (sym plan_is)
-        (subst (IsInputOf known (outcomes.Plan plan)) (sym same)
-        (refl, shows_known known references (named_by_all plan.requests) are all, whole known references plan.requests can_decode are))
+      pub is_input : (references : List (Reference P)) (requests : List Request) (input : InputValue P)
+          → All (IsShown places units entries) references → AreThere references units → requests ≡ plan.requests
+          → input ≡ record { requests = requests; references = references } → IsInputOf IsOf known outcome input
+      is_input references requests input all there requests_are input_is =
+          let whole_input : InputValue P = record { requests = plan.requests; references = references } in
+          let same : input ≡ whole_input =
+          input_is ∙ ap (λ rs. record { requests = rs; references = references }) requests_are in
+          let are = all_there references (named_by_all plan.requests) (subst (AreThere references) units_are there) in
+          subst (λ o. IsInputOf IsOf known o input) (sym plan_is)
+          (subst (IsInputOf IsOf known (outcomes.Plan plan)) (sym same) (
+            refl,
+            shows_known IsOf known references (of_units references all) (named_by_all plan.requests) known_all are,
+            whole known references plan.requests can_decode are,
+          ))

@@ -102,7 +102,7 @@ top_earliest queue top above at is =
     let all = All-from_recursion (λ (other : Reverse ℕ). is_lt (nat_cmp other.0 top.0) ≡ false) queue above in
     not_below at top.0 (All-contains (λ (other : Reverse ℕ). is_lt (nat_cmp other.0 top.0) ≡ false) queue (record { 0 = at }) all is)
 
-module _ (keys : Trees) (places : PlacesValue) (out : List JobOut) (numbers : List (Option ℕ)) where
+module _ {P : Type 0} (keys : Trees) (places : PlacesValue P) (out : List (JobOut P)) (numbers : List (Option ℕ)) where
   -- nothing is added where none comes that is due
   pub adds_none : (Comes : ℕ → Type 0) (queue : List (Reverse ℕ))
       → ((at : ℕ) → Comes at → IsDueThere keys places out numbers at → ⊥) → AddsDue keys places out numbers Comes queue queue
@@ -153,7 +153,7 @@ module _ (keys : Trees) (places : PlacesValue) (out : List JobOut) (numbers : Li
   }
 
 -- a unit whose key isn't due isn't
-pub not_there : (keys : Trees) (places : PlacesValue) (out : List JobOut) (numbers : List (Option ℕ)) (at : ℕ) (number : Option ℕ)
+pub not_there : {P : Type 0} (keys : Trees) (places : PlacesValue P) (out : List (JobOut P)) (numbers : List (Option ℕ)) (at : ℕ) (number : Option ℕ)
     → ((n : ℕ) → slice_get numbers at ≡ Some (Some n) → number ≡ Some n) → IsNotDue keys places out number
     → IsDueThere keys places out numbers at → ⊥
 not_there keys places out numbers at number read not (n, n_is, due) =

@@ -4,7 +4,7 @@ use Rattle.std.specs.Option.{unwrap_or}
 use Rattle.h264_controls.specs.declared.work.Work.{Work}
 use Rattle.dep_keys.specs.KeyMaps.{tree_at, tree_from, entered, AreLive}
 use Rattle.dep_keys.specs.Trees.Tree.{Bare}
-use Rattle.picture_keys.specs.Keys.{Key}
+use Rattle.decode_jobs.specs.Keys.{Key}
 use Rattle.key_slots.specs.Places.{place_at, numbers_held}
 use Rattle.picture_store.specs.Places.{PlacesValue}
 use Rattle.picture_store.specs.Stores.{IsReady}
@@ -12,6 +12,7 @@ use Rattle.picture_store.specs.Kept.{Trees, AreRight, key_for, keys_for}
 use Rattle.picture_store.specs.Due.{IsHeld, AreHeld}
 use Rattle.key_slots.proofs.Held.{held_found, found_held}
 use Rattle.picture_store.proofs.Loops.{first_in, later_in, in_cases}
+use Rattle.decode_jobs.specs.Inputs.{InputValue}
 
 -- what is there of an element is there of the list
 map_in : {X Y : Type 0} (f : X → Y) (xs : List X) (x : X) → Contains xs x → Contains (map f xs) (f x)
@@ -33,7 +34,7 @@ of_map f (x ∷ xs) y there =
 key_of : (keys : Trees) (number : ℕ) (key : Key) → tree_at keys number ≡ Some key → key_for keys number ≡ key
 key_of keys number key there = ap (λ (tree : Option Key). unwrap_or tree (Bare [])) there
 
-module _ (keys : Trees) (places : PlacesValue) (right : AreRight keys places) where
+module _ {P : Type 0} {IsDecoded : InputValue P → P → Type 0} {IsOf : Key → P → Type 0} (keys : Trees) (places : PlacesValue P) (right : AreRight IsDecoded IsOf keys places) where
   pub held_key : (number : ℕ) (key : Key) → tree_at keys number ≡ Some key → IsHeld places number
       → Contains (keys_for keys (numbers_held places)) key
   held_key number key there held =

@@ -9,8 +9,7 @@ use Rattle.std.proofs.lemmas.Cmp.{nat_eq_equiv}
 use Rattle.std.proofs.lemmas.Map.Views.{exact_unsigned_eq, Contains-from_lookup, IsSome-lookup_from_Contains}
 use Rattle.unit_outcomes.specs.declared.outcome.Outcome.{Outcome}
 use Rattle.dep_keys.specs.KeyMaps.{tree_at}
-use Rattle.stand_in_device.specs.declared.picture.Picture.{Picture}
-use Rattle.picture_keys.specs.Keys.{Key}
+use Rattle.decode_jobs.specs.Keys.{Key}
 use Rattle.picture_keys.specs.Known.{keys_of}
 use Rattle.picture_keys.specs.Numbered.{AllStandFor}
 use Rattle.picture_keys.specs.Decodable.{AllCanDecode}
@@ -27,24 +26,25 @@ use Rattle.picture_store.proofs.Lifting.{for_contains, contains_for, left_for, p
 use Rattle.picture_store.proofs.Viewed.{viewed}
 use Rattle.picture_store.proofs.Numbered.{one_to_one}
 use Rattle.picture_store.proofs.Stays.{key_is, stand_live, stand_number}
+use Rattle.decode_jobs.specs.Inputs.{InputValue}
 
 -- a picture that is carried was held or another one
-held_or_from : (place : Option (Option Picture)) (other : Option Picture) (picture : Picture)
+held_or_from : {P : Type 0} (place : Option (Option P)) (other : Option P) (picture : P)
     → held_or place other ≡ Some picture → (place ≡ Some (Some picture)) ⊎ (other ≡ Some picture)
 held_or_from None other picture is = inr is
 held_or_from (Some None) other picture is = inr is
 held_or_from (Some (Some held)) other picture is = inl (ap Some is)
 
 -- where one was held, one is carried
-held_or_held : (place : Option (Option Picture)) (other : Option Picture) (held : Picture) → place ≡ Some (Some held)
-    → (picture : Picture) × (held_or place other ≡ Some picture)
+held_or_held : {P : Type 0} (place : Option (Option P)) (other : Option P) (held : P) → place ≡ Some (Some held)
+    → (picture : P) × (held_or place other ≡ Some picture)
 held_or_held None other held is = absurd (cc)
 held_or_held (Some None) other held is = absurd (cc)
 held_or_held (Some (Some picture)) other held is = (picture, refl)
 
 -- and where another one is
-held_or_other : (place : Option (Option Picture)) (other : Option Picture) → IsSome other
-    → (picture : Picture) × (held_or place other ≡ Some picture)
+held_or_other : {P : Type 0} (place : Option (Option P)) (other : Option P) → IsSome other
+    → (picture : P) × (held_or place other ≡ Some picture)
 held_or_other (Some (Some picture)) other is = (picture, refl)
 held_or_other None (Some picture) is = (picture, refl)
 held_or_other None None is = cc
@@ -57,9 +57,9 @@ none_is_some o x none some = cc
 inner : {X : Type 0} (o : Option X) (a b : X) → o ≡ Some a → o ≡ Some b → a ≡ b
 inner o a b first second = cc
 
-module _ (keys : Trees) (ids : List ℕ) (outcomes : List Outcome) (numbers : List (Option ℕ)) (places : PlacesValue)
-    (cached : List (ℕ × Picture)) (out : List JobOut) (kept : IsKept keys ids outcomes numbers places cached out)
-    (more_ids : List ℕ) (more_outcomes : List Outcome) (more_found : List (Option ℕ)) (more_places : PlacesValue)
+module _ {P : Type 0} {IsDecoded : InputValue P → P → Type 0} {IsOf : Key → P → Type 0} (keys : Trees) (ids : List ℕ) (outcomes : List Outcome) (numbers : List (Option ℕ)) (places : PlacesValue P)
+    (cached : List (ℕ × P)) (out : List (JobOut P)) (kept : IsKept IsDecoded IsOf keys ids outcomes numbers places cached out)
+    (more_ids : List ℕ) (more_outcomes : List Outcome) (more_found : List (Option ℕ)) (more_places : PlacesValue P)
     (stand : AllStandFor keys more_found (keys_of (zip more_ids more_outcomes)))
     (placed : ArePlaced more_found places cached more_places) where
   -- a key in use has the place of its number
@@ -77,7 +77,7 @@ module _ (keys : Trees) (ids : List ℕ) (outcomes : List Outcome) (numbers : Li
   used_same number = (used_placed number, λ is. ap is_some (placed_used number is))
 
   -- a picture that is held now was held or cached
-  pub held_before : (number : ℕ) (picture : Picture) → place_at more_places number ≡ Some (Some picture)
+  pub held_before : (number : ℕ) (picture : P) → place_at more_places number ≡ Some (Some picture)
       → (place_at places number ≡ Some (Some picture)) ⊎ Contains cached (number, picture)
   held_before number picture is =
       let used : Contains more_found (Some number) = used_placed number (ap is_some is) in
@@ -88,12 +88,12 @@ module _ (keys : Trees) (ids : List ℕ) (outcomes : List Outcome) (numbers : Li
         | inr stored ↦ inr (Contains-from_lookup exact_unsigned_eq number picture cached stored)
       ]
 
-  pub held_right : (number : ℕ) (picture : Picture) → place_at more_places number ≡ Some (Some picture)
-      → IsRight keys number picture
+  pub held_right : (number : ℕ) (picture : P) → place_at more_places number ≡ Some (Some picture)
+      → IsRight IsDecoded IsOf keys number picture
   held_right number picture is =
       elim (held_before number picture is) [
         | inl held ↦ kept.right.held number picture held
-        | inr stored ↦ All-contains (λ pair. IsRight keys pair.0 pair.1) cached (number, picture) kept.stored stored
+        | inr stored ↦ All-contains (λ pair. IsRight IsDecoded IsOf keys pair.0 pair.1) cached (number, picture) kept.stored stored
       ]
 
   -- the key of a number is in use where the number is a unit's
@@ -122,23 +122,23 @@ module _ (keys : Trees) (ids : List ℕ) (outcomes : List Outcome) (numbers : Li
   -- each number that is held or cached has a tree
   held_live : (number : ℕ) → Contains (numbers_held places) number → (key : Key) × (tree_at keys number ≡ Some key)
   held_live number is =
-      let held : (picture : Picture) × (place_at places number ≡ Some (Some picture)) =
+      let held : (picture : P) × (place_at places number ≡ Some (Some picture)) =
       held_found places number is in
-      let right : IsRight keys number held.0 = kept.right.held number held.0 held.1 in
+      let right : IsRight IsDecoded IsOf keys number held.0 = kept.right.held number held.0 held.1 in
       (right.0, right.1)
 
   cached_live : (number : ℕ) → Contains (numbers_of cached) number → (key : Key) × (tree_at keys number ≡ Some key)
   cached_live number is =
-      let found : (pair : ℕ × Picture) × Contains cached pair × (pair.0 ≡ number) =
-      among_source (λ (pair : ℕ × Picture). pair.0) cached number is in
-      let right : IsRight keys found.0.0 found.0.1 =
-      All-contains (λ pair. IsRight keys pair.0 pair.1) cached found.0 kept.stored found.1 in
+      let found : (pair : ℕ × P) × Contains cached pair × (pair.0 ≡ number) =
+      among_source (λ (pair : ℕ × P). pair.0) cached number is in
+      let right : IsRight IsDecoded IsOf keys found.0.0 found.0.1 =
+      All-contains (λ pair. IsRight IsDecoded IsOf keys pair.0 pair.1) cached found.0 kept.stored found.1 in
       (right.0, subst (λ n. tree_at keys n ≡ Some right.0) found.2 right.1)
 
   -- a picture that was held or cached is held where its key is in use
   held_after : (number : ℕ) (key : Key) → tree_at keys number ≡ Some key
       → Contains (keys_of (zip more_ids more_outcomes)) (Some key)
-      → (picture : Picture) × (carried places cached number ≡ Some picture)
+      → (picture : P) × (carried places cached number ≡ Some picture)
       → Contains (keys_for keys (numbers_held more_places)) key
   held_after number key live in_use picture =
       let there : place_at more_places number ≡ Some (Some picture.0) =
@@ -154,7 +154,7 @@ module _ (keys : Trees) (ids : List ℕ) (outcomes : List Outcome) (numbers : Li
       let live : (k : Key) × (tree_at keys source.0 ≡ Some k) = held_live source.0 source.1 in
       let tree : tree_at keys source.0 ≡ Some key =
       live.1 ∙ ap Some (sym (key_is keys source.0 live.0 live.1) ∙ source.2) in
-      let held : (picture : Picture) × (place_at places source.0 ≡ Some (Some picture)) =
+      let held : (picture : P) × (place_at places source.0 ≡ Some (Some picture)) =
       held_found places source.0 source.1 in
       held_after source.0 key tree in_use
       (held_or_held (place_at places source.0) (lookup (λ other. source.0 == other) cached) held.0 held.1)
@@ -177,7 +177,7 @@ module _ (keys : Trees) (ids : List ℕ) (outcomes : List Outcome) (numbers : Li
   now_held key is =
       let source : (number : ℕ) × Contains (numbers_held more_places) number × (key_for keys number ≡ key) =
       for_contains keys (numbers_held more_places) key is in
-      let held : (picture : Picture) × (place_at more_places source.0 ≡ Some (Some picture)) =
+      let held : (picture : P) × (place_at more_places source.0 ≡ Some (Some picture)) =
       held_found more_places source.0 source.1 in (
         subst (λ (k : Key). Contains (keys_of (zip more_ids more_outcomes)) (Some k)) source.2
             (in_use_for source.0 (used_placed source.0 (ap is_some held.1))),
@@ -185,7 +185,7 @@ module _ (keys : Trees) (ids : List ℕ) (outcomes : List Outcome) (numbers : Li
           | inl before ↦ inl (subst (Contains (keys_for keys (numbers_held places))) source.2
               (contains_for keys (numbers_held places) source.0 (found_held places source.0 held.0 before)))
           | inr stored ↦ inr (subst (Contains (keys_for keys (numbers_of cached))) source.2
-              (contains_for keys (numbers_of cached) source.0 (among_map (λ (pair : ℕ × Picture). pair.0) cached (source.0, held.0) stored)))
+              (contains_for keys (numbers_of cached) source.0 (among_map (λ (pair : ℕ × P). pair.0) cached (source.0, held.0) stored)))
         ],
       )
 
@@ -196,12 +196,12 @@ module _ (keys : Trees) (ids : List ℕ) (outcomes : List Outcome) (numbers : Li
   held_same key =
       (now_held key, λ is. elim is.1 [ inl held ↦ was_held key is.0 held | inr stored ↦ was_cached key is.0 stored ])
 
-  module _ (left gone_cached : List (ℕ × Picture))
+  module _ (left gone_cached : List (ℕ × P))
       (leaves : IsLeft (λ number. Contains more_found (Some number)) (numbers_of cached) (numbers_of left))
-      (left_pairs : (number : ℕ) (picture : Picture) → Contains left (number, picture) → Contains cached (number, picture))
+      (left_pairs : (number : ℕ) (picture : P) → Contains left (number, picture) → Contains cached (number, picture))
       (room : ℕ) (gone : List ℕ) (go : IsLeft (λ number. IsSome (place_at more_places number)) (numbers_held places) gone)
       (lost : ℕ) (puts : ArePut room gone (numbers_of left) (numbers_of gone_cached) lost)
-      (put_pairs : (number : ℕ) (picture : Picture) → Contains gone_cached (number, picture)
+      (put_pairs : (number : ℕ) (picture : P) → Contains gone_cached (number, picture)
       → Contains left (number, picture) ⊎ (place_at places number ≡ Some (Some picture))) where
     pub cached_leave : IsLeft (λ key. Contains (keys_of (zip more_ids more_outcomes)) (Some key))
         (keys_for keys (numbers_of cached)) (keys_for keys (numbers_of left))
@@ -238,16 +238,16 @@ module _ (keys : Trees) (ids : List ℕ) (outcomes : List Outcome) (numbers : Li
         put_for keys room gone (numbers_of left) (numbers_of gone_cached) lost
         kept.right.one.trees gone_live left_live puts
 
-    stored_right : (pair : ℕ × Picture) → Contains gone_cached pair → IsRight keys pair.0 pair.1
+    stored_right : (pair : ℕ × P) → Contains gone_cached pair → IsRight IsDecoded IsOf keys pair.0 pair.1
     stored_right pair is =
         elim (put_pairs pair.0 pair.1 is) [
           | inl before ↦
-              All-contains (λ (p : ℕ × Picture). IsRight keys p.0 p.1) cached pair kept.stored (left_pairs pair.0 pair.1 before)
+              All-contains (λ (p : ℕ × P). IsRight IsDecoded IsOf keys p.0 p.1) cached pair kept.stored (left_pairs pair.0 pair.1 before)
           | inr held ↦ kept.right.held pair.0 pair.1 held
         ]
 
     pub kept_after : length more_ids ≡ length more_outcomes → AllCanDecode [] (zip more_ids more_outcomes)
-        → IsKept keys more_ids more_outcomes more_found more_places gone_cached out
+        → IsKept IsDecoded IsOf keys more_ids more_outcomes more_found more_places gone_cached out
     kept_after same decodable = record {
       right = record { one = kept.right.one; held = held_right };
       same = same;
@@ -258,9 +258,10 @@ module _ (keys : Trees) (ids : List ℕ) (outcomes : List Outcome) (numbers : Li
       jobs = kept.jobs;
     }
 
-    abbrev refits_so : (given : ℕ) → Refits (viewed keys ids outcomes numbers places cached room out given) more_ids more_outcomes
-        (viewed keys more_ids more_outcomes more_found more_places gone_cached room out given)
-    refits_so given = record {
+    abbrev refits_so : (given : ℕ) (released more_released : List P)
+        → Refits (viewed keys ids outcomes numbers places cached room out given released) more_ids more_outcomes
+        (viewed keys more_ids more_outcomes more_found more_places gone_cached room out given more_released)
+    refits_so given released more_released = record {
       ids_are = refl;
       outcomes_are = refl;
       room_stays = refl;
@@ -278,7 +279,7 @@ module _ (keys : Trees) (ids : List ℕ) (outcomes : List Outcome) (numbers : Li
       cached_are = cached_put;
     }
 
-    pub refitted : (given : ℕ)
-        → RefitsLosing (viewed keys ids outcomes numbers places cached room out given) more_ids more_outcomes lost
-        (viewed keys more_ids more_outcomes more_found more_places gone_cached room out given)
-    refitted given = (refits_so given, refl)
+    pub refitted : (given : ℕ) (released more_released : List P)
+        → RefitsLosing (viewed keys ids outcomes numbers places cached room out given released) more_ids more_outcomes lost
+        (viewed keys more_ids more_outcomes more_found more_places gone_cached room out given more_released)
+    refitted given released more_released = (refits_so given released more_released, refl)

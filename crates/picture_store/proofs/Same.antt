@@ -1,9 +1,9 @@
 -- What is stored stays but for a schedule where more keys have numbers and more of these have
 -- slots.
 use Rattle.std.proofs.Common.{◌≡◌, sym, ap, subst, ◌∙◌, ℕ, ◌<◌, List, Option, None, Some, IsSome, inl, inr, rules}
+use Rattle.std.specs.Map.{values_of}
 use Rattle.unit_outcomes.specs.declared.outcome.Outcome.{Outcome}
 use Rattle.dep_keys.specs.KeyMaps.{IsKeyMap}
-use Rattle.stand_in_device.specs.declared.picture.Picture.{Picture}
 use Rattle.key_slots.specs.Places.{AreSame, place_of, place_at}
 use Rattle.picture_store.specs.declared.job_out.JobOut.{JobOut}
 use Rattle.picture_store.specs.declared.schedule.Schedule.{Schedule}
@@ -14,49 +14,52 @@ use Rattle.picture_store.proofs.Looked.{looked_same, looked_stays}
 use Rattle.picture_store.proofs.Viewed.{viewed}
 use Rattle.picture_store.proofs.Stays.{kept_stays, viewed_stays}
 use Rattle.picture_store.proofs.Settled.{settled_stay}
+use Rattle.decode_jobs.specs.Inputs.{InputValue}
+use Rattle.decode_jobs.specs.Keys.{Key}
 
-module _ (places grown : PlacesValue) (same : AreSame places grown) where
+module _ {P : Type 0} (places grown : PlacesValue P) (same : AreSame places grown) where
   pub place_same : (number : ℕ) → place_at grown number ≡ place_at places number
   place_same number = ap place_of (same.slots number)
 
-  kept_same : (keys : Trees) (ids : List ℕ) (outcomes : List Outcome) (numbers : List (Option ℕ)) (cached : List (ℕ × Picture))
-      (out : List JobOut) → IsKept keys ids outcomes numbers places cached out → IsKept keys ids outcomes numbers grown cached out
+  needs_same : (out : List (JobOut P)) (number : Option ℕ) → NeedsNone places out number → NeedsNone grown out number
+  needs_same out None needs = search rules
+  needs_same out (Some number) needs =
+      elim needs [ inl held ↦ inl (held.0, place_same number ∙ held.1) | inr one ↦ inr one ]
+
+  settled_same : (out : List (JobOut P)) (numbers : List (Option ℕ)) (count : ℕ) → AreSettled places out numbers count
+      → AreSettled grown out numbers count
+  settled_same out numbers count are =
+      settled_stay places grown out out numbers count (λ number among needs. needs_same out number needs) are
+
+module _ {P : Type 0} {IsDecoded : InputValue P → P → Type 0} {IsOf : Key → P → Type 0} (places grown : PlacesValue P) (same : AreSame places grown) where
+  kept_same : (keys : Trees) (ids : List ℕ) (outcomes : List Outcome) (numbers : List (Option ℕ)) (cached : List (ℕ × P))
+      (out : List (JobOut P)) → IsKept IsDecoded IsOf keys ids outcomes numbers places cached out → IsKept IsDecoded IsOf keys ids outcomes numbers grown cached out
   kept_same keys ids outcomes numbers cached out kept = record {
     right = record {
       one = kept.right.one;
-      held = λ number picture is. kept.right.held number picture (sym (place_same number) ∙ is);
+      held = λ number picture is. kept.right.held number picture (sym (place_same places grown same number) ∙ is);
     };
     same = kept.same;
     stand = kept.stand;
     decodable = kept.decodable;
     used = λ number. (
-      λ some. (kept.used number).0 (subst IsSome (place_same number) some),
-      λ is. subst IsSome (sym (place_same number)) ((kept.used number).1 is),
+      λ some. (kept.used number).0 (subst IsSome (place_same places grown same number) some),
+      λ is. subst IsSome (sym (place_same places grown same number)) ((kept.used number).1 is),
     );
     stored = kept.stored;
     jobs = kept.jobs;
   }
 
-  needs_same : (out : List JobOut) (number : Option ℕ) → NeedsNone places out number → NeedsNone grown out number
-  needs_same out None needs = search rules
-  needs_same out (Some number) needs =
-      elim needs [ inl held ↦ inl (held.0, place_same number ∙ held.1) | inr one ↦ inr one ]
-
-  settled_same : (out : List JobOut) (numbers : List (Option ℕ)) (count : ℕ) → AreSettled places out numbers count
-      → AreSettled grown out numbers count
-  settled_same out numbers count are =
-      settled_stay places grown out out numbers count (λ number among needs. needs_same out number needs) are
-
-module _ (keys more : Trees) (ids : List ℕ) (outcomes : List Outcome) (numbers : List (Option ℕ)) (places grown : PlacesValue)
-    (cached : List (ℕ × Picture)) (out : List JobOut) (count passed : ℕ) (schedule : Option Schedule)
-    (stored : IsStored keys ids outcomes numbers places cached out count passed schedule) (stay : KeepsStored numbers cached out keys more)
+module _ {P : Type 0} {IsDecoded : InputValue P → P → Type 0} {IsOf : Key → P → Type 0} (keys more : Trees) (ids : List ℕ) (outcomes : List Outcome) (numbers : List (Option ℕ)) (places grown : PlacesValue P)
+    (cached : List (ℕ × P)) (out : List (JobOut P)) (count passed : ℕ) (schedule : Option Schedule)
+    (stored : IsStored IsDecoded IsOf keys ids outcomes numbers places cached out count passed schedule) (stay : KeepsStored numbers cached out keys more)
     (one : IsKeyMap more) (same : AreSame places grown) where
-  pub kept_still : IsKept more ids outcomes numbers grown cached out
+  pub kept_still : IsKept IsDecoded IsOf more ids outcomes numbers grown cached out
   kept_still =
       kept_same places grown same more ids outcomes numbers cached out
       (kept_stays keys more ids outcomes numbers places cached out stored.kept stay one)
 
-  pub stored_still : IsStored more ids outcomes numbers grown cached out count passed None
+  pub stored_still : IsStored IsDecoded IsOf more ids outcomes numbers grown cached out count passed None
   stored_still = record {
     kept = kept_still;
     counted = λ number. ap (λ slot. slot.uses) (same.slots number) ∙ stored.counted number;
@@ -70,8 +73,11 @@ module _ (keys more : Trees) (ids : List ℕ) (outcomes : List Outcome) (numbers
   }
 
   -- what contracts see stays
-  pub viewed_still : (room given : ℕ) → viewed more ids outcomes numbers grown cached room out given
-      ≡ viewed keys ids outcomes numbers places cached room out given
-  viewed_still room given =
-      ap (λ held. record (viewed more ids outcomes numbers places cached room out given) { held = keys_for more held }) same.held
-      ∙ viewed_stays keys more ids outcomes numbers places cached out stored.kept stay room given
+  pub viewed_still : (room given : ℕ) (released : List P) → viewed more ids outcomes numbers grown cached room out given released
+      ≡ viewed keys ids outcomes numbers places cached room out given released
+  viewed_still room given released =
+      ap (λ held. record (viewed more ids outcomes numbers grown cached room out given released) { held = keys_for more held }) same.held
+      ∙ ap (λ (pictures : List P). record (viewed more ids outcomes numbers places cached room out given released) {
+        pictures = record { held = pictures; cached = values_of cached; released = released };
+      }) same.pictures
+      ∙ viewed_stays keys more ids outcomes numbers places cached out stored.kept stay room given released

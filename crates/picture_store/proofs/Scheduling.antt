@@ -11,8 +11,7 @@ use Rattle.h264_controls.specs.declared.work.Work.{Work}
 use Rattle.unit_outcomes.specs.declared.outcome.Outcome.{Outcome}
 use Rattle.dep_keys.specs.KeyMaps.{tree_at}
 use Rattle.dep_keys.specs.Trees.Tree.{Bare, Gap, With}
-use Rattle.stand_in_device.specs.declared.picture.Picture.{Picture}
-use Rattle.picture_keys.specs.Keys.{Key, named_by_all, tree_with, works_of}
+use Rattle.decode_jobs.specs.Keys.{Key, named_by_all, tree_with, works_of}
 use Rattle.picture_keys.specs.Known.{key_at}
 use Rattle.key_slots.specs.Places.{place_at, numbers_held}
 use Rattle.key_slots.proofs.Held.{held_found, found_held}
@@ -37,10 +36,11 @@ use Rattle.picture_store.proofs.Ready.{key_held}
 use Rattle.picture_store.proofs.Lifting.{for_contains, contains_for}
 use Rattle.picture_store.proofs.Settled.{out_still}
 use Rattle.picture_store.proofs.Stays.{key_is}
+use Rattle.decode_jobs.specs.Inputs.{InputValue}
 
 -- where no more keys are due than were, a schedule stays right
-pub scheduled_fewer : (keys : Trees) (units : List (ℕ × Outcome)) (numbers : List (Option ℕ)) (places : PlacesValue)
-    (out more : List JobOut) (schedule : Option Schedule)
+pub scheduled_fewer : {P : Type 0} (keys : Trees) (units : List (ℕ × Outcome)) (numbers : List (Option ℕ)) (places : PlacesValue P)
+    (out more : List (JobOut P)) (schedule : Option Schedule)
     → ((number : ℕ) → IsDueNumber keys places more number → IsDueNumber keys places out number)
     → IsScheduled keys units numbers places out schedule → IsScheduled keys units numbers places more schedule
 scheduled_fewer keys units numbers places out more None fewer are = tt
@@ -54,8 +54,8 @@ scheduled_fewer keys units numbers places out more (Some s) fewer are = record {
 }
 
 -- so it does where places leave the queue whose units aren't due
-pub scheduled_left : (keys : Trees) (units : List (ℕ × Outcome)) (numbers : List (Option ℕ)) (places : PlacesValue)
-    (out : List JobOut) (target : ℕ) (dependents : List Dependent) (queue after : List (Reverse ℕ)) → IsQueue after
+pub scheduled_left : {P : Type 0} (keys : Trees) (units : List (ℕ × Outcome)) (numbers : List (Option ℕ)) (places : PlacesValue P)
+    (out : List (JobOut P)) (target : ℕ) (dependents : List Dependent) (queue after : List (Reverse ℕ)) → IsQueue after
     → ((at : ℕ) → IsQueued queue at → IsDueThere keys places out numbers at → IsQueued after at)
     → ((at : ℕ) → IsQueued after at → IsQueued queue at)
     → AreScheduled keys units numbers places out target dependents queue
@@ -70,7 +70,7 @@ scheduled_left keys units numbers places out target dependents queue after order
 }
 
 -- a key that is due though a job more is out was due
-pub due_given : (keys : Trees) (places : PlacesValue) (out more : List JobOut)
+pub due_given : {P : Type 0} (keys : Trees) (places : PlacesValue P) (out more : List (JobOut P))
     → ((number : ℕ) → Contains (numbers_out out) number → Contains (numbers_out more) number)
     → (number : ℕ) → IsDueNumber keys places more number → IsDueNumber keys places out number
 due_given keys places out more stay number due = record {
@@ -82,17 +82,17 @@ due_given keys places out more stay number due = record {
 }
 
 -- so it stays right where a job is given
-pub scheduled_given : (keys : Trees) (units : List (ℕ × Outcome)) (numbers : List (Option ℕ)) (places : PlacesValue)
-    (out : List JobOut) (job : JobOut) (more : List JobOut) → more ≡ out ++ job ∷ [] → (schedule : Option Schedule)
+pub scheduled_given : {P : Type 0} (keys : Trees) (units : List (ℕ × Outcome)) (numbers : List (Option ℕ)) (places : PlacesValue P)
+    (out : List (JobOut P)) (job : JobOut P) (more : List (JobOut P)) → more ≡ out ++ job ∷ [] → (schedule : Option Schedule)
     → IsScheduled keys units numbers places out schedule → IsScheduled keys units numbers places more schedule
-scheduled_given keys units numbers places out job more is schedule are =
+scheduled_given {P = P} keys units numbers places out job more is schedule are =
     scheduled_fewer keys units numbers places out more schedule
     (due_given keys places out more (λ number among. subst (λ jobs. Contains (numbers_out jobs) number) (sym is)
-    (subst (λ numbers. Contains numbers number) (sym (map-append (λ (j : JobOut). j.key) out (job ∷ [])))
+    (subst (λ numbers. Contains numbers number) (sym (map-append (λ (j : JobOut P). j.key) out (job ∷ [])))
     (Contains-append_left (numbers_out out) (numbers_out (job ∷ [])) number among)))) are
 
 -- nor does one become due where a job of a key goes that doesn't wait for its picture
-pub due_stale : (keys : Trees) (places : PlacesValue) (out : List JobOut) (at : ℕ) (other : JobOut)
+pub due_stale : {P : Type 0} (keys : Trees) (places : PlacesValue P) (out : List (JobOut P)) (at : ℕ) (other : JobOut P)
     → other ≡ slice_index_or out at other → (place_at places other.key ≡ Some None → ⊥) → (number : ℕ)
     → IsDueNumber keys places (remove out at) number → IsDueNumber keys places out number
 due_stale keys places out at other stands not number due = record {
@@ -134,8 +134,8 @@ ready_split held more key only (With first rest) ready =
       | inr new ↦ inr (inl new)
     ]
 
-module _ (keys : Trees) (ids : List ℕ) (outcomes : List Outcome) (numbers : List (Option ℕ)) (places : PlacesValue)
-    (cached : List (ℕ × Picture)) (out : List JobOut) (kept : IsKept keys ids outcomes numbers places cached out) where
+module _ {P : Type 0} {IsDecoded : InputValue P → P → Type 0} {IsOf : Key → P → Type 0} (keys : Trees) (ids : List ℕ) (outcomes : List Outcome) (numbers : List (Option ℕ)) (places : PlacesValue P)
+    (cached : List (ℕ × P)) (out : List (JobOut P)) (kept : IsKept IsDecoded IsOf keys ids outcomes numbers places cached out) where
   abbrev units : List (ℕ × Outcome)
   units = zip ids outcomes
 
@@ -160,24 +160,24 @@ module _ (keys : Trees) (ids : List ℕ) (outcomes : List Outcome) (numbers : Li
       waits.2 (key_held keys places kept.right waits.0 name.0 name.2 held)
 
   -- the picture of a key lands
-  module _ (at : ℕ) (other : JobOut) (stands : other ≡ slice_index_or out at other) (picture : Picture) (more : PlacesValue)
+  module _ (at : ℕ) (other : JobOut P) (stands : other ≡ slice_index_or out at other) (picture : P) (more : PlacesValue P)
       (awaited : place_at places other.key ≡ Some None)
       (put : (number : ℕ) → place_at more number
       ≡ (if other.key == number then Some (Some picture) else place_at places number))
       (key : Key) (tree : tree_at keys other.key ≡ Some key) where
-    put_cases : (b : Bool) (number : ℕ) (shown : Option Picture) → b ≡ (other.key == number)
+    put_cases : (b : Bool) (number : ℕ) (shown : Option P) → b ≡ (other.key == number)
         → (if b then Some (Some picture) else place_at places number) ≡ Some shown
         → ((other.key ≡ number) × (shown ≡ Some picture)) ⊎ (place_at places number ≡ Some shown)
     put_cases true number shown is place = inl (eqb-true other.key number (sym is), sym (same_Some (Some picture) shown place))
     put_cases false number shown is place = inr place
 
     -- what a place has afterwards is the picture, or it had it before
-    place_then : (number : ℕ) (shown : Option Picture) → place_at more number ≡ Some shown
+    place_then : (number : ℕ) (shown : Option P) → place_at more number ≡ Some shown
         → ((other.key ≡ number) × (shown ≡ Some picture)) ⊎ (place_at places number ≡ Some shown)
     place_then number shown is = put_cases (other.key == number) number shown refl (sym (put number) ∙ is)
 
     still_held : (b : Bool) (number : ℕ) → IsHeld places number
-        → (shown : Picture) × ((if b then Some (Some picture) else place_at places number) ≡ Some (Some shown))
+        → (shown : P) × ((if b then Some (Some picture) else place_at places number) ≡ Some (Some shown))
     still_held true number held = (picture, refl)
     still_held false number held = held
 
@@ -210,7 +210,7 @@ module _ (keys : Trees) (ids : List ℕ) (outcomes : List Outcome) (numbers : Li
         let there : place_at more number ≡ Some (Some picture) =
         put number
         ∙ ap (λ b. if b then Some (Some picture) else place_at places number) (eq-eqb other.key number same) in
-        let both : ◌≡◌ {A = Option (Option Picture)} (Some None) (Some (Some picture)) = sym is ∙ there in
+        let both : ◌≡◌ {A = Option (Option P)} (Some None) (Some (Some picture)) = sym is ∙ there in
         cc
 
     -- a key that is held then was held, or is that of the job
@@ -219,7 +219,7 @@ module _ (keys : Trees) (ids : List ℕ) (outcomes : List Outcome) (numbers : Li
     held_then o is_now =
         let source : (n : ℕ) × Contains (numbers_held more) n × (key_for keys n ≡ o) =
         for_contains keys (numbers_held more) o is_now in
-        let held : (shown : Picture) × (place_at more source.0 ≡ Some (Some shown)) = held_found more source.0 source.1 in
+        let held : (shown : P) × (place_at more source.0 ≡ Some (Some shown)) = held_found more source.0 source.1 in
         elim (place_then source.0 (Some held.0) held.1) [
           | inl new ↦ inr ((sym source.2 ∙ ap (key_for keys) (sym new.0)) ∙ key_is keys other.key key tree)
           | inr was ↦ inl (subst (Contains (keys_for keys (numbers_held places))) source.2
@@ -309,8 +309,8 @@ module _ (keys : Trees) (ids : List ℕ) (outcomes : List Outcome) (numbers : Li
       subst (IsScheduled keys units numbers places out) (if_ready s refl).0 are
 
   -- a result lands
-  pub scheduled_landed : (at : ℕ) (other : JobOut) → other ≡ slice_index_or out at other → (picture : Picture) (landing : Landing)
-      (more : PlacesValue) (left : List JobOut) → left ≡ remove out at → IsFilled places other.key picture landing more
+  pub scheduled_landed : (at : ℕ) (other : JobOut P) → other ≡ slice_index_or out at other → (picture : P) (landing : Landing)
+      (more : PlacesValue P) (left : List (JobOut P)) → left ≡ remove out at → IsFilled places other.key picture landing more
       → (old kept_one new : Option Schedule) → IsScheduled keys units numbers places out old
       → ((s : Schedule) → kept_one ≡ Some s → (old ≡ Some s) × IsReadyNumber keys places other.key)
       → FollowsLanding keys more left numbers other.key landing kept_one new

@@ -6,7 +6,6 @@ use Rattle.std.specs.Map.{lookup}
 use Rattle.std.proofs.lemmas.List.{map-append, append-nil, length-append, length-take-le}
 use Rattle.std.proofs.lemmas.List.Elements.{All-take, Contains-append_left, Contains-get_or}
 use Rattle.unit_outcomes.specs.declared.outcome.Outcome.{Outcome}
-use Rattle.stand_in_device.specs.declared.picture.Picture.{Picture}
 use Rattle.picture_store.specs.declared.answers.Landing.{Landing}
 use Rattle.picture_store.specs.declared.answers.Landing.TheVariants.{Taken, Stale, Foreign}
 use Rattle.picture_store.specs.declared.job_out.JobOut.{JobOut}
@@ -17,12 +16,14 @@ use Rattle.picture_store.specs.Kept.{Trees, numbers_out, IsKept}
 use Rattle.picture_store.specs.Due.{IsHeld, IsNotDue}
 use Rattle.picture_store.specs.Settled.{NeedsNone, AreSettled}
 use Rattle.key_slots.proofs.Members.{here, there, nowhere, first_or_among}
+use Rattle.decode_jobs.specs.Inputs.{InputValue}
+use Rattle.decode_jobs.specs.Keys.{Key}
 
-two_places : (o : Option (Option Picture)) (picture : Picture) → o ≡ Some (Some picture) → o ≡ Some None → ⊥
+two_places : {P : Type 0} (o : Option (Option P)) (picture : P) → o ≡ Some (Some picture) → o ≡ Some None → ⊥
 two_places o picture held awaited = cc
 
 -- what needs no job isn't due
-pub not_due : (keys : Trees) (places : PlacesValue) (out : List JobOut) (number : Option ℕ) → NeedsNone places out number
+pub not_due : {P : Type 0} (keys : Trees) (places : PlacesValue P) (out : List (JobOut P)) (number : Option ℕ) → NeedsNone places out number
     → IsNotDue keys places out number
 not_due keys places out None needs = search rules
 not_due keys places out (Some number) needs = λ due. elim needs [
@@ -31,16 +32,16 @@ not_due keys places out (Some number) needs = λ due. elim needs [
 ]
 
 -- so none of those that are settled is
-pub none_due_before : (keys : Trees) (places : PlacesValue) (out : List JobOut) (numbers : List (Option ℕ)) (count : ℕ)
+pub none_due_before : {P : Type 0} (keys : Trees) (places : PlacesValue P) (out : List (JobOut P)) (numbers : List (Option ℕ)) (count : ℕ)
     → AreSettled places out numbers count → All (IsNotDue keys places out) (take count numbers)
 none_due_before keys places out numbers count are = λ k d within. not_due keys places out _ (are.1 k d within)
 
 -- none is settled before the first unit
-pub none_settled : (places : PlacesValue) (out : List JobOut) (numbers : List (Option ℕ)) → AreSettled places out numbers 0
+pub none_settled : {P : Type 0} (places : PlacesValue P) (out : List (JobOut P)) (numbers : List (Option ℕ)) → AreSettled places out numbers 0
 none_settled places out numbers = (omega arith, λ k d within. absurd (omega (arith, within)))
 
 -- what needs no job needs none where it stays so for each unit
-pub settled_stay : (places more : PlacesValue) (out left : List JobOut) (numbers : List (Option ℕ)) (count : ℕ)
+pub settled_stay : {P : Type 0} (places more : PlacesValue P) (out left : List (JobOut P)) (numbers : List (Option ℕ)) (count : ℕ)
     → ((number : Option ℕ) → Contains numbers number → NeedsNone places out number → NeedsNone more left number)
     → AreSettled places out numbers count → AreSettled more left numbers count
 settled_stay places more out left numbers count stays are = (
@@ -53,24 +54,24 @@ settled_stay places more out left numbers count stays are = (
     Contains-take xs n x is =
         subst (λ ys. Contains ys x) (take-append-drop n xs) (Contains-append_left (take n xs) (drop n xs) x is)
 
-held_still : (b : Bool) (place : Option (Option Picture)) (new held : Picture) → place ≡ Some (Some held)
-    → (picture : Picture) × ((if b then Some (Some new) else place) ≡ Some (Some picture))
+held_still : {P : Type 0} (b : Bool) (place : Option (Option P)) (new held : P) → place ≡ Some (Some held)
+    → (picture : P) × ((if b then Some (Some new) else place) ≡ Some (Some picture))
 held_still true place new held is = (new, refl)
 held_still false place new held is = (held, is)
 
-held_place : (place : Option (Option Picture)) → IsSome place → (place ≡ Some None → ⊥)
-    → (picture : Picture) × (place ≡ Some (Some picture))
+held_place : {P : Type 0} (place : Option (Option P)) → IsSome place → (place ≡ Some None → ⊥)
+    → (picture : P) × (place ≡ Some (Some picture))
 held_place None some not = cc
 held_place (Some None) some not = absurd (not refl)
 held_place (Some (Some picture)) some not = (picture, refl)
 
 -- a job of another key is out still
-pub out_still : (out : List JobOut) (at number : ℕ) (other : JobOut) → other ≡ slice_index_or out at other
+pub out_still : {P : Type 0} (out : List (JobOut P)) (at number : ℕ) (other : JobOut P) → other ≡ slice_index_or out at other
     → (other.key ≡ number → ⊥) → Contains (numbers_out out) number → Contains (numbers_out (remove out at)) number
 out_still [] at number other stands not is = absurd (nowhere number is)
-out_still (first ∷ out) zero number other stands not is =
+out_still {P = P} (first ∷ out) zero number other stands not is =
     elim (first_or_among first.key number (numbers_out out) is) [
-      | inl same ↦ absurd (not (ap (λ (job : JobOut). job.key) stands ∙ same))
+      | inl same ↦ absurd (not (ap (λ (job : JobOut P). job.key) stands ∙ same))
       | inr later ↦ later
     ]
 out_still (first ∷ out) (suc at) number other stands not is =
@@ -87,9 +88,9 @@ not_same a b differ same =
     cc
 
 -- a job more
-pub settled_more : (places : PlacesValue) (out : List JobOut) (job : JobOut) (more : List JobOut) (numbers : List (Option ℕ)) (count : ℕ)
+pub settled_more : {P : Type 0} (places : PlacesValue P) (out : List (JobOut P)) (job : JobOut P) (more : List (JobOut P)) (numbers : List (Option ℕ)) (count : ℕ)
     → more ≡ out ++ job ∷ [] → AreSettled places out numbers count → AreSettled places more numbers count
-settled_more places out job more numbers count is are =
+settled_more {P = P} places out job more numbers count is are =
     subst (λ jobs. AreSettled places jobs numbers count) (sym is) (settled_stay places places out (out ++ job ∷ []) numbers count stays are)
   where
     stays : (number : Option ℕ) → Contains numbers number → NeedsNone places out number → NeedsNone places (out ++ job ∷ []) number
@@ -97,14 +98,14 @@ settled_more places out job more numbers count is are =
     stays (Some number) among needs = elim needs [
       | inl held ↦ inl held
       | inr one ↦
-          inr (subst (λ keys. Contains keys number) (sym (map-append (λ (j : JobOut). j.key) out (job ∷ [])))
+          inr (subst (λ keys. Contains keys number) (sym (map-append (λ (j : JobOut P). j.key) out (job ∷ [])))
           (Contains-append_left (numbers_out out) (numbers_out (job ∷ [])) number one))
     ]
 
-module _ (keys : Trees) (ids : List ℕ) (outcomes : List Outcome) (numbers : List (Option ℕ)) (places : PlacesValue)
-    (cached : List (ℕ × Picture)) (out : List JobOut) (kept : IsKept keys ids outcomes numbers places cached out)
-    (at : ℕ) (other : JobOut) (stands : other ≡ slice_index_or out at other) where
-  module _ (more : PlacesValue) (holds : (number : ℕ) → IsHeld places number → IsHeld more number)
+module _ {P : Type 0} {IsDecoded : InputValue P → P → Type 0} {IsOf : Key → P → Type 0} (keys : Trees) (ids : List ℕ) (outcomes : List Outcome) (numbers : List (Option ℕ)) (places : PlacesValue P)
+    (cached : List (ℕ × P)) (out : List (JobOut P)) (kept : IsKept IsDecoded IsOf keys ids outcomes numbers places cached out)
+    (at : ℕ) (other : JobOut P) (stands : other ≡ slice_index_or out at other) where
+  module _ (more : PlacesValue P) (holds : (number : ℕ) → IsHeld places number → IsHeld more number)
       (new : Contains numbers (Some other.key) → IsHeld more other.key) where
     stays_there : (b : Bool) (number : ℕ) → b ≡ (other.key == number) → Contains numbers (Some number)
         → IsHeld places number ⊎ Contains (numbers_out out) number
@@ -122,7 +123,7 @@ module _ (keys : Trees) (ids : List ℕ) (outcomes : List Outcome) (numbers : Li
     stays (Some number) among needs = stays_there (other.key == number) number refl among needs
 
   -- a job that lands
-  pub settled_landed : (picture : Picture) (landing : Landing) (more : PlacesValue) (left : List JobOut) (count : ℕ)
+  pub settled_landed : (picture : P) (landing : Landing) (more : PlacesValue P) (left : List (JobOut P)) (count : ℕ)
       → left ≡ remove out at → IsFilled places other.key picture landing more
       → AreSettled places out numbers count → AreSettled more left numbers count
   settled_landed picture Foreign more left count gone filled are = absurd filled
@@ -137,7 +138,7 @@ module _ (keys : Trees) (ids : List ℕ) (outcomes : List Outcome) (numbers : Li
       (settled_stay places more out (remove out at) numbers count
       (stays more
       (λ number held.
-      let still : (p : Picture) × ((if other.key == number then Some (Some picture) else place_at places number) ≡ Some (Some p)) =
+      let still : (p : P) × ((if other.key == number then Some (Some picture) else place_at places number) ≡ Some (Some p)) =
       held_still (other.key == number) (place_at places number) picture held.0 held.1 in
       (still.0, filled.1 number ∙ still.1))
       (λ among. (
@@ -156,10 +157,10 @@ take_front (suc m) (suc n) (x ∷ xs) ys below within =
 
 -- of the units in front of a place as many need none as before, where pictures that were held stay
 -- held
-pub settled_front : (places more : PlacesValue) (cached : List (ℕ × Picture)) (out : List JobOut) (numbers later : List (Option ℕ))
+pub settled_front : {P : Type 0} (places more : PlacesValue P) (cached : List (ℕ × P)) (out : List (JobOut P)) (numbers later : List (Option ℕ))
     (count from least : ℕ) → least ≤ count → least ≤ from → from ≤ length numbers → AreSettled places out numbers count
     → ArePlaced (take from numbers ++ later) places cached more → AreSettled more out (take from numbers ++ later) least
-settled_front places more cached out numbers later count from least in_count in_front within are placed =
+settled_front {P = P} places more cached out numbers later count from least in_count in_front within are placed =
     settled_stay places more out out (take from numbers ++ later) least stays
     (omega (arith, in_front, within, length-append (take from numbers) later, length-take-le from numbers within), still)
   where
@@ -173,8 +174,8 @@ settled_front places more cached out numbers later count from least in_count in_
         subst (All (NeedsNone places out))
         (take_front least count numbers [] in_count are.0 ∙ sym (take_front least from numbers later in_front within)) fewer
 
-    carries : (place other : Option (Option Picture)) (cached : Option Picture) (held : Picture) → place ≡ Some (Some held)
-        → other ≡ Some (held_or place cached) → (picture : Picture) × (other ≡ Some (Some picture))
+    carries : (place other : Option (Option P)) (cached : Option P) (held : P) → place ≡ Some (Some held)
+        → other ≡ Some (held_or place cached) → (picture : P) × (other ≡ Some (Some picture))
     carries None other cached held is carried = absurd cc
     carries (Some None) other cached held is carried = absurd cc
     carries (Some (Some picture)) other cached held is carried = (picture, carried)

@@ -9,9 +9,7 @@ use Rattle.std.proofs.lemmas.List.Elements.{All-contains}
 use Rattle.unit_outcomes.specs.declared.outcome.Outcome.{Outcome}
 use Rattle.dep_keys.specs.KeyMaps.{tree_at, IsKeyMap}
 use Rattle.dep_keys.specs.Trees.Tree.{Bare}
-use Rattle.stand_in_device.specs.declared.picture.Picture.{Picture}
-use Rattle.stand_in_device.specs.Pictures.{picture_of}
-use Rattle.picture_keys.specs.Keys.{Key}
+use Rattle.decode_jobs.specs.Keys.{Key}
 use Rattle.picture_keys.specs.Known.{keys_of}
 use Rattle.picture_keys.specs.Numbered.{StandsFor, AllStandFor}
 use Rattle.picture_store.specs.declared.job_out.JobOut.{JobOut}
@@ -21,6 +19,7 @@ use Rattle.picture_store.specs.Kept.{Trees, key_for, keys_for, jobs_for, IsRight
 use Rattle.key_slots.proofs.Members.{here, there, nowhere, first_or_among, among_map, among_source, map_same, All-from_contains}
 use Rattle.key_slots.proofs.Held.{held_found}
 use Rattle.picture_store.proofs.Viewed.{viewed}
+use Rattle.decode_jobs.specs.Inputs.{InputValue}
 
 -- the key of a number
 pub key_is : (keys : Trees) (number : ℕ) (key : Key) → tree_at keys number ≡ Some key → key_for keys number ≡ key
@@ -98,20 +97,24 @@ pub key_stays : (keys more : Trees) (number : ℕ) (key : Key) → tree_at keys 
     → tree_at more number ≡ Some key → key_for more number ≡ key_for keys number
 key_stays keys more number key old new = key_is more number key new ∙ sym (key_is keys number key old)
 
-module _ (keys more : Trees) (ids : List ℕ) (outcomes : List Outcome) (numbers : List (Option ℕ)) (places : PlacesValue)
-    (cached : List (ℕ × Picture)) (out : List JobOut) (kept : IsKept keys ids outcomes numbers places cached out)
+module _ {P : Type 0} {IsDecoded : InputValue P → P → Type 0} {IsOf : Key → P → Type 0} (keys more : Trees) (ids : List ℕ) (outcomes : List Outcome) (numbers : List (Option ℕ)) (places : PlacesValue P)
+    (cached : List (ℕ × P)) (out : List (JobOut P)) (kept : IsKept IsDecoded IsOf keys ids outcomes numbers places cached out)
     (stay : KeepsStored numbers cached out keys more) where
-  right_stays : (number : ℕ) (picture : Picture) → IsStored numbers cached out number → IsRight keys number picture
-      → IsRight more number picture
+  right_stays : (number : ℕ) (picture : P) → IsStored numbers cached out number → IsRight IsDecoded IsOf keys number picture
+      → IsRight IsDecoded IsOf more number picture
   right_stays number picture stored right = (right.0, stay number right.0 stored right.1, right.2)
 
-  for_stays : (number : ℕ) (picture : Picture) → IsStored numbers cached out number → IsRight keys number picture
+  for_stays : (number : ℕ) (picture : P) → IsStored numbers cached out number → IsRight IsDecoded IsOf keys number picture
       → key_for more number ≡ key_for keys number
   for_stays number picture stored right =
       key_stays keys more number right.0 right.1 (stay number right.0 stored right.1)
 
+  live_stays : (number : ℕ) (key : Key) → IsStored numbers cached out number → tree_at keys number ≡ Some key
+      → key_for more number ≡ key_for keys number
+  live_stays number key stored live = key_stays keys more number key live (stay number key stored live)
+
   -- a place is that of a unit's key
-  place_stored : (number : ℕ) (picture : Option Picture) → place_at places number ≡ Some picture
+  place_stored : (number : ℕ) (picture : Option P) → place_at places number ≡ Some picture
       → IsStored numbers cached out number
   place_stored number picture is = inl ((kept.used number).0 (ap is_some is))
 
@@ -119,34 +122,34 @@ module _ (keys more : Trees) (ids : List ℕ) (outcomes : List Outcome) (numbers
   held_stay =
       map_same (key_for keys) (key_for more) (numbers_held places)
       (λ number is.
-      let found : (picture : Picture) × (place_at places number ≡ Some (Some picture)) =
+      let found : (picture : P) × (place_at places number ≡ Some (Some picture)) =
       held_found places number is in
       for_stays number found.0 (place_stored number (Some found.0) found.1) (kept.right.held number found.0 found.1))
 
-  stored_right : (number : ℕ) → Contains (numbers_of cached) number → (picture : Picture) × IsRight keys number picture
+  stored_right : (number : ℕ) → Contains (numbers_of cached) number → (picture : P) × IsRight IsDecoded IsOf keys number picture
   stored_right number is =
-      let found : (pair : ℕ × Picture) × Contains cached pair × (pair.0 ≡ number) = among_source (λ pair. pair.0) cached number is in
-      (found.0.1, subst (λ n. IsRight keys n found.0.1) found.2 (All-contains (λ pair. IsRight keys pair.0 pair.1) cached found.0 kept.stored found.1))
+      let found : (pair : ℕ × P) × Contains cached pair × (pair.0 ≡ number) = among_source (λ pair. pair.0) cached number is in
+      (found.0.1, subst (λ n. IsRight IsDecoded IsOf keys n found.0.1) found.2 (All-contains (λ pair. IsRight IsDecoded IsOf keys pair.0 pair.1) cached found.0 kept.stored found.1))
 
   pub cached_stay : keys_for more (numbers_of cached) ≡ keys_for keys (numbers_of cached)
   cached_stay =
       map_same (key_for keys) (key_for more) (numbers_of cached)
       (λ number is.
-      let right : (picture : Picture) × IsRight keys number picture = stored_right number is in
+      let right : (picture : P) × IsRight IsDecoded IsOf keys number picture = stored_right number is in
       for_stays number right.0 (inr (inl is)) right.1)
 
-  job_stored : (job : JobOut) → Contains out job → IsStored numbers cached out job.key
-  job_stored job is = inr (inr (among_map (λ (j : JobOut). j.key) out job is))
+  job_stored : (job : JobOut P) → Contains out job → IsStored numbers cached out job.key
+  job_stored job is = inr (inr (among_map (λ (j : JobOut P). j.key) out job is))
 
   pub out_stay : jobs_for more out ≡ jobs_for keys out
   out_stay =
-      map_same (λ (job : JobOut). record { number = job.number; key = key_for keys job.key; input = job.input })
-      (λ (job : JobOut). record { number = job.number; key = key_for more job.key; input = job.input }) out
+      map_same (λ (job : JobOut P). record { number = job.number; key = key_for keys job.key; input = job.input })
+      (λ (job : JobOut P). record { number = job.number; key = key_for more job.key; input = job.input }) out
       (λ job is. ap (λ (key : Key). record { number = job.number; key = key; input = job.input })
-      (for_stays job.key (picture_of job.input) (job_stored job is)
-      (All-contains (IsJobRight keys) out job kept.jobs is).0))
+      (let right = All-contains (IsJobRight IsDecoded IsOf keys) out job kept.jobs is in
+      live_stays job.key right.0 (job_stored job is) right.1))
 
-  pub kept_stays : IsKeyMap more → IsKept more ids outcomes numbers places cached out
+  pub kept_stays : IsKeyMap more → IsKept IsDecoded IsOf more ids outcomes numbers places cached out
   kept_stays one = record {
     right = record {
       one = one;
@@ -158,16 +161,15 @@ module _ (keys more : Trees) (ids : List ℕ) (outcomes : List Outcome) (numbers
     decodable = kept.decodable;
     used = kept.used;
     stored =
-        All-from_contains cached (λ pair is. right_stays pair.0 pair.1 (inr (inl (among_map (λ (p : ℕ × Picture). p.0) cached pair is)))
-        (All-contains (λ pair. IsRight keys pair.0 pair.1) cached pair kept.stored is));
+        All-from_contains cached (λ pair is. right_stays pair.0 pair.1 (inr (inl (among_map (λ (p : ℕ × P). p.0) cached pair is)))
+        (All-contains (λ pair. IsRight IsDecoded IsOf keys pair.0 pair.1) cached pair kept.stored is));
     jobs =
-        All-from_contains {P = IsJobRight more} out (λ job is. (
-          right_stays job.key (picture_of job.input) (job_stored job is) (All-contains (IsJobRight keys) out job kept.jobs is).0,
-          (All-contains (IsJobRight keys) out job kept.jobs is).1,
-        ));
+        All-from_contains {P = IsJobRight IsDecoded IsOf more} out (λ job is.
+        let right = All-contains (IsJobRight IsDecoded IsOf keys) out job kept.jobs is in
+        (right.0, stay job.key right.0 (job_stored job is) right.1, right.2, right.3));
   }
 
   -- what contracts see stays
-  pub viewed_stays : (room given : ℕ) → viewed more ids outcomes numbers places cached room out given
-      ≡ viewed keys ids outcomes numbers places cached room out given
-  viewed_stays room given = rw (held_stay, cached_stay, out_stay) refl
+  pub viewed_stays : (room given : ℕ) (released : List P) → viewed more ids outcomes numbers places cached room out given released
+      ≡ viewed keys ids outcomes numbers places cached room out given released
+  viewed_stays room given released = rw (held_stay, cached_stay, out_stay) refl

@@ -5,11 +5,10 @@ use Rattle.std.proofs.lemmas.List.Sums.{sum_by-cons}
 use Rattle.std.specs.declared.alloc.AllocError.{AllocError}
 use Rattle.dep_keys.specs.KeyMaps.{tree_at}
 use Rattle.dep_keys.specs.Sweeping.{IsSwept, IsNeeded}
-use Rattle.picture_keys.specs.Keys.{Key}
+use Rattle.decode_jobs.specs.Keys.{Key}
 use Rattle.key_slots.specs.Counting.{once_if, times, times_in}
 use Rattle.key_slots.proofs.Counts.{counted_in, some_counted}
 use Rattle.key_slots.proofs.Members.{here, there}
-use Rattle.stand_in_device.specs.declared.picture.Picture.{Picture}
 use Rattle.picture_store.specs.declared.job_out.JobOut.{JobOut}
 use Rattle.picture_store.specs.Kept.{AreSwept, IsStored, Trees}
 
@@ -50,7 +49,7 @@ only_added old new numbers number counted among =
       | inr none ↦ inl (some_in number old (omega (arith, some, counted, none)))
     ]
 
-pub swept_all : (r : Result (Unit {0}) AllocError) (numbers : List (Option ℕ)) (cached : List (ℕ × Picture)) (out : List JobOut)
+pub swept_all : {P : Type 0} (r : Result (Unit {0}) AllocError) (numbers : List (Option ℕ)) (cached : List (ℕ × P)) (out : List (JobOut P))
     (old new : Trees) (roots : List ℕ) → ((number : ℕ) → Contains roots number ↔ IsStored numbers cached out number)
     → OnOk r (IsSwept old roots new) → OnOk r (AreSwept numbers cached out old new)
 swept_all (Ok x) numbers cached out old new roots are swept = record { roots = roots; are = are; swept = swept }

@@ -1,21 +1,18 @@
 -- Which key is due, and what a store becomes where its job is taken.
 use Rattle.std.proofs.Common.{◌≡◌, refl, ap, sym, ◌∙◌, subst, ℕ, suc, ◌<◌, ◌+◌, List, [], ◌∷◌, ◌++◌, length, map, take, drop, Option, None, Some, IsSome, IsTrue, IfSome, arith, rules}
-use Rattle.std.specs.Prelude.{All, Contains, slice_get, slice_index_or}
+use Rattle.std.specs.Prelude.{All, Contains, option_and_then, slice_get, slice_index_or}
 use Rattle.std.specs.List.{zip}
 use Rattle.std.proofs.lemmas.List.{map-append, length-take-le}
 use Rattle.std.proofs.lemmas.List.Elements.{All-contains, All-push}
 use Rattle.unit_outcomes.specs.declared.outcome.Outcome.{Outcome}
 use Rattle.unit_outcomes.specs.declared.outcome.Outcome.TheVariants.{Plan as Planned, Fault as Faulty, Empty}
 use Rattle.dep_keys.specs.KeyMaps.{tree_at}
-use Rattle.stand_in_device.specs.declared.picture.Picture.{Picture}
-use Rattle.stand_in_device.specs.Inputs.{InputValue, is_whole}
-use Rattle.stand_in_device.specs.Jobs.{JobValue}
-use Rattle.picture_keys.specs.Keys.{Key}
-use Rattle.picture_keys.specs.Known.{Known, key_of, key_of_outcome, known_after, keys_after, keys_of}
+use Rattle.decode_jobs.specs.Inputs.{InputValue, is_whole}
+use Rattle.decode_jobs.specs.Jobs.{JobValue}
+use Rattle.decode_jobs.specs.Keys.{Key, named_by_all}
+use Rattle.decode_jobs.specs.Made.{IsClosed}
+use Rattle.picture_keys.specs.Known.{Known, key_at, key_of, key_of_outcome, known_after, keys_after, keys_of}
 use Rattle.picture_keys.specs.Numbered.{AllStandFor}
-use Rattle.picture_keys.specs.KeyPictures.{picture_of_key}
-use Rattle.stand_in_device.specs.Pictures.{picture_of}
-use Rattle.picture_keys.proofs.Pictured.{shows_its_key}
 use Rattle.picture_store.specs.declared.job_out.JobOut.{JobOut}
 use Rattle.picture_store.specs.Stores.{OutValue, StoreValue, IsReady}
 use Rattle.picture_store.specs.Jobs.{IsDue, IsAnyDue, Gives, Takes}
@@ -23,7 +20,7 @@ use Rattle.key_slots.specs.Places.{place_at, numbers_held}
 use Rattle.picture_store.specs.Places.{PlacesValue}
 use Rattle.picture_store.specs.Due.{IsDueNumber, IsNotDue}
 use Rattle.picture_store.specs.Inputs.{HasKnown, IsInputOf}
-use Rattle.picture_store.specs.Kept.{Trees, key_for, keys_for, jobs_for, numbers_out, IsRight, IsJobRight, IsKept}
+use Rattle.picture_store.specs.Kept.{Trees, key_for, keys_for, jobs_for, numbers_out, IsJobRight, IsKept}
 use Rattle.key_slots.proofs.Members.{among_map, among_source, All-from_contains}
 use Rattle.picture_store.proofs.Viewed.{seen, viewed}
 use Rattle.picture_store.proofs.Stays.{key_is, stand_live, stand_number}
@@ -36,39 +33,38 @@ take_front : {X : Type 0} (xs ys : List X) → take (length xs) (xs ++ ys) ≡ x
 take_front [] ys = refl
 take_front (x ∷ xs) ys = ap (λ rest. x ∷ rest) (take_front xs ys)
 
-module _ (keys : Trees) (ids : List ℕ) (outcomes : List Outcome) (numbers : List (Option ℕ)) (places : PlacesValue)
-    (cached : List (ℕ × Picture)) (room : ℕ) (out : List JobOut) (given : ℕ)
-    (kept : IsKept keys ids outcomes numbers places cached out) where
+module _ {P : Type 0} {IsDecoded : InputValue P → P → Type 0} {IsOf : Key → P → Type 0} (keys : Trees) (ids : List ℕ) (outcomes : List Outcome) (numbers : List (Option ℕ)) (places : PlacesValue P)
+    (cached : List (ℕ × P)) (room : ℕ) (out : List (JobOut P)) (given : ℕ) (released : List P)
+    (kept : IsKept IsDecoded IsOf keys ids outcomes numbers places cached out) where
   -- a job's key is among those of the jobs that are seen
   pub out_seen_key : (number : ℕ) → Contains (numbers_out out) number
-      → Contains (map (λ (job : OutValue). job.key) (jobs_for keys out)) (key_for keys number)
+      → Contains (map (λ (job : OutValue P). job.key) (jobs_for keys out)) (key_for keys number)
   out_seen_key number is =
-      let source : (job : JobOut) × Contains out job × (job.key ≡ number) =
-      among_source (λ (job : JobOut). job.key) out number is in
-      subst (λ n. Contains (map (λ (job : OutValue). job.key) (jobs_for keys out)) (key_for keys n)) source.2
-      (among_map (λ (job : OutValue). job.key) (jobs_for keys out) (seen keys source.0)
+      let source : (job : JobOut P) × Contains out job × (job.key ≡ number) =
+      among_source (λ (job : JobOut P). job.key) out number is in
+      subst (λ n. Contains (map (λ (job : OutValue P). job.key) (jobs_for keys out)) (key_for keys n)) source.2
+      (among_map (λ (job : OutValue P). job.key) (jobs_for keys out) (seen keys source.0)
       (among_map (seen keys) out source.0 source.1))
 
   -- and the other way round, where the number is live
   pub seen_out_key : (number : ℕ) (key : Key) → tree_at keys number ≡ Some key
-      → Contains (map (λ (job : OutValue). job.key) (jobs_for keys out)) key → Contains (numbers_out out) number
+      → Contains (map (λ (job : OutValue P). job.key) (jobs_for keys out)) key → Contains (numbers_out out) number
   seen_out_key number key live is =
-      let outer : (job : OutValue) × Contains (jobs_for keys out) job × (job.key ≡ key) =
-      among_source (λ (job : OutValue). job.key) (jobs_for keys out) key is in
-      let inner : (job : JobOut) × Contains out job × (seen keys job ≡ outer.0) =
+      let outer : (job : OutValue P) × Contains (jobs_for keys out) job × (job.key ≡ key) =
+      among_source (λ (job : OutValue P). job.key) (jobs_for keys out) key is in
+      let inner : (job : JobOut P) × Contains out job × (seen keys job ≡ outer.0) =
       among_source (seen keys) out outer.0 outer.1 in
-      let right : IsRight keys inner.0.key (picture_of inner.0.input) =
-      (All-contains (IsJobRight keys) out inner.0 kept.jobs inner.1).0 in
-      let same : key_for keys inner.0.key ≡ key = ap (λ (job : OutValue). job.key) inner.2 ∙ outer.2 in
+      let right = All-contains (IsJobRight IsDecoded IsOf keys) out inner.0 kept.jobs inner.1 in
+      let same : key_for keys inner.0.key ≡ key = ap (λ (job : OutValue P). job.key) inner.2 ∙ outer.2 in
       let tree : tree_at keys inner.0.key ≡ Some key =
       right.1 ∙ ap Some (sym (key_is keys inner.0.key right.0 right.1) ∙ same) in
       subst (λ n. Contains (numbers_out out) n) (kept.right.one.trees inner.0.key number key tree live)
-      (among_map (λ (job : JobOut). job.key) out inner.0 inner.1)
+      (among_map (λ (job : JobOut P). job.key) out inner.0 inner.1)
 
   -- a number that is due is that of a key that is
   pub due_for : (number : ℕ) (key : Key) → tree_at keys number ≡ Some key → Contains numbers (Some number)
       → IsDueNumber keys places out number
-      → IsDue (viewed keys ids outcomes numbers places cached room out given) key
+      → IsDue (viewed keys ids outcomes numbers places cached room out given released) key
   due_for number key live unit due =
       let same : key_for keys number ≡ key = key_is keys number key live in
       let tree : (k : Key) × (tree_at keys number ≡ Some k) × Contains (keys_of (zip ids outcomes)) (Some k) =
@@ -87,7 +83,7 @@ module _ (keys : Trees) (ids : List ℕ) (outcomes : List Outcome) (numbers : Li
       }
 
   awaits : (number : ℕ) (key : Key) → tree_at keys number ≡ Some key
-      → (Contains (keys_for keys (numbers_held places)) key → ⊥) → (place : Option (Option Picture))
+      → (Contains (keys_for keys (numbers_held places)) key → ⊥) → (place : Option (Option P))
       → place ≡ place_at places number → IsSome (place_at places number) → place_at places number ≡ Some None
   awaits number key live not None same some = absurd (none_not_some (place_at places number) (sym same) some)
   awaits number key live not (Some None) same some = sym same
@@ -97,7 +93,7 @@ module _ (keys : Trees) (ids : List ℕ) (outcomes : List Outcome) (numbers : Li
       (held_for keys ids outcomes numbers places cached out kept number key live picture (sym same))))
 
   -- a key that is due has a number that is
-  pub due_from : (key : Key) → IsDue (viewed keys ids outcomes numbers places cached room out given) key
+  pub due_from : (key : Key) → IsDue (viewed keys ids outcomes numbers places cached room out given released) key
       → (number : ℕ) × Contains numbers (Some number) × (tree_at keys number ≡ Some key)
       × IsDueNumber keys places out number
   due_from key due =
@@ -110,7 +106,7 @@ module _ (keys : Trees) (ids : List ℕ) (outcomes : List Outcome) (numbers : Li
           awaited =
               awaits unit.0 key unit.2 due.awaited (place_at places unit.0) refl ((kept.used unit.0).1 unit.1);
           free = λ is.
-              due.free (subst (Contains (map (λ (job : OutValue). job.key) (jobs_for keys out))) (key_is keys unit.0 key unit.2)
+              due.free (subst (Contains (map (λ (job : OutValue P). job.key) (jobs_for keys out))) (key_is keys unit.0 key unit.2)
               (out_seen_key unit.0 is));
           key = key;
           tree = unit.2;
@@ -120,7 +116,7 @@ module _ (keys : Trees) (ids : List ℕ) (outcomes : List Outcome) (numbers : Li
 
   -- where no unit's number is due, no key is
   pub none_due : All (IsNotDue keys places out) numbers
-      → IsAnyDue (viewed keys ids outcomes numbers places cached room out given) → ⊥
+      → IsAnyDue (viewed keys ids outcomes numbers places cached room out given released) → ⊥
   none_due none any =
       let from : (number : ℕ) × Contains numbers (Some number) × (tree_at keys number ≡ Some any.0)
       × IsDueNumber keys places out number = due_from any.0 any.1 in
@@ -132,7 +128,7 @@ module _ (keys : Trees) (ids : List ℕ) (outcomes : List Outcome) (numbers : Li
     in_units = omega (
       arith,
       within,
-      found_length keys ids outcomes numbers places cached room out given kept,
+      found_length keys ids outcomes numbers places cached room out given released kept,
       length-zip_same ids outcomes kept.same,
     )
 
@@ -152,7 +148,7 @@ module _ (keys : Trees) (ids : List ℕ) (outcomes : List Outcome) (numbers : Li
     tree_is : tree_at keys number ≡ key_of_outcome known unit.0.1
     tree_is =
         let has : (key : Key) × (slice_get (keys_of (zip ids outcomes)) at ≡ Some (Some key)) × (tree_at keys number ≡ Some key) =
-        keyed keys ids outcomes numbers places cached room out given kept at within number is in
+        keyed keys ids outcomes numbers places cached room out given released kept at within number is in
         has.2 ∙ one_key has.0 (key_of_outcome known unit.0.1) has.1 unit.1.key
 
     pub has_known : (outcome : Outcome) → unit.0.1 ≡ outcome → HasKnown keys outcome number known
@@ -164,12 +160,12 @@ module _ (keys : Trees) (ids : List ℕ) (outcomes : List Outcome) (numbers : Li
     contained = (at, within, sym is)
 
     -- some key is due
-    pub any_due : IsAnyDue (viewed keys ids outcomes numbers places cached room out given)
+    pub any_due : IsAnyDue (viewed keys ids outcomes numbers places cached room out given released)
     any_due = (due.key, due_for number due.key due.tree contained due)
 
     none_before : All (IsNotDue keys places out) (take at numbers) → (key : Option Key)
         → Contains (keys_after [] (take at (zip ids outcomes))) key
-        → IfSome key (λ k. IsDue (viewed keys ids outcomes numbers places cached room out given) k → ⊥)
+        → IfSome key (λ k. IsDue (viewed keys ids outcomes numbers places cached room out given released) k → ⊥)
     none_before none None among = search rules
     none_before none (Some key) among = λ key_due.
         let before : AllStandFor keys (take at numbers) (keys_after [] (take at (zip ids outcomes))) =
@@ -185,10 +181,10 @@ module _ (keys : Trees) (ids : List ℕ) (outcomes : List Outcome) (numbers : Li
 
     -- the job of the unit is given
     pub given_job : (outcome : Outcome) → unit.0.1 ≡ outcome
-        → (input : InputValue) → IsInputOf known outcome input → (next from : ℕ) → next ≡ given + 1
-        → (more : List JobOut) → more ≡ out ++ (record { number = next; key = number; input = input; first_place = from }) ∷ []
-        → Gives (viewed keys ids outcomes numbers places cached room out given) at (record { number = next; input = input })
-        (viewed keys ids outcomes numbers places cached room more next)
+        → (input : InputValue P) → IsInputOf IsOf known outcome input → (next from : ℕ) → next ≡ given + 1
+        → (more : List (JobOut P)) → more ≡ out ++ (record { number = next; key = number; input = input; first_place = from }) ∷ []
+        → Gives IsOf (viewed keys ids outcomes numbers places cached room out given released) at (record { number = next; input = input })
+        (viewed keys ids outcomes numbers places cached room more next released)
     given_job (Faulty fault) same input made next from next_is more more_is = absurd made
     given_job Empty same input made next from next_is more more_is = absurd made
     given_job (Planned plan) same input made next from next_is more more_is =
@@ -210,17 +206,17 @@ module _ (keys : Trees) (ids : List ℕ) (outcomes : List Outcome) (numbers : Li
           requests_are = made.0;
           shows = made.1;
           new_is =
-              ap (λ (jobs : List OutValue). record (viewed keys ids outcomes numbers places cached room out given) { jobs_out = jobs; jobs_given = next })
+              ap (λ (jobs : List (OutValue P)). record (viewed keys ids outcomes numbers places cached room out given released) { jobs_out = jobs; jobs_given = next })
               (ap (jobs_for keys) more_is
               ∙ map-append (seen keys) out ((record { number = next; key = number; input = input; first_place = from }) ∷ [])
               ∙ ap (λ (key : Key). jobs_for keys out ++ (record { number = next; key = key; input = input }) ∷ []) key_same);
         }
 
     -- where no unit before it is due, its job is taken
-    pub taken : (job : JobValue) (new : StoreValue)
-        → Gives (viewed keys ids outcomes numbers places cached room out given) at job new
+    pub taken : (job : JobValue P) (new : StoreValue P)
+        → Gives IsOf (viewed keys ids outcomes numbers places cached room out given released) at job new
         → All (IsNotDue keys places out) (take at numbers)
-        → (takes : Takes (viewed keys ids outcomes numbers places cached room out given) job new) × (at ≡ length takes.before)
+        → (takes : Takes IsOf (viewed keys ids outcomes numbers places cached room out given released) job new) × (at ≡ length takes.before)
     taken job new gives none = (
       record {
         before = gives.before;
@@ -231,7 +227,7 @@ module _ (keys : Trees) (ids : List ℕ) (outcomes : List Outcome) (numbers : Li
         due = gives.due;
         earliest =
             subst (λ (units : List (ℕ × Outcome)). All (λ key. IfSome key
-            (λ k. IsDue (viewed keys ids outcomes numbers places cached room out given) k → ⊥)) (keys_of units)) before_is
+            (λ k. IsDue (viewed keys ids outcomes numbers places cached room out given released) k → ⊥)) (keys_of units)) before_is
             (All-from_contains (keys_after [] (take at (zip ids outcomes))) (none_before none));
         number_is = gives.number_is;
         requests_are = gives.requests_are;
@@ -248,21 +244,24 @@ module _ (keys : Trees) (ids : List ℕ) (outcomes : List Outcome) (numbers : Li
             ∙ take_front gives.before ((gives.id, Planned gives.plan) ∷ gives.after)
 
     -- what is stored then
-    pub kept_taken : (outcome : Outcome) → unit.0.1 ≡ outcome → (input : InputValue) → IsInputOf known outcome input
-        → (next from : ℕ) (more : List JobOut)
+    pub kept_taken : IsClosed IsDecoded IsOf → (outcome : Outcome) → unit.0.1 ≡ outcome → (input : InputValue P) → IsInputOf IsOf known outcome input
+        → (next from : ℕ) (more : List (JobOut P))
         → more ≡ out ++ (record { number = next; key = number; input = input; first_place = from }) ∷ []
-        → IsKept keys ids outcomes numbers places cached more
-    kept_taken (Faulty fault) same input made next from more more_is = absurd made
-    kept_taken Empty same input made next from more more_is = absurd made
-    kept_taken (Planned plan) same input made next from more more_is =
+        → IsKept IsDecoded IsOf keys ids outcomes numbers places cached more
+    kept_taken closed (Faulty fault) same input made next from more more_is = absurd made
+    kept_taken closed Empty same input made next from more more_is = absurd made
+    kept_taken closed (Planned plan) same input made next from more more_is =
         let tree : tree_at keys number ≡ Some (key_of known plan.requests) =
         tree_is ∙ ap (key_of_outcome known) same in
-        let right : IsRight keys number (picture_of input) = (
+        let job : JobOut P = record { number = next; key = number; input = input; first_place = from } in
+        let right : IsJobRight IsDecoded IsOf keys job = (
           key_of known plan.requests,
           tree,
-          shows_its_key known input made.1 ∙ ap (λ requests. picture_of_key (key_of known requests)) made.0,
+          λ picture decoded. subst (λ requests. IsOf (key_of known requests) picture) made.0
+              (closed (map (λ unit. option_and_then (key_at known) unit) (named_by_all input.requests)) input picture made.1 decoded),
+          made.2,
         ) in
-        subst (IsKept keys ids outcomes numbers places cached) (sym more_is)
+        subst (IsKept IsDecoded IsOf keys ids outcomes numbers places cached) (sym more_is)
         (record {
           right = kept.right;
           same = kept.same;
@@ -270,17 +269,17 @@ module _ (keys : Trees) (ids : List ℕ) (outcomes : List Outcome) (numbers : Li
           decodable = kept.decodable;
           used = kept.used;
           stored = kept.stored;
-          jobs = All-push (IsJobRight keys) out (record { number = next; key = number; input = input; first_place = from }) kept.jobs (right, made.2);
+          jobs = All-push (IsJobRight IsDecoded IsOf keys) out job kept.jobs right;
         })
 
     -- the unit's outcome is what is stored at its place
     pub outcome_same : (outcome : Outcome) → outcome ≡ slice_index_or outcomes at outcome → unit.0.1 ≡ outcome
     outcome_same outcome there =
         second_at ids outcomes at unit.0 outcome unit.1.got there
-        (omega (arith, within, found_length keys ids outcomes numbers places cached room out given kept, kept.same))
+        (omega (arith, within, found_length keys ids outcomes numbers places cached room out given released kept, kept.same))
 
     -- what a job is given is whole
-    pub whole_of : (outcome : Outcome) (input : InputValue) → IsInputOf known outcome input → IsTrue (is_whole input)
+    pub whole_of : (outcome : Outcome) (input : InputValue P) → IsInputOf IsOf known outcome input → IsTrue (is_whole input)
     whole_of (Planned plan) input made = made.2
     whole_of (Faulty fault) input made = absurd made
     whole_of Empty input made = absurd made

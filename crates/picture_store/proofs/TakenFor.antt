@@ -4,7 +4,6 @@ use Rattle.std.specs.Prelude.{Ok, Err}
 use Rattle.std.specs.List.{zip}
 use Rattle.std.specs.declared.cmp.Reverse.{Reverse}
 use Rattle.unit_outcomes.specs.declared.outcome.Outcome.{Outcome}
-use Rattle.stand_in_device.specs.declared.picture.Picture.{Picture}
 use Rattle.picture_store.specs.declared.answers.JobAt.{JobAt}
 use Rattle.picture_store.specs.declared.job_out.JobOut.{JobOut}
 use Rattle.picture_store.specs.declared.schedule.Dependent.{Dependent}
@@ -20,58 +19,60 @@ use Rattle.picture_store.specs.Stores.{StoreValue}
 use Rattle.picture_store.specs.TakingFor.{TakesFor, TellsGiven, TellsTakeFor}
 use Rattle.picture_store.proofs.Pended.{needed_of, needed_from, due_of, due_there, one_out}
 use Rattle.picture_store.proofs.Viewed.{viewed}
+use Rattle.decode_jobs.specs.Inputs.{InputValue}
+use Rattle.decode_jobs.specs.Keys.{Key}
 
 -- why the job of a needed unit isn't given
-pub refusal_told : (old : StoreValue) (target place : ℕ) (refused : TakeRefused) (new : StoreValue) → IsNeededBy old target place
-    → IsDueAt old place → TellsGiven old place (Err refused) new → TellsTakeFor old target (Err refused) new
-refusal_told old target place JobsSpent new needed due told = ((place, needed, due), told.0, told.1)
-refusal_told old target place Memory new needed due told = told.1
+pub refusal_told : {P : Type 0} (IsOf : Key → P → Type 0) (old : StoreValue P) (target place : ℕ) (refused : TakeRefused) (new : StoreValue P) → IsNeededBy old target place
+    → IsDueAt old place → TellsGiven IsOf old place (Err refused) new → TellsTakeFor IsOf old target (Err refused) new
+refusal_told IsOf old target place JobsSpent new needed due told = ((place, needed, due), told.0, told.1)
+refusal_told IsOf old target place Memory new needed due told = told.1
 
-module _ (keys : Trees) (ids : List ℕ) (outcomes : List Outcome) (numbers : List (Option ℕ)) (places : PlacesValue)
-    (cached : List (ℕ × Picture)) (room : ℕ) (out : List JobOut) (given : ℕ)
-    (kept : IsKept keys ids outcomes numbers places cached out) (target : ℕ) (dependents : List Dependent) (queue : List (Reverse ℕ))
+module _ {P : Type 0} {IsDecoded : InputValue P → P → Type 0} {IsOf : Key → P → Type 0} (keys : Trees) (ids : List ℕ) (outcomes : List Outcome) (numbers : List (Option ℕ)) (places : PlacesValue P)
+    (cached : List (ℕ × P)) (room : ℕ) (out : List (JobOut P)) (given : ℕ) (released : List P)
+    (kept : IsKept IsDecoded IsOf keys ids outcomes numbers places cached out) (target : ℕ) (dependents : List Dependent) (queue : List (Reverse ℕ))
     (are : AreScheduled keys (zip ids outcomes) numbers places out target dependents queue) where
   -- the store as contracts see it
-  abbrev store : StoreValue
-  store = viewed keys ids outcomes numbers places cached room out given
+  abbrev store : StoreValue P
+  store = viewed keys ids outcomes numbers places cached room out given released
 
   -- where none in the queue is due, no needed unit is
   pub none_needed_due : ((at : ℕ) → IsQueued queue at → IsDueThere keys places out numbers at → ⊥) → (at : ℕ)
       → IsNeededBy store target at → IsDueAt store at → ⊥
   none_needed_due none at is due =
-      let there = due_there keys ids outcomes numbers places cached room out given kept at due in
-      none at (are.due at (needed_from keys ids outcomes numbers places cached room out given kept target at is) there) there
+      let there = due_there keys ids outcomes numbers places cached room out given released kept at due in
+      none at (are.due at (needed_from keys ids outcomes numbers places cached room out given released kept target at is) there) there
 
   -- and while the unit is pending, one is out
   pub one_needed_out : ((at : ℕ) → IsQueued queue at → IsDueThere keys places out numbers at → ⊥) → IsPending store target
       → IsAnyOutBy store target
   one_needed_out none pending =
-      one_out keys ids outcomes numbers places cached room out given kept target (none_needed_due none) pending
+      one_out keys ids outcomes numbers places cached room out given released kept target (none_needed_due none) pending
 
   module _ (place number : ℕ) (is : IsEarliestDue keys places out numbers queue place number) where
     -- the unit at the place is needed, and due
     pub is_needed : IsNeededBy store target place
     is_needed =
-        needed_of keys ids outcomes numbers places cached room out given kept target place
+        needed_of keys ids outcomes numbers places cached room out given released kept target place
         (are.queued place is.queued (number, is.number_is, λ held. let both = sym held.1 ∙ is.due.awaited in cc))
 
     pub is_due : IsDueAt store place
-    is_due = due_of keys ids outcomes numbers places cached room out given kept place (number, is.number_is, is.due)
+    is_due = due_of keys ids outcomes numbers places cached room out given released kept place (number, is.number_is, is.due)
 
     -- its job is taken
-    pub job_told : (told : JobAt) (new : StoreValue) → TellsGiven store place (Ok told) new → TakesFor store target told new
+    pub job_told : (told : JobAt P) (new : StoreValue P) → TellsGiven IsOf store place (Ok told) new → TakesFor IsOf store target told new
     job_told told new gives = record {
-      gives = subst (λ p. Gives store p told.job new) (sym gives.0) gives.1;
+      gives = subst (λ p. Gives IsOf store p told.job new) (sym gives.0) gives.1;
       needed = subst (IsNeededBy store target) (sym gives.0) is_needed;
       earliest = λ at below other due.
-          let there = due_there keys ids outcomes numbers places cached room out given kept at due in
+          let there = due_there keys ids outcomes numbers places cached room out given released kept at due in
           let least = is.earliest at
-          (are.due at (needed_from keys ids outcomes numbers places cached room out given kept target at other) there) there in
+          (are.due at (needed_from keys ids outcomes numbers places cached room out given released kept target at other) there) there in
           omega (arith, least, subst (λ p. at < p) gives.0 below);
     }
 
 -- why the job of a unit that is due isn't given
-pub refusal_answered : (old : StoreValue) (place : ℕ) (refused : TakeRefused) (new : StoreValue) → IsDueAt old place
-    → TellsGiven old place (Err refused) new → AnswersTake old (Err refused) new
-refusal_answered old place JobsSpent new due told = ((due.0, due.2), told.0, told.1)
-refusal_answered old place Memory new due told = ((due.0, due.2), told.0, told.1)
+pub refusal_answered : {P : Type 0} (IsOf : Key → P → Type 0) (old : StoreValue P) (place : ℕ) (refused : TakeRefused) (new : StoreValue P) → IsDueAt old place
+    → TellsGiven IsOf old place (Err refused) new → AnswersTake IsOf old (Err refused) new
+refusal_answered IsOf old place JobsSpent new due told = ((due.0, due.2), told.0, told.1)
+refusal_answered IsOf old place Memory new due told = ((due.0, due.2), told.0, told.1)

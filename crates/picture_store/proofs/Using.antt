@@ -7,7 +7,6 @@ use Rattle.std.proofs.lemmas.List.{drop-drop}
 use Rattle.std.proofs.lemmas.List.Sums.{sum_by-append}
 use Rattle.std.proofs.lemmas.List.Elements.{Contains-append_left, Contains-append_right}
 use Rattle.std.proofs.lemmas.Map.Views.{exact_unsigned_eq, Contains-from_lookup}
-use Rattle.stand_in_device.specs.declared.picture.Picture.{Picture}
 use Rattle.key_slots.specs.Left.{IsLeft, ArePut}
 use Rattle.key_slots.specs.Counting.{once_at, times, times_in}
 use Rattle.key_slots.specs.Places.{AreSame, IsTakenUp, slot_at, place_of, place_at, uses_at, numbers_held, kept_or}
@@ -37,7 +36,7 @@ in_three from to xs ordered =
     ∙ (ap (λ rest. take from xs ++ (take (to - from) (drop from xs) ++ rest)) last
     ∙ sym (append_assoc (take from xs) (take (to - from) (drop from xs)) (drop to xs))))
 
-kept_held : (place : Option (Option Picture)) (numbers : Option Picture) → (IsSome place → numbers ≡ None) → kept_or place numbers ≡ held_or place numbers
+kept_held : {P : Type 0} (place : Option (Option P)) (numbers : Option P) → (IsSome place → numbers ≡ None) → kept_or place numbers ≡ held_or place numbers
 kept_held None numbers none = refl
 kept_held (Some None) numbers none = sym (none refl)
 kept_held (Some (Some picture)) numbers none = refl
@@ -46,7 +45,7 @@ not_found : {X : Type 0} (o : Option X) → ((x : X) → o ≡ Some x → ⊥) �
 not_found None none = refl
 not_found (Some x) none = absurd (none x refl)
 
-module _ (places taken : PlacesValue) (cached : List (ℕ × Picture)) (front goes back later : List (Option ℕ)) (leaving : List ℕ)
+module _ {P : Type 0} (places taken : PlacesValue P) (cached : List (ℕ × P)) (front goes back later : List (Option ℕ)) (leaving : List ℕ)
     (countable : IsCountable places cached front goes back leaving)
     (up : (number : ℕ) → IsTakenUp places cached (times number later) taken number) where
   used_before : (number : ℕ) → 0 < times number goes → 0 < uses_at places number
@@ -57,14 +56,14 @@ module _ (places taken : PlacesValue) (cached : List (ℕ × Picture)) (front go
       not_found (lookup (λ other. number == other) cached)
       (λ picture is.
       countable.apart number (used_some places number some)
-      (among_map (λ (pair : ℕ × Picture). pair.0) cached (number, picture)
+      (among_map (λ (pair : ℕ × P). pair.0) cached (number, picture)
       (Contains-from_lookup exact_unsigned_eq number picture cached is)))
 
   -- the place of a key in use, once those that come are counted
   taken_place : (number : ℕ) → 0 < uses_at places number → place_at taken number ≡ Some (slot_at places number).picture
   taken_place number used =
       (up number).place (omega (arith, used, (up number).uses))
-      ∙ ap (λ (place : Option (Option Picture)). Some (kept_or place (lookup (λ other. number == other) cached)))
+      ∙ ap (λ (place : Option (Option P)). Some (kept_or place (lookup (λ other. number == other) cached)))
       (place_used (slot_at places number) used)
 
   pub held_before : IsHeldBefore (numbers_held places) leaving taken
@@ -83,14 +82,14 @@ module _ (places taken : PlacesValue) (cached : List (ℕ × Picture)) (front go
         (place_used (slot_at places number) used ∙ (sym (taken_place number used) ∙ is));
   }
 
-  module _ (left : List (ℕ × Picture)) (leaves : IsLeft (λ number. Contains later (Some number)) (numbers_of cached) (numbers_of left))
-      (left_pairs : (number : ℕ) (picture : Picture) → Contains left (number, picture) → Contains cached (number, picture))
-      (new : PlacesValue) (uses : (number : ℕ) → uses_at new number + times_in number leaving ≡ uses_at taken number)
+  module _ (left : List (ℕ × P)) (leaves : IsLeft (λ number. Contains later (Some number)) (numbers_of cached) (numbers_of left))
+      (left_pairs : (number : ℕ) (picture : P) → Contains left (number, picture) → Contains cached (number, picture))
+      (new : PlacesValue P) (uses : (number : ℕ) → uses_at new number + times_in number leaving ≡ uses_at taken number)
       (stay : (number : ℕ) → 0 < uses_at new number → place_at new number ≡ place_at taken number)
-      (room : ℕ) (more : List (ℕ × Picture)) (gone : List ℕ)
+      (room : ℕ) (more : List (ℕ × P)) (gone : List ℕ)
       (go : IsLeft (λ number. IsSome (place_at new number)) (numbers_held places) gone)
       (lost : ℕ) (puts : ArePut room gone (numbers_of left) (numbers_of more) lost)
-      (those : (number : ℕ) (picture : Picture) → Contains more (number, picture)
+      (those : (number : ℕ) (picture : P) → Contains more (number, picture)
       → Contains left (number, picture) ⊎ ((place_at taken number ≡ Some (Some picture)) × (uses_at new number ≡ 0))) where
     counted : (number : ℕ) → uses_at new number ≡ times number (front ++ later ++ back)
     counted number =
@@ -121,7 +120,7 @@ module _ (places taken : PlacesValue) (cached : List (ℕ × Picture)) (front go
           is_named number used,
           stay number used
               ∙ ((up number).place (omega (arith, used, uses number))
-              ∙ ap (λ (picture : Option Picture). Some picture)
+              ∙ ap (λ (picture : Option P). Some picture)
               (kept_held (place_at places number) (lookup (λ other. number == other) cached) (cached_none number))),
         )
 
@@ -142,23 +141,23 @@ module _ (places taken : PlacesValue) (cached : List (ℕ × Picture)) (front go
           unused,
         ))) leaves
 
-    apart_pair : (number : ℕ) → 0 < uses_at new number → (picture : Picture) → Contains more (number, picture) → ⊥
+    apart_pair : (number : ℕ) → 0 < uses_at new number → (picture : P) → Contains more (number, picture) → ⊥
     apart_pair number used picture is =
         elim (those number picture is) [
           | inl before ↦
               left_stays (λ n. Contains (front ++ later ++ back) (Some n)) (numbers_of cached) (numbers_of left) leaves_all number
-              (among_map (λ (pair : ℕ × Picture). pair.0) left (number, picture) before) (is_named number used)
+              (among_map (λ (pair : ℕ × P). pair.0) left (number, picture) before) (is_named number used)
           | inr gone_now ↦ absurd (omega (arith, used, gone_now.1))
         ]
 
     apart : (number : ℕ) → 0 < uses_at new number → Contains (numbers_of more) number → ⊥
     apart number used is =
-        let pair : (pair : ℕ × Picture) × Contains more pair × (pair.0 ≡ number) =
-        among_source (λ (pair : ℕ × Picture). pair.0) more number is in
+        let pair : (pair : ℕ × P) × Contains more pair × (pair.0 ≡ number) =
+        among_source (λ (pair : ℕ × P). pair.0) more number is in
         apart_pair number used pair.0.1
         (subst (λ n. Contains more (n, pair.0.1)) pair.2 pair.1)
 
-    was_held : (number : ℕ) (picture : Picture) → place_at taken number ≡ Some (Some picture) → uses_at new number ≡ 0
+    was_held : (number : ℕ) (picture : P) → place_at taken number ≡ Some (Some picture) → uses_at new number ≡ 0
         → place_at places number ≡ Some (Some picture)
     was_held number picture is none =
         let taken_used : 0 < uses_at taken number = used_some taken number (ap is_some is) in
@@ -185,8 +184,8 @@ module _ (places taken : PlacesValue) (cached : List (ℕ × Picture)) (front go
     }
 
 -- the same of places whose slots are the same
-pub recounted_same : (old grown : PlacesValue) (cached : List (ℕ × Picture)) (room : ℕ) (numbers : List (Option ℕ)) (new : PlacesValue)
-    (more : List (ℕ × Picture)) (lost : ℕ) → AreSame old grown → IsRecounted grown cached room numbers new more lost
+pub recounted_same : {P : Type 0} (old grown : PlacesValue P) (cached : List (ℕ × P)) (room : ℕ) (numbers : List (Option ℕ)) (new : PlacesValue P)
+    (more : List (ℕ × P)) (lost : ℕ) → AreSame old grown → IsRecounted grown cached room numbers new more lost
     → IsRecounted old cached room numbers new more lost
 recounted_same old grown cached room numbers new more lost same is = record {
   counted = is.counted;
@@ -216,7 +215,7 @@ recounted_same old grown cached room numbers new more lost same is = record {
 }
 
 -- the same slots count what is found in its parts
-pub countable : (places grown : PlacesValue) (cached : List (ℕ × Picture)) (numbers : List (Option ℕ)) (from to : ℕ) (leaving : List ℕ)
+pub countable : {P : Type 0} (places grown : PlacesValue P) (cached : List (ℕ × P)) (numbers : List (Option ℕ)) (from to : ℕ) (leaving : List ℕ)
     → from ≤ to → AreSame places grown → ((number : ℕ) → uses_at places number ≡ times number numbers)
     → ((number : ℕ) → 0 < uses_at places number → Contains (numbers_of cached) number → ⊥)
     → ((number : ℕ) → times_in number leaving ≡ times number (take (to - from) (drop from numbers)))

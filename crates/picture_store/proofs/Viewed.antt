@@ -1,33 +1,34 @@
 -- A store as contracts see it, from what it stores.
 use Rattle.std.proofs.Common.{ℕ, List, Option, OnErr, Result, Ok, Err, rules}
-use Rattle.std.specs.Map.{keys_of as numbers_of}
+use Rattle.std.specs.Map.{keys_of as numbers_of, values_of}
 use Rattle.unit_outcomes.specs.declared.outcome.Outcome.{Outcome}
-use Rattle.stand_in_device.specs.declared.picture.Picture.{Picture}
 use Rattle.picture_store.specs.declared.job_out.JobOut.{JobOut}
 use Rattle.picture_store.specs.Stores.{OutValue, StoreValue}
-use Rattle.key_slots.specs.Places.{numbers_held}
+use Rattle.key_slots.specs.Places.{numbers_held, pictures_held}
 use Rattle.picture_store.specs.Places.{PlacesValue}
 use Rattle.picture_store.specs.Kept.{Trees, key_for, keys_for, jobs_for}
 
--- a job that is out as contracts see it
-abbrev pub seen : Trees → JobOut → OutValue
-seen keys job = record { number = job.number; key = key_for keys job.key; input = job.input }
+module _ {P : Type 0} where
+  -- a job that is out as contracts see it
+  abbrev pub seen : Trees → JobOut P → OutValue P
+  seen keys job = record { number = job.number; key = key_for keys job.key; input = job.input }
 
--- a store as contracts see it
-abbrev pub viewed : Trees → List ℕ → List Outcome → List (Option ℕ) → PlacesValue → List (ℕ × Picture) → ℕ → List JobOut → ℕ
-    → StoreValue
-viewed keys ids outcomes numbers places cached room out given = record {
-  ids = ids;
-  outcomes = outcomes;
-  numbers = numbers;
-  room = room;
-  held = keys_for keys (numbers_held places);
-  cached = keys_for keys (numbers_of cached);
-  jobs_out = jobs_for keys out;
-  jobs_given = given;
-}
+  -- a store as contracts see it
+  abbrev pub viewed : Trees → List ℕ → List Outcome → List (Option ℕ) → PlacesValue P → List (ℕ × P) → ℕ → List (JobOut P) → ℕ
+      → List P → StoreValue P
+  viewed keys ids outcomes numbers places cached room out given released = record {
+    ids = ids;
+    outcomes = outcomes;
+    numbers = numbers;
+    room = room;
+    held = keys_for keys (numbers_held places);
+    cached = keys_for keys (numbers_of cached);
+    pictures = record { held = pictures_held places; cached = values_of cached; released = released };
+    jobs_out = jobs_for keys out;
+    jobs_given = given;
+  }
 
 -- what holds anyhow holds where a call ran out of memory
-pub on_any_err : {T E P : Type 0} (r : Result T E) → P → OnErr r P
+pub on_any_err : {T E Q : Type 0} (r : Result T E) → Q → OnErr r Q
 on_any_err (Ok x) p = search rules
 on_any_err (Err e) p = p

@@ -6,7 +6,7 @@ use Rattle.h264_controls.specs.declared.work.Work.{Work}
 use Rattle.unit_outcomes.specs.declared.outcome.Outcome.TheVariants.{Plan as Planned}
 use Rattle.unit_outcomes.specs.declared.outcome.Plan.{Plan}
 use Rattle.dep_keys.specs.KeyMaps.{entered}
-use Rattle.picture_keys.specs.Keys.{Key, named_by_all, tree_with, works_of}
+use Rattle.decode_jobs.specs.Keys.{Key, named_by_all, tree_with, works_of}
 use Rattle.picture_keys.specs.Known.{Known, key_at, known_after}
 use Rattle.key_slots.proofs.Members.{here, there}
 use Rattle.key_slots.specs.Needed.IsNeeded.{itself, named}
@@ -21,7 +21,7 @@ use Rattle.picture_store.specs.Pending.{IsPending, IsNeededBy, IsStuck}
 pub got_among : {X : Type 0} (xs : List X) (i : ℕ) (x : X) → slice_get xs i ≡ Some x → Contains xs x
 got_among xs i x is = (i, slice_get_within xs i x is, get_or_from_slice_get xs i x x is)
 
-module _ (store : StoreValue) (target : ℕ) (G : Type 0)
+module _ {P : Type 0} (store : StoreValue P) (target : ℕ) (G : Type 0)
     (decide : (key : Key) → IsInUse store key → (Contains store.held key → G) → ((Contains store.held key → ⊥) → G) → G)
     (ready : (at : ℕ) (key : Key) → IsNeededBy store target at → HasKey store at key → (Contains store.held key → ⊥)
     → IsReady store.held key → G) where
@@ -93,7 +93,7 @@ module _ (store : StoreValue) (target : ℕ) (G : Type 0)
   ready_needed pending = reach (suc target) target (omega arith) (itself pending)
 
 -- no unit is stuck
-pub never_stuck : (store : StoreValue) (at : ℕ) → IsStuck store at → ⊥
+pub never_stuck : {P : Type 0} (store : StoreValue P) (at : ℕ) → IsStuck store at → ⊥
 never_stuck store at stuck =
     ready_needed store at ⊥ (λ key used held not. not (λ is. held is))
     (λ place key needed has not is_ready.

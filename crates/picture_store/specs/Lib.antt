@@ -1,3 +1,4 @@
+pub mod Pictures
 pub mod Stores
 pub mod Changes
 pub mod Jobs
@@ -17,3 +18,5 @@ pub mod Inputs
 pub mod Showing
 pub mod Pending
 pub mod TakingFor
+pub mod Unreferred
+pub mod Released

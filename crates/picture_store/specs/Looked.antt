@@ -5,14 +5,15 @@ use Rattle.picture_store.specs.Places.{PlacesValue}
 use Rattle.picture_store.specs.Kept.{Trees}
 use Rattle.picture_store.specs.Due.{IsNotDue}
 
--- of so many units, from the first on, none is due
-abbrev pub AreNotDue : Trees → PlacesValue → List JobOut → List (Option ℕ) → ℕ → Type 0
-AreNotDue keys places out numbers count = (count ≤ length numbers) × All (IsNotDue keys places out) (take count numbers)
+module _ {P : Type 0} where
+  -- of so many units, from the first on, none is due
+  abbrev pub AreNotDue : Trees → PlacesValue P → List (JobOut P) → List (Option ℕ) → ℕ → Type 0
+  AreNotDue keys places out numbers count = (count ≤ length numbers) × All (IsNotDue keys places out) (take count numbers)
 
--- no unit before the job's place has its key
-abbrev pub IsBehind : List (Option ℕ) → JobOut → Type 0
-IsBehind numbers job = (at : ℕ) → at < job.first_place → slice_get numbers at ≡ Some (Some job.key) → ⊥
+  -- no unit before the job's place has its key
+  abbrev pub IsBehind : List (Option ℕ) → JobOut P → Type 0
+  IsBehind numbers job = (at : ℕ) → at < job.first_place → slice_get numbers at ≡ Some (Some job.key) → ⊥
 
--- the job, with this place or an earlier one
-abbrev pub lowered : ℕ → JobOut → JobOut
-lowered from job = record job { first_place = min job.first_place from }
+  -- the job, with this place or an earlier one
+  abbrev pub lowered : ℕ → JobOut P → JobOut P
+  lowered from job = record job { first_place = min job.first_place from }

@@ -3,7 +3,6 @@ use Rattle.std.specs.Prelude.{◌≡◌, ℕ, ◌<◌, ◌≤◌, List, ◌⊎�
 use Rattle.std.specs.List.{zip}
 use Rattle.std.specs.Map.{keys_of as numbers_of}
 use Rattle.unit_outcomes.specs.declared.outcome.Outcome.{Outcome}
-use Rattle.stand_in_device.specs.declared.picture.Picture.{Picture}
 use Rattle.key_slots.specs.Counting.{times}
 use Rattle.key_slots.specs.Places.{uses_at}
 use Rattle.picture_store.specs.declared.job_out.JobOut.{JobOut}
@@ -13,25 +12,29 @@ use Rattle.picture_store.specs.Kept.{Trees, numbers_out, IsKept}
 use Rattle.picture_store.specs.Due.{IsHeld}
 use Rattle.picture_store.specs.Looked.{AreNotDue, IsBehind}
 use Rattle.picture_store.specs.Schedules.{IsScheduled}
+use Rattle.decode_jobs.specs.Inputs.{InputValue}
+use Rattle.decode_jobs.specs.Keys.{Key}
 
--- the unit of this number needs no job: it has no key, or the picture of its key is held or that of
--- a job that is out
-abbrev pub NeedsNone : PlacesValue → List JobOut → Option ℕ → Type 0
-NeedsNone places out number = IfSome number (λ n. IsHeld places n ⊎ Contains (numbers_out out) n)
+module _ {P : Type 0} where
+  -- the unit of this number needs no job: it has no key, or the picture of its key is held or that of
+  -- a job that is out
+  abbrev pub NeedsNone : PlacesValue P → List (JobOut P) → Option ℕ → Type 0
+  NeedsNone places out number = IfSome number (λ n. IsHeld places n ⊎ Contains (numbers_out out) n)
 
--- so many units, from the first on, need none
-abbrev pub AreSettled : PlacesValue → List JobOut → List (Option ℕ) → ℕ → Type 0
-AreSettled places out numbers count = (count ≤ length numbers) × All (NeedsNone places out) (take count numbers)
+  -- so many units, from the first on, need none
+  abbrev pub AreSettled : PlacesValue P → List (JobOut P) → List (Option ℕ) → ℕ → Type 0
+  AreSettled places out numbers count = (count ≤ length numbers) × All (NeedsNone places out) (take count numbers)
 
--- what is stored: what is kept of the stream, where each place counts the units that use its key
--- and no key in use is cached; how many units are known to need no job, and how many not to be due;
--- no unit before a job's place has its key; and the schedule of the units that one needs
-pub record IsStored (keys : Trees) (ids : List ℕ) (outcomes : List Outcome) (numbers : List (Option ℕ))
-    (places : PlacesValue) (cached : List (ℕ × Picture)) (out : List JobOut) (count passed : ℕ) (schedule : Option Schedule) : Type 0 where
-  pub kept : IsKept keys ids outcomes numbers places cached out
-  pub counted : (number : ℕ) → uses_at places number ≡ times number numbers
-  pub apart : (number : ℕ) → 0 < uses_at places number → Contains (numbers_of cached) number → ⊥
-  pub settled : AreSettled places out numbers count
-  pub looked : AreNotDue keys places out numbers passed
-  pub behind : All (IsBehind numbers) out
-  pub scheduled : IsScheduled keys (zip ids outcomes) numbers places out schedule
+module _ {P : Type 0} (IsDecoded : InputValue P → P → Type 0) (IsOf : Key → P → Type 0) where
+  -- what is stored: what is kept of the stream, where each place counts the units that use its key
+  -- and no key in use is cached; how many units are known to need no job, and how many not to be due;
+  -- no unit before a job's place has its key; and the schedule of the units that one needs
+  pub record IsStored (keys : Trees) (ids : List ℕ) (outcomes : List Outcome) (numbers : List (Option ℕ))
+      (places : PlacesValue P) (cached : List (ℕ × P)) (out : List (JobOut P)) (count passed : ℕ) (schedule : Option Schedule) : Type 0 where
+    pub kept : IsKept IsDecoded IsOf keys ids outcomes numbers places cached out
+    pub counted : (number : ℕ) → uses_at places number ≡ times number numbers
+    pub apart : (number : ℕ) → 0 < uses_at places number → Contains (numbers_of cached) number → ⊥
+    pub settled : AreSettled places out numbers count
+    pub looked : AreNotDue keys places out numbers passed
+    pub behind : All (IsBehind numbers) out
+    pub scheduled : IsScheduled keys (zip ids outcomes) numbers places out schedule

@@ -3,64 +3,77 @@ use Rattle.std.specs.Prelude.{◌≡◌, ℕ, List, [], Option, Some, Contains, 
 use Rattle.std.specs.List.{zip}
 use Rattle.unit_outcomes.specs.declared.outcome.Outcome.{Outcome}
 use Rattle.dep_keys.specs.Trees.Tree.{Bare, Gap, With}
-use Rattle.stand_in_device.specs.Inputs.{InputValue}
-use Rattle.picture_keys.specs.Keys.{Key}
+use Rattle.decode_jobs.specs.Inputs.{InputValue}
+use Rattle.decode_jobs.specs.Keys.{Key}
 use Rattle.picture_keys.specs.Known.{keys_of}
+use Rattle.picture_store.specs.Pictures.{Pictures, no_pictures}
 
 -- a job that is out: its number, the key of its picture, and what it was given to decode
-pub record OutValue : Type 0 where
+pub record OutValue (P : Type 0) : Type 0 where
   pub number : ℕ
   pub key : Key
-  pub input : InputValue
+  pub input : InputValue P
 
 -- the ids of a stream's units, their outcomes, and the number of each unit's key; how many pictures
 -- may be cached; the keys whose pictures are held, those whose pictures are cached, the one put
--- last first; the jobs that are out; and how many numbers of jobs were given
-pub record StoreValue : Type 0 where
+-- last first; the pictures themselves; the jobs that are out; and how many numbers of jobs were given
+pub record StoreValue (P : Type 0) : Type 0 where
   pub ids : List ℕ
   pub outcomes : List Outcome
   pub numbers : List (Option ℕ)
   pub room : ℕ
   pub held : List Key
   pub cached : List Key
-  pub jobs_out : List OutValue
+  pub pictures : Pictures P
+  pub jobs_out : List (OutValue P)
   pub jobs_given : ℕ
 
--- before the first unit
-abbrev pub empty : ℕ → StoreValue
-empty room = record { ids = []; outcomes = []; numbers = []; room = room; held = []; cached = []; jobs_out = []; jobs_given = 0 }
+module _ {P : Type 0} where
+  -- before the first unit
+  abbrev pub empty : ℕ → StoreValue P
+  empty room = record {
+    ids = [];
+    outcomes = [];
+    numbers = [];
+    room = room;
+    held = [];
+    cached = [];
+    pictures = no_pictures;
+    jobs_out = [];
+    jobs_given = 0;
+  }
 
--- the units, each with its id and its outcome
-abbrev pub units_of : StoreValue → List (ℕ × Outcome)
-units_of store = zip store.ids store.outcomes
+  -- the units, each with its id and its outcome
+  abbrev pub units_of : StoreValue P → List (ℕ × Outcome)
+  units_of store = zip store.ids store.outcomes
 
--- the key of each unit's picture, nothing for a unit that isn't valid
-abbrev pub unit_keys : StoreValue → List (Option Key)
-unit_keys store = keys_of (units_of store)
+  -- the key of each unit's picture, nothing for a unit that isn't valid
+  abbrev pub unit_keys : StoreValue P → List (Option Key)
+  unit_keys store = keys_of (units_of store)
 
--- the key is in use: a valid unit has it
-abbrev pub IsInUse : StoreValue → Key → Type 0
-IsInUse store key = Contains (unit_keys store) (Some key)
+  -- the key is in use: a valid unit has it
+  abbrev pub IsInUse : StoreValue P → Key → Type 0
+  IsInUse store key = Contains (unit_keys store) (Some key)
 
--- the key has the number: that of a unit's picture, which has the key
-abbrev pub IsNumberOf : StoreValue → Key → ℕ → Type 0
-IsNumberOf store key number =
-    (at : ℕ) × (slice_get (unit_keys store) at ≡ Some (Some key)) × (slice_get store.numbers at ≡ Some (Some number))
+  -- the key has the number: that of a unit's picture, which has the key
+  abbrev pub IsNumberOf : StoreValue P → Key → ℕ → Type 0
+  IsNumberOf store key number =
+      (at : ℕ) × (slice_get (unit_keys store) at ≡ Some (Some key)) × (slice_get store.numbers at ≡ Some (Some number))
 
--- each key in use has a number
-abbrev pub AreNumbered : StoreValue → Type 0
-AreNumbered store = (key : Key) → IsInUse store key → (number : ℕ) × IsNumberOf store key number
+  -- each key in use has a number
+  abbrev pub AreNumbered : StoreValue P → Type 0
+  AreNumbered store = (key : Key) → IsInUse store key → (number : ℕ) × IsNumberOf store key number
 
--- the number is that of a key in use
-abbrev pub IsNumberInUse : StoreValue → ℕ → Type 0
-IsNumberInUse store number = (key : Key) × IsNumberOf store key number
+  -- the number is that of a key in use
+  abbrev pub IsNumberInUse : StoreValue P → ℕ → Type 0
+  IsNumberInUse store number = (key : Key) × IsNumberOf store key number
 
--- numbers of keys in use before and after are equal exactly where the keys are: one that stays in
--- use keeps its number, and no other has that
-abbrev pub AreOneToOne : StoreValue → StoreValue → Type 0
-AreOneToOne old new =
-    (key other : Key) (number another : ℕ) → IsNumberOf old key number → IsNumberOf new other another
-    → (number ≡ another) ↔ (key ≡ other)
+  -- numbers of keys in use before and after are equal exactly where the keys are: one that stays in
+  -- use keeps its number, and no other has that
+  abbrev pub AreOneToOne : StoreValue P → StoreValue P → Type 0
+  AreOneToOne old new =
+      (key other : Key) (number another : ℕ) → IsNumberOf old key number → IsNumberOf new other another
+      → (number ≡ another) ↔ (key ≡ other)
 
 -- the pictures of the keys at a key's own entries are held
 abbrev pub IsReady : List Key → Key → Type 0

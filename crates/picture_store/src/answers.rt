@@ -1,12 +1,12 @@
 //! What a store answers about jobs.
 
-use stand_in_device::Job;
+use decode_jobs::{Decoded, Job};
 
 /// A job that is taken, and the place of its unit: the first of the stream that has its key.
 #[derive(Debug)]
-pub struct JobAt {
+pub struct JobAt<P> {
     pub at: usize,
-    pub job: Job,
+    pub job: Job<P>,
 }
 
 /// What becomes of a result.

@@ -9,15 +9,15 @@ ghost use Rattle.picture_store.specs.Looked.{AreNotDue};
 ghost use Rattle.picture_store.specs.Settled.{AreSettled, NeedsNone};
 
 use crate::job_out::{JobOut, is_out};
+use decode_jobs::Decoded;
 use dep_keys::{Fingerprint, KeyId, Keys};
 use key_slots::{Places, is_held};
 use picture_keys::Works;
-use stand_in_device::Picture;
 
 /// The first unit, from one on before which all are known to need no job, that needs one.
-pub(crate) fn first_to_do(
-    places: &Places<Picture>,
-    out: &[JobOut],
+pub(crate) fn first_to_do<P: Decoded>(
+    places: &Places<P>,
+    out: &[JobOut<P>],
     numbers: &[Option<KeyId>],
     settled: usize,
 ) -> usize
@@ -33,7 +33,7 @@ pub(crate) fn first_to_do(
 }
 
 /// Whether a unit has no key, or one whose picture is held or that of a job that is out.
-fn needs_none(places: &Places<Picture>, out: &[JobOut], key: Option<KeyId>) -> bool
+fn needs_none<P: Decoded>(places: &Places<P>, out: &[JobOut<P>], key: Option<KeyId>) -> bool
     ensures { IsTrue result ↔ NeedsNone places.now out.now key }
 {
     match key {
@@ -43,14 +43,14 @@ fn needs_none(places: &Places<Picture>, out: &[JobOut], key: Option<KeyId>) -> b
 }
 
 /// The place of the first unit whose key is due, from one on before which none is known to be.
-pub(crate) fn first_due<F: Fingerprint<Works>>(
+pub(crate) fn first_due<F: Fingerprint<Works>, P: Decoded>(
     keys: &Keys<Works, F>,
-    places: &Places<Picture>,
-    out: &[JobOut],
+    places: &Places<P>,
+    out: &[JobOut<P>],
     numbers: &[Option<KeyId>],
     from: usize,
 ) -> Option<usize>
-    requires right { AreRight keys.now places.now }
+    requires right { AreRight P.IsDecoded P.IsOf keys.now places.now }
     requires before { AreNotDue keys.now places.now out.now numbers.now from }
     ensures { MatchOption result (All (IsNotDue keys.now places.now out.now) numbers.now)
         (λ at. (at < length numbers.now)
@@ -79,13 +79,13 @@ pub(crate) fn key_at(numbers: &[Option<KeyId>], at: usize) -> Option<KeyId>
 }
 
 /// The key of a unit, where it has one that is due.
-pub(crate) fn due_key<F: Fingerprint<Works>>(
+pub(crate) fn due_key<F: Fingerprint<Works>, P: Decoded>(
     keys: &Keys<Works, F>,
-    places: &Places<Picture>,
-    out: &[JobOut],
+    places: &Places<P>,
+    out: &[JobOut<P>],
     key: Option<KeyId>,
 ) -> Option<KeyId>
-    requires { AreRight keys.now places.now }
+    requires { AreRight P.IsDecoded P.IsOf keys.now places.now }
     ensures { MatchOption result (IsNotDue keys.now places.now out.now key)
         (λ due. (key ≡ Some due) × IsDueNumber keys.now places.now out.now due) }
 {
@@ -96,13 +96,13 @@ pub(crate) fn due_key<F: Fingerprint<Works>>(
 }
 
 /// Whether a unit has a key that is due.
-fn has_due<F: Fingerprint<Works>>(
+fn has_due<F: Fingerprint<Works>, P: Decoded>(
     keys: &Keys<Works, F>,
-    places: &Places<Picture>,
-    out: &[JobOut],
+    places: &Places<P>,
+    out: &[JobOut<P>],
     key: Option<KeyId>,
 ) -> bool
-    requires { AreRight keys.now places.now }
+    requires { AreRight P.IsDecoded P.IsOf keys.now places.now }
     ensures due { IsTrue result → IfSome key (IsDueNumber keys.now places.now out.now) }
     ensures some { IsTrue result → IsSome key }
     ensures other { (IsTrue result → ⊥) → IsNotDue keys.now places.now out.now key }
@@ -114,25 +114,25 @@ fn has_due<F: Fingerprint<Works>>(
 }
 
 /// Whether the key is due.
-fn is_due<F: Fingerprint<Works>>(
+fn is_due<F: Fingerprint<Works>, P: Decoded>(
     keys: &Keys<Works, F>,
-    places: &Places<Picture>,
-    out: &[JobOut],
+    places: &Places<P>,
+    out: &[JobOut<P>],
     key: KeyId,
 ) -> bool
-    requires { AreRight keys.now places.now }
+    requires { AreRight P.IsDecoded P.IsOf keys.now places.now }
     ensures { IsTrue result ↔ IsDueNumber keys.now places.now out.now key }
 {
     is_awaited(places, key) && is_ready(keys, places, key) && !is_out(out, key)
 }
 
 /// Whether the pictures to which a key refers are held.
-pub(crate) fn is_ready<F: Fingerprint<Works>>(
+pub(crate) fn is_ready<F: Fingerprint<Works>, P: Decoded>(
     keys: &Keys<Works, F>,
-    places: &Places<Picture>,
+    places: &Places<P>,
     key: KeyId,
 ) -> bool
-    requires { AreRight keys.now places.now }
+    requires { AreRight P.IsDecoded P.IsOf keys.now places.now }
     ensures { IsTrue result ↔ IsReadyNumber keys.now places.now key }
 {
     match keys.node(key) {
@@ -142,14 +142,14 @@ pub(crate) fn is_ready<F: Fingerprint<Works>>(
 }
 
 /// Whether the key has a place without a picture.
-pub(crate) fn is_awaited(places: &Places<Picture>, key: KeyId) -> bool
+pub(crate) fn is_awaited<P: Decoded>(places: &Places<P>, key: KeyId) -> bool
     ensures { IsTrue result ↔ (place_at places.now key ≡ Some None) }
 {
     places.is_awaited(key)
 }
 
 /// Whether the pictures of the keys at these entries are held.
-fn are_held(places: &Places<Picture>, entries: &[Option<KeyId>]) -> bool
+fn are_held<P: Decoded>(places: &Places<P>, entries: &[Option<KeyId>]) -> bool
     ensures { IsTrue result ↔ AreHeld places.now entries.now }
 {
     for entry in entries {

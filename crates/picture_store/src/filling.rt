@@ -7,12 +7,12 @@ ghost use Rattle.picture_store.specs.declared.answers.Landing.TheVariants.{Taken
 
 use crate::answers::Landing;
 use crate::due::is_awaited;
+use decode_jobs::Decoded;
 use dep_keys::KeyId;
 use key_slots::Places;
-use stand_in_device::Picture;
 
 /// Puts the picture of a result into the place of its key, where that waits for one.
-pub(crate) fn fill(places: &mut Places<Picture>, key: KeyId, picture: Picture) -> Landing
+pub(crate) fn fill<P: Decoded>(places: &mut Places<P>, key: KeyId, picture: P) -> Landing
     ensures filled { IsFilled places.old key picture result places.new }
     ensures uses { (number : ℕ) → uses_at places.new number ≡ uses_at places.old number }
 {

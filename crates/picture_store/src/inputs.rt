@@ -2,7 +2,7 @@
 
 ghost use Rattle.std.specs.Prelude.{◌≡◌, Some, IfOk};
 ghost use Rattle.dep_keys.specs.KeyMaps.{tree_at};
-ghost use Rattle.picture_keys.specs.Keys.{Key};
+ghost use Rattle.decode_jobs.specs.Keys.{Key};
 ghost use Rattle.picture_keys.specs.Known.{Known};
 ghost use Rattle.picture_store.specs.Stores.{IsReady};
 ghost use Rattle.key_slots.specs.Places.{numbers_held};
@@ -10,29 +10,29 @@ ghost use Rattle.picture_store.specs.Kept.{keys_for, AreRight};
 ghost use Rattle.picture_store.specs.Inputs.{HasKnown, IsInputOf};
 
 use crate::naming::references_of;
+use decode_jobs::{Decoded, Input};
 use dep_keys::{Fingerprint, KeyId, Keys};
 use h264_controls::Request;
 use key_slots::Places;
 use picture_keys::{Works, units_named};
-use stand_in_device::{Input, Picture};
 use std::alloc::{AllocError, Global};
 use unit_outcomes::Outcome;
 
 /// The requests of a unit with this key, and the pictures that they refer to, each of which is
 /// held.
-pub(crate) fn input_of<F: Fingerprint<Works>>(
+pub(crate) fn input_of<F: Fingerprint<Works>, P: Decoded>(
     alloc: Global,
     keys: &Keys<Works, F>,
-    places: &Places<Picture>,
+    places: &Places<P>,
     outcome: &Outcome,
     key: KeyId,
-) -> Result<Input, AllocError>
-    requires right { AreRight keys.now places.now }
+) -> Result<Input<P>, AllocError>
+    requires right { AreRight P.IsDecoded P.IsOf keys.now places.now }
     requires ready { (tree : Key) × (tree_at keys.now key ≡ Some tree)
         × IsReady (keys_for keys.now (numbers_held places.now)) tree }
     requires known { (known : Known) × HasKnown keys.now outcome.now key known }
     ensures { IfOk result (λ input. (known : Known) → HasKnown keys.now outcome.now key known
-        → IsInputOf known outcome.now input) }
+        → IsInputOf P.IsOf known outcome.now input) }
 {
     // A key that is due is live, and that of a valid unit.
     let (Outcome::Plan(plan), Some(node)) = (outcome, keys.node(key)) else {

@@ -5,21 +5,21 @@ ghost use Rattle.picture_store.specs.declared.job_out.JobOut.{JobOut as Out};
 ghost use Rattle.picture_store.specs.Kept.{numbers_out};
 ghost use Rattle.picture_store.specs.Looked.{lowered};
 
+use decode_jobs::{Decoded, Input};
 use dep_keys::KeyId;
-use stand_in_device::Input;
 
 /// A job that is out: its number, the number of its key, what it was given to decode, and a place
 /// before which no unit has the key.
 #[derive(Debug)]
-pub(crate) struct JobOut {
+pub(crate) struct JobOut<P> {
     pub(crate) number: u64,
     pub(crate) key: KeyId,
-    pub(crate) input: Input,
+    pub(crate) input: Input<P>,
     pub(crate) first_place: usize,
 }
 
 // By hand, so that whoever drops one is proved over one call.
-impl Drop for JobOut {
+impl<P: Drop> Drop for JobOut<P> {
     fn drop(self) {
         let JobOut {
             number: _,
@@ -31,7 +31,7 @@ impl Drop for JobOut {
 }
 
 /// Whether a job of this key is out.
-pub(crate) fn is_out(jobs: &[JobOut], key: KeyId) -> bool
+pub(crate) fn is_out<P: Decoded>(jobs: &[JobOut<P>], key: KeyId) -> bool
     ensures { IsTrue result ↔ Contains (numbers_out jobs.now) key }
 {
     jobs.iter().any(
@@ -42,12 +42,16 @@ pub(crate) fn is_out(jobs: &[JobOut], key: KeyId) -> bool
 }
 
 /// The place of the first job of this number that was given this to decode.
-pub(crate) fn place_of(jobs: &[JobOut], number: u64, input: &Input) -> Option<usize>
+pub(crate) fn place_of<P: Decoded>(
+    jobs: &[JobOut<P>],
+    number: u64,
+    input: &Input<P>,
+) -> Option<usize>
     ensures { MatchOption result
         (All (λ job. (job.number ≡ number) × (job.input ≡ input.now) → ⊥) jobs.now)
         (λ at. (at < length jobs.now)
-        × ((other : Out) → (slice_index_or jobs.now at other).number ≡ number)
-        × ((other : Out) → (slice_index_or jobs.now at other).input ≡ input.now)) }
+        × ((other : Out P) → (slice_index_or jobs.now at other).number ≡ number)
+        × ((other : Out P) → (slice_index_or jobs.now at other).input ≡ input.now)) }
 {
     for (at, job) in jobs.iter().enumerate() {
         if job.number == number && job.input.is_same(input) {
@@ -58,12 +62,12 @@ pub(crate) fn place_of(jobs: &[JobOut], number: u64, input: &Input) -> Option<us
 }
 
 /// The place of the first job of this number.
-pub(crate) fn first_numbered(jobs: &[JobOut], number: u64) -> Option<usize>
+pub(crate) fn first_numbered<P: Decoded>(jobs: &[JobOut<P>], number: u64) -> Option<usize>
     ensures value { result ≡ position (λ job. job.number == number) jobs.now }
     ensures inside { IfSome result (λ at. at < length jobs.now) }
 {
     jobs.iter().position(
-        |job: &JobOut| -> bool
+        |job: &JobOut<P>| -> bool
             ensures { result ≡ (job.now.number == number) }
         { job.number == number },
     )
@@ -72,14 +76,14 @@ pub(crate) fn first_numbered(jobs: &[JobOut], number: u64) -> Option<usize>
 /// Moves the places of jobs down to one, from which on units have other keys than before.
 // The loop has a function of its own, over a slice: there its contract names each job before and
 // after.
-pub(crate) fn lower_all(jobs: &mut Vec<JobOut>, from: usize)
+pub(crate) fn lower_all<P: Decoded>(jobs: &mut Vec<JobOut<P>>, from: usize)
     ensures { jobs.new.items ≡ map (lowered from) jobs.old.items }
 {
     lower_each(jobs, from);
 }
 
 /// Moves each of these places so.
-fn lower_each(jobs: &mut [JobOut], from: usize)
+fn lower_each<P: Decoded>(jobs: &mut [JobOut<P>], from: usize)
     ensures { jobs.new ≡ map (lowered from) jobs.old }
 {
     for job in jobs.iter_mut() {

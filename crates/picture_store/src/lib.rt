@@ -5,9 +5,10 @@
 //! of it that changed, and finds the keys of its units and of those after it whose keys may have
 //! changed with it: a picture whose key stays in use stays held. `take` gives the job of the
 //! earliest picture that can be decoded, `take_for` that of the earliest which a unit needs, `land`
-//! takes its result, late or twice, `give_back` the job undone, `picture` shows what is held, and
-//! `drop_picture` lets it go. Below are key_slots, picture_keys, which gives keys their numbers,
-//! and picture_cache; above is the session.
+//! takes its result, late or twice, `give_back` the job undone, and `picture` shows what is held.
+//! Pictures go back to the host by `drop_picture`, `uncache` and `take_released`. Below are
+//! key_slots, picture_keys, which gives keys their numbers, and picture_cache; above is the
+//! session.
 #![tactic(auto)]
 
 mod answers;
@@ -24,6 +25,7 @@ mod rescheduling;
 mod schedule;
 mod store;
 mod stretch;
+mod unreferred;
 
 pub use answers::{JobAt, Landing, Returning};
 pub use laws::something_is_due;

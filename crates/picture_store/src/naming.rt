@@ -2,28 +2,27 @@
 
 ghost use Rattle.std.specs.Prelude.{◌≡◌, ℕ, [], ◌∷◌, ◌++◌, ◌⊎◌, All, Option, None, IsSome, IfSome, is_some, ◌==◌, ◌≤◌, length, IfOk, OnOk};
 ghost use Rattle.h264_controls.specs.References.{timestamp};
-ghost use Rattle.stand_in_device.specs.declared.picture.Picture.{Picture as Shown};
-ghost use Rattle.stand_in_device.specs.Inputs.{picture_at};
-ghost use Rattle.picture_store.specs.Naming.{AddsAtMostEntry, AreCovered, AreOnce, AreShown, AreThere, IsShown, picture_in};
+ghost use Rattle.decode_jobs.specs.Inputs.{picture_at};
+ghost use Rattle.picture_store.specs.Naming.{AddsAtMostEntry, AreCovered, AreOnce, AreThere, IsShown, picture_in};
 
+use decode_jobs::{Decoded, Reference};
 use dep_keys::KeyId;
 use key_slots::Places;
 use pictures::AuId;
-use stand_in_device::{Picture, Reference};
 use std::alloc::{AllocError, Global};
 
 /// The pictures of the units that are named, each once, by the numbers of the keys that stand at
 /// the same entries.
-pub(crate) fn references_of(
+pub(crate) fn references_of<P: Decoded>(
     alloc: Global,
-    places: &Places<Picture>,
+    places: &Places<P>,
     units: &[Option<AuId>],
     entries: &[Option<KeyId>],
-) -> Result<Vec<Reference>, AllocError>
+) -> Result<Vec<Reference<P>>, AllocError>
     requires covered { AreCovered places.now units.now entries.now }
     requires least { length units.now ≤ length entries.now }
-    ensures shown { IfOk result (λ references. (shown : ℕ → Option Shown)
-        → AreShown places.now shown units.now entries.now → All (IsShown shown) references.items) }
+    ensures shown { IfOk result (λ references.
+        All (IsShown places.now units.now entries.now) references.items) }
     ensures there { IfOk result (λ references. AreThere references.items units.now) }
     ensures once { IfOk result (λ references. AreOnce references.items) }
 {
@@ -35,9 +34,9 @@ pub(crate) fn references_of(
 }
 
 /// Adds the picture of an entry for the unit that is named there, if one is.
-fn add_named(
-    references: &mut Vec<Reference>,
-    places: &Places<Picture>,
+fn add_named<P: Decoded>(
+    references: &mut Vec<Reference<P>>,
+    places: &Places<P>,
     unit: Option<AuId>,
     entry: Option<KeyId>,
 ) -> Result<(), AllocError>
@@ -57,14 +56,18 @@ fn add_named(
 }
 
 /// The picture of an entry, where it is held.
-fn picture_in(places: &Places<Picture>, entry: Option<KeyId>) -> Option<Picture>
+fn picture_in<P: Decoded>(places: &Places<P>, entry: Option<KeyId>) -> Option<P>
     ensures { result ≡ picture_in places.now entry }
 {
     places.get(entry?)?
 }
 
 /// Adds the picture of a unit, unless it is there.
-fn add(references: &mut Vec<Reference>, unit: AuId, picture: Picture) -> Result<(), AllocError>
+fn add<P: Decoded>(
+    references: &mut Vec<Reference<P>>,
+    unit: AuId,
+    picture: P,
+) -> Result<(), AllocError>
     ensures there { OnOk result (IsSome (picture_at references.new.items (timestamp unit))) }
     ensures items { OnOk result ((references.new.items ≡ references.old.items)
         ⊎ ((picture_at references.old.items (timestamp unit) ≡ None) × (references.new.items
@@ -79,7 +82,7 @@ fn add(references: &mut Vec<Reference>, unit: AuId, picture: Picture) -> Result<
 }
 
 /// Whether the picture of a timestamp is there.
-fn has_picture(references: &[Reference], timestamp: u64) -> bool
+fn has_picture<P: Decoded>(references: &[Reference<P>], timestamp: u64) -> bool
     ensures { result ≡ is_some (picture_at references.now timestamp) }
 {
     references.iter().any(

@@ -1,17 +1,18 @@
 //! The keys in use, counted anew where a stretch of a stream changed.
 
-ghost use Rattle.std.specs.Prelude.{◌≡◌, ◌+◌, ◌-◌, ◌^◌, ◌<◌, ◌≤◌, ◌++◌, ℕ, List, Option, Contains, Some, IfOk, OnOk, drop, length, take, vec_len};
+ghost use Rattle.std.specs.Prelude.{◌≡◌, ◌+◌, ◌-◌, ◌^◌, ◌<◌, ◌≤◌, ◌++◌, [], true, false, ℕ, List, Option, Contains, IsPermutation, Some, IfOk, OnOk, drop, length, take, vec_len};
 ghost use Rattle.std.specs.Vec.{vec_capacity};
 ghost use Rattle.std.specs.List.Sorted.{IsNonDecreasing};
+ghost use Rattle.key_slots.specs.Accounts.{AreApart, pictures_of};
 ghost use Rattle.key_slots.specs.Counting.{times, times_in};
 ghost use Rattle.key_slots.specs.Places.{AreSame, uses_at};
 ghost use Rattle.picture_store.specs.Recounts.{IsCountable, IsRecounted};
 
 use crate::refitting::add_numbers;
+use decode_jobs::Decoded;
 use dep_keys::KeyId;
-use key_slots::{Places, let_go_all, make_places, take_out, take_up_all};
+use key_slots::{Places, let_go_all, make_places, take_up_all};
 use picture_cache::PictureCache;
-use stand_in_device::Picture;
 use std::alloc::{AllocError, Global};
 
 /// The keys of units, in rising order of their numbers.
@@ -27,11 +28,12 @@ fn leaving(alloc: Global, numbers: &[Option<KeyId>]) -> Result<Vec<KeyId>, Alloc
 }
 
 /// Makes room for the numbers and the keys of units that come in the place of those between two
-/// places, and gives the keys of these. The places stay.
-pub(crate) fn make_ready(
+/// places, and for a released picture of each of these, and gives their keys. The places stay.
+pub(crate) fn make_ready<P: Decoded>(
     alloc: Global,
     numbers: &mut Vec<Option<KeyId>>,
-    places: &mut Places<Picture>,
+    places: &mut Places<P>,
+    released: &mut Vec<P>,
     from: usize,
     to: usize,
     later: &[Option<KeyId>],
@@ -40,40 +42,60 @@ pub(crate) fn make_ready(
     requires inside { to ≤ length numbers.old.items }
     ensures numbers { numbers.new.items ≡ numbers.old.items }
     ensures same { AreSame places.old places.new }
+    ensures released { released.new.items ≡ released.old.items }
     ensures found_room { OnOk result
         (vec_len numbers.new + length later.now ≤ vec_capacity numbers.new) }
     ensures room { OnOk result ((number : ℕ) → Contains later.now (Some number)
         → number < length places.new) }
+    ensures spare { IfOk result (λ keys. vec_len released.new + length keys.items
+        ≤ vec_capacity released.new) }
     ensures counted { IfOk result (λ keys. (number : ℕ) → times_in number keys.items
         ≡ times number (take (to - from) (drop from numbers.old.items))) }
     ensures rising { IfOk result (λ keys. IsNonDecreasing keys.items) }
 {
     let leaving = leaving(alloc, &numbers[from..to])?;
     numbers.reserve(later.len())?;
+    released.reserve(leaving.len())?;
     make_places(places, later)?;
     Ok(leaving)
 }
 
 /// Counts the keys of the units that come, for which there is room, and then those of units that
-/// go. Memory runs out for the cache alone: says how many pictures are lost so.
-pub(crate) fn recount(
-    places: &mut Places<Picture>,
-    cache: &mut PictureCache<KeyId, Picture>,
+/// go. What goes out of the cache is released, and so is what isn't put into it where memory runs
+/// out, for the cache alone: says how many pictures aren't put.
+pub(crate) fn recount<P: Decoded>(
+    places: &mut Places<P>,
+    cache: &mut PictureCache<KeyId, P>,
     later: &[Option<KeyId>],
     leaving: &[KeyId],
+    released: &mut Vec<P>,
 ) -> usize
     requires room { (number : ℕ) → Contains later.now (Some number)
         → number < length places.old }
     requires fits { (number : ℕ) → uses_at places.old number + length later.now < 2 ^ 64 }
     requires enough { (number : ℕ) → times_in number leaving.now ≤ uses_at places.old number }
     requires rising { IsNonDecreasing leaving.now }
+    requires spare { vec_len released.old + length leaving.now ≤ vec_capacity released.old }
+    requires apart { AreApart places.old cache.old.pairs }
     ensures recounted { (front goes back : List (Option ℕ))
         → IsCountable places.old cache.old.pairs front goes back leaving.now
         → IsRecounted places.old cache.old.pairs cache.old.capacity (front ++ later.now ++ back)
         places.new cache.new.pairs result }
     ensures room { cache.new.capacity ≡ cache.old.capacity }
+    ensures accounts { IsPermutation
+        (pictures_of places.old cache.old.pairs released.old.items)
+        (pictures_of places.new cache.new.pairs released.new.items) }
 {
     take_up_all(places, cache, later);
-    take_out(cache, later);
-    let_go_all(places, cache, leaving)
+    let_go_all(places, cache, leaving, released)
+}
+
+/// Forgets the pictures that are released, where the host has no picture back.
+pub(crate) fn forget_released<P: Decoded>(released: &mut Vec<P>)
+    ensures stay { P.GoesBack ≡ true → released.new.items ≡ released.old.items }
+    ensures forgotten { P.GoesBack ≡ false → released.new.items ≡ [] }
+{
+    if !P::goes_back() {
+        released.clear();
+    }
 }

@@ -17,12 +17,12 @@ use crate::job_out::JobOut;
 use crate::stretch::Stretch;
 use base_types::Shared;
 use checkpoints::Checkpoints;
+use decode_jobs::Decoded;
 use dep_keys::{Fingerprint, KeyId, Keys};
 use picture_cache::PictureCache;
 use picture_keys::{HashedOutcome, KeyNumbers, UnitKeys, Works};
 use pictures::{AuId, Frame};
 use request_core::State;
-use stand_in_device::Picture;
 use std::alloc::{AllocError, Global};
 
 /// The numbers of the keys of units, nothing for one that isn't valid. Keys that have a number keep
@@ -216,12 +216,12 @@ pub(crate) fn make_room(
 }
 
 /// Forgets the keys that are neither stored nor below one that is.
-pub(crate) fn sweep<F: Fingerprint<Works>>(
+pub(crate) fn sweep<F: Fingerprint<Works>, P: Decoded>(
     alloc: Global,
     keys: &mut Keys<Works, F>,
     numbers: &[Option<KeyId>],
-    cache: &PictureCache<KeyId, Picture>,
-    out: &[JobOut],
+    cache: &PictureCache<KeyId, P>,
+    out: &[JobOut<P>],
 ) -> Result<(), AllocError>
     ensures stay { KeepsStored numbers.now cache.now.pairs out.now keys.old keys.new }
     ensures one { IsKeyMap keys.old → IsKeyMap keys.new }
@@ -234,13 +234,13 @@ pub(crate) fn sweep<F: Fingerprint<Works>>(
 
 /// Forgets those keys, where there are so many that it is time to, and says how many will be enough
 /// the next time: twice as many as are left, and some more.
-pub(crate) fn sweep_at<F: Fingerprint<Works>>(
+pub(crate) fn sweep_at<F: Fingerprint<Works>, P: Decoded>(
     alloc: Global,
     sweep_threshold: usize,
     keys: &mut Keys<Works, F>,
     numbers: &[Option<KeyId>],
-    cache: &PictureCache<KeyId, Picture>,
-    out: &[JobOut],
+    cache: &PictureCache<KeyId, P>,
+    out: &[JobOut<P>],
 ) -> Result<usize, AllocError>
     ensures stay { KeepsStored numbers.now cache.now.pairs out.now keys.old keys.new }
     ensures one { IsKeyMap keys.old → IsKeyMap keys.new }
@@ -257,11 +257,11 @@ pub(crate) fn sweep_at<F: Fingerprint<Works>>(
 }
 
 /// The keys that are stored.
-fn roots(
+fn roots<P: Decoded>(
     alloc: Global,
     numbers: &[Option<KeyId>],
-    cache: &PictureCache<KeyId, Picture>,
-    out: &[JobOut],
+    cache: &PictureCache<KeyId, P>,
+    out: &[JobOut<P>],
 ) -> Result<Vec<KeyId>, AllocError>
     ensures { IfOk result (λ roots. (number : ℕ)
         → Contains roots.items number ↔ IsStored numbers.now cache.now.pairs out.now number) }
@@ -293,7 +293,7 @@ pub(crate) fn add_numbers(
 }
 
 /// Adds the keys of jobs.
-fn add_out(roots: &mut Vec<KeyId>, out: &[JobOut]) -> Result<(), AllocError>
+fn add_out<P: Decoded>(roots: &mut Vec<KeyId>, out: &[JobOut<P>]) -> Result<(), AllocError>
     ensures { OnOk result (roots.new.items ≡ roots.old.items ++ numbers_out out.now) }
 {
     for job in out {

@@ -11,23 +11,23 @@ use crate::answers::Landing;
 use crate::due::is_ready;
 use crate::job_out::JobOut;
 use crate::schedule::{Dependent, Schedule, enqueue_due};
+use decode_jobs::Decoded;
 use dep_keys::{Fingerprint, KeyId, Keys};
 use key_slots::Places;
 use picture_keys::Works;
-use stand_in_device::Picture;
 use std::alloc::AllocError;
 use std::cmp::Reverse;
 use std::collections::BinaryHeap;
 
 /// The schedule, if the pictures to which a key itself refers are held. If they aren't, it may be
 /// that they are needed for this key alone, and so not any more when its own picture is held.
-pub(crate) fn if_ready<F: Fingerprint<Works>>(
+pub(crate) fn if_ready<F: Fingerprint<Works>, P: Decoded>(
     keys: &Keys<Works, F>,
-    places: &Places<Picture>,
+    places: &Places<P>,
     key: KeyId,
     schedule: Option<Schedule>,
 ) -> Option<Schedule>
-    requires { AreRight keys.now places.now }
+    requires { AreRight P.IsDecoded P.IsOf keys.now places.now }
     ensures { IfSome result (λ s. (schedule ≡ Some s) × IsReadyNumber keys.now places.now key) }
 {
     if is_ready(keys, places, key) {
@@ -39,16 +39,16 @@ pub(crate) fn if_ready<F: Fingerprint<Works>>(
 
 /// What stays of a schedule where a result of a key has landed. If its picture is held now, those
 /// units come into the queue that waited for it and are due. It takes no memory.
-pub(crate) fn after_landing<F: Fingerprint<Works>>(
+pub(crate) fn after_landing<F: Fingerprint<Works>, P: Decoded>(
     keys: &Keys<Works, F>,
-    places: &Places<Picture>,
-    out: &[JobOut],
+    places: &Places<P>,
+    out: &[JobOut<P>],
     numbers: &[Option<KeyId>],
     schedule: Option<Schedule>,
     key: KeyId,
     landing: Landing,
 ) -> Option<Schedule>
-    requires right { AreRight keys.now places.now }
+    requires right { AreRight P.IsDecoded P.IsOf keys.now places.now }
     requires by_entry { IfSome schedule (λ s. AreByEntry s.dependents.items) }
     ensures { FollowsLanding keys.now places.now out.now numbers.now key landing schedule result }
 {
@@ -60,15 +60,15 @@ pub(crate) fn after_landing<F: Fingerprint<Works>>(
 
 /// The schedule with those units in its queue that waited for a key and are due. The queue was made
 /// with room for them; nothing stays of a schedule without that room.
-fn with_held<F: Fingerprint<Works>>(
+fn with_held<F: Fingerprint<Works>, P: Decoded>(
     keys: &Keys<Works, F>,
-    places: &Places<Picture>,
-    out: &[JobOut],
+    places: &Places<P>,
+    out: &[JobOut<P>],
     numbers: &[Option<KeyId>],
     schedule: Option<Schedule>,
     key: KeyId,
 ) -> Option<Schedule>
-    requires right { AreRight keys.now places.now }
+    requires right { AreRight P.IsDecoded P.IsOf keys.now places.now }
     requires by_entry { IfSome schedule (λ s. AreByEntry s.dependents.items) }
     ensures { GoesOn keys.now places.now out.now numbers.now key schedule result }
 {
@@ -101,15 +101,15 @@ fn dependents_on(dependents: &[Dependent], key: KeyId) -> &[Dependent]
 }
 
 /// Puts the places of these dependents into a queue, each if its unit is due.
-fn enqueue_all_due<F: Fingerprint<Works>>(
+fn enqueue_all_due<F: Fingerprint<Works>, P: Decoded>(
     keys: &Keys<Works, F>,
-    places: &Places<Picture>,
-    out: &[JobOut],
+    places: &Places<P>,
+    out: &[JobOut<P>],
     numbers: &[Option<KeyId>],
     freed: &[Dependent],
     queue: &mut BinaryHeap<Reverse<usize>>,
 ) -> Result<(), AllocError>
-    requires { AreRight keys.now places.now }
+    requires { AreRight P.IsDecoded P.IsOf keys.now places.now }
     ensures { OnOk result (AddsDue keys.now places.now out.now numbers.now
         (λ at. (entry : ℕ) × WaitsFor freed.now at entry)
         (heap_items queue.old) (heap_items queue.new)) }

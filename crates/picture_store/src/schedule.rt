@@ -16,10 +16,10 @@ ghost use Rattle.picture_store.specs.Kept.{AreRight};
 
 use crate::due::{due_key, key_at};
 use crate::job_out::JobOut;
+use decode_jobs::Decoded;
 use dep_keys::{Fingerprint, KeyId, Keys};
 use key_slots::{Places, Units, is_held, needed_places};
 use picture_keys::Works;
-use stand_in_device::Picture;
 use std::alloc::{AllocError, Global};
 use std::cmp::Reverse;
 use std::collections::BinaryHeap;
@@ -42,16 +42,16 @@ pub(crate) struct Dependent {
 }
 
 /// The schedule for a target: the one that was kept, if it is the target's, or else a new one.
-pub(crate) fn schedule_for<F: Fingerprint<Works>>(
+pub(crate) fn schedule_for<F: Fingerprint<Works>, P: Decoded>(
     alloc: Global,
-    units: &Units<'_, F>,
-    out: &[JobOut],
+    units: &Units<'_, F, P>,
+    out: &[JobOut<P>],
     kept: Option<Schedule>,
     target: usize,
 ) -> Result<Schedule, AllocError>
     requires columns { AreColumns units.now.keys.now units.now.ids.now units.now.outcomes.now
         units.now.numbers.now }
-    requires right { AreRight units.now.keys.now units.now.places.now }
+    requires right { AreRight P.IsDecoded P.IsOf units.now.keys.now units.now.places.now }
     requires within { target < length units.now.ids.now }
     requires kept { IfSome kept (λ s. AreScheduled units.now.keys.now
         (zip units.now.ids.now units.now.outcomes.now) units.now.numbers.now units.now.places.now
@@ -67,15 +67,15 @@ pub(crate) fn schedule_for<F: Fingerprint<Works>>(
 }
 
 /// Finds what the unit at a place needs, and schedules it.
-fn new_schedule<F: Fingerprint<Works>>(
+fn new_schedule<F: Fingerprint<Works>, P: Decoded>(
     alloc: Global,
-    units: &Units<'_, F>,
-    out: &[JobOut],
+    units: &Units<'_, F, P>,
+    out: &[JobOut<P>],
     target: usize,
 ) -> Result<Schedule, AllocError>
     requires columns { AreColumns units.now.keys.now units.now.ids.now units.now.outcomes.now
         units.now.numbers.now }
-    requires right { AreRight units.now.keys.now units.now.places.now }
+    requires right { AreRight P.IsDecoded P.IsOf units.now.keys.now units.now.places.now }
     requires within { target < length units.now.ids.now }
     ensures { IfOk result (λ s. (s.target ≡ target) × AreScheduled units.now.keys.now
         (zip units.now.ids.now units.now.outcomes.now) units.now.numbers.now units.now.places.now
@@ -92,12 +92,12 @@ fn new_schedule<F: Fingerprint<Works>>(
 }
 
 /// The units at these places, each with the keys that it waits for.
-fn dependents_of<F: Fingerprint<Works>>(
+fn dependents_of<F: Fingerprint<Works>, P: Decoded>(
     alloc: Global,
-    units: &Units<'_, F>,
+    units: &Units<'_, F, P>,
     needed: &[usize],
 ) -> Result<Vec<Dependent>, AllocError>
-    requires { AreRight units.now.keys.now units.now.places.now }
+    requires { AreRight P.IsDecoded P.IsOf units.now.keys.now units.now.places.now }
     ensures by_entry { IfOk result (λ dependents. AreByEntry dependents.items) }
     ensures listed { IfOk result (λ dependents. (at entry : ℕ) → Contains needed.now at
         → RefersTo units.now.keys.now units.now.numbers.now at entry
@@ -114,12 +114,12 @@ fn dependents_of<F: Fingerprint<Works>>(
 }
 
 /// Adds the unit at a place with each key that it waits for.
-fn add_unit<F: Fingerprint<Works>>(
-    units: &Units<'_, F>,
+fn add_unit<F: Fingerprint<Works>, P: Decoded>(
+    units: &Units<'_, F, P>,
     at: usize,
     dependents: &mut Vec<Dependent>,
 ) -> Result<(), AllocError>
-    requires { AreRight units.now.keys.now units.now.places.now }
+    requires { AreRight P.IsDecoded P.IsOf units.now.keys.now units.now.places.now }
     ensures stay { OnOk result ((place entry : ℕ) → WaitsFor dependents.old.items place entry
         → WaitsFor dependents.new.items place entry) }
     ensures only { OnOk result ((place entry : ℕ) → WaitsFor dependents.new.items place entry
@@ -138,8 +138,8 @@ fn add_unit<F: Fingerprint<Works>>(
 }
 
 /// Adds the unit at a place with each of the keys at its entries whose picture isn't held.
-fn add_entries(
-    places: &Places<Picture>,
+fn add_entries<P: Decoded>(
+    places: &Places<P>,
     entries: &[Option<KeyId>],
     at: usize,
     dependents: &mut Vec<Dependent>,
@@ -158,8 +158,8 @@ fn add_entries(
 }
 
 /// Adds the unit at a place with the key at an entry, if there is one and its picture isn't held.
-fn add_entry(
-    places: &Places<Picture>,
+fn add_entry<P: Decoded>(
+    places: &Places<P>,
     entry: Option<KeyId>,
     at: usize,
     dependents: &mut Vec<Dependent>,
@@ -181,14 +181,14 @@ fn add_entry(
 }
 
 /// A queue of those of these places whose units are due, with room for so many more.
-fn queue_of<F: Fingerprint<Works>>(
+fn queue_of<F: Fingerprint<Works>, P: Decoded>(
     alloc: Global,
-    units: &Units<'_, F>,
-    out: &[JobOut],
+    units: &Units<'_, F, P>,
+    out: &[JobOut<P>],
     needed: &[usize],
     more: usize,
 ) -> Result<BinaryHeap<Reverse<usize>>, AllocError>
-    requires { AreRight units.now.keys.now units.now.places.now }
+    requires { AreRight P.IsDecoded P.IsOf units.now.keys.now units.now.places.now }
     ensures ordered { IfOk result (λ queue. IsQueue (heap_items queue)) }
     ensures due { IfOk result (λ queue. (at : ℕ) → Contains needed.now at
         → IsDueThere units.now.keys.now units.now.places.now out.now units.now.numbers.now at
@@ -211,15 +211,15 @@ fn queue_of<F: Fingerprint<Works>>(
 }
 
 /// Puts a place into a queue if its unit is due.
-pub(crate) fn enqueue_due<F: Fingerprint<Works>>(
+pub(crate) fn enqueue_due<F: Fingerprint<Works>, P: Decoded>(
     keys: &Keys<Works, F>,
-    places: &Places<Picture>,
-    out: &[JobOut],
+    places: &Places<P>,
+    out: &[JobOut<P>],
     numbers: &[Option<KeyId>],
     at: usize,
     queue: &mut BinaryHeap<Reverse<usize>>,
 ) -> Result<(), AllocError>
-    requires { AreRight keys.now places.now }
+    requires { AreRight P.IsDecoded P.IsOf keys.now places.now }
     ensures { OnOk result (AddsDue keys.now places.now out.now numbers.now (λ place. at ≡ place)
         (heap_items queue.old) (heap_items queue.new)) }
 {
@@ -230,14 +230,14 @@ pub(crate) fn enqueue_due<F: Fingerprint<Works>>(
 }
 
 /// The earliest place in a queue whose unit is due, and its key. Earlier places leave the queue.
-pub(crate) fn earliest_due<F: Fingerprint<Works>>(
+pub(crate) fn earliest_due<F: Fingerprint<Works>, P: Decoded>(
     keys: &Keys<Works, F>,
-    places: &Places<Picture>,
-    out: &[JobOut],
+    places: &Places<P>,
+    out: &[JobOut<P>],
     numbers: &[Option<KeyId>],
     queue: &mut BinaryHeap<Reverse<usize>>,
 ) -> Option<(usize, KeyId)>
-    requires right { AreRight keys.now places.now }
+    requires right { AreRight P.IsDecoded P.IsOf keys.now places.now }
     requires ordered { IsQueue (heap_items queue.old) }
     ensures ordered { IsQueue (heap_items queue.new) }
     ensures stay { (at : ℕ) → IsQueued (heap_items queue.old) at

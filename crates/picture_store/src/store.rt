@@ -1,50 +1,51 @@
 //! The store: pictures that are held or cached, and jobs that are out.
 
-ghost use Rattle.std.specs.Prelude.{◌≡◌, ℕ, ◌≤◌, ◌<◌, ◌↔◌, [], length, Contains, None, Some, IsTrue, IfOk, OnOk, OnErr, slice_get};
+ghost use Rattle.std.specs.Prelude.{◌≡◌, ℕ, ◌≤◌, ◌<◌, ◌↔◌, true, false, [], length, Contains, IsPermutation, None, Some, IsTrue, IfOk, OnOk, OnErr, slice_get};
 ghost use Rattle.std.specs.List.{zip};
 ghost use Rattle.picture_cache.specs.Bounded.{most_room};
 ghost use Rattle.picture_keys.specs.Decodable.{AllCanDecode};
+ghost use Rattle.picture_store.specs.Pictures.{all_of};
 ghost use Rattle.picture_store.specs.Stores.{empty, AreNumbered, AreOneToOne, IsNumberInUse};
 ghost use Rattle.picture_store.specs.Changes.{RefitsLosing};
-ghost use Rattle.picture_store.specs.Jobs.{AnswersLand, TellsTake};
+ghost use Rattle.picture_store.specs.Jobs.{TellsTake};
 ghost use Rattle.picture_store.specs.Showing.{IsNumberAt, IsPictureAt};
 ghost use Rattle.picture_store.specs.Needs.{TellNeeds};
 ghost use Rattle.picture_store.specs.Pending.{IsAnyOutBy, IsDueAt, IsPending};
-ghost use Rattle.picture_store.specs.TakingFor.{AnswersDrop, TellsGiven, TellsTakeFor};
+ghost use Rattle.picture_store.specs.TakingFor.{TellsGiven, TellsTakeFor};
 ghost use Rattle.picture_store.specs.Stretches.{IsStretch, ids_with, outcomes_with};
 
 mod columns;
 mod counts;
+mod landing;
+mod releasing;
 mod returning;
 
-use crate::answers::{JobAt, Landing};
+use crate::answers::JobAt;
 use crate::due::{first_due, first_to_do};
-use crate::filling::{fill, looked_after};
 use crate::inputs::input_of;
-use crate::job_out::{JobOut, lower_all, place_of};
-use crate::recounting::{make_ready, recount};
+use crate::job_out::{JobOut, lower_all};
+use crate::recounting::{forget_released, make_ready, recount};
 use crate::refitting::{keys_from, make_room, sweep_at};
 use crate::refusals::TakeRefused;
-use crate::rescheduling::{after_landing, if_ready};
 use crate::schedule::{Schedule, earliest_due, schedule_for};
 use crate::stretch::Stretch;
 use base_types::{Shared, replace_range};
 use checkpoints::Checkpoints;
+use decode_jobs::{Decoded, Job};
 use dep_keys::{KeyId, Keys, Sha256Fingerprint};
-use key_slots::{Places, Units, is_held};
+use key_slots::{Places, Units};
 use picture_cache::PictureCache;
 use picture_keys::{HashedOutcome, Works};
 use pictures::AuId;
 use request_core::State;
-use stand_in_device::{Finished, Job, Picture};
 use std::alloc::{AllocError, Global};
 use std::marker::Model;
 
 /// The pictures of a stream's units. Clauses see the units, each with its id and its outcome; the
 /// keys whose pictures are held, and those whose pictures are cached after they went out of use;
-/// and the jobs that are out.
+/// the pictures themselves, and those that are released; and the jobs that are out.
 #[derive(Debug)]
-pub struct PictureStore {
+pub struct PictureStore<P: Decoded> {
     alloc: Global,
     keys: Keys<Works, Sha256Fingerprint>,
     ids: Vec<AuId>,
@@ -52,9 +53,9 @@ pub struct PictureStore {
     numbers: Vec<Option<KeyId>>,
     // How many keys there are where it is time to forget those that aren't needed.
     sweep_threshold: usize,
-    places: Places<Picture>,
-    cache: PictureCache<KeyId, Picture>,
-    jobs_out: Vec<JobOut>,
+    places: Places<P>,
+    cache: PictureCache<KeyId, P>,
+    jobs_out: Vec<JobOut<P>>,
     jobs_given: u64,
     // How many units, from the first on, are known to need no job.
     units_settled: usize,
@@ -62,10 +63,12 @@ pub struct PictureStore {
     units_not_due: usize,
     // That of the last `take_for`, where only jobs were given and results landed since.
     schedule: Option<Schedule>,
+    // Pictures that were let go and haven't gone back.
+    released: Vec<P>,
 }
 
 // By hand, so that whoever drops one is proved over one call.
-impl Drop for PictureStore {
+impl<P: Decoded> Drop for PictureStore<P> {
     fn drop(self) {
         let PictureStore {
             alloc: _,
@@ -81,22 +84,23 @@ impl Drop for PictureStore {
             units_settled: _,
             units_not_due: _,
             schedule: _,
+            released: _,
         } = self;
     }
 }
 
-impl Model for PictureStore {
+impl<P: Decoded> Model for PictureStore<P> {
     ghost use Rattle.std.specs.Coded.{codes};
-    ghost use Rattle.std.specs.Map.{keys_of as numbers_of};
+    ghost use Rattle.std.specs.Map.{keys_of as numbers_of, values_of};
     ghost use Rattle.dep_keys.specs.Trees.{tree_code};
     ghost use Rattle.picture_keys.specs.contracts.works.Works as works;
     ghost use Rattle.picture_store.specs.Stores.{StoreValue};
 
-    ghost Value = { StoreValue };
+    ghost Value = { StoreValue P };
 
-    ghost coded = { Prim.hlevel (codes, tree_code works.the_row.coded) };
+    ghost coded = { Prim.hlevel (codes, tree_code works.the_row.coded, P.code) };
 
-    ghost use Rattle.key_slots.specs.Places.{numbers_held};
+    ghost use Rattle.key_slots.specs.Places.{numbers_held, pictures_held};
     ghost use Rattle.picture_store.specs.Kept.{keys_for, jobs_for};
     ghost use Rattle.picture_store.specs.Settled.{IsStored};
 
@@ -107,17 +111,23 @@ impl Model for PictureStore {
       room = s.cache.capacity;
       held = keys_for s.keys (numbers_held s.places);
       cached = keys_for s.keys (numbers_of s.cache.pairs);
+      pictures = record {
+        held = pictures_held s.places;
+        cached = values_of s.cache.pairs;
+        released = s.released.items;
+      };
       jobs_out = jobs_for s.keys s.jobs_out.items;
       jobs_given = s.jobs_given;
     } };
 
-    ghost invariant = { λ s. IsStored s.keys s.ids.items s.outcomes.items s.numbers.items s.places
-        s.cache.pairs s.jobs_out.items s.units_settled s.units_not_due s.schedule };
+    ghost invariant = { λ s. IsStored P.IsDecoded P.IsOf s.keys s.ids.items s.outcomes.items
+        s.numbers.items s.places s.cache.pairs s.jobs_out.items s.units_settled s.units_not_due
+        s.schedule };
 }
 
-impl PictureStore {
+impl<P: Decoded> PictureStore<P> {
     /// A store for an empty stream, which caches so many pictures at most, 1 to `MOST_ROOM`.
-    pub fn new(alloc: Global, room: u16) -> Result<PictureStore, AllocError>
+    pub fn new(alloc: Global, room: u16) -> Result<PictureStore<P>, AllocError>
         requires least { 1 ≤ room }
         requires most { room ≤ most_room }
         ensures { IfOk result (λ store. store ≡ empty room) }
@@ -136,6 +146,7 @@ impl PictureStore {
             units_settled: 0,
             units_not_due: 0,
             schedule: None,
+            released: Vec::new(alloc),
         })
     }
 
@@ -151,7 +162,8 @@ impl PictureStore {
     /// Takes a stretch of units in the place of another one. A picture whose key stays in use stays
     /// held, and one that is cached is held again where its key comes into use. Where memory runs
     /// out, nothing changes; but a picture whose key goes out of use is cached only where memory is
-    /// found for it, and `refit` answers how many were lost so.
+    /// found for it, and `refit` answers how many were lost so. Those, and what goes out of the
+    /// cache, are released, or forgotten where the host has no picture back.
     ///
     /// The keys of the units in front of the stretch stay as they are; those of its units and of
     /// the units after it are found anew, as pictures refer to earlier ones, up to the first place
@@ -169,6 +181,10 @@ impl PictureStore {
         ensures ok { IfOk result (λ lost. RefitsLosing self.old (ids_with stretch self.old.ids)
             (outcomes_with stretch self.old.outcomes) lost self.new) }
         ensures err { OnErr result (self.new ≡ self.old) }
+        ensures pictures { IfOk result (λ _. P.GoesBack ≡ true
+            → IsPermutation (all_of self.old.pictures) (all_of self.new.pictures)) }
+        ensures forgotten { IfOk result (λ _. P.GoesBack ≡ false
+            → self.new.pictures.released ≡ []) }
     {
         self.sweep()?;
         self.schedule = None;
@@ -186,11 +202,19 @@ impl PictureStore {
             self.alloc,
             &mut self.numbers,
             &mut self.places,
+            &mut self.released,
             stretch.from,
             past,
             &later,
         )?;
-        let lost = recount(&mut self.places, &mut self.cache, &later, &leaving);
+        let lost = recount(
+            &mut self.places,
+            &mut self.cache,
+            &later,
+            &leaving,
+            &mut self.released,
+        );
+        forget_released(&mut self.released);
         let Stretch {
             from,
             to,
@@ -225,9 +249,9 @@ impl PictureStore {
     }
 
     /// The picture of the unit at a place of the stream, where it is held.
-    pub fn picture(&self, at: usize) -> Option<Picture>
+    pub fn picture(&self, at: usize) -> Option<P>
         requires { at < length self.now.ids }
-        ensures { IsPictureAt self.now at result }
+        ensures { IsPictureAt P.IsOf self.now at result }
     {
         self.places.get(self.numbers[at]?)?
     }
@@ -252,8 +276,8 @@ impl PictureStore {
     }
 
     /// Gives the earliest picture that is due to be decoded, under the next number.
-    pub fn take(&mut self) -> Result<Option<JobAt>, TakeRefused>
-        ensures tells { TellsTake self.old result self.new }
+    pub fn take(&mut self) -> Result<Option<JobAt<P>>, TakeRefused>
+        ensures tells { TellsTake P.IsOf self.old result self.new }
         // A pending unit stays so only as long as a job is out.
         ensures waits { IfOk result (λ told. told ≡ None
             → (at : ℕ) → IsPending self.old at → IsAnyOutBy self.old at) }
@@ -288,9 +312,9 @@ impl PictureStore {
     /// needs, under the next number. Its unit needn't be the first of the stream that has its key.
     /// What is needed is found once for calls for one place that follow one another, where only
     /// jobs are given and results land between them.
-    pub fn take_for(&mut self, at: usize) -> Result<Option<JobAt>, TakeRefused>
+    pub fn take_for(&mut self, at: usize) -> Result<Option<JobAt<P>>, TakeRefused>
         requires { at < length self.old.ids }
-        ensures tells { TellsTakeFor self.old at result self.new }
+        ensures tells { TellsTakeFor P.IsOf self.old at result self.new }
         // A pending unit stays so only as long as the job of a unit that it needs is out.
         ensures waits { IfOk result (λ told. told ≡ None
             → IsPending self.old at → IsAnyOutBy self.old at) }
@@ -320,10 +344,10 @@ impl PictureStore {
     }
 
     /// Gives the job of the unit at a place, whose key is due, under the next number.
-    fn give(&mut self, at: usize, key: KeyId) -> Result<JobAt, TakeRefused>
+    fn give(&mut self, at: usize, key: KeyId) -> Result<JobAt<P>, TakeRefused>
         requires number { slice_get self.old.numbers at ≡ Some (Some key) }
         requires due { IsDueAt self.old at }
-        ensures { TellsGiven self.old at result self.new }
+        ensures { TellsGiven P.IsOf self.old at result self.new }
     {
         let Some(number) = self.jobs_given.checked_add(1) else {
             return Err(TakeRefused::JobsSpent);
@@ -341,55 +365,5 @@ impl PictureStore {
         self.jobs_given = number;
         let job = Job::new(number, input);
         Ok(JobAt { at, job })
-    }
-
-    /// Takes the result of a job. It takes no memory.
-    pub fn land(&mut self, finished: Finished) -> Landing
-        ensures { AnswersLand self.old finished result self.new }
-    {
-        let (number, input, picture) = finished.into_parts();
-        let Some(at) = place_of(&self.jobs_out, number, &input) else {
-            return Landing::Foreign;
-        };
-        let job = self.jobs_out.remove(at);
-        let schedule = if_ready(&self.keys, &self.places, job.key, self.schedule.take());
-        let landing = fill(&mut self.places, job.key, picture);
-        self.units_not_due = looked_after(self.units_not_due, landing, job.first_place);
-        self.schedule = after_landing(
-            &self.keys,
-            &self.places,
-            &self.jobs_out,
-            &self.numbers,
-            schedule,
-            job.key,
-            landing,
-        );
-        landing
-    }
-
-    /// Drops the picture of the unit at a place, and says whether it was held. It isn't cached, and
-    /// it takes no memory.
-    pub fn drop_picture(&mut self, at: usize) -> bool
-        requires { at < length self.old.ids }
-        ensures { AnswersDrop self.old at result self.new }
-    {
-        let Some(key) = self.numbers[at] else {
-            return false;
-        };
-        if !is_held(&self.places, key) {
-            return false;
-        }
-        self.places.empty(key);
-        self.units_settled = 0;
-        self.units_not_due = 0;
-        self.schedule = None;
-        true
-    }
-
-    /// Drops the pictures that are cached. It takes no memory.
-    pub fn clear_cache(&mut self)
-        ensures { self.new ≡ record self.old { cached = [] } }
-    {
-        self.cache.clear();
     }
 }

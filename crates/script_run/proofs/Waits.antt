@@ -4,7 +4,7 @@ use Rattle.std.specs.Prelude.{Contains, slice_get, Option, Some, None, Result, O
 use Rattle.std.specs.List.{zip}
 use Rattle.std.proofs.lemmas.List.Elements.{All-contains, Contains-push_cases}
 use Rattle.stand_in_device.specs.Jobs.{JobValue}
-use Rattle.picture_keys.specs.Keys.{Key}
+use Rattle.decode_jobs.specs.Keys.{Key}
 use Rattle.picture_keys.specs.Known.{keys_of}
 use Rattle.key_slots.specs.Needed.{IsNeeded}
 use Rattle.key_slots.proofs.Closing.{needed_more}
@@ -15,18 +15,20 @@ use Rattle.picture_store.specs.declared.answers.Landing.TheVariants as landing
 use Rattle.picture_store.specs.declared.refusals.TakeRefused.{TakeRefused}
 use Rattle.picture_store.specs.Pending.{IsNeededBy, IsPending}
 use Rattle.picture_store.specs.Showing.{HasKey}
-use Rattle.picture_store.specs.Stores.{OutValue, StoreValue, units_of}
+use Rattle.edit_engine.specs.Machines.{OutValue, StoreValue, Machine}
+use Rattle.picture_store.specs.Stores.{units_of}
 use Rattle.stream_edits.specs.Edits.{Register}
 use Rattle.stream_edits.specs.Streams.{ids_of, place_of}
 use Rattle.request_core.specs.Fold.{outcomes_of}
 use Rattle.edit_engine.specs.declared.refusals.NotOut.{NotOut}
 use Rattle.edit_engine.specs.declared.replies.TakenJob.{TakenJob}
 use Rattle.edit_engine.specs.declared.commands.Command.TheVariants as told
-use Rattle.edit_engine.specs.Machines.{Machine, store_of}
-use Rattle.edit_engine.specs.Needing.{IsAnyOutFor, IsPendingIn, TakesFor, TellsTakeFor}
+use Rattle.stream_session.specs.Machines.{store_of}
+use Rattle.edit_engine.specs.Needing.{TakesFor, TellsTakeFor}
+use Rattle.stream_session.specs.Needing.{IsAnyOutFor, IsPendingIn}
 use Rattle.edit_engine.specs.Runs.{LandsJob, TakesJob, TakesJobFor}
-use Rattle.edit_engine.specs.Taken.{as_taken, taken_of}
-use Rattle.edit_engine.proofs.ByNumber.{none_taken}
+use Rattle.stream_session.specs.Taken.{as_taken, taken_of}
+use Rattle.stream_session.proofs.ByNumber.{none_taken}
 use Rattle.script_run.specs.Settling.{Lands, Settles, Takes}
 
 -- the keys of the jobs that are out
@@ -128,7 +130,7 @@ lands_no_more old number (Err none) new is =
     subst (λ (m : Machine). HasNoMore old m) (sym is.1)
     (record { stream = refl; held = λ key held. held; out = λ job out. out; given = refl })
 lands_no_more old number (Ok landing.Foreign) new is =
-    let lands = is.2.0 in
+    let lands = is.2.0.2 in
     record {
       stream = is.2.1.1;
       held = λ key held. subst (λ (s : StoreValue). Contains s.held key) (sym lands.1) held;
@@ -136,22 +138,22 @@ lands_no_more old number (Ok landing.Foreign) new is =
       given = ap (λ (s : StoreValue). s.jobs_given) lands.1;
     }
 lands_no_more old number (Ok landing.Stale) new is =
-    let lands = is.2.0 in
+    let lands = is.2.0.2 in
     record {
       stream = is.2.1.1;
-      held = λ key held. subst (λ (s : StoreValue). Contains s.held key) (sym lands.4) held;
+      held = λ key held. subst (λ (s : StoreValue). Contains s.held key) (sym lands.3.1) held;
       out = λ job out.
-          remove_among old.jobs_out lands.0 job (subst (λ (s : StoreValue). Contains s.jobs_out job) lands.4 out);
-      given = ap (λ (s : StoreValue). s.jobs_given) lands.4;
+          remove_among old.jobs_out lands.0 job (subst (λ (s : StoreValue). Contains s.jobs_out job) lands.3.1 out);
+      given = ap (λ (s : StoreValue). s.jobs_given) lands.3.1;
     }
 lands_no_more old number (Ok landing.Taken) new is =
-    let lands = is.2.0 in
+    let lands = is.2.0.2 in
     record {
       stream = is.2.1.1;
-      held = λ key held. (lands.5 key).1 (inl held);
+      held = λ key held. (lands.3.2 key).1 (inl held);
       out = λ job out.
-          remove_among old.jobs_out lands.0 job (subst (λ (s : StoreValue). Contains s.jobs_out job) lands.6 out);
-      given = ap (λ (s : StoreValue). s.jobs_given) lands.6;
+          remove_among old.jobs_out lands.0 job (subst (λ (s : StoreValue). Contains s.jobs_out job) lands.3.4 out);
+      given = ap (λ (s : StoreValue). s.jobs_given) lands.3.4;
     }
 
 -- a job that is taken and lands is one more that was given

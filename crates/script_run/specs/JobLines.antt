@@ -5,8 +5,8 @@ use Rattle.picture_store.specs.declared.answers.Landing.TheVariants as landing
 use Rattle.picture_store.specs.declared.answers.Returning.{Returning}
 use Rattle.picture_store.specs.declared.answers.Returning.TheVariants as returning
 use Rattle.edit_engine.specs.declared.refusals.NotOut.{NotOut}
-use Rattle.edit_engine.specs.declared.showing.Dropping.{Dropping}
-use Rattle.edit_engine.specs.declared.showing.Dropping.TheVariants as dropping
+use Rattle.edit_engine.specs.declared.dropping.Dropping.{Dropping}
+use Rattle.edit_engine.specs.declared.dropping.Dropping.TheVariants as dropping
 use Rattle.edit_engine.specs.declared.replies.TakenJob.{TakenJob}
 
 -- the line of a job that was taken, or that no picture is due

@@ -8,13 +8,13 @@ use Rattle.edit_engine.specs.declared.commands.Command.{Command as Told}
 use Rattle.edit_engine.specs.declared.commands.Command.TheVariants as told
 use Rattle.edit_engine.specs.declared.replies.Reply.{Reply}
 use Rattle.edit_engine.specs.declared.replies.Reply.TheVariants as replies
-use Rattle.edit_engine.specs.declared.refusals.NoSuchUnit.{NoSuchUnit}
+use Rattle.stream_session.specs.declared.refusals.NoSuchUnit.{NoSuchUnit}
 use Rattle.edit_engine.specs.declared.replies.TakenJob.{TakenJob}
 use Rattle.edit_engine.specs.declared.replies.UnitReport.{UnitReport}
-use Rattle.stream_edits.specs.Streams.{end_of}
-use Rattle.edit_engine.specs.Machines.{Machine, empty}
+use Rattle.stream_edits.specs.Streams.{end_of, Stream}
+use Rattle.edit_engine.specs.Machines.{Machine}
+use Rattle.stream_session.specs.Machines.{empty}
 use Rattle.edit_engine.specs.Runs.{Answers as Replies}
-use Rattle.stream_edits.specs.Streams.{Stream}
 use Rattle.script_run.specs.Answers.{refused_line, loaded_line, reply_lines, report_json}
 use Rattle.script_run.specs.JobLines.{settled_line}
 use Rattle.script_run.specs.Sequences.{AreAnswered, AreWritten}

@@ -7,7 +7,7 @@ use Rattle.edit_engine.specs.declared.replies.Reply.TheVariants as replies
 use Rattle.edit_engine.specs.declared.replies.TakenJob.{TakenJob}
 use Rattle.edit_engine.specs.Machines.{Machine}
 use Rattle.edit_engine.specs.Runs.{Answers as Replies}
-use Rattle.edit_engine.specs.Taken.{input_of}
+use Rattle.stream_session.specs.Taken.{input_of}
 
 -- this job is taken, or none, since no picture is due, or none of those that the unit of the id
 -- needs

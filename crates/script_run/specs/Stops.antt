@@ -3,7 +3,8 @@ use Rattle.std.specs.Prelude.{◌≡◌, ℕ, Bool, List, Option, ◌⊎◌}
 use Rattle.std.specs.Borrow.{Bor}
 use Rattle.std.specs.Io.KnownBytes.{Keeps}
 use Rattle.console_io.specs.Inputs.{Files}
-use Rattle.edit_engine.specs.Machines.{Machine, empty}
+use Rattle.edit_engine.specs.Machines.{Machine}
+use Rattle.stream_session.specs.Machines.{empty}
 use Rattle.edit_script.specs.SessionScripts.{HasFirstWrongForSession, IsSessionScript}
 use Rattle.edit_script.specs.declared.session_commands.SessionCommand.{SessionCommand}
 use Rattle.script_run.specs.Running.{Answers}

@@ -3,7 +3,7 @@
 
 ghost use Rattle.std.specs.Prelude.{◌≡◌, ◌≤◌, List, Some, IfOk, IsErrOf, OnOk, string_bytes};
 ghost use Rattle.picture_store.specs.Jobs.{most_jobs};
-ghost use Rattle.edit_engine.specs.Needing.{IsAnyOutFor, IsPendingIn};
+ghost use Rattle.stream_session.specs.Needing.{IsAnyOutFor, IsPendingIn};
 ghost use Rattle.edit_engine.specs.declared.replies.TakenJob.{TakenJob};
 ghost use Rattle.script_run.specs.JobLines.{settled_line};
 ghost use Rattle.script_run.specs.Settling.{LandsNext, Settles, Takes};

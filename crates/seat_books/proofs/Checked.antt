@@ -5,17 +5,18 @@ use Rattle.std.specs.Prelude.{◌&&◌, slice_get, All, Contains, not, Result, O
 use Rattle.std.proofs.lemmas.List.Elements.{All-contains, All-push, All-weaker, Contains-push}
 use Rattle.std.proofs.lemmas.Option.{slice_get_within}
 use Rattle.stand_in_device.specs.declared.picture.Picture.{Picture}
-use Rattle.picture_keys.specs.Keys.{Key}
-use Rattle.picture_keys.specs.KeyPictures.{picture_of_key}
+use Rattle.decode_jobs.specs.Keys.{Key}
+use Rattle.stand_in_device.specs.KeyPictures.{picture_of_key}
 use Rattle.picture_store.specs.Stores.{AreNumbered, AreOneToOne, IsNumberOf}
 use Rattle.key_slots.proofs.Members.{nowhere}
 use Rattle.stream_edits.specs.declared.edits.Edit.{Edit}
-use Rattle.edit_engine.specs.declared.showing.Shown.{Shown}
-use Rattle.edit_engine.specs.declared.showing.Shown.TheVariants as shown
+use Rattle.edit_engine.specs.Showing.{Shown}
+use Rattle.stream_session.specs.declared.showing.Shown.TheVariants as shown
 use Rattle.stream_edits.specs.Edits.{Register}
 use Rattle.stream_edits.specs.Groups.{MakesAll}
-use Rattle.edit_engine.specs.Machines.{Machine, RefitsTo, empty, store_of}
-use Rattle.edit_engine.specs.Showing.{HasKey}
+use Rattle.edit_engine.specs.Machines.{Machine}
+use Rattle.stream_session.specs.Machines.{RefitsTo, empty, store_of, uncached}
+use Rattle.stream_session.specs.Showing.{HasKey}
 use Rattle.seat_books.specs.declared.book.SeatBook.{SeatBook}
 use Rattle.seat_books.specs.declared.drop_table.DropTable.{DropTable}
 use Rattle.seat_books.specs.declared.receipts.SeatReceipt.{SeatReceipt}
@@ -39,13 +40,13 @@ pub IsReplayed-next : (journal : List (List Edit)) (books : List SeatBook) (seat
     (old new : Replay) (made cleared : Machine) (edits : List Edit) (ids : List ℕ) (table : DropTable)
     → AreDrops journal books table → IsReplayed journal books seat earlier old → slice_get journal (reach old) ≡ Some edits
     → MakesEntry old.session edits ids made → RefitsTo (store_of old.session) made.register.stream (store_of made)
-    → AreNumbered (store_of old.session) → cleared ≡ record made { cached = [] } → new.session ≡ cleared
+    → AreNumbered (store_of old.session) → cleared ≡ uncached made → new.session ≡ cleared
     → new.seat ≡ old.seat → AreLost cleared old.seat (drops_at table (length cleared.journal)) new.gone
     → ((number : ℕ) → has new.ready number ≡ (has old.ready number && not (has new.gone number)))
     → IsReplayed journal books seat earlier new
 IsReplayed-next journal books seat earlier old new made cleared edits ids table tabled replayed stands makes refits numbered cleared_is
     new_is own lost without =
-    let session_is : new.session ≡ record made { cached = [] } = new_is ∙ cleared_is in
+    let session_is : new.session ≡ uncached made = new_is ∙ cleared_is in
     let entry : MakesEntry old.session edits ids new.session = rw session_is (record { made = makes.made; journaled = makes.journaled }) in
     let more : reach new ≡ reach old + 1 = length_next old.session.journal new.session.journal edits entry.journaled in
     let leads : LeadTo journal (reach old + 1) made.register =

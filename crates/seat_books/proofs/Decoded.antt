@@ -3,18 +3,21 @@ use Rattle.std.proofs.Common.{◌≡◌, ◌⊎◌, ℕ, zero, suc, ◌≤◌, f
 use Rattle.std.specs.Prelude.{◌↔◌, All, Contains, Ok, remove, slice_get}
 use Rattle.std.proofs.lemmas.List.Elements.{All-contains}
 use Rattle.stand_in_device.specs.Jobs.{JobValue}
-use Rattle.picture_keys.specs.Keys.{Key}
+use Rattle.stand_in_device.specs.KeyPictures.{IsMade, IsPicture}
+use Rattle.decode_jobs.specs.Keys.{Key}
 use Rattle.picture_keys.specs.Known.{key_of, known_after}
 use Rattle.picture_store.specs.declared.answers.Landing.{Landing}
 use Rattle.picture_store.specs.declared.answers.Landing.TheVariants as landings
-use Rattle.picture_store.specs.Stores.{OutValue, StoreValue, AreOneToOne, IsNumberOf}
+use Rattle.edit_engine.specs.Machines.{OutValue, StoreValue, Machine}
+use Rattle.picture_store.specs.Stores.{AreOneToOne, IsNumberOf}
 use Rattle.picture_store.specs.Jobs as pictures
 use Rattle.stream_edits.specs.declared.edits.Edit.{Edit}
 use Rattle.stream_edits.specs.Edits.{Register}
-use Rattle.edit_engine.specs.Jobs.{AnswersLand, IsFirstWith, TellsTake}
-use Rattle.edit_engine.specs.Kept.{machine_of}
-use Rattle.edit_engine.specs.Machines.{Machine, store_of}
-use Rattle.edit_engine.specs.Showing.{HasKey}
+use Rattle.edit_engine.specs.Jobs.{TellsTake, AnswersLand}
+use Rattle.stream_session.specs.Jobs.{IsFirstWith}
+use Rattle.stream_session.specs.Kept.{machine_of}
+use Rattle.stream_session.specs.Machines.{store_of}
+use Rattle.stream_session.specs.Showing.{HasKey}
 use Rattle.seat_books.specs.declared.book.SeatBook.{SeatBook}
 use Rattle.seat_books.specs.declared.number_set.NumberSet.{NumberSet}
 use Rattle.seat_books.specs.declared.receipts.SeatReceipt.{SeatReceipt}
@@ -34,7 +37,7 @@ lone x y (suc at, within, is) = absurd (omega (arith, within))
 -- a job that is taken where none is out
 module _ (before mid : Machine) (id : ℕ) (job : JobValue) (told : TellsTake before (Ok (Some (id, job))) mid)
     (none : before.jobs_out ≡ []) where
-  abbrev takes : pictures.Takes (store_of before) job (store_of mid)
+  abbrev takes : pictures.Takes IsPicture (store_of before) job (store_of mid)
   takes = told.0.0
 
   -- what is out then
@@ -106,16 +109,16 @@ module _ (before mid new : Machine) (id : ℕ) (job : JobValue) (told : TellsTak
 
   lands : (landing : Landing) → AnswersLand mid job landing new → Landed before new out.key
   lands landings.Foreign answer =
-      absurd (All-contains (λ (other : OutValue). pictures.IsOf job other → ⊥) mid.jobs_out out answer.0.0
+      absurd (All-contains (λ (other : OutValue). pictures.IsSameJob job other → ⊥) mid.jobs_out out answer.0.2.0
       (subst (λ (jobs : List OutValue). Contains jobs out) (sym is_out) (0, omega arith, refl)) (refl, refl))
   lands landings.Stale answer =
-      let at = answer.0.0 in
-      let stands : slice_get (out ∷ []) at ≡ Some answer.0.1 =
-      subst (λ (jobs : List OutValue). slice_get jobs at ≡ Some answer.0.1) is_out answer.0.2.stands in
-      let same = (only_out out answer.0.1 at stands).0 in
+      let at = answer.0.2.0 in
+      let stands : slice_get (out ∷ []) at ≡ Some answer.0.2.1 =
+      subst (λ (jobs : List OutValue). slice_get jobs at ≡ Some answer.0.2.1) is_out answer.0.2.2.stands in
+      let same = (only_out out answer.0.2.1 at stands).0 in
       let in_use : IsInUse mid.register.stream out.key =
       subst (λ (register : Register). IsInUse register.stream out.key) (sym taken.register_stays) (due before mid id job told none).in_use in
-      elim answer.0.3 [
+      elim answer.0.2.3.0 [
         | inl unused ↦ absurd (unused (subst (λ (other : OutValue). IsInUse mid.register.stream other.key) (sym same) in_use))
         | inr held ↦
             absurd ((due before mid id job told none).awaited
@@ -123,17 +126,17 @@ module _ (before mid new : Machine) (id : ℕ) (job : JobValue) (told : TellsTak
             (subst (λ (other : OutValue). Contains mid.held other.key) same held)))
       ]
   lands landings.Taken answer =
-      let at = answer.0.0 in
-      let stands : slice_get (out ∷ []) at ≡ Some answer.0.1 =
-      subst (λ (jobs : List OutValue). slice_get jobs at ≡ Some answer.0.1) is_out answer.0.2.stands in
-      let only = only_out out answer.0.1 at stands in
-      let new_is = answer.0.6 in
+      let at = answer.0.2.0 in
+      let stands : slice_get (out ∷ []) at ≡ Some answer.0.2.1 =
+      subst (λ (jobs : List OutValue). slice_get jobs at ≡ Some answer.0.2.1) is_out answer.0.2.2.stands in
+      let only = only_out out answer.0.2.1 at stands in
+      let new_is = answer.0.2.3.4 in
       record {
         stays = stays_both answer.1.0 answer.1.1 (ap (λ (store : StoreValue). store.numbers) new_is);
         held = λ other.
             subst (λ (keys : List Key). Contains new.held other ↔ (Contains keys other ⊎ (other ≡ out.key)))
             (held_stays before mid id job told none)
-            (subst (λ (job : OutValue). Contains new.held other ↔ (Contains mid.held other ⊎ (other ≡ job.key))) only.0 (answer.0.5 other));
+            (subst (λ (job : OutValue). Contains new.held other ↔ (Contains mid.held other ⊎ (other ≡ job.key))) only.0 (answer.0.2.3.2 other));
         used = (due before mid id job told none).in_use;
         awaited = (due before mid id job told none).awaited;
         cached_stays = ap (λ (store : StoreValue). store.cached) new_is ∙ cached_stays before mid id job told none;
@@ -197,11 +200,11 @@ Stays-decoded before mid new id job landing told answer =
       numbers_stay = store ∙ ap (λ (store : StoreValue). store.numbers) told.0.0.new_is;
     }
   where
-    numbers_land : (old : StoreValue) (job : JobValue) (landing : Landing) (new : StoreValue) → pictures.AnswersLand old job landing new
+    numbers_land : (old : StoreValue) (job : JobValue) (landing : Landing) (new : StoreValue) → pictures.AnswersResult IsMade old job landing new
         → new.numbers ≡ old.numbers
-    numbers_land old job landings.Foreign new answer = ap (λ (store : StoreValue). store.numbers) answer.1
-    numbers_land old job landings.Stale new answer = ap (λ (store : StoreValue). store.numbers) answer.4
-    numbers_land old job landings.Taken new answer = ap (λ (store : StoreValue). store.numbers) answer.6
+    numbers_land old job landings.Foreign new answer = ap (λ (store : StoreValue). store.numbers) answer.2.1
+    numbers_land old job landings.Stale new answer = ap (λ (store : StoreValue). store.numbers) answer.2.3.1
+    numbers_land old job landings.Taken new answer = ap (λ (store : StoreValue). store.numbers) answer.2.3.4
 
 -- where no job is due, nothing changes
 same_machine : (old new : Machine) → store_of new ≡ store_of old → new.journal ≡ old.journal → new.register ≡ old.register → new ≡ old

@@ -2,13 +2,14 @@
 use Rattle.std.proofs.Common.{◌≡◌, ◌⊎◌, ℕ, ◌+◌, ◌≤◌, Bool, true, false, List, [], ◌∷◌, ◌++◌, take, IsTrue, Some, ap, sym, ◌∙◌, subst, refl, arith, inl, inr}
 use Rattle.std.specs.Prelude.{◌&&◌, ◌||◌, not, slice_get, Contains}
 use Rattle.std.proofs.lemmas.List.Elements.{Contains-append_left, Contains-push, Contains-push_cases}
-use Rattle.picture_keys.specs.Keys.{Key}
+use Rattle.decode_jobs.specs.Keys.{Key}
 use Rattle.picture_store.specs.Stores.{IsNumberOf}
 use Rattle.stream_edits.specs.declared.edits.Edit.{Edit}
 use Rattle.stream_edits.specs.Edits.{Register}
-use Rattle.edit_engine.specs.declared.showing.Dropping.TheVariants as dropping
-use Rattle.edit_engine.specs.Machines.{Machine, store_of}
-use Rattle.edit_engine.specs.Showing.{HasKey}
+use Rattle.edit_engine.specs.declared.dropping.Dropping.TheVariants as dropping
+use Rattle.edit_engine.specs.Machines.{Machine}
+use Rattle.stream_session.specs.Machines.{store_of}
+use Rattle.stream_session.specs.Showing.{HasKey}
 use Rattle.seat_books.specs.declared.book.SeatBook.{SeatBook}
 use Rattle.seat_books.specs.declared.drop_table.DropTable.{DropTable}
 use Rattle.seat_books.specs.declared.drop_table.SeatDrop.{SeatDrop}

@@ -2,10 +2,10 @@
 use Rattle.std.proofs.Common.{◌≡◌, ℕ, Bool, true, false, cond, Some, sym, ◌∙◌, subst, refl, arith, eqb, ◌+◌, List, take}
 use Rattle.std.specs.Prelude.{◌&&◌, ◌||◌, not, slice_get}
 use Rattle.std.proofs.lemmas.Bool.{eqb-true}
-use Rattle.picture_keys.specs.Keys.{Key}
+use Rattle.decode_jobs.specs.Keys.{Key}
 use Rattle.picture_store.specs.Stores.{AreOneToOne, IsNumberOf}
-use Rattle.edit_engine.specs.Machines.{store_of}
-use Rattle.edit_engine.specs.Showing.{HasKey, HasNumber}
+use Rattle.stream_session.specs.Machines.{store_of}
+use Rattle.stream_session.specs.Showing.{HasKey, HasNumber}
 use Rattle.seat_books.specs.declared.drop_table.SeatDrop.{SeatDrop}
 use Rattle.seat_books.specs.declared.replay.Replay.{Replay}
 use Rattle.seat_books.specs.Drops.{AreLost, LosesOne}

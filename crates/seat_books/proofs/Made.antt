@@ -5,8 +5,9 @@ use Rattle.stream_edits.specs.declared.receipts.GroupReceipt.{GroupReceipt}
 use Rattle.stream_edits.specs.declared.receipts.Receipt.{Receipt}
 use Rattle.stream_edits.specs.Groups.{MakesAll}
 use Rattle.stream_edits.proofs.Grouped.{MakesAll-one}
-use Rattle.edit_engine.specs.Grouping.{EditsAll}
-use Rattle.edit_engine.specs.Machines.{Machine, Edits}
+use Rattle.stream_session.specs.Grouping.{EditsAll}
+use Rattle.edit_engine.specs.Machines.{Machine}
+use Rattle.stream_session.specs.Machines.{Edits}
 use Rattle.seat_books.specs.Following.{MakesEntry}
 
 -- an edit by itself

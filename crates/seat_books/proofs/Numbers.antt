@@ -1,15 +1,16 @@
 -- Numbers of keys, and the units that have them.
 use Rattle.std.proofs.Common.{◌≡◌, ℕ, zero, suc, List, [], ◌∷◌, take, Option, None, Some, ap, sym, ◌∙◌, subst, arith}
 use Rattle.std.specs.Prelude.{slice_get, option_and_then, Contains}
-use Rattle.picture_keys.specs.Keys.{Key}
-use Rattle.picture_store.specs.Stores.{StoreValue, AreOneToOne, IsNumberOf, unit_keys}
+use Rattle.decode_jobs.specs.Keys.{Key}
+use Rattle.edit_engine.specs.Machines.{StoreValue, Machine}
+use Rattle.picture_store.specs.Stores.{AreOneToOne, IsNumberOf, unit_keys}
 use Rattle.stream_edits.specs.Edits.{Register}
 use Rattle.stream_edits.specs.Streams.{Stream, ids_of, place_of}
 use Rattle.stream_edits.proofs.GivenIds.{AreDifferent-ids, HasIds-journal}
-use Rattle.edit_engine.specs.Jobs.{IsFirstWith}
-use Rattle.edit_engine.specs.Machines.{Machine, store_of}
-use Rattle.edit_engine.specs.Showing.{keys_in, HasKey, HasNumber}
-use Rattle.edit_engine.proofs.Placed.{placed}
+use Rattle.stream_session.specs.Jobs.{IsFirstWith}
+use Rattle.stream_session.specs.Machines.{store_of}
+use Rattle.stream_session.specs.Showing.{keys_in, HasKey, HasNumber}
+use Rattle.stream_session.proofs.Placed.{placed}
 use Rattle.stream_edits.specs.declared.edits.Edit.{Edit}
 use Rattle.stream_edits.specs.Journals.{edits_of}
 use Rattle.seat_books.specs.Books.{LeadTo}

@@ -4,13 +4,14 @@ use Rattle.std.specs.Prelude.{slice_get, option_and_then, Contains}
 use Rattle.std.specs.List.{zip}
 use Rattle.unit_outcomes.specs.declared.outcome.Outcome.{Outcome}
 use Rattle.request_core.specs.Fold.{outcomes_of}
-use Rattle.picture_keys.specs.Keys.{Key}
+use Rattle.decode_jobs.specs.Keys.{Key}
 use Rattle.picture_keys.specs.Known.{Known, key_of_outcome, keys_after, known_with}
 use Rattle.stream_edits.specs.Streams.{Stream, ids_of, place_of}
-use Rattle.edit_engine.specs.declared.showing.Shown.TheVariants as shown
+use Rattle.stream_session.specs.declared.showing.Shown.TheVariants as shown
 use Rattle.edit_engine.specs.Machines.{Machine}
-use Rattle.edit_engine.specs.Showing.{keys_in, HasKey, Shows}
-use Rattle.edit_engine.specs.Streams.{outcome_in}
+use Rattle.edit_engine.specs.Showing.{Shows}
+use Rattle.stream_session.specs.Showing.{keys_in, HasKey}
+use Rattle.stream_session.specs.Streams.{outcome_in}
 use Rattle.seat_books.proofs.Numbers.{has_place, one_key}
 
 -- a unit's key is that of its outcome

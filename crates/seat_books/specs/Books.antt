@@ -2,19 +2,19 @@
 use Rattle.std.specs.Prelude.{◌≡◌, ◌⊎◌, ℕ, ◌+◌, ◌<◌, ◌≤◌, ◌==◌, Bool, false, List, [], ◌∷◌, Some, None, length, take, slice_get, option_and_then, All, Contains}
 use Rattle.std.specs.List.{list_any}
 use Rattle.unit_outcomes.specs.declared.outcome.Outcome.TheVariants as outcomes
-use Rattle.picture_keys.specs.Keys.{Key}
-use Rattle.picture_keys.specs.KeyPictures.{picture_of_key}
+use Rattle.decode_jobs.specs.Keys.{Key}
+use Rattle.stand_in_device.specs.KeyPictures.{picture_of_key}
 use Rattle.stream_edits.specs.declared.edits.Edit.{Edit}
-use Rattle.edit_engine.specs.declared.showing.Dropping.{Dropping}
-use Rattle.edit_engine.specs.declared.showing.Dropping.TheVariants as dropping
-use Rattle.edit_engine.specs.declared.showing.Shown.{Shown}
-use Rattle.edit_engine.specs.declared.showing.Shown.TheVariants as shown
+use Rattle.edit_engine.specs.declared.dropping.Dropping.{Dropping}
+use Rattle.edit_engine.specs.declared.dropping.Dropping.TheVariants as dropping
+use Rattle.edit_engine.specs.Showing.{Shown}
+use Rattle.stream_session.specs.declared.showing.Shown.TheVariants as shown
 use Rattle.stream_edits.specs.Streams.{Stream, place_of}
-use Rattle.edit_engine.specs.Streams.{outcome_in}
+use Rattle.stream_session.specs.Streams.{outcome_in}
 use Rattle.stream_edits.specs.Edits.{Register, no_units, Replays}
 use Rattle.stream_edits.specs.Groups.{MakesAll}
 use Rattle.stream_edits.specs.Journals.{edits_of}
-use Rattle.edit_engine.specs.Showing.{keys_in, HasKey}
+use Rattle.stream_session.specs.Showing.{keys_in, HasKey}
 use Rattle.seat_books.specs.declared.book.SeatBook.{SeatBook}
 use Rattle.seat_books.specs.declared.receipts.SeatReceipt.{SeatReceipt}
 use Rattle.seat_books.specs.declared.receipts.SeatReceipt.TheVariants as receipts

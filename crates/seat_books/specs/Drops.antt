@@ -1,12 +1,13 @@
 -- The drops that books note, by the length of the journal.
 use Rattle.std.specs.Prelude.{◌≡◌, ◌↔◌, ◌||◌, ◌&&◌, ◌≤◌, ℕ, Bool, not, List, [], Some, IsTrue, length, option_map, slice_get, unwrap_or, Contains}
-use Rattle.picture_keys.specs.Keys.{Key}
+use Rattle.decode_jobs.specs.Keys.{Key}
 use Rattle.picture_store.specs.Stores.{IsNumberOf}
 use Rattle.stream_edits.specs.declared.edits.Edit.{Edit}
 use Rattle.stream_edits.specs.Streams.{Stream}
-use Rattle.edit_engine.specs.declared.showing.Dropping.TheVariants.{Dropped}
-use Rattle.edit_engine.specs.Machines.{Machine, store_of}
-use Rattle.edit_engine.specs.Showing.{HasKey}
+use Rattle.edit_engine.specs.declared.dropping.Dropping.TheVariants.{Dropped}
+use Rattle.edit_engine.specs.Machines.{Machine}
+use Rattle.stream_session.specs.Machines.{store_of}
+use Rattle.stream_session.specs.Showing.{HasKey}
 use Rattle.seat_books.specs.declared.book.SeatBook.{SeatBook}
 use Rattle.seat_books.specs.declared.drop_table.DropTable.{DropTable}
 use Rattle.seat_books.specs.declared.drop_table.SeatDrop.{SeatDrop}

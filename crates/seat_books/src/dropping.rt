@@ -3,8 +3,8 @@
 ghost use Rattle.std.specs.Bool.{Decides};
 ghost use Rattle.std.specs.Prelude.{◌≡◌, ◌&&◌, ℕ, List, OnOk, not};
 ghost use Rattle.stream_edits.specs.declared.edits.Edit.{Edit as EditValue};
-ghost use Rattle.picture_keys.specs.Keys.{Key};
-ghost use Rattle.edit_engine.specs.Showing.{HasKey};
+ghost use Rattle.decode_jobs.specs.Keys.{Key};
+ghost use Rattle.stream_session.specs.Showing.{HasKey};
 ghost use Rattle.seat_books.specs.declared.book.SeatBook.{SeatBook as Book};
 ghost use Rattle.seat_books.specs.declared.receipts.SeatReceipt.{SeatReceipt as Receipt};
 ghost use Rattle.seat_books.specs.Books.{HasNoKey};

@@ -1,7 +1,7 @@
 //! The making of a journal's entries.
 
 ghost use Rattle.std.specs.Prelude.{◌∷◌, [], IfOk, OnOk};
-ghost use Rattle.edit_engine.specs.Machines.{RefitsTo, store_of};
+ghost use Rattle.stream_session.specs.Machines.{RefitsTo, store_of};
 ghost use Rattle.seat_books.specs.Following.{MakesEntry};
 
 use crate::copying::copy_of_edits;

@@ -1,10 +1,10 @@
 -- What is told of a unit more.
-use Rattle.std.proofs.Common.{◌≡◌, ◌∙◌, List, [], ◌∷◌, ◌++◌, ℕ, Option, map, filter_map, ap, ap₂, refl, rules, sym}
+use Rattle.std.proofs.Common.{◌≡◌, ◌∙◌, List, [], ◌∷◌, ◌++◌, ℕ, Option, ap, ap₂, refl, rules, sym}
 use Rattle.std.proofs.lemmas.List.{map-append}
 use Rattle.std.proofs.lemmas.List.Elements.{All-push, filter_map-append}
 use Rattle.stand_in_device.specs.declared.picture.Picture.{Picture}
 use Rattle.edit_script.specs.Words.{id_of}
-use Rattle.edit_engine.specs.declared.showing.Shown.{Shown}
+use Rattle.edit_engine.specs.Showing.{Shown}
 use Rattle.edit_engine.specs.Machines.{Machine}
 use Rattle.edit_engine.specs.Showing.{Shows}
 use Rattle.serve_calls.specs.declared.wanted_units.WantedUnit.{WantedUnit}

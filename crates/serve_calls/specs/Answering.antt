@@ -2,10 +2,9 @@
 use Rattle.std.specs.Prelude.{◌≡◌, ℕ, ◌<◌, ◌≤◌, Bool, List, length, take, drop, slice_get, filter_map, option_and_then, option_map, Option, Some, None, Result, Ok}
 use Rattle.stream_edits.specs.Streams.{Stream, ids_of}
 use Rattle.edit_script.specs.Words.{id_of}
-use Rattle.edit_engine.specs.declared.showing.Shown.{Shown}
+use Rattle.edit_engine.specs.Showing.{Shown, Shows}
 use Rattle.edit_engine.specs.Machines.{Machine}
-use Rattle.edit_engine.specs.Showing.{Shows}
-use Rattle.edit_engine.specs.Streams.{outcome_in, position_in}
+use Rattle.stream_session.specs.Streams.{outcome_in, position_in}
 use Rattle.serve_messages.specs.declared.failure.Failure.{Failure}
 use Rattle.serve_messages.specs.declared.answer.Answer.{Answer}
 use Rattle.serve_messages.specs.declared.answer.Answer.TheVariants as answer

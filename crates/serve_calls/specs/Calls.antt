@@ -1,5 +1,5 @@
 -- The result of each call, and what becomes of the server and of the units that are wanted.
-use Rattle.std.specs.Prelude.{◌≡◌, ℕ, Bool, true, false, List, Option, None, Some, option_map, Result, Ok, Err}
+use Rattle.std.specs.Prelude.{◌≡◌, ℕ, Bool, true, false, List, Option, option_map, Result, Ok, Err}
 use Rattle.edit_script.specs.Words.{id_of}
 use Rattle.edit_engine.specs.Machines.{Machine}
 use Rattle.serve_messages.specs.declared.call.Call.{Call}

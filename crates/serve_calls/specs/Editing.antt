@@ -9,9 +9,10 @@ use Rattle.stream_edits.specs.Edits.{Register}
 use Rattle.stream_edits.specs.GroupRefusals.{IsGroupRefused}
 use Rattle.stream_edits.specs.Refusals.{IsRefused}
 use Rattle.edit_script.specs.Words.{id_of}
-use Rattle.edit_engine.specs.declared.showing.Dropping.{Dropping}
-use Rattle.edit_engine.specs.Grouping.{AnswersGroup}
-use Rattle.edit_engine.specs.Machines.{Machine, AnswersEdit}
+use Rattle.edit_engine.specs.declared.dropping.Dropping.{Dropping}
+use Rattle.stream_session.specs.Grouping.{AnswersGroup}
+use Rattle.edit_engine.specs.Machines.{Machine}
+use Rattle.stream_session.specs.Machines.{AnswersEdit}
 use Rattle.edit_engine.specs.Needing.{AnswersDrop}
 use Rattle.serve_messages.specs.declared.failure.Failure.{Failure}
 use Rattle.serve_messages.specs.declared.answer.Answer.{Answer}

@@ -9,7 +9,7 @@ use Rattle.edit_engine.specs.declared.refusals.NotOut.{NotOut}
 use Rattle.edit_engine.specs.declared.replies.TakenJob.{TakenJob}
 use Rattle.edit_engine.specs.Machines.{Machine}
 use Rattle.edit_engine.specs.Runs.{TakesJob, TakesJobFor, LandsJob, GivesJobBack}
-use Rattle.edit_engine.specs.Taken.{input_of}
+use Rattle.stream_session.specs.Taken.{input_of}
 use Rattle.serve_messages.specs.declared.failure.Failure.{Failure}
 use Rattle.serve_messages.specs.declared.failure.Failure.TheVariants.{Refused}
 use Rattle.serve_messages.specs.declared.failure.Refusal.TheVariants as refusal

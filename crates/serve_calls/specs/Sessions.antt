@@ -1,10 +1,10 @@
 -- The session that answers a server's calls: one that may be what the server keeps. A session alone
 -- is the only one that may be; of a desk's, which lies under a lock, no clause knows which one it
 -- is.
-use Rattle.std.specs.Prelude.{◌≡◌, []}
 use Rattle.stream_edits.specs.Edits.{no_units, Replays}
 use Rattle.stream_edits.specs.Journals.{edits_of}
 use Rattle.edit_engine.specs.Machines.{Machine}
+use Rattle.stream_session.specs.Machines.{uncached}
 
 -- a session that may be the one answers so; its stream is what its journal leads to
 abbrev pub Asks : (Machine → Type 0) → (Machine → Type 0) → Type 0
@@ -24,4 +24,4 @@ Stays before after = (machine : Machine) → before machine → after machine
 -- whichever session may be the one before a call may be it after the call, without the pictures
 -- that it has cached
 abbrev pub Clears : (Machine → Type 0) → (Machine → Type 0) → Type 0
-Clears before after = (machine : Machine) → before machine → after (record machine { cached = [] })
+Clears before after = (machine : Machine) → before machine → after (uncached machine)

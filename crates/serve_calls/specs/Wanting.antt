@@ -1,12 +1,11 @@
 -- What a session tells of wanted units.
-use Rattle.std.specs.Prelude.{◌≡◌, ◌⊎◌, ◌<◌, ◌≤◌, ◌++◌, ◌∷◌, [], ℕ, Bool, true, false, List, length, map, filter_map, All, option_map, Option, None, Some, Result, Ok, Err, if◌then◌else◌}
+use Rattle.std.specs.Prelude.{◌≡◌, ◌⊎◌, ◌<◌, ◌≤◌, ◌++◌, ◌∷◌, [], ℕ, Bool, true, false, List, length, map, filter_map, All, option_map, Option, None, Some, Result, Ok, Err}
 use Rattle.hex.specs.Hex.{encode_lower}
 use Rattle.stand_in_device.specs.declared.picture.Picture.{Picture}
 use Rattle.edit_script.specs.Words.{id_of}
-use Rattle.edit_engine.specs.declared.showing.Shown.{Shown}
-use Rattle.edit_engine.specs.declared.showing.Shown.TheVariants as shown
+use Rattle.edit_engine.specs.Showing.{Shown, Shows}
+use Rattle.stream_session.specs.declared.showing.Shown.TheVariants as shown
 use Rattle.edit_engine.specs.Machines.{Machine}
-use Rattle.edit_engine.specs.Showing.{Shows}
 use Rattle.serve_messages.specs.declared.failure.Failure.{Failure}
 use Rattle.serve_messages.specs.declared.failure.Failure.TheVariants.{Refused}
 use Rattle.serve_messages.specs.declared.failure.Refusal.TheVariants as refusal

@@ -3,8 +3,8 @@
 ghost use Rattle.std.specs.Prelude.{◌≡◌, ◌≤◌, ◌↔◌, Err, IfOk, IfSome, IsErrOf, MatchOption, MatchResult, None, Some, true};
 ghost use Rattle.picture_cache.specs.Bounded.{most_room};
 ghost use Rattle.stand_in_device.specs.Inputs.{InputValue};
-ghost use Rattle.edit_engine.specs.Machines.{empty};
-ghost use Rattle.edit_engine.specs.Taken.{input_of};
+ghost use Rattle.stream_session.specs.Machines.{empty};
+ghost use Rattle.stream_session.specs.Taken.{input_of};
 ghost use Rattle.serve_messages.specs.JobAnswers.{job_answer};
 ghost use Rattle.serve_calls.specs.Failing.{out_of_memory};
 ghost use Rattle.serve_calls.specs.Jobs.{TellsJob};

@@ -2,8 +2,9 @@
 
 ghost use Rattle.std.specs.Prelude.{◌≡◌, ◌≤◌, Bool, true, false, Err, length};
 ghost use Rattle.std.specs.Fn.{FnOnceReturnsAt};
-ghost use Rattle.edit_engine.specs.Machines.{AnswersEdit, Machine};
-ghost use Rattle.edit_engine.specs.Grouping.{AnswersGroup};
+ghost use Rattle.edit_engine.specs.Machines.{Machine};
+ghost use Rattle.stream_session.specs.Machines.{AnswersEdit};
+ghost use Rattle.stream_session.specs.Grouping.{AnswersGroup};
 ghost use Rattle.edit_engine.specs.Needing.{AnswersDrop};
 ghost use Rattle.serve_calls.specs.Jobs.{GivesBackAs, LandsAs, TakesAs};
 ghost use Rattle.serve_calls.specs.Sessions.{Asks, Clears, Stays, Steps};

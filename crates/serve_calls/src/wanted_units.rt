@@ -1,7 +1,7 @@
 //! The units that are wanted, and what was told of each.
 
 ghost use Rattle.std.specs.Prelude.{◌≡◌, ◌≢◌, All, IfOk, MatchBool, MatchOption, OnOk, Some};
-ghost use Rattle.edit_engine.specs.declared.showing.Shown.TheVariants.{Ready};
+ghost use Rattle.stream_session.specs.declared.showing.Shown.TheVariants.{Ready};
 ghost use Rattle.stand_in_device.specs.declared.picture.Picture.{Picture};
 ghost use Rattle.serve_calls.specs.WantedUnits.{AddsOne, AreWanted, IsAmong};
 

@@ -5,7 +5,7 @@ use Rattle.base64.specs.GeneralPurpose.{encode_of}
 use Rattle.hex.specs.Hex.{encode_lower}
 use Rattle.h264_controls.specs.declared.request.Request.{Request}
 use Rattle.stand_in_device.specs.Inputs.{InputValue}
-use Rattle.stand_in_device.specs.declared.input.Reference.{Reference}
+use Rattle.stand_in_device.specs.Inputs.{Reference}
 use Rattle.unit_json.specs.RequestsJson.{request_json}
 use Rattle.serve_messages.specs.declared.job_answers.JobAnswer.{JobAnswer}
 use Rattle.serve_messages.specs.declared.job_answers.ReferenceAnswer.{ReferenceAnswer}

@@ -1,12 +1,12 @@
 -- What a session's answers are as results (docs/SERVER.md).
-use Rattle.std.specs.Prelude.{ℕ, List, Result, Ok, Err}
+use Rattle.std.specs.Prelude.{Result, Ok, Err}
 use Rattle.hex.specs.Hex.{encode_lower}
 use Rattle.unit_outcomes.specs.Numbers.{number_of}
 use Rattle.edit_engine.specs.declared.refusals.NotOut.{NotOut}
-use Rattle.edit_engine.specs.declared.showing.Dropping.{Dropping}
-use Rattle.edit_engine.specs.declared.showing.Dropping.TheVariants as dropping
-use Rattle.edit_engine.specs.declared.showing.Shown.{Shown}
-use Rattle.edit_engine.specs.declared.showing.Shown.TheVariants as shown
+use Rattle.edit_engine.specs.declared.dropping.Dropping.{Dropping}
+use Rattle.edit_engine.specs.declared.dropping.Dropping.TheVariants as dropping
+use Rattle.edit_engine.specs.Showing.{Shown}
+use Rattle.stream_session.specs.declared.showing.Shown.TheVariants as shown
 use Rattle.picture_store.specs.declared.answers.Landing.{Landing}
 use Rattle.picture_store.specs.declared.answers.Landing.TheVariants as landing
 use Rattle.picture_store.specs.declared.answers.Returning.{Returning}

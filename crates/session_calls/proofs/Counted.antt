@@ -5,7 +5,7 @@ use Rattle.stream_edits.specs.declared.group_refused.GroupRefused.{GroupRefused}
 use Rattle.stream_edits.specs.declared.receipts.GroupReceipt.{GroupReceipt}
 use Rattle.stream_edits.specs.Edits.{Register}
 use Rattle.stream_edits.specs.Groups.{MakesAll}
-use Rattle.edit_engine.specs.Grouping.{AnswersGroup}
+use Rattle.stream_session.specs.Grouping.{AnswersGroup}
 use Rattle.edit_engine.specs.Machines.{Machine}
 
 -- there are as many as edits

@@ -5,7 +5,7 @@ use Rattle.unit_outcomes.specs.declared.outcome.Outcome.{Outcome}
 use Rattle.unit_outcomes.specs.declared.outcome.Outcome.TheVariants as outcomes
 use Rattle.unit_outcomes.specs.Numbers.{number_of}
 use Rattle.stream_edits.specs.Streams.{Stream, ids_of, place_of}
-use Rattle.edit_engine.specs.Streams.{outcome_in, position_in}
+use Rattle.stream_session.specs.Streams.{outcome_in, position_in}
 use Rattle.session_calls.specs.declared.asking.UnitOutcome.{UnitOutcome}
 use Rattle.session_calls.specs.Statuses.{no_such_place, no_such_unit, not_valid}
 use Rattle.session_calls.specs.Telling.{flag, found_or}

@@ -1,8 +1,9 @@
 -- Pictures that a session holds no more, and what is told of them.
-use Rattle.std.specs.Prelude.{◌≡◌, ◌⊎◌, ℕ, []}
-use Rattle.edit_engine.specs.declared.showing.Dropping.{Dropping}
-use Rattle.edit_engine.specs.declared.showing.Dropping.TheVariants as droppings
+use Rattle.std.specs.Prelude.{◌≡◌, ◌⊎◌, ℕ}
+use Rattle.edit_engine.specs.declared.dropping.Dropping.{Dropping}
+use Rattle.edit_engine.specs.declared.dropping.Dropping.TheVariants as droppings
 use Rattle.edit_engine.specs.Machines.{Machine}
+use Rattle.stream_session.specs.Machines.{uncached}
 use Rattle.edit_engine.specs.Needing.{AnswersDrop}
 use Rattle.session_calls.specs.Statuses.{done, memory, no_such_unit, not_held}
 
@@ -23,4 +24,4 @@ DropsTo old id status new =
 -- changes
 abbrev pub ClearsTo : Machine → ℕ → Machine → Type 0
 ClearsTo old status new =
-    ((status ≡ done) × (new ≡ record old { cached = [] })) ⊎ ((status ≡ memory) × (new ≡ old))
+    ((status ≡ done) × (new ≡ uncached old)) ⊎ ((status ≡ memory) × (new ≡ old))

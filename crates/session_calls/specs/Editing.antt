@@ -4,7 +4,8 @@ use Rattle.stream_edits.specs.declared.edits.Edit.{Edit}
 use Rattle.stream_edits.specs.declared.receipts.Receipt.{Receipt}
 use Rattle.stream_edits.specs.declared.refusals.EditRefused.{EditRefused}
 use Rattle.stream_edits.specs.Numbers.{number_of}
-use Rattle.edit_engine.specs.Machines.{Machine, AnswersEdit}
+use Rattle.edit_engine.specs.Machines.{Machine}
+use Rattle.stream_session.specs.Machines.{AnswersEdit}
 use Rattle.session_calls.specs.declared.editing.EditReceipt.{EditReceipt}
 use Rattle.session_calls.specs.Statuses.{memory}
 use Rattle.session_calls.specs.Telling.{Tells}

@@ -1,7 +1,7 @@
 -- The unit at a position in output order.
 use Rattle.std.specs.Prelude.{◌≡◌, ℕ, All, Some, Result, Ok, Err}
 use Rattle.stream_edits.specs.Streams.{Stream, ids_of}
-use Rattle.edit_engine.specs.Streams.{position_in}
+use Rattle.stream_session.specs.Streams.{position_in}
 use Rattle.session_calls.specs.Statuses.{no_such_place}
 
 -- the unit of the id has the position

@@ -10,7 +10,7 @@ use Rattle.stream_edits.specs.declared.group_refused.GroupRefused.TheVariants as
 use Rattle.stream_edits.specs.GroupRefusals.{number_of_group}
 use Rattle.stream_edits.specs.Numbers.{number_of}
 use Rattle.edit_engine.specs.Machines.{Machine}
-use Rattle.edit_engine.specs.Grouping.{AnswersGroup}
+use Rattle.stream_session.specs.Grouping.{AnswersGroup}
 use Rattle.session_calls.specs.declared.grouping.EditAsked.{EditAsked}
 use Rattle.session_calls.specs.declared.grouping.GroupTold.{GroupTold}
 use Rattle.session_calls.specs.Editing.{IsWanting}

@@ -2,7 +2,7 @@
 use Rattle.std.specs.Prelude.{◌≡◌, ◌⊎◌, ◌/◌, ℕ, List, [], ◌∷◌, length, Option, None, Some, Result, Ok, Err, slice_get}
 use Rattle.std.specs.Option.{option_map}
 use Rattle.h264_controls.specs.declared.request.Request.{Request}
-use Rattle.stand_in_device.specs.declared.input.Reference.{Reference}
+use Rattle.stand_in_device.specs.Inputs.{Reference}
 use Rattle.stand_in_device.specs.Inputs.{InputValue}
 use Rattle.stand_in_device.specs.Pictures.{picture_of}
 use Rattle.session_calls.specs.declared.job_inputs.JobInput.{JobInput}

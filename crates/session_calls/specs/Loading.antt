@@ -9,10 +9,10 @@ use Rattle.stream_edits.specs.declared.edits.Edit.TheVariants.{Insert}
 use Rattle.stream_edits.specs.declared.receipts.Receipt.{Receipt}
 use Rattle.stream_edits.specs.declared.refusals.EditRefused.{EditRefused}
 use Rattle.stream_edits.specs.Numbers.{number_of}
-use Rattle.stream_edits.specs.Streams.{Stream}
-use Rattle.edit_engine.specs.Machines.{Machine, AnswersEdit}
+use Rattle.stream_edits.specs.Streams.{Stream, end_of}
+use Rattle.edit_engine.specs.Machines.{Machine}
+use Rattle.stream_session.specs.Machines.{AnswersEdit}
 use Rattle.session_calls.specs.declared.loading.LoadTold.{LoadTold}
-use Rattle.stream_edits.specs.Streams.{end_of}
 use Rattle.session_calls.specs.Statuses.{done, memory}
 
 -- nothing was inserted, with this index

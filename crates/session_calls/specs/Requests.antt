@@ -14,8 +14,8 @@ use Rattle.linux_layouts.specs.SliceParamsLayout.{slice_params_layout}
 use Rattle.linux_layouts.specs.DecodeParamsLayout.{decode_params_layout}
 use Rattle.linux_layouts.specs.declared.pred_weights.PredWeights.{PredWeights}
 use Rattle.edit_engine.specs.Machines.{Machine}
-use Rattle.edit_engine.specs.Streams.{outcome_in}
-use Rattle.edit_engine.specs.Taken.{input_of}
+use Rattle.stream_session.specs.Streams.{outcome_in}
+use Rattle.stream_session.specs.Taken.{input_of}
 use Rattle.session_calls.specs.declared.requests.SliceRequest.{SliceRequest}
 use Rattle.session_calls.specs.Filling.{Fills}
 use Rattle.session_calls.specs.Statuses.{no_such_job, no_such_slice, no_such_unit, no_weights, not_valid}

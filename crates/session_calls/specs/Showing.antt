@@ -1,9 +1,8 @@
 -- What is shown of a unit, and told.
 use Rattle.std.specs.Prelude.{ℕ, List, Result, Ok, Err}
-use Rattle.edit_engine.specs.declared.showing.Shown.{Shown}
-use Rattle.edit_engine.specs.declared.showing.Shown.TheVariants as shown
+use Rattle.edit_engine.specs.Showing.{Shown, Shows}
+use Rattle.stream_session.specs.declared.showing.Shown.TheVariants as shown
 use Rattle.edit_engine.specs.Machines.{Machine}
-use Rattle.edit_engine.specs.Showing.{Shows}
 use Rattle.session_calls.specs.Statuses.{has_fault, no_picture, no_such_unit, pending}
 use Rattle.session_calls.specs.Telling.{Tells}
 

@@ -2,7 +2,7 @@
 
 ghost use Rattle.std.specs.Prelude.{◌≡◌};
 ghost use Rattle.stream_edits.specs.declared.edits.Edit.TheVariants.{Insert, Replace, Delete};
-ghost use Rattle.edit_engine.specs.Machines.{AnswersEdit};
+ghost use Rattle.stream_session.specs.Machines.{AnswersEdit};
 ghost use Rattle.stream_edits.specs.Streams.{end_of};
 ghost use Rattle.session_calls.specs.Editing.{EditsBy, EditsByCopy, told_edit};
 

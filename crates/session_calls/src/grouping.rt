@@ -1,7 +1,7 @@
 //! Groups of edits.
 
 ghost use Rattle.std.specs.Prelude.{◌≡◌, ◌≤◌, None, Some, length, IfErr, IfOk, MatchOption};
-ghost use Rattle.edit_engine.specs.Grouping.{AnswersGroup};
+ghost use Rattle.stream_session.specs.Grouping.{AnswersGroup};
 ghost use Rattle.session_calls.specs.Grouping.{AreAsked, GroupsBy, GroupsTo, TellsGroup, asked_edit, filled, text_in, told_at};
 ghost use Rattle.session_calls.specs.AskedFaults.{IsAskedFault};
 ghost use Rattle.session_calls.specs.declared.grouping.AskedFault.TheVariants.{Memory};

@@ -1,9 +1,9 @@
 //! What a job that is out is made of, and the picture that it makes.
 
 ghost use Rattle.std.specs.Prelude.{◌≡◌, Some, IfOk, IsTrue};
-ghost use Rattle.stand_in_device.specs.Inputs.{is_whole};
+ghost use Rattle.decode_jobs.specs.Inputs.{is_whole};
 ghost use Rattle.stand_in_device.specs.Pictures.{picture_of};
-ghost use Rattle.edit_engine.specs.Taken.{input_of};
+ghost use Rattle.stream_session.specs.Taken.{input_of};
 ghost use Rattle.session_calls.specs.JobInputs.{TellsPicture, input_told, reference_told, told_input, told_reference, unit_of};
 ghost use Rattle.session_calls.specs.Telling.{Tells};
 

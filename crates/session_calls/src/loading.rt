@@ -3,7 +3,7 @@
 ghost use Rattle.std.specs.Prelude.{◌≡◌};
 ghost use Rattle.annexb.specs.ByteStream.{joined};
 ghost use Rattle.stream_edits.specs.declared.edits.Edit.TheVariants.{Insert};
-ghost use Rattle.edit_engine.specs.Machines.{AnswersEdit};
+ghost use Rattle.stream_session.specs.Machines.{AnswersEdit};
 ghost use Rattle.stream_edits.specs.Streams.{end_of};
 ghost use Rattle.session_calls.specs.Loading.{InsertsAll, LoadsTo, index_of, none_at, number_of_refusal, with_one};
 

@@ -1,5 +1,5 @@
 ghost use Rattle.std.specs.Prelude.{◌≡◌};
-ghost use Rattle.edit_engine.specs.Machines.{empty};
+ghost use Rattle.stream_session.specs.Machines.{empty};
 
 mod damage;
 mod edits;

@@ -4,7 +4,7 @@ use Rattle.std.proofs.lemmas.Bool.{and_parts, eqb-true}
 use Rattle.std.proofs.lemmas.List.{take_all}
 use Rattle.std.specs.List.{flat_map}
 use Rattle.h264_controls.specs.declared.request.Request.{Request}
-use Rattle.stand_in_device.specs.Inputs.{holds_but_last}
+use Rattle.decode_jobs.specs.Inputs.{holds_but_last}
 use Rattle.stand_in_device.specs.Decoding.{AllHave}
 
 -- the slices after the first

@@ -1,8 +1,7 @@
--- Jobs.
-use Rattle.std.specs.Prelude.{ℕ}
-use Rattle.stand_in_device.specs.Inputs.{InputValue}
+-- Jobs over the pictures of the stand-in.
+use Rattle.decode_jobs.specs.Jobs as generic
+use Rattle.stand_in_device.specs.declared.picture.Picture.{Picture}
 
--- a job, and what comes of it: its number, and what the picture is made of
-pub record JobValue : Type 0 where
-  pub number : ℕ
-  pub input : InputValue
+-- a job, and what comes of it
+abbrev pub JobValue : Type 0
+JobValue = generic.JobValue Picture

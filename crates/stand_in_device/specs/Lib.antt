@@ -1,5 +1,7 @@
-pub mod Inputs
 pub mod Pictures
+pub mod KeyPictures
+pub mod Pictured
+pub mod Inputs
 pub mod Jobs
 pub mod Fronts
 pub mod SliceWorks

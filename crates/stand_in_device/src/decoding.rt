@@ -4,7 +4,7 @@ ghost use Rattle.std.specs.Prelude.{◌≡◌, ◌∷◌, ◌++◌, ℕ, List, [
 ghost use Rattle.sha2.specs.Hashers.{Holds256};
 ghost use Rattle.m2m_queues.specs.Buffers.{done, queued};
 ghost use Rattle.std.specs.List.{flat_map};
-ghost use Rattle.stand_in_device.specs.Inputs.{holds_but_last};
+ghost use Rattle.decode_jobs.specs.Inputs.{holds_but_last};
 ghost use Rattle.stand_in_device.specs.Decoding.{AllHave, CanTake, IsBetween, IsDecoded, IsRun, IsWaiting, written_by};
 ghost use Rattle.stand_in_device.specs.Pictures.{record_of};
 

@@ -1,12 +1,11 @@
 //! The device.
 
 ghost use Rattle.std.specs.Prelude.{◌≡◌, ◌∷◌, ◌++◌, [], IfErr, IfOk, IsTrue, OnErr, OnOk};
-ghost use Rattle.stand_in_device.specs.Inputs.{is_whole};
+ghost use Rattle.decode_jobs.specs.Inputs.{is_whole};
 ghost use Rattle.stand_in_device.specs.Pictures.{picture_of};
 
 use crate::decoding::Decoding;
-use crate::input::{Input, Reference};
-use crate::job::{Finished, Job, Undone};
+use crate::job::{Finished, Input, Job, Reference, Undone};
 use crate::picture::Picture;
 use crate::slice_digest::SliceDigest;
 use std::alloc::{AllocError, Global};
@@ -27,9 +26,10 @@ impl Drop for Device {
 
 impl Model for Device {
     ghost use Rattle.std.specs.Prelude.{List};
-    ghost use Rattle.stand_in_device.specs.declared.input.Reference.{Reference};
+    ghost use Rattle.decode_jobs.specs.declared.input.Reference.{Reference};
+    ghost use Rattle.stand_in_device.specs.declared.picture.Picture.{Picture};
 
-    ghost Value = { List Reference };
+    ghost Value = { List (Reference Picture) };
 
     ghost view = { λ device. device.work.frames.items };
 }

@@ -9,15 +9,14 @@
 
 mod decoding;
 mod device;
-mod input;
 mod job;
+mod laws;
 mod picture;
 mod records;
-mod same;
 mod sets_digest;
 mod slice_digest;
 
 pub use device::Device;
-pub use input::{Input, Reference};
-pub use job::{Finished, Job, Undone};
+pub use job::{Finished, Input, Job, Reference, Undone};
+pub use laws::picture_of_a_key_is_its_digest;
 pub use picture::Picture;

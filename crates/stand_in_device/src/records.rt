@@ -3,11 +3,12 @@
 ghost use Rattle.std.specs.Prelude.{◌≡◌, ◌++◌, ℕ, List, replicate, slice_get};
 ghost use Rattle.std.specs.List.{flat_map};
 ghost use Rattle.sha2.specs.Hashers.{Holds256};
-ghost use Rattle.stand_in_device.specs.Inputs.{entries_of};
+ghost use Rattle.decode_jobs.specs.Inputs.{entries_of};
 ghost use Rattle.stand_in_device.specs.Pictures.{entry_bytes, picture_bytes, size_bytes};
 
-use crate::input::{Reference, picture_of_frame};
+use crate::job::Reference;
 use crate::picture::Picture;
+use decode_jobs::picture_of_frame;
 use h264_controls::{Controls, References};
 use sha2::{Digest, Sha256};
 

@@ -9,11 +9,11 @@ ghost use Rattle.std.specs.List.{flat_map};
 ghost use Rattle.sha2.specs.Hashers.{Holds256};
 ghost use Rattle.sha2.specs.Sha256.{sha256};
 ghost use Rattle.param_set_controls.specs.SetsForm.{sets_form};
-ghost use Rattle.stand_in_device.specs.Inputs.{entries_of};
+ghost use Rattle.decode_jobs.specs.Inputs.{entries_of};
 ghost use Rattle.stand_in_device.specs.Pictures.{entry_bytes, size_bytes, slice_record};
 ghost use Rattle.stand_in_device.specs.SliceWorks.{Adds};
 
-use crate::input::Reference;
+use crate::job::Reference;
 use crate::picture::Picture;
 use crate::records::{feed_bytes, feed_references};
 use crate::sets_digest::SetsDigest;

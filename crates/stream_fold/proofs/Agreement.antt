@@ -6,7 +6,7 @@ use Rattle.request_core.specs.States.{FoldState, no_units}
 use Rattle.request_core.specs.Fold.{fold_step, outcomes_from, outcomes_of}
 use Rattle.request_core.specs.Agreement.{Stream, state_from}
 use Rattle.request_core.proofs.Agreement.{outcomes_from-append, state_from-append}
-use Rattle.picture_keys.specs.Keys.{Key}
+use Rattle.decode_jobs.specs.Keys.{Key}
 use Rattle.picture_keys.specs.Known.{Known, key_of_outcome, known_with, known_after, keys_after, keys_of}
 use Rattle.stream_fold.specs.Agreement.{becoming, marked_keys, marked_keys_of, Agree, GoOnAlike}
 use Rattle.stream_fold.proofs.AlikeKeys.{AreAlike, alike_from_keys, keys_from_alike}

@@ -10,9 +10,9 @@ use Rattle.pictures.specs.declared.counts.Counts.{Counts}
 use Rattle.pictures.specs.declared.frames.Frame.{Frame}
 use Rattle.h264_controls.specs.declared.request.Request.{Request}
 use Rattle.h264_controls.specs.References.{references}
-use Rattle.stand_in_device.specs.Inputs.{entries_of}
+use Rattle.decode_jobs.specs.Inputs.{entries_of}
 use Rattle.request_core.specs.Requests.{ListedSlice, request_of, requests_of}
-use Rattle.picture_keys.specs.Keys.{Key, works_of, unit_named, named_by, named_by_all, tree_with}
+use Rattle.decode_jobs.specs.Keys.{Key, works_of, unit_named, named_by, named_by_all, tree_with}
 use Rattle.picture_keys.specs.Known.{Known, key_at, key_of, known_with}
 
 -- the key of a unit is the same in both

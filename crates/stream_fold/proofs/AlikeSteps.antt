@@ -16,7 +16,7 @@ use Rattle.slice_reading.specs.Faults.{first_shown, slice_rows}
 use Rattle.request_core.specs.Faults.{picture_rows}
 use Rattle.request_core.specs.Requests.{ListedSlice, requests_of}
 use Rattle.request_core.specs.Fold.{passes, counted, listed, marked, state_after, plan_of, picture_after, picture_of, with_sets, planned, outcome_of, fold_step}
-use Rattle.picture_keys.specs.Keys.{Key}
+use Rattle.decode_jobs.specs.Keys.{Key}
 use Rattle.picture_keys.specs.Known.{Known, key_of, key_of_outcome, known_with}
 use Rattle.stream_fold.proofs.Chains.{then_ok}
 use Rattle.stream_fold.proofs.MarkedFrames.{marks_after_kept}

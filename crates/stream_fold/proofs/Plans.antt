@@ -10,7 +10,7 @@ use Rattle.order_count.specs.Counting.{counts_of}
 use Rattle.ref_marking.specs.declared.fault.MarkFault.{MarkFault}
 use Rattle.ref_marking.specs.declared.fault.MarkFault.TheVariants.{BadMarking, NoShortTerm, TooManyReferences}
 use Rattle.ref_marking.specs.MarksAfter.{marks_after}
-use Rattle.stand_in_device.specs.Inputs.{are_of_one_picture}
+use Rattle.decode_jobs.specs.Inputs.{are_of_one_picture}
 use Rattle.unit_outcomes.specs.declared.validity_fault.ValidityFault.{ValidityFault}
 use Rattle.unit_outcomes.specs.declared.outcome.Outcome.{Outcome}
 use Rattle.unit_outcomes.specs.declared.outcome.Outcome.TheVariants as outcomes

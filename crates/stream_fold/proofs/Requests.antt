@@ -8,7 +8,7 @@ use Rattle.pictures.specs.declared.counts.Counts.{Counts}
 use Rattle.pictures.specs.declared.frames.Frame.{Frame}
 use Rattle.h264_controls.specs.declared.request.Request.{Request}
 use Rattle.h264_controls.specs.References.{timestamp}
-use Rattle.stand_in_device.specs.Inputs.{holds_but_last, are_of_one_picture}
+use Rattle.decode_jobs.specs.Inputs.{holds_but_last, are_of_one_picture}
 use Rattle.request_core.specs.Requests.{ListedSlice, request_of, requests_of}
 
 module _ (frames : List Frame) (counts : Counts) (id : ℕ) where

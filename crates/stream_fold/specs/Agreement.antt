@@ -5,7 +5,7 @@ use Rattle.unit_outcomes.specs.declared.outcome.Outcome.{Outcome}
 use Rattle.request_core.specs.States.{FoldState, no_units}
 use Rattle.request_core.specs.Fold.{outcomes_of}
 use Rattle.request_core.specs.Agreement.{Stream, state_from}
-use Rattle.picture_keys.specs.Keys.{Key}
+use Rattle.decode_jobs.specs.Keys.{Key}
 use Rattle.picture_keys.specs.Known.{Known, key_at, known_after, keys_of}
 
 -- the ids of a stream's units, each with the unit's outcome

@@ -6,7 +6,8 @@ use Rattle.std.proofs.lemmas.Option.{slice_get_within, get_or_from_slice_get}
 use Rattle.stand_in_device.specs.Jobs.{JobValue}
 use Rattle.picture_store.specs.declared.refusals.TakeRefused.{TakeRefused}
 use Rattle.edit_engine.specs.Machines.{Machine}
-use Rattle.edit_engine.specs.Needing.{AnswersTakeFor, IsAnyDueFor}
+use Rattle.edit_engine.specs.Needing.{AnswersTakeFor}
+use Rattle.stream_session.specs.Needing.{IsAnyDueFor}
 use Rattle.worker_jobs.specs.Taking.{AnswersForFirst, AnswersTakeFirst, NoneDue, NoneDueBefore}
 use Rattle.worker_jobs.specs.Rests.{AreSettled, IsAnyPending, IsAtRest, MayNotRest}
 use Rattle.worker_jobs.specs.Wanted.{Wants}

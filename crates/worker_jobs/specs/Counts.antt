@@ -8,7 +8,8 @@ use Rattle.picture_store.specs.declared.answers.Returning.TheVariants as returni
 use Rattle.picture_store.specs.declared.refusals.TakeRefused.{TakeRefused}
 use Rattle.picture_store.specs.declared.refusals.TakeRefused.TheVariants as refusals
 use Rattle.edit_engine.specs.Machines.{Machine}
-use Rattle.edit_engine.specs.Jobs.{AnswersGiveBack, AnswersLand, AnswersTake}
+use Rattle.edit_engine.specs.Jobs.{AnswersTake, AnswersLand}
+use Rattle.stream_session.specs.Jobs.{AnswersGiveBack}
 use Rattle.worker_jobs.specs.Taking.{AnswersTakeFirst}
 use Rattle.worker_jobs.specs.declared.tally.Counts.{Counts}
 use Rattle.worker_jobs.specs.declared.tally.Tally.{Tally}

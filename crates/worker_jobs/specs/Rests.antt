@@ -1,9 +1,8 @@
 -- When all that is wanted is done.
 use Rattle.std.specs.Prelude.{◌≡◌, ◌≢◌, ◌⊎◌, ℕ, true, false, List, [], Some, slice_get}
-use Rattle.edit_engine.specs.declared.showing.Shown.{Shown}
-use Rattle.edit_engine.specs.declared.showing.Shown.TheVariants as shown
+use Rattle.edit_engine.specs.Showing.{Shown, Shows}
+use Rattle.stream_session.specs.declared.showing.Shown.TheVariants as shown
 use Rattle.edit_engine.specs.Machines.{Machine}
-use Rattle.edit_engine.specs.Showing.{Shows}
 use Rattle.worker_jobs.specs.Wanted.{Wants, urgent}
 
 -- something else is shown of the unit that has the id than that it is pending

@@ -3,7 +3,8 @@ use Rattle.std.specs.Prelude.{◌≡◌, ℕ, ◌<◌, List, Option, None, Some,
 use Rattle.stand_in_device.specs.Jobs.{JobValue}
 use Rattle.picture_store.specs.declared.refusals.TakeRefused.{TakeRefused}
 use Rattle.edit_engine.specs.Machines.{Machine}
-use Rattle.edit_engine.specs.Needing.{AnswersTakeFor, IsAnyDueFor}
+use Rattle.edit_engine.specs.Needing.{AnswersTakeFor}
+use Rattle.stream_session.specs.Needing.{IsAnyDueFor}
 
 -- no needed unit of those of the ids before a place is due
 abbrev pub NoneDueBefore : Machine → List ℕ → ℕ → Type 0

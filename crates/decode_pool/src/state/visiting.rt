@@ -1,14 +1,15 @@
 //! What one who keeps no book does with a session.
 
 ghost use Rattle.std.specs.Prelude.{◌≡◌};
-ghost use Rattle.edit_engine.specs.Grouping.{AnswersGroup};
-ghost use Rattle.edit_engine.specs.Machines.{AnswersEdit};
+ghost use Rattle.stream_session.specs.Grouping.{AnswersGroup};
+ghost use Rattle.stream_session.specs.Machines.{AnswersEdit};
 ghost use Rattle.edit_engine.specs.Needing.{AnswersDrop};
 ghost use Rattle.decode_pool.specs.Seats.{IsReached};
 
 use super::DeskState;
 use edit_engine::{
     Dropping, EditRefused, GroupReceipt, GroupRefused, ReadEdit, ReadGroup, Receipt, Session,
+    drop_picture,
 };
 use pictures::AuId;
 
@@ -49,6 +50,6 @@ impl DeskState {
         ensures status { self.new.status ≡ self.old.status }
     {
         let _ = self.session.journal();
-        self.session.drop_picture(id)
+        drop_picture(&mut self.session, id)
     }
 }

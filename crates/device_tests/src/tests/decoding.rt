@@ -2,12 +2,13 @@
 
 use super::queues::Recorder;
 use super::row_holds;
+use decode_jobs::{Finished, Input, Job, Reference, Undone};
 use h264_controls::{Dpb, Request};
 use m2m_queues::{BufferState, QueueFault, Queues, RequestId, RequestState};
 use pictures::{AuId, List};
 use sha2::{Digest, Sha256};
 use slice_header_types::SliceType;
-use stand_in_device::{Device, Finished, Input, Job, Picture, Reference, Undone};
+use stand_in_device::{Device, Picture};
 use std::alloc::{AllocError, Global};
 use std::test::Fail;
 use test_builders::{
@@ -106,7 +107,11 @@ fn slice_of_two(
 
 /// The input of these slices' requests, where the frame of unit 1, if it is there, is the IDR
 /// picture.
-fn input_of(alloc: Global, slices: &[Slice], has_frame: bool) -> Result<Input, AllocError> {
+fn input_of(
+    alloc: Global,
+    slices: &[Slice],
+    has_frame: bool,
+) -> Result<Input<Picture>, AllocError> {
     let (mut requests, mut references) = (Vec::new(alloc), Vec::new(alloc));
     for slice in slices {
         requests.push(slice.request(alloc)?)?;
@@ -122,7 +127,7 @@ fn input_of(alloc: Global, slices: &[Slice], has_frame: bool) -> Result<Input, A
 
 /// The number and the picture of job 7 with this input, if that is whole, by a device that has
 /// another frame of unit 1.
-fn decoded(alloc: Global, input: Input) -> Result<Option<(u64, Picture)>, AllocError> {
+fn decoded(alloc: Global, input: Input<Picture>) -> Result<Option<(u64, Picture)>, AllocError> {
     if !input.is_whole() {
         return Ok(None);
     }
@@ -134,13 +139,13 @@ fn decoded(alloc: Global, input: Input) -> Result<Option<(u64, Picture)>, AllocE
     }
 }
 
-fn number_and_picture(finished: Finished) -> (u64, Picture) {
+fn number_and_picture(finished: Finished<Picture>) -> (u64, Picture) {
     let (number, _, picture) = finished.into_parts();
     (number, picture)
 }
 
 /// Why a job is undone; the job is spent.
-fn cause_of(undone: Undone) -> AllocError {
+fn cause_of(undone: Undone<Picture>) -> AllocError {
     let Undone { job, cause } = undone;
     let _ = job.into_parts();
     cause
@@ -269,7 +274,11 @@ fn inputs_are_whole_or_not(rt: HostRuntime) -> Result<(), Fail> {
 }
 
 /// Whether a copy of an input is the same as it, and neither is the same as another.
-fn is_its_copy_alone(alloc: Global, input: &Input, other: &Input) -> Result<bool, AllocError> {
+fn is_its_copy_alone(
+    alloc: Global,
+    input: &Input<Picture>,
+    other: &Input<Picture>,
+) -> Result<bool, AllocError> {
     let copy = input.copy(alloc)?;
     Ok(copy.is_same(input) && !copy.is_same(other) && !other.is_same(input))
 }
@@ -334,7 +343,7 @@ fn two_slices_hold_one_capture_buffer(rt: HostRuntime) {
 
 /// The picture of job 7 with this input: where memory runs out the job comes back, and it is
 /// decoded again.
-fn decoded_again(alloc: Global, input: Input) -> Option<(u64, Picture)> {
+fn decoded_again(alloc: Global, input: Input<Picture>) -> Option<(u64, Picture)> {
     if !input.is_whole() {
         return None;
     }
@@ -345,7 +354,11 @@ fn decoded_again(alloc: Global, input: Input) -> Option<(u64, Picture)> {
     }
 }
 
-fn decoded_once_more(alloc: Global, device: &mut Device, undone: Undone) -> Option<(u64, Picture)> {
+fn decoded_once_more(
+    alloc: Global,
+    device: &mut Device,
+    undone: Undone<Picture>,
+) -> Option<(u64, Picture)> {
     let Undone { job, cause: _ } = undone;
     match device.decode(alloc, job) {
         Ok(finished) => Some(number_and_picture(finished)),

@@ -5,7 +5,7 @@ use super::jobs::Given;
 use super::told::{Answer, MOST_TOGETHER, Told};
 use edit_engine::{
     EditRefused, Finished, GroupReceipt, GroupRefused, Job, Landing, Receipt, Returning, Session,
-    TakeRefused,
+    TakeRefused, drop_picture,
 };
 use pictures::AuId;
 use stand_in_device::{Device, Input, Undone};
@@ -50,7 +50,10 @@ impl Hands {
                 Some(job) => Ok(Answer::GivenBack(self.session.give_back(job))),
                 None => Ok(Answer::GivenBack(Returning::Foreign)),
             },
-            Told::Drop(id) => Ok(Answer::Dropped(self.session.drop_picture(AuId::new(id)))),
+            Told::Drop(id) => {
+                let dropped = drop_picture(&mut self.session, AuId::new(id));
+                Ok(Answer::Dropped(dropped))
+            }
             Told::ClearCache => {
                 self.session.clear_cache();
                 Ok(Answer::Cleared)

@@ -129,7 +129,7 @@ impl Plain {
     ) -> Result<(), AllocError> {
         for unit in units {
             if let Some(reference) = self.reference(*unit)
-                && !references.contains(&reference)
+                && !references.iter().any(|there| is_same(there, &reference))
             {
                 references.push(reference)?;
             }
@@ -227,4 +227,9 @@ impl Plain {
         self.out.retain(|out| *out != number);
         Some(tree)
     }
+}
+
+/// Whether these refer to the same picture.
+fn is_same(one: &Reference, other: &Reference) -> bool {
+    one.timestamp == other.timestamp && one.picture == other.picture
 }

@@ -4,10 +4,11 @@ ghost use Rattle.std.specs.Prelude.{◌≡◌};
 
 use super::PictureStore;
 use base_types::Shared;
+use decode_jobs::Decoded;
 use picture_keys::HashedOutcome;
 use pictures::AuId;
 
-impl PictureStore {
+impl<P: Decoded> PictureStore<P> {
     /// The ids of the units, in the order of the stream.
     pub fn ids(&self) -> &[AuId]
         ensures { result.now ≡ self.now.ids }

@@ -3,8 +3,9 @@
 ghost use Rattle.std.specs.Prelude.{◌≡◌, length};
 
 use super::PictureStore;
+use decode_jobs::Decoded;
 
-impl PictureStore {
+impl<P: Decoded> PictureStore<P> {
     /// How many jobs are out.
     pub fn jobs_out(&self) -> usize
         ensures { result ≡ length self.now.jobs_out }

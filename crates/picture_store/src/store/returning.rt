@@ -1,17 +1,17 @@
 //! Jobs by their numbers, and jobs that are given back.
 
 ghost use Rattle.std.specs.Prelude.{◌≡◌, ◌<◌, None, Some, length, IfSome, IsTrue, MatchOption};
-ghost use Rattle.stand_in_device.specs.Inputs.{is_whole};
+ghost use Rattle.decode_jobs.specs.Inputs.{is_whole};
 ghost use Rattle.picture_store.specs.Jobs.{AnswersGiveBack, AnswersGiveBackOf, input_of, without};
 
 use super::PictureStore;
 use crate::answers::Returning;
 use crate::job_out::{first_numbered, place_of};
-use stand_in_device::{Input, Job};
+use decode_jobs::{Decoded, Input, Job};
 
-impl PictureStore {
+impl<P: Decoded> PictureStore<P> {
     /// What the job of this number was given to decode, if it is out. It takes no memory.
-    pub fn job_input(&self, number: u64) -> Option<&Input>
+    pub fn job_input(&self, number: u64) -> Option<&Input<P>>
         ensures value { MatchOption result
             (input_of self.now.jobs_out number ≡ None)
             (λ input. input_of self.now.jobs_out number ≡ Some input.now) }
@@ -24,7 +24,7 @@ impl PictureStore {
     }
 
     /// Takes a job back that wasn't decoded. It takes no memory.
-    pub fn give_back(&mut self, job: Job) -> Returning
+    pub fn give_back(&mut self, job: Job<P>) -> Returning
         ensures { AnswersGiveBack self.old job result self.new }
     {
         let (number, input) = job.into_parts();

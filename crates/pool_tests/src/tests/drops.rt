@@ -5,8 +5,7 @@ use super::books::{READY, READY_P1, Row, is_audited, session_of_five};
 use super::{A, edits, finished, first, is_pending, opened_for_one, row_holds};
 use decode_pool::{Desk, Seat, Settled, worker};
 use edit_engine::Dropping::{self, Dropped, NoSuchUnit, NotHeld};
-use edit_engine::Session;
-use edit_engine::Shown::{self, Pending};
+use edit_engine::{Session, Shown};
 use pictures::AuId;
 use stand_in_device::Device;
 use std::process::Abort;
@@ -14,6 +13,7 @@ use std::sync::Wait;
 use std::test::Fail;
 use std::thread;
 use std::thread::Threads;
+use stream_session::Shown::Pending;
 
 /// Books of the journal of books.rt: A, P1 after it, P1X in P1's place, P1 again, and a unit
 /// without a picture.

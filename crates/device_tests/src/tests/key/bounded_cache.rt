@@ -19,9 +19,18 @@ fn three_pairs(alloc: Global, capacity: u16) -> Result<PictureCache<KeyId, u8>, 
 {
     let mut cache = PictureCache::new(alloc, capacity)?;
     for (key, picture) in [(1, 10), (2, 20), (3, 30)] {
-        cache.put(KeyId(key), picture)?;
+        put(&mut cache, KeyId(key), picture)?;
     }
     Ok(cache)
+}
+
+/// Puts a picture. The picture that goes out, if one does.
+fn put(
+    cache: &mut PictureCache<KeyId, u8>,
+    key: KeyId,
+    picture: u8,
+) -> Result<Option<u8>, AllocError> {
+    cache.put(key, picture).map_err(|_| AllocError)
 }
 
 /// Whether a cache has just these keys, the one put last first.
@@ -48,7 +57,7 @@ fn the_pair_put_last_is_first(rt: HostRuntime) -> Result<(), Fail> {
 fn a_full_cache_drops_the_pair_put_first(rt: HostRuntime) -> Result<(), Fail> {
     let mut cache = three_pairs(rt.alloc(), 2)?;
     assert!(rt; has_keys(rt.alloc(), &cache, &[3, 2])?);
-    cache.put(KeyId(4), 40)?;
+    assert!(rt; put(&mut cache, KeyId(4), 40)? == Some(20));
     assert!(rt; has_keys(rt.alloc(), &cache, &[4, 3])?);
     assert!(rt; cache.take(KeyId(2)) == None);
     assert!(rt; cache.take(KeyId(3)) == Some(30));
@@ -58,9 +67,9 @@ fn a_full_cache_drops_the_pair_put_first(rt: HostRuntime) -> Result<(), Fail> {
 #[test]
 fn a_key_that_is_there_goes_first_with_its_new_picture(rt: HostRuntime) -> Result<(), Fail> {
     let mut cache = three_pairs(rt.alloc(), 3)?;
-    cache.put(KeyId(1), 11)?;
+    assert!(rt; put(&mut cache, KeyId(1), 11)? == Some(10));
     assert!(rt; has_keys(rt.alloc(), &cache, &[1, 3, 2])?);
-    cache.put(KeyId(4), 40)?;
+    assert!(rt; put(&mut cache, KeyId(4), 40)? == Some(20));
     assert!(rt; has_keys(rt.alloc(), &cache, &[4, 1, 3])?);
     assert!(rt; cache.take(KeyId(1)) == Some(11));
     Ok(())
@@ -74,8 +83,19 @@ fn what_is_taken_is_out(rt: HostRuntime) -> Result<(), Fail> {
     assert!(rt; cache.take(KeyId(2)) == None);
     assert!(rt; !cache.contains(&KeyId(2)));
     assert!(rt; has_keys(rt.alloc(), &cache, &[3, 1])?);
-    cache.put(KeyId(2), 21)?;
+    assert!(rt; put(&mut cache, KeyId(2), 21)? == None);
     assert!(rt; has_keys(rt.alloc(), &cache, &[2, 3, 1])?);
+    Ok(())
+}
+
+#[test]
+fn the_pair_put_first_is_the_oldest(rt: HostRuntime) -> Result<(), Fail> {
+    let mut cache = three_pairs(rt.alloc(), 3)?;
+    assert!(rt; put(&mut cache, KeyId(1), 11)? == Some(10));
+    assert!(rt; cache.take_oldest() == Some(20));
+    assert!(rt; cache.take_oldest() == Some(30));
+    assert!(rt; cache.take_oldest() == Some(11));
+    assert!(rt; cache.take_oldest() == None);
     Ok(())
 }
 

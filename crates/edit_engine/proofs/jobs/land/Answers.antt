@@ -2,8 +2,8 @@ use Rattle.std.proofs.Common.{◌≡◌, ◌∙◌, ap, refl, subst}
 use Rattle.stand_in_device.specs.Inputs.{InputValue}
 use Rattle.stand_in_device.specs.Jobs.{JobValue}
 use Rattle.edit_engine.specs.Jobs.{AnswersLand}
-use Rattle.edit_engine.specs.Taken.{taken_of}
-use Rattle.edit_engine.proofs.ByNumber.{none_taken, taken_has}
+use Rattle.stream_session.specs.Taken.{taken_of}
+use Rattle.stream_session.proofs.ByNumber.{none_taken, taken_has}
 use Rattle.edit_engine.proofs.jobs.land.Goals as goal
 
 pub returns-in_default-clause-ok : goal.returns-in_default-clause-ok

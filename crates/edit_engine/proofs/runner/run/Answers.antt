@@ -1,7 +1,7 @@
 use Rattle.std.proofs.Common.{◌≡◌, ◌+◌, ◌∷◌, ◌++◌, [], List, take, ap, sym, ◌∙◌, subst}
 use Rattle.std.proofs.lemmas.List.{take_more, get_or_read}
 use Rattle.edit_engine.specs.declared.commands.Command.{Command}
-use Rattle.edit_engine.specs.Machines.{empty}
+use Rattle.stream_session.specs.Machines.{empty}
 use Rattle.edit_engine.specs.Runs.{Runs}
 use Rattle.edit_engine.proofs.Ran.{Answers-copy, Runs-push}
 use Rattle.edit_engine.proofs.runner.run.Goals as goal

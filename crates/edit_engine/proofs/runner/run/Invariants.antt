@@ -1,5 +1,5 @@
 use Rattle.std.proofs.Common.{take}
-use Rattle.edit_engine.specs.Machines.{empty}
+use Rattle.stream_session.specs.Machines.{empty}
 use Rattle.edit_engine.specs.Runs.{Runs}
 use Rattle.edit_engine.proofs.runner.run.Given as goal
 

@@ -4,7 +4,7 @@ use Rattle.key_slots.proofs.Entered.{read_is, read_among}
 use Rattle.key_slots.proofs.naming.want_all.Goals as goal
 
 pub loop-at-preserved : goal.loop-at-preserved
-loop-at-preserved c =
+loop-at-preserved g c =
     let units = c.args.units.now in
     let entries = c.args.entries.now in
     let was = c.loop-at.invariant in
@@ -27,7 +27,7 @@ loop-at-preserved c =
     }
 
 pub returns-clause-all : goal.returns-clause-all
-returns-clause-all c = λ i id number unit_is entry_is waits.
+returns-clause-all g c = λ i id number unit_is entry_is waits.
     let in_units = slice_get_within c.args.units.now i (Some id) unit_is in
     let in_entries = slice_get_within c.args.entries.now i (Some number) entry_is in
     c.loop-at.invariant.all i id number (omega (arith, in_units, in_entries)) unit_is entry_is waits

@@ -4,7 +4,7 @@ use Rattle.key_slots.proofs.naming.want_all.Given as goal
 
 -- the ids of the entries so far are there
 abbrev pub invariant-loop-at : goal.invariant-loop-at
-invariant-loop-at l =
+invariant-loop-at g l =
     record {
       stay : (id : ℕ) → Contains l.fn.wanted.items id → Contains l.wanted.items id;
       only : (id : ℕ) → Contains l.wanted.items id → Contains l.fn.wanted.items id ⊎ Contains l.units (Some id);

@@ -5,7 +5,7 @@ use Rattle.key_slots.specs.Held.{IsHeld}
 use Rattle.key_slots.proofs.naming.want_entry.Goals as goal
 
 pub returns-in-Some-Some-clause-only : goal.returns-in-Some-Some-clause-only
-returns-in-Some-Some-clause-only c =
+returns-in-Some-Some-clause-only g c =
     on_ok_weaker c.want.result
     (λ only other is. elim (only other is) [
       | inl was ↦ inl was
@@ -14,7 +14,7 @@ returns-in-Some-Some-clause-only c =
     c.want.ensures.only
 
 pub returns-in-Some-Some-clause-all : goal.returns-in-Some-Some-clause-all
-returns-in-Some-Some-clause-all c =
+returns-in-Some-Some-clause-all g c =
     on_ok_weaker c.want.result
     (λ all id number unit_is entry_is waits.
     subst (Contains c.want.new.wanted.items) (same_Some c.in-Some-Some.id id (sym c.in-Some-Some.is-0 ∙ unit_is))

@@ -1,7 +1,7 @@
 use Rattle.std.proofs.Common.{◌≡◌, sym, ap, ◌∙◌, subst, List, Option, ℕ, Some, Contains, inl, inr}
 use Rattle.std.proofs.lemmas.Result.{on_ok_weaker}
 use Rattle.unit_outcomes.specs.declared.outcome.Outcome.{Outcome}
-use Rattle.picture_keys.specs.Keys.{named_by_all}
+use Rattle.decode_jobs.specs.Keys.{named_by_all}
 use Rattle.picture_keys.specs.Known.{key_of_outcome}
 use Rattle.key_slots.specs.Held.{AreWanted}
 use Rattle.key_slots.proofs.Wanting.{named_wanted, requests_in}

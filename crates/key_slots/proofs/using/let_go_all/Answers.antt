@@ -1,5 +1,7 @@
 use Rattle.std.proofs.Common.{◌≡◌, ◌+◌, ◌<◌, refl, sym, subst, ◌∙◌, Some, inl, inr, arith}
 use Rattle.std.specs.Map.{keys_of}
+use Rattle.std.proofs.lemmas.List.Sorted.{IsPermutation-refl, IsPermutation-trans}
+use Rattle.key_slots.specs.Accounts.{pictures_of}
 use Rattle.std.proofs.lemmas.List.{take_all}
 use Rattle.key_slots.specs.Counting.{times_in}
 use Rattle.key_slots.specs.Places.{uses_at, place_at}
@@ -14,10 +16,13 @@ loop-key-init g c = record {
   few = omega arith;
   room = refl;
   those = λ number picture is. inl is;
+  accounts = IsPermutation-refl (pictures_of c.args.places.now c.args.cache.now.pairs c.args.released.now.items);
+  most = omega arith;
+  spare = refl;
 }
 
-pub let_go-lost-requires : goal.let_go-lost-requires
-let_go-lost-requires g c =
+pub let_go-lost-requires-clause-used : goal.let_go-lost-requires-clause-used
+let_go-lost-requires-clause-used g c =
     in_use_yet c.args.leaving.now c.loop-key.key-index c.key-item.result (uses_at c.loop-key.places c.key-item.result)
     (uses_at c.args.places.now c.key-item.result) c.loop-key-test.true c.key-item.is (c.loop-key.invariant.uses c.key-item.result)
     (c.requires.enough c.key-item.result)
@@ -69,6 +74,13 @@ loop-key-preserved g c =
               subst (λ n. uses_at new n ≡ 0) (sym gone.0) gone.2,
             )
           ];
+      accounts =
+          IsPermutation-trans (pictures_of old c.args.cache.now.pairs c.args.released.now.items)
+          (pictures_of mid c.loop-key.cache.pairs c.loop-key.released.items)
+          (pictures_of new c.let_go-lost.new.cache.pairs c.let_go-lost.new.released.items)
+          c.loop-key.invariant.accounts c.let_go-lost.ensures.accounts;
+      most = omega (arith, c.loop-key.invariant.most, c.let_go-lost.ensures.few);
+      spare = c.let_go-lost.ensures.spare ∙ c.loop-key.invariant.spare;
     }
 
 pub returns-clause-uses : goal.returns-clause-uses

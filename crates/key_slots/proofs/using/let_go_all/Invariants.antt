@@ -1,6 +1,8 @@
 use Rattle.std.proofs.Common.{◌≡◌, ◌+◌, ◌<◌, ◌≤◌, ℕ, List, take, Some, ◌⊎◌}
-use Rattle.std.specs.Prelude.{Contains}
+use Rattle.std.specs.Prelude.{Contains, IsPermutation, vec_len}
 use Rattle.std.specs.Map.{keys_of}
+use Rattle.std.specs.Vec.{vec_capacity}
+use Rattle.key_slots.specs.Accounts.{pictures_of}
 use Rattle.key_slots.specs.Counting.{times_in}
 use Rattle.key_slots.specs.Places.{uses_at, place_at}
 use Rattle.key_slots.specs.Going.{IsHeldBefore}
@@ -18,4 +20,8 @@ invariant-loop-key g l = record {
   those : (number : ℕ) (picture : g.row.P.Denot) → Contains l.cache.pairs (number, picture)
       → Contains l.initial.cache.pairs (number, picture)
       ⊎ ((place_at l.initial.places number ≡ Some (Some picture)) × (uses_at l.places number ≡ 0));
+  accounts : IsPermutation (pictures_of l.initial.places l.initial.cache.pairs l.initial.released.items)
+      (pictures_of l.places l.cache.pairs l.released.items);
+  most : vec_len l.released ≤ vec_len l.initial.released + l.key-index;
+  spare : vec_capacity l.released ≡ vec_capacity l.initial.released;
 }

@@ -1,5 +1,5 @@
 use Rattle.std.proofs.Common.{◌≡◌, ◌++◌, map, take}
-use Rattle.picture_keys.specs.Keys.{unit_named}
+use Rattle.decode_jobs.specs.Keys.{unit_named}
 use Rattle.picture_keys.proofs.named.add_list.Given as goal
 
 -- the units at the entries so far were added

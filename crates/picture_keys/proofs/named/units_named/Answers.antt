@@ -1,5 +1,5 @@
 use Rattle.std.proofs.Common.{◌∙◌, ap, sym, ◌++◌}
-use Rattle.picture_keys.specs.Keys.{named_by}
+use Rattle.decode_jobs.specs.Keys.{named_by}
 use Rattle.picture_keys.proofs.Naming.{named_more}
 use Rattle.picture_keys.proofs.named.units_named.Goals as goal
 

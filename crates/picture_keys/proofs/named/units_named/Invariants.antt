@@ -1,5 +1,5 @@
 use Rattle.std.proofs.Common.{◌≡◌, take}
-use Rattle.picture_keys.specs.Keys.{named_by_all}
+use Rattle.decode_jobs.specs.Keys.{named_by_all}
 use Rattle.picture_keys.proofs.named.units_named.Given as goal
 
 -- the units that the requests so far name

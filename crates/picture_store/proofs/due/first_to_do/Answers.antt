@@ -5,7 +5,7 @@ use Rattle.picture_store.specs.Settled.{NeedsNone}
 use Rattle.picture_store.proofs.due.first_to_do.Goals as goal
 
 pub loop-at-preserved : goal.loop-at-preserved
-loop-at-preserved c =
+loop-at-preserved g c =
     let numbers = c.args.numbers.now in
     let needs = NeedsNone c.args.places.now c.args.out.now in
     let yes : IsTrue c.needs_none.result = cc in (
@@ -15,7 +15,7 @@ loop-at-preserved c =
     )
 
 pub returns : goal.returns
-returns c =
+returns g c =
     let numbers = c.args.numbers.now in
     let needs = NeedsNone c.args.places.now c.args.out.now in (
       omega arith,

@@ -3,4 +3,4 @@ use Rattle.key_slots.proofs.Held.{awaited_told}
 use Rattle.picture_store.proofs.due.is_awaited.Goals as goal
 
 pub returns : goal.returns
-returns c = rw (c.is_awaited.ensures) (awaited_told (place_at c.args.places.now c.args.key))
+returns g c = rw (c.is_awaited.ensures) (awaited_told (place_at c.args.places.now c.args.key))

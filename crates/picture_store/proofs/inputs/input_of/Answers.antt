@@ -1,7 +1,6 @@
 use Rattle.std.proofs.Common.{◌≡◌, ap, ◌∙◌}
-use Rattle.picture_keys.specs.Keys.{named_by_all}
-use Rattle.picture_store.proofs.Entries.{shown_of}
-use Rattle.picture_store.proofs.Prepared.{enough, units_covered, units_shown, is_input}
+use Rattle.decode_jobs.specs.Keys.{named_by_all}
+use Rattle.picture_store.proofs.Prepared.{enough, units_covered, is_input}
 use Rattle.picture_store.proofs.inputs.input_of.Goals as goal
 
 pub references_of-requires-clause-covered : goal.references_of-requires-clause-covered
@@ -27,12 +26,8 @@ returns g c = λ known has.
     let plan = c.in-Plan-Some.plan in
     let units_are : c.deref.result.now ≡ named_by_all plan.requests =
     c.deref.ensures.value ∙ (c.in_ok-units.ensures ∙ ap named_by_all c.as_slice-requests.ensures) in
-    let shown =
-    units_shown c.args.keys.now c.args.key c.in-Plan-Some.node.now c.in-Plan-Some.ensures c.args.outcome.now plan
-    c.in-Plan-Some.is-0 known has c.deref.result.now c.entries.result.now units_are c.entries.ensures c.args.places.now
-    c.requires.right c.requires.ready in
     is_input c.args.keys.now c.args.key c.in-Plan-Some.node.now c.in-Plan-Some.ensures c.args.outcome.now plan
-    c.in-Plan-Some.is-0 known has c.deref.result.now c.entries.result.now units_are c.entries.ensures
-    c.in_ok-references.references.items c.in_ok-copies.field-0.items c.new.result
-    (c.in_ok-references.ensures.shown (shown_of known) shown) c.in_ok-references.ensures.there
+    c.in-Plan-Some.is-0 known has c.deref.result.now c.entries.result.now units_are c.entries.ensures c.args.places.now
+    c.requires.right c.requires.ready c.in_ok-references.references.items c.in_ok-copies.field-0.items c.new.result
+    c.in_ok-references.ensures.shown c.in_ok-references.ensures.there
     (c.in_ok-copies.ensures ∙ c.as_slice-requests.ensures) c.new.ensures

@@ -3,4 +3,4 @@ use Rattle.picture_store.specs.Looked.{lowered}
 use Rattle.picture_store.proofs.job_out.lower_each.Given as goal
 
 abbrev pub invariant-loop-job : goal.invariant-loop-job
-invariant-loop-job l = l.jobs ≡ map (lowered l.from) (take l.job-index l.initial.jobs) ++ drop l.job-index l.initial.jobs
+invariant-loop-job g l = l.jobs ≡ map (lowered l.from) (take l.job-index l.initial.jobs) ++ drop l.job-index l.initial.jobs

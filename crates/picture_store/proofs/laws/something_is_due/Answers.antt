@@ -2,4 +2,4 @@ use Rattle.picture_store.proofs.Waiting.{never_stuck}
 use Rattle.picture_store.proofs.laws.something_is_due.Goals as goal
 
 pub returns : goal.returns
-returns c = never_stuck
+returns g c = never_stuck

@@ -3,4 +3,4 @@ use Rattle.picture_store.specs.Kept.{numbers_out}
 use Rattle.picture_store.proofs.refitting.add_out.Given as goal
 
 abbrev pub invariant-loop-job : goal.invariant-loop-job
-invariant-loop-job l = l.roots.items ≡ l.initial.roots.items ++ numbers_out (take l.job-index l.out)
+invariant-loop-job g l = l.roots.items ≡ l.initial.roots.items ++ numbers_out (take l.job-index l.out)

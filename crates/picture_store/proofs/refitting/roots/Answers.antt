@@ -5,7 +5,7 @@ use Rattle.picture_store.proofs.Swept.{only_added}
 use Rattle.picture_store.proofs.refitting.roots.Goals as goal
 
 pub returns : goal.returns
-returns c = λ number.
+returns g c = λ number.
     let before = c.in_ok-roots.roots.items in
     let added = c.add_numbers.new.roots.items in
     let out = numbers_out c.args.out.now in

@@ -7,7 +7,7 @@ use Rattle.picture_store.proofs.Loops.{in_more}
 use Rattle.picture_store.proofs.schedule.add_entries.Goals as goal
 
 pub loop-entry-preserved : goal.loop-entry-preserved
-loop-entry-preserved c =
+loop-entry-preserved g c =
     let entries = c.args.entries.now in
     let item = c.entry-item.result in
     let was = c.loop-entry.invariant in
@@ -28,7 +28,7 @@ loop-entry-preserved c =
     }
 
 pub returns-clause-all : goal.returns-clause-all
-returns-clause-all c = λ entry among not.
+returns-clause-all g c = λ entry among not.
     c.loop-entry.invariant.all entry
     (subst (λ xs. Contains xs (Some entry))
     (sym (take_all c.loop-entry.entry-index c.args.entries.now c.loop-entry-test.false)) among) not

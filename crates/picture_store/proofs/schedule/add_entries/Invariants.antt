@@ -5,7 +5,7 @@ use Rattle.picture_store.proofs.schedule.add_entries.Given as goal
 
 -- the unit waits for the keys of the entries so far
 abbrev pub invariant-loop-entry : goal.invariant-loop-entry
-invariant-loop-entry l =
+invariant-loop-entry g l =
     record {
       stay : (place entry : ℕ) → WaitsFor l.fn.dependents.items place entry → WaitsFor l.dependents.items place entry;
       only : (place entry : ℕ) → WaitsFor l.dependents.items place entry

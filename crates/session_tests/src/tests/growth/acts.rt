@@ -7,7 +7,6 @@ use super::streams::{
     PICTURE_OF_P1, PICTURE_OF_P2, PICTURE_OF_SLICES, Planned, SLICES, SPS, TIED_B, planned,
 };
 use super::{empty_runner, row_holds};
-use Shown::{NoSuchUnit, Pending, Ready};
 use Told::{After, Delete, First, Replace};
 use edit_engine::{
     Command, EditRefused, Landing, NotOut, Picture, Receipt, Reply, Returning, Runner, Shown,
@@ -17,6 +16,7 @@ use pictures::AuId;
 use session_builders::{Told, edit_of};
 use std::alloc::{AllocError, AllocGlobal};
 use std::process::Abort;
+use stream_session::Shown::{NoSuchUnit, Pending, Ready};
 use unit_outcomes::{Outcome, ValidityFault};
 
 /// A command, and what it has to be answered.

@@ -1,7 +1,7 @@
 use Rattle.std.proofs.Common.{◌<◌, length, ◌∙◌, subst, arith}
 use Rattle.std.proofs.lemmas.Option.{slice_get_within}
 use Rattle.edit_engine.specs.Machines.{Machine}
-use Rattle.edit_engine.specs.Needing.{IsAnyDueFor}
+use Rattle.stream_session.specs.Needing.{IsAnyDueFor}
 use Rattle.worker_jobs.proofs.Firsts.{none_for, none_more}
 use Rattle.worker_jobs.proofs.taking.take_first_of.Goals as goal
 

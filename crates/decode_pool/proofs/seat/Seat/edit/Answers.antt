@@ -2,7 +2,7 @@
 use Rattle.std.proofs.Common.{inl, refl}
 use Rattle.std.proofs.lemmas.Result.{err_from_is_err_and}
 use Rattle.stream_edits.specs.Edits.{no_units}
-use Rattle.edit_engine.specs.Machines.{empty}
+use Rattle.stream_session.specs.Machines.{empty}
 use Rattle.decode_pool.proofs.seat.Seat.edit.Goals as goal
 
 pub returns-in_err-read : goal.returns-in_err-read

@@ -1,7 +1,7 @@
 -- A group for which there is no memory is refused so by any session.
 use Rattle.std.proofs.Common.{refl}
 use Rattle.std.proofs.lemmas.Result.{err_from_is_err_and}
-use Rattle.edit_engine.specs.Machines.{empty}
+use Rattle.stream_session.specs.Machines.{empty}
 use Rattle.decode_pool.proofs.seat.Seat.edit_group_read.Goals as goal
 
 pub returns-in_err-note : goal.returns-in_err-note

@@ -6,5 +6,5 @@ pub with_ids-group-requires : goal.with_ids-group-requires
 with_ids-group-requires c =
     let long : length c.in_ok-receipt.receipt.ids.items ≡ length c.args.group =
     length-ids c.args.session.now.register c.args.group c.in_ok-receipt.receipt.ids.items c.edit_group_read.new.self.register
-    c.in_ok-receipt.ensures.made in
+    c.in_ok-receipt.ensures.answers.made in
     rw (c.deref.ensures.value, c.requires.noted) (omega (arith, long))

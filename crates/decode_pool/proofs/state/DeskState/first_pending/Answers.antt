@@ -1,9 +1,8 @@
 use Rattle.std.proofs.Common.{◌≡◌, ℕ, ◌<◌, List, length, get_or, ap, subst, arith, rules}
 use Rattle.std.proofs.lemmas.Option.{slice_get_within, slice_get-get_or}
 use Rattle.stream_edits.specs.Streams.{ids_of}
-use Rattle.edit_engine.specs.declared.showing.Shown.{Shown}
-use Rattle.edit_engine.specs.declared.showing.Shown.TheVariants.{Pending}
-use Rattle.edit_engine.specs.Showing.{Shows}
+use Rattle.edit_engine.specs.Showing.{Shown, Shows}
+use Rattle.stream_session.specs.declared.showing.Shown.TheVariants.{Pending}
 use Rattle.decode_pool.proofs.state.DeskState.first_pending.Goals as goal
 
 pub returns-then-eq-clause-place : goal.returns-then-eq-clause-place

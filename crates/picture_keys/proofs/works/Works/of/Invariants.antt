@@ -1,5 +1,5 @@
 use Rattle.std.proofs.Common.{◌≡◌, take}
-use Rattle.picture_keys.specs.Keys.{works_of}
+use Rattle.decode_jobs.specs.Keys.{works_of}
 use Rattle.picture_keys.proofs.works.Works.of.Given as goal
 
 -- the works of the requests so far

@@ -10,72 +10,72 @@ use Rattle.picture_store.proofs.Taken.{known, has_known, outcome_same, whole_of,
 use Rattle.picture_store.proofs.store.PictureStore.give.Goals as goal
 
 pub index-outcome-requires : goal.index-outcome-requires
-index-outcome-requires c =
+index-outcome-requires g c =
     let s = c.self.inside in
     let is = rw (← c.self.view_is) at c.requires.number in
     omega (
       arith,
       slice_get_within s.numbers.items c.args.at (Some c.args.key) is,
-      found_length s.keys s.ids.items s.outcomes.items s.numbers.items s.places s.cache.pairs s.cache.capacity s.jobs_out.items s.jobs_given
+      found_length s.keys s.ids.items s.outcomes.items s.numbers.items s.places s.cache.pairs s.cache.capacity s.jobs_out.items s.jobs_given s.released.items
           c.self.invariant.kept,
       c.self.invariant.kept.same,
       s.outcomes.ok.0,
     )
 
 pub input_of-requires-clause-ready : goal.input_of-requires-clause-ready
-input_of-requires-clause-ready c =
+input_of-requires-clause-ready g c =
     let s = c.self.inside in
-    let due = due_number s.keys s.ids.items s.outcomes.items s.numbers.items s.places s.cache.pairs s.cache.capacity s.jobs_out.items s.jobs_given
+    let due = due_number s.keys s.ids.items s.outcomes.items s.numbers.items s.places s.cache.pairs s.cache.capacity s.jobs_out.items s.jobs_given s.released.items
     c.self.invariant.kept c.args.at c.args.key (rw (← c.self.view_is) at c.requires.number) (rw (← c.self.view_is) at c.requires.due) in
     (due.key, due.tree, due.ready)
 
 pub input_of-requires-clause-known : goal.input_of-requires-clause-known
-input_of-requires-clause-known c =
+input_of-requires-clause-known g c =
     let s = c.self.inside in
     let there = rw (← c.self.view_is) at c.requires.number in
     let within = slice_get_within s.numbers.items c.args.at (Some c.args.key) there in
     let is = sym (get_or_from_slice_get s.numbers.items c.args.at (Some c.args.key) (Some c.args.key) there) in
-    let due = due_number s.keys s.ids.items s.outcomes.items s.numbers.items s.places s.cache.pairs s.cache.capacity s.jobs_out.items s.jobs_given
+    let due = due_number s.keys s.ids.items s.outcomes.items s.numbers.items s.places s.cache.pairs s.cache.capacity s.jobs_out.items s.jobs_given s.released.items
     c.self.invariant.kept c.args.at c.args.key there (rw (← c.self.view_is) at c.requires.due) in
-    let same = outcome_same s.keys s.ids.items s.outcomes.items s.numbers.items s.places s.cache.pairs s.cache.capacity s.jobs_out.items s.jobs_given
+    let same = outcome_same s.keys s.ids.items s.outcomes.items s.numbers.items s.places s.cache.pairs s.cache.capacity s.jobs_out.items s.jobs_given s.released.items
     c.self.invariant.kept c.args.at within c.args.key is due c.index-outcome.result.now c.index-outcome.ensures in
     rw (c.deref-2.ensures, c.deref.ensures) (
-      known s.keys s.ids.items s.outcomes.items s.numbers.items s.places s.cache.pairs s.cache.capacity s.jobs_out.items s.jobs_given
+      known s.keys s.ids.items s.outcomes.items s.numbers.items s.places s.cache.pairs s.cache.capacity s.jobs_out.items s.jobs_given s.released.items
           c.self.invariant.kept c.args.at within c.args.key is due,
-      has_known s.keys s.ids.items s.outcomes.items s.numbers.items s.places s.cache.pairs s.cache.capacity s.jobs_out.items s.jobs_given
+      has_known s.keys s.ids.items s.outcomes.items s.numbers.items s.places s.cache.pairs s.cache.capacity s.jobs_out.items s.jobs_given s.released.items
           c.self.invariant.kept c.args.at within c.args.key is due c.index-outcome.result.now same,
     )
 
 pub new-job-requires : goal.new-job-requires
-new-job-requires c =
+new-job-requires g c =
     let s = c.self.inside in
     let there = rw (← c.self.view_is) at c.requires.number in
     let within = slice_get_within s.numbers.items c.args.at (Some c.args.key) there in
     let is = sym (get_or_from_slice_get s.numbers.items c.args.at (Some c.args.key) (Some c.args.key) there) in
-    let due = due_number s.keys s.ids.items s.outcomes.items s.numbers.items s.places s.cache.pairs s.cache.capacity s.jobs_out.items s.jobs_given
+    let due = due_number s.keys s.ids.items s.outcomes.items s.numbers.items s.places s.cache.pairs s.cache.capacity s.jobs_out.items s.jobs_given s.released.items
     c.self.invariant.kept c.args.at c.args.key there (rw (← c.self.view_is) at c.requires.due) in
-    let same = outcome_same s.keys s.ids.items s.outcomes.items s.numbers.items s.places s.cache.pairs s.cache.capacity s.jobs_out.items s.jobs_given
+    let same = outcome_same s.keys s.ids.items s.outcomes.items s.numbers.items s.places s.cache.pairs s.cache.capacity s.jobs_out.items s.jobs_given s.released.items
     c.self.invariant.kept c.args.at within c.args.key is due c.index-outcome.result.now c.index-outcome.ensures in
     let input = rw (c.deref-2.ensures, c.deref.ensures) at c.in_ok-input.ensures in
-    let made = input (known s.keys s.ids.items s.outcomes.items s.numbers.items s.places s.cache.pairs s.cache.capacity s.jobs_out.items s.jobs_given
-    c.self.invariant.kept c.args.at within c.args.key is due) (has_known s.keys s.ids.items s.outcomes.items s.numbers.items s.places s.cache.pairs s.cache.capacity s.jobs_out.items s.jobs_given
+    let made = input (known s.keys s.ids.items s.outcomes.items s.numbers.items s.places s.cache.pairs s.cache.capacity s.jobs_out.items s.jobs_given s.released.items
+    c.self.invariant.kept c.args.at within c.args.key is due) (has_known s.keys s.ids.items s.outcomes.items s.numbers.items s.places s.cache.pairs s.cache.capacity s.jobs_out.items s.jobs_given s.released.items
     c.self.invariant.kept c.args.at within c.args.key is due c.index-outcome.result.now same) in
-    whole_of s.keys s.ids.items s.outcomes.items s.numbers.items s.places s.cache.pairs s.cache.capacity s.jobs_out.items s.jobs_given
+    whole_of s.keys s.ids.items s.outcomes.items s.numbers.items s.places s.cache.pairs s.cache.capacity s.jobs_out.items s.jobs_given s.released.items
     c.self.invariant.kept c.args.at within c.args.key is due c.index-outcome.result.now c.in_ok-input.input made
 
 pub invariant_of-self-2 : goal.invariant_of-self-2
-invariant_of-self-2 c =
+invariant_of-self-2 g c =
     let s = c.self.inside in
     let there = rw (← c.self.view_is) at c.requires.number in
     let within = slice_get_within s.numbers.items c.args.at (Some c.args.key) there in
     let is = sym (get_or_from_slice_get s.numbers.items c.args.at (Some c.args.key) (Some c.args.key) there) in
-    let due = due_number s.keys s.ids.items s.outcomes.items s.numbers.items s.places s.cache.pairs s.cache.capacity s.jobs_out.items s.jobs_given
+    let due = due_number s.keys s.ids.items s.outcomes.items s.numbers.items s.places s.cache.pairs s.cache.capacity s.jobs_out.items s.jobs_given s.released.items
     c.self.invariant.kept c.args.at c.args.key there (rw (← c.self.view_is) at c.requires.due) in
-    let same = outcome_same s.keys s.ids.items s.outcomes.items s.numbers.items s.places s.cache.pairs s.cache.capacity s.jobs_out.items s.jobs_given
+    let same = outcome_same s.keys s.ids.items s.outcomes.items s.numbers.items s.places s.cache.pairs s.cache.capacity s.jobs_out.items s.jobs_given s.released.items
     c.self.invariant.kept c.args.at within c.args.key is due c.index-outcome.result.now c.index-outcome.ensures in
     let input = rw (c.deref-2.ensures, c.deref.ensures) at c.in_ok-input.ensures in
-    let made = input (known s.keys s.ids.items s.outcomes.items s.numbers.items s.places s.cache.pairs s.cache.capacity s.jobs_out.items s.jobs_given
-    c.self.invariant.kept c.args.at within c.args.key is due) (has_known s.keys s.ids.items s.outcomes.items s.numbers.items s.places s.cache.pairs s.cache.capacity s.jobs_out.items s.jobs_given
+    let made = input (known s.keys s.ids.items s.outcomes.items s.numbers.items s.places s.cache.pairs s.cache.capacity s.jobs_out.items s.jobs_given s.released.items
+    c.self.invariant.kept c.args.at within c.args.key is due) (has_known s.keys s.ids.items s.outcomes.items s.numbers.items s.places s.cache.pairs s.cache.capacity s.jobs_out.items s.jobs_given s.released.items
     c.self.invariant.kept c.args.at within c.args.key is due c.index-outcome.result.now same) in
     let more : c.push_reserved.new.self.items
     ≡ s.jobs_out.items ++ (record { number = c.in-Some.number; key = c.args.key; input = c.in_ok-input.input; first_place = s.units_not_due }) ∷ [] =
@@ -83,8 +83,8 @@ invariant_of-self-2 c =
     ∙ rw (c.reserve.ensures.items, c.in_ok-copy.ensures) refl in
     record {
       kept =
-          kept_taken s.keys s.ids.items s.outcomes.items s.numbers.items s.places s.cache.pairs s.cache.capacity s.jobs_out.items s.jobs_given
-          c.self.invariant.kept c.args.at within c.args.key is due c.index-outcome.result.now same c.in_ok-input.input made c.in-Some.number s.units_not_due
+          kept_taken s.keys s.ids.items s.outcomes.items s.numbers.items s.places s.cache.pairs s.cache.capacity s.jobs_out.items s.jobs_given s.released.items
+          c.self.invariant.kept c.args.at within c.args.key is due g.met.P.Decoded.closed c.index-outcome.result.now same c.in_ok-input.input made c.in-Some.number s.units_not_due
           c.push_reserved.new.self.items more;
       counted = c.self.invariant.counted;
       apart = c.self.invariant.apart;
@@ -106,18 +106,18 @@ invariant_of-self-2 c =
     }
 
 pub returns : goal.returns
-returns c =
+returns g c =
     let s = c.self.inside in
     let there = rw (← c.self.view_is) at c.requires.number in
     let within = slice_get_within s.numbers.items c.args.at (Some c.args.key) there in
     let is = sym (get_or_from_slice_get s.numbers.items c.args.at (Some c.args.key) (Some c.args.key) there) in
-    let due = due_number s.keys s.ids.items s.outcomes.items s.numbers.items s.places s.cache.pairs s.cache.capacity s.jobs_out.items s.jobs_given
+    let due = due_number s.keys s.ids.items s.outcomes.items s.numbers.items s.places s.cache.pairs s.cache.capacity s.jobs_out.items s.jobs_given s.released.items
     c.self.invariant.kept c.args.at c.args.key there (rw (← c.self.view_is) at c.requires.due) in
-    let same = outcome_same s.keys s.ids.items s.outcomes.items s.numbers.items s.places s.cache.pairs s.cache.capacity s.jobs_out.items s.jobs_given
+    let same = outcome_same s.keys s.ids.items s.outcomes.items s.numbers.items s.places s.cache.pairs s.cache.capacity s.jobs_out.items s.jobs_given s.released.items
     c.self.invariant.kept c.args.at within c.args.key is due c.index-outcome.result.now c.index-outcome.ensures in
     let input = rw (c.deref-2.ensures, c.deref.ensures) at c.in_ok-input.ensures in
-    let made = input (known s.keys s.ids.items s.outcomes.items s.numbers.items s.places s.cache.pairs s.cache.capacity s.jobs_out.items s.jobs_given
-    c.self.invariant.kept c.args.at within c.args.key is due) (has_known s.keys s.ids.items s.outcomes.items s.numbers.items s.places s.cache.pairs s.cache.capacity s.jobs_out.items s.jobs_given
+    let made = input (known s.keys s.ids.items s.outcomes.items s.numbers.items s.places s.cache.pairs s.cache.capacity s.jobs_out.items s.jobs_given s.released.items
+    c.self.invariant.kept c.args.at within c.args.key is due) (has_known s.keys s.ids.items s.outcomes.items s.numbers.items s.places s.cache.pairs s.cache.capacity s.jobs_out.items s.jobs_given s.released.items
     c.self.invariant.kept c.args.at within c.args.key is due c.index-outcome.result.now same) in
     let more : c.push_reserved.new.self.items
     ≡ s.jobs_out.items ++ (record { number = c.in-Some.number; key = c.args.key; input = c.in_ok-input.input; first_place = s.units_not_due }) ∷ [] =
@@ -125,7 +125,7 @@ returns c =
     ∙ rw (c.reserve.ensures.items, c.in_ok-copy.ensures) refl in (
       refl,
       rw (← c.self.view_is, c.new-job.ensures)
-          (given_job s.keys s.ids.items s.outcomes.items s.numbers.items s.places s.cache.pairs s.cache.capacity s.jobs_out.items s.jobs_given
+          (given_job s.keys s.ids.items s.outcomes.items s.numbers.items s.places s.cache.pairs s.cache.capacity s.jobs_out.items s.jobs_given s.released.items
           c.self.invariant.kept c.args.at within c.args.key is due c.index-outcome.result.now same c.in_ok-input.input made c.in-Some.number s.units_not_due
           (omega (arith, c.in-Some.ensures)) c.push_reserved.new.self.items more),
     )

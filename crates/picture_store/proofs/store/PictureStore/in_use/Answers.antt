@@ -7,9 +7,9 @@ use Rattle.picture_store.proofs.Viewed.{viewed}
 use Rattle.picture_store.proofs.store.PictureStore.in_use.Goals as goal
 
 pub returns-clause-value : goal.returns-clause-value
-returns-clause-value c =
+returns-clause-value g c =
     let s = c.self.inside in
-    let store = viewed s.keys s.ids.items s.outcomes.items s.numbers.items s.places s.cache.pairs s.cache.capacity s.jobs_out.items s.jobs_given in
+    let store = viewed s.keys s.ids.items s.outcomes.items s.numbers.items s.places s.cache.pairs s.cache.capacity s.jobs_out.items s.jobs_given s.released.items in
     let listed : IsTrue c.is_some.result ↔ Contains s.numbers.items (Some c.args.key) =
     rw (c.is_some.ensures, c.get.ensures) (c.self.invariant.kept.used c.args.key) in
     rw (← c.self.view_is) (
@@ -18,11 +18,11 @@ returns-clause-value c =
     )
 
 pub returns-clause-listed : goal.returns-clause-listed
-returns-clause-listed c =
+returns-clause-listed g c =
     rw (← c.self.view_is, c.is_some.ensures, c.get.ensures) (c.self.invariant.kept.used c.args.key)
 
 pub returns-clause-one : goal.returns-clause-one
-returns-clause-one c =
+returns-clause-one g c =
     let s = c.self.inside in
     rw (← c.self.view_is)
     (one_to_one s.keys c.self.invariant.kept.right.one s.numbers.items (keys_of (zip s.ids.items s.outcomes.items))

@@ -1,73 +1,38 @@
-use Rattle.std.proofs.Common.{◌≡◌, refl, sym, subst, ◌∙◌, ◌<◌, Option, Some}
-use Rattle.std.specs.Prelude.{IfSome}
+use Rattle.std.proofs.Common.{refl, sym, ap, subst, ◌∙◌}
+use Rattle.std.proofs.lemmas.Option.{same_Some}
+use Rattle.picture_store.specs.Stores.{OutValue}
+use Rattle.picture_store.proofs.ByNumber.{job_there}
 use Rattle.picture_store.proofs.Landed.{foreign_for}
-use Rattle.picture_store.proofs.Filled.{landed, kept_filled}
-use Rattle.picture_store.proofs.Looked.{behind_left, looked_landed}
-use Rattle.picture_store.proofs.Scheduling.{scheduled_landed}
-use Rattle.picture_store.proofs.Settled.{settled_landed}
+use Rattle.picture_store.proofs.Landings.{job_lands}
 use Rattle.picture_store.proofs.store.PictureStore.land.Goals as goal
 
-pub returns-in_default : goal.returns-in_default
-returns-in_default c =
-    let none = rw (c.deref.ensures.value, c.into_parts-number.ensures) at c.in_default.ensures in
-    rw (← c.self.view_is) (foreign_for c.self.inside.keys c.self.inside.jobs_out.items c.args.finished none, refl)
-
--- a schedule that stays was kept
-if_ready_at : {S : Type 0} {P : Type 0} (kept old result : Option S) → kept ≡ old → IfSome result (λ s. (kept ≡ Some s) × P)
-    → (s : S) → result ≡ Some s → (old ≡ Some s) × P
-if_ready_at {S} {P} kept old result same if_ready s is =
-    let both : (kept ≡ Some s) × P = subst (λ (o : Option S). IfSome o (λ s. (kept ≡ Some s) × P)) is if_ready in
-    (sym same ∙ both.0, both.1)
-
-pub after_landing-requires-clause-right : goal.after_landing-requires-clause-right
-after_landing-requires-clause-right c =
+pub land_at-requires-clause-decoded : goal.land_at-requires-clause-decoded
+land_at-requires-clause-decoded g c =
     let s = c.self.inside in
-    let found = rw (c.deref.ensures.value, c.into_parts-number.ensures) at c.in-Some.ensures in
-    let filled = rw (c.into_parts-number.ensures) at c.fill-landing.ensures.filled in
-    (kept_filled s.keys s.ids.items s.outcomes.items s.numbers.items s.places s.cache.pairs s.cache.capacity s.jobs_out.items s.jobs_given
-    c.self.invariant.kept c.args.finished c.in-Some.at found.0 c.remove-job.result c.remove-job.ensures.value found.1 found.2
-    c.fill-landing.result c.fill-landing.new.places c.remove-job.new.self.items c.remove-job.ensures.items filled).right
+    let is = rw (c.deref.ensures.value, c.into_parts-number.ensures.number, c.into_parts-number.ensures.input) at c.in-Some.ensures in
+    let there = job_there s.keys s.jobs_out.items c.in-Some.at c.args.finished is.0 is.1 is.2 in
+    rw (← c.self.view_is) (λ job stands.
+    subst (λ input. g.P.Decoded.IsDecoded input c.into_parts-number.result.2)
+    (sym (there.2.1) ∙ ap (λ (j : OutValue g.row.P.Denot). j.input) (same_Some there.0 job (sym there.1 ∙ stands)))
+    c.into_parts-number.ensures.decoded)
 
-pub invariant_of-self : goal.invariant_of-self
-invariant_of-self c =
+pub returns-in-Some : goal.returns-in-Some
+returns-in-Some g c =
     let s = c.self.inside in
-    let found = rw (c.deref.ensures.value, c.into_parts-number.ensures) at c.in-Some.ensures in
-    let filled = rw (c.into_parts-number.ensures) at c.fill-landing.ensures.filled in
-    record {
-      kept =
-          kept_filled s.keys s.ids.items s.outcomes.items s.numbers.items s.places s.cache.pairs s.cache.capacity s.jobs_out.items s.jobs_given
-          c.self.invariant.kept c.args.finished c.in-Some.at found.0 c.remove-job.result c.remove-job.ensures.value found.1 found.2
-          c.fill-landing.result c.fill-landing.new.places c.remove-job.new.self.items c.remove-job.ensures.items filled;
-      counted = λ number. c.fill-landing.ensures.uses number ∙ c.self.invariant.counted number;
-      apart = λ number used. c.self.invariant.apart number (subst (λ n. 0 < n) (c.fill-landing.ensures.uses number) used);
-      settled =
-          settled_landed s.keys s.ids.items s.outcomes.items s.numbers.items s.places s.cache.pairs s.jobs_out.items
-          c.self.invariant.kept c.in-Some.at c.remove-job.result c.remove-job.ensures.value _ c.fill-landing.result c.fill-landing.new.places
-          c.remove-job.new.self.items s.units_settled c.remove-job.ensures.items filled c.self.invariant.settled;
-      looked =
-          looked_landed s.keys s.ids.items s.outcomes.items s.numbers.items s.places s.cache.pairs s.jobs_out.items
-          c.self.invariant.kept c.in-Some.at found.0 c.remove-job.result c.remove-job.ensures.value _ c.fill-landing.result
-          c.fill-landing.new.places c.remove-job.new.self.items s.units_not_due c.looked_after-self-inside.result c.remove-job.ensures.items filled
-          c.looked_after-self-inside.ensures.before c.looked_after-self-inside.ensures.front c.self.invariant.behind c.self.invariant.looked;
-      behind =
-          behind_left s.keys s.ids.items s.outcomes.items s.numbers.items s.places s.cache.pairs s.jobs_out.items
-          c.self.invariant.kept c.in-Some.at found.0 c.remove-job.result c.remove-job.ensures.value c.remove-job.new.self.items
-          c.remove-job.ensures.items c.self.invariant.behind;
-      scheduled =
-          scheduled_landed s.keys s.ids.items s.outcomes.items s.numbers.items s.places s.cache.pairs s.jobs_out.items
-          c.self.invariant.kept c.in-Some.at c.remove-job.result c.remove-job.ensures.value _ c.fill-landing.result
-          c.fill-landing.new.places c.remove-job.new.self.items c.remove-job.ensures.items filled s.schedule
-          c.if_ready-schedule.result c.after_landing.result c.self.invariant.scheduled
-          (if_ready_at c.take.result s.schedule c.if_ready-schedule.result c.take.ensures.value c.if_ready-schedule.ensures)
-          (rw (c.deref-2.ensures.value, c.deref-3.ensures.value) at c.after_landing.ensures);
-    }
+    let is = rw (c.deref.ensures.value, c.into_parts-number.ensures.number, c.into_parts-number.ensures.input) at c.in-Some.ensures in
+    let there = job_there s.keys s.jobs_out.items c.in-Some.at c.args.finished is.0 is.1 is.2 in
+    let lands = rw (← c.self.view_is) at c.land_at.ensures in
+    rw (← c.self.view_is) (
+      c.into_parts-number.result.2,
+      c.into_parts-number.ensures.decoded,
+      job_lands _ c.in-Some.at c.into_parts-number.result.2 c.args.finished there.0 there.1 there.2 c.land_at.result _ lands,
+    )
 
 pub returns : goal.returns
-returns c =
-    let s = c.self.inside in
-    let found = rw (c.deref.ensures.value, c.into_parts-number.ensures) at c.in-Some.ensures in
-    let filled = rw (c.into_parts-number.ensures) at c.fill-landing.ensures.filled in
-    rw (← c.self.view_is)
-    (landed s.keys s.ids.items s.outcomes.items s.numbers.items s.places s.cache.pairs s.cache.capacity s.jobs_out.items s.jobs_given
-    c.self.invariant.kept c.args.finished c.in-Some.at found.0 c.remove-job.result c.remove-job.ensures.value found.1 found.2
-    c.fill-landing.result c.fill-landing.new.places c.remove-job.new.self.items c.remove-job.ensures.items filled)
+returns g c =
+    let none = rw (c.deref.ensures.value, c.into_parts-number.ensures.number, c.into_parts-number.ensures.input) at c.in-None.ensures in
+    rw (← c.self.view_is) (
+      c.into_parts-number.result.2,
+      c.into_parts-number.ensures.decoded,
+      (foreign_for c.self.inside.keys c.self.inside.jobs_out.items c.args.finished none, refl),
+    )

@@ -3,9 +3,9 @@ use Rattle.picture_store.proofs.Viewed.{viewed}
 use Rattle.picture_store.proofs.store.PictureStore.numbers.Goals as goal
 
 pub returns-clause-numbered : goal.returns-clause-numbered
-returns-clause-numbered c =
+returns-clause-numbered g c =
     let s = c.self.inside in
     rw (← c.self.view_is)
     (all_numbered s.keys
-    (viewed s.keys s.ids.items s.outcomes.items s.numbers.items s.places s.cache.pairs s.cache.capacity s.jobs_out.items s.jobs_given)
+    (viewed s.keys s.ids.items s.outcomes.items s.numbers.items s.places s.cache.pairs s.cache.capacity s.jobs_out.items s.jobs_given s.released.items)
     c.self.invariant.kept.stand)

@@ -1,6 +1,8 @@
-use Rattle.std.proofs.Common.{◌≡◌, ◌≤◌, ◌-◌, ap, ℕ, List, Option, ◌++◌, ◌∙◌, map, take, drop, length, refl, sym, subst, append_assoc, arith}
+use Rattle.std.proofs.Common.{◌≡◌, ◌<◌, ◌≤◌, ◌-◌, ap, ℕ, List, Option, ◌++◌, ◌∙◌, map, take, drop, length, refl, sym, subst, append_assoc, arith}
 use Rattle.std.specs.List.{zip}
+use Rattle.std.specs.Map.{values_of}
 use Rattle.std.proofs.lemmas.List.Sums.{sum_by-take-le, sum_by-take-drop}
+use Rattle.key_slots.specs.Accounts.{pictures_of}
 use Rattle.key_slots.specs.Counting.{once_at, times, times_in}
 use Rattle.key_slots.specs.Places.{AreSame}
 use Rattle.key_slots.proofs.Taking.{times_at_most}
@@ -11,7 +13,7 @@ use Rattle.picture_store.specs.Kept.{jobs_for}
 use Rattle.picture_store.specs.Looked.{AreNotDue, IsBehind, lowered}
 use Rattle.picture_store.specs.Settled.{AreSettled}
 use Rattle.picture_store.specs.declared.job_out.JobOut.{JobOut}
-use Rattle.std.specs.Prelude.{All}
+use Rattle.std.specs.Prelude.{All, IsPermutation}
 use Rattle.picture_store.specs.Recounts.{IsRecounted}
 use Rattle.picture_store.specs.Stores.{StoreValue}
 use Rattle.picture_store.specs.Changes.{RefitsLosing}
@@ -28,26 +30,26 @@ use Rattle.picture_store.proofs.Same.{stored_still, viewed_still}
 use Rattle.picture_store.proofs.Using.{countable, recounted_same}
 use Rattle.picture_store.proofs.store.PictureStore.refit.Goals as goal
 
-same_self : (places : PlacesValue) → AreSame places places
-same_self places = record { slots = λ number. refl; held = refl }
+same_self : {P : Type 0} (places : PlacesValue P) → AreSame places places
+same_self places = record { slots = λ number. refl; held = refl; pictures = refl }
 
 pub keys_from-requires-clause-stretch : goal.keys_from-requires-clause-stretch
-keys_from-requires-clause-stretch c =
+keys_from-requires-clause-stretch g c =
     let stretch = rw (← c.sweep.ensures, ← c.self.view_is) at c.requires.stretch in
     rw (c.deref.ensures.value, c.make_room.ensures.ids) stretch
 
 pub keys_from-requires-clause-stand : goal.keys_from-requires-clause-stand
-keys_from-requires-clause-stand c =
+keys_from-requires-clause-stand g c =
     rw (c.deref.ensures.value, c.deref-2.ensures.value, c.deref-3.ensures.value, c.make_room.ensures.ids, c.make_room.ensures.outcomes)
     c.self.invariant.kept.stand
 
 pub keys_from-requires-clause-told : goal.keys_from-requires-clause-told
-keys_from-requires-clause-told c =
+keys_from-requires-clause-told g c =
     let told = rw (← c.sweep.ensures, ← c.self.view_is) at c.requires.told in
     rw (c.deref.ensures.value, c.deref-2.ensures.value, c.make_room.ensures.ids, c.make_room.ensures.outcomes) told
 
 pub invariant_of-self-in_err-past : goal.invariant_of-self-in_err-past
-invariant_of-self-in_err-past c =
+invariant_of-self-in_err-past g c =
     let s = c.self.inside in
     rw (c.make_room.ensures.ids, c.make_room.ensures.outcomes)
     (stored_still s.keys c.keys_from.new.keys s.ids.items s.outcomes.items s.numbers.items s.places s.places s.cache.pairs s.jobs_out.items
@@ -55,31 +57,31 @@ invariant_of-self-in_err-past c =
     (c.keys_from.ensures.one c.self.invariant.kept.right.one) (same_self s.places))
 
 pub returns-in_err-past-clause-err : goal.returns-in_err-past-clause-err
-returns-in_err-past-clause-err c =
+returns-in_err-past-clause-err g c =
     let s = c.self.inside in
     on_any_err c.from_residual-in_err-past.result
     (rw (← c.sweep.ensures, ← c.self.view_is, c.make_room.ensures.ids, c.make_room.ensures.outcomes)
     (viewed_stays s.keys c.keys_from.new.keys s.ids.items s.outcomes.items s.numbers.items s.places s.cache.pairs s.jobs_out.items
-    c.self.invariant.kept (λ n k stored is. c.keys_from.ensures.stay n k is) s.cache.capacity s.jobs_given))
+    c.self.invariant.kept (λ n k stored is. c.keys_from.ensures.stay n k is) s.cache.capacity s.jobs_given s.released.items))
 
 pub make_ready-requires-clause-ordered : goal.make_ready-requires-clause-ordered
-make_ready-requires-clause-ordered c =
+make_ready-requires-clause-ordered g c =
     let stretch : IsStretch c.args.stretch c.self.inside.ids.items = rw (← c.sweep.ensures, ← c.self.view_is) at c.requires.stretch in
     omega (arith, stretch.ordered, c.in_ok-past.ensures.behind.0)
 
 pub make_ready-requires-clause-inside : goal.make_ready-requires-clause-inside
-make_ready-requires-clause-inside c =
+make_ready-requires-clause-inside g c =
     let s = c.self.inside in
     let behind = rw (c.deref.ensures.value, c.make_room.ensures.ids) at c.in_ok-past.ensures.behind in
     omega (
       arith,
       behind.1,
-      found_length s.keys s.ids.items s.outcomes.items s.numbers.items s.places s.cache.pairs s.cache.capacity s.jobs_out.items s.jobs_given
+      found_length s.keys s.ids.items s.outcomes.items s.numbers.items s.places s.cache.pairs s.cache.capacity s.jobs_out.items s.jobs_given s.released.items
           c.self.invariant.kept,
     )
 
 pub invariant_of-self-in_err-leaving : goal.invariant_of-self-in_err-leaving
-invariant_of-self-in_err-leaving c =
+invariant_of-self-in_err-leaving g c =
     let s = c.self.inside in
     rw (c.make_room.ensures.ids, c.make_room.ensures.outcomes, c.make_ready.ensures.numbers)
     (stored_still s.keys c.keys_from.new.keys s.ids.items s.outcomes.items s.numbers.items s.places c.make_ready.new.places
@@ -87,20 +89,20 @@ invariant_of-self-in_err-leaving c =
     (c.keys_from.ensures.one c.self.invariant.kept.right.one) c.make_ready.ensures.same)
 
 pub returns-in_err-leaving-clause-err : goal.returns-in_err-leaving-clause-err
-returns-in_err-leaving-clause-err c =
+returns-in_err-leaving-clause-err g c =
     let s = c.self.inside in
     on_any_err c.from_residual-in_err-leaving.result
-    (rw (← c.sweep.ensures, ← c.self.view_is, c.make_room.ensures.ids, c.make_room.ensures.outcomes, c.make_ready.ensures.numbers)
+    (rw (← c.sweep.ensures, ← c.self.view_is, c.make_room.ensures.ids, c.make_room.ensures.outcomes, c.make_ready.ensures.numbers, c.make_ready.ensures.released)
     (viewed_still s.keys c.keys_from.new.keys s.ids.items s.outcomes.items s.numbers.items s.places c.make_ready.new.places
     s.cache.pairs s.jobs_out.items s.units_settled s.units_not_due s.schedule c.self.invariant (λ n k stored is. c.keys_from.ensures.stay n k is)
-    (c.keys_from.ensures.one c.self.invariant.kept.right.one) c.make_ready.ensures.same s.cache.capacity s.jobs_given))
+    (c.keys_from.ensures.one c.self.invariant.kept.right.one) c.make_ready.ensures.same s.cache.capacity s.jobs_given s.released.items))
 
 pub recount-lost-requires-clause-room : goal.recount-lost-requires-clause-room
-recount-lost-requires-clause-room c =
+recount-lost-requires-clause-room g c =
     rw (c.deref-5.ensures.value) (rw (c.deref-4.ensures.value) at c.in_ok-leaving.ensures.room)
 
 pub recount-lost-requires-clause-fits : goal.recount-lost-requires-clause-fits
-recount-lost-requires-clause-fits c =
+recount-lost-requires-clause-fits g c =
     let s = c.self.inside in
     let later = c.in_ok-past.later in
     rw (c.deref-5.ensures.value)
@@ -117,7 +119,7 @@ recount-lost-requires-clause-fits c =
     ))
 
 pub recount-lost-requires-clause-enough : goal.recount-lost-requires-clause-enough
-recount-lost-requires-clause-enough c =
+recount-lost-requires-clause-enough g c =
     let s = c.self.inside in
     let from = c.args.stretch.from in
     rw (c.deref-6.ensures.value)
@@ -131,13 +133,20 @@ recount-lost-requires-clause-enough c =
       c.self.invariant.counted number,
     ))
 
+pub recount-lost-requires-clause-spare : goal.recount-lost-requires-clause-spare
+recount-lost-requires-clause-spare g c = rw (c.deref-6.ensures.value) c.in_ok-leaving.ensures.spare
+
+pub recount-lost-requires-clause-apart : goal.recount-lost-requires-clause-apart
+recount-lost-requires-clause-apart g c = λ number used.
+    c.self.invariant.apart number (subst (λ n. 0 < n) (ap (λ slot. slot.uses) (c.make_ready.ensures.same.slots number)) used)
+
 pub replace_range-requires-3-clause-ordered : goal.replace_range-requires-3-clause-ordered
-replace_range-requires-3-clause-ordered c =
+replace_range-requires-3-clause-ordered g c =
     let stretch : IsStretch c.args.stretch c.self.inside.ids.items = rw (← c.sweep.ensures, ← c.self.view_is) at c.requires.stretch in
     omega (arith, stretch.ordered, c.in_ok-past.ensures.behind.0)
 
 pub replace_range-requires-3-clause-inside : goal.replace_range-requires-3-clause-inside
-replace_range-requires-3-clause-inside c =
+replace_range-requires-3-clause-inside g c =
     let s = c.self.inside in
     let behind = rw (c.deref.ensures.value, c.make_room.ensures.ids) at c.in_ok-past.ensures.behind in
     omega (
@@ -145,12 +154,12 @@ replace_range-requires-3-clause-inside c =
       behind.1,
       ap length c.make_ready.ensures.numbers,
       c.make_ready.new.numbers.ok.0,
-      found_length s.keys s.ids.items s.outcomes.items s.numbers.items s.places s.cache.pairs s.cache.capacity s.jobs_out.items s.jobs_given
+      found_length s.keys s.ids.items s.outcomes.items s.numbers.items s.places s.cache.pairs s.cache.capacity s.jobs_out.items s.jobs_given s.released.items
           c.self.invariant.kept,
     )
 
 pub invariant_of-self-2 : goal.invariant_of-self-2
-invariant_of-self-2 c =
+invariant_of-self-2 g c =
     let s = c.self.inside in
     let ids = s.ids.items in
     let outcomes = s.outcomes.items in
@@ -198,7 +207,7 @@ invariant_of-self-2 c =
       arith,
       stretch.ordered,
       stretch.within,
-      found_length s.keys s.ids.items s.outcomes.items s.numbers.items s.places s.cache.pairs s.cache.capacity s.jobs_out.items s.jobs_given
+      found_length s.keys s.ids.items s.outcomes.items s.numbers.items s.places s.cache.pairs s.cache.capacity s.jobs_out.items s.jobs_given s.released.items
           c.self.invariant.kept,
     ) in
     let later_found : List (Option ℕ) = later.items ++ drop past s.numbers.items in
@@ -206,7 +215,7 @@ invariant_of-self-2 c =
     sym (append_assoc (take c.args.stretch.from s.numbers.items) later.items (drop past s.numbers.items)) in
     let placed : ArePlaced (take c.args.stretch.from s.numbers.items ++ later_found) s.places s.cache.pairs c.recount-lost.new.places =
     subst (λ all. ArePlaced all s.places s.cache.pairs c.recount-lost.new.places) (sym parts) recounted.placed in
-    let out : List JobOut = c.lower_all.new.jobs.items in
+    let out : List (JobOut g.row.P.Denot) = c.lower_all.new.jobs.items in
     let out_are : out ≡ map (lowered c.args.stretch.from) s.jobs_out.items = c.lower_all.ensures in
     let after =
     kept_after c.keys_from.new.keys ids outcomes s.numbers.items s.places s.cache.pairs s.jobs_out.items kept
@@ -249,7 +258,7 @@ invariant_of-self-2 c =
     }
 
 pub returns-clause-ok : goal.returns-clause-ok
-returns-clause-ok c =
+returns-clause-ok g c =
     let s = c.self.inside in
     let ids = s.ids.items in
     let outcomes = s.outcomes.items in
@@ -293,19 +302,33 @@ returns-clause-ok c =
     let outcomes_are : c.replace_range-2.new.items.items ≡ outcomes_with c.args.stretch outcomes =
     rw (c.make_room.ensures.outcomes) at c.replace_range-2.ensures.items in
     let room : c.recount-lost.new.cache.capacity ≡ s.cache.capacity = c.recount-lost.ensures.room in
-    let old : StoreValue = viewed s.keys ids outcomes s.numbers.items s.places s.cache.pairs s.cache.capacity s.jobs_out.items s.jobs_given in
-    let is : viewed c.keys_from.new.keys ids outcomes s.numbers.items s.places s.cache.pairs s.cache.capacity s.jobs_out.items s.jobs_given ≡ old =
+    let old : StoreValue g.row.P.Denot = viewed s.keys ids outcomes s.numbers.items s.places s.cache.pairs s.cache.capacity s.jobs_out.items s.jobs_given s.released.items in
+    let is : viewed c.keys_from.new.keys ids outcomes s.numbers.items s.places s.cache.pairs s.cache.capacity s.jobs_out.items s.jobs_given s.released.items ≡ old =
     viewed_stays s.keys c.keys_from.new.keys ids outcomes s.numbers.items s.places s.cache.pairs s.jobs_out.items
-    c.self.invariant.kept (λ n k stored is. c.keys_from.ensures.stay n k is) s.cache.capacity s.jobs_given in
+    c.self.invariant.kept (λ n k stored is. c.keys_from.ensures.stay n k is) s.cache.capacity s.jobs_given s.released.items in
     let out_are : c.lower_all.new.jobs.items ≡ map (lowered c.args.stretch.from) s.jobs_out.items = c.lower_all.ensures in
     let out_seen : jobs_for c.keys_from.new.keys c.lower_all.new.jobs.items ≡ jobs_for c.keys_from.new.keys s.jobs_out.items =
     ap (jobs_for c.keys_from.new.keys) out_are
     ∙ jobs_lowered c.keys_from.new.keys c.args.stretch.from s.jobs_out.items in
     rw (← c.sweep.ensures, ← c.self.view_is, room, ids_are, outcomes_are, found_are, out_seen)
-    (subst (λ (store : StoreValue). RefitsLosing store (ids_with c.args.stretch ids) (outcomes_with c.args.stretch outcomes) c.recount-lost.result
+    (subst (λ (store : StoreValue g.row.P.Denot). RefitsLosing store (ids_with c.args.stretch ids) (outcomes_with c.args.stretch outcomes) c.recount-lost.result
     (viewed c.keys_from.new.keys (ids_with c.args.stretch ids) (outcomes_with c.args.stretch outcomes)
-    numbers c.recount-lost.new.places c.recount-lost.new.cache.pairs s.cache.capacity s.jobs_out.items s.jobs_given)) is
+    numbers c.recount-lost.new.places c.recount-lost.new.cache.pairs s.cache.capacity s.jobs_out.items s.jobs_given c.forget_released.new.released.items)) is
     (refitted c.keys_from.new.keys ids outcomes s.numbers.items s.places s.cache.pairs s.jobs_out.items kept
     (ids_with c.args.stretch ids) (outcomes_with c.args.stretch outcomes) numbers c.recount-lost.new.places stand
     recounted.placed recounted.left c.recount-lost.new.cache.pairs recounted.leaves recounted.left_pairs s.cache.capacity
-    recounted.gone recounted.go c.recount-lost.result recounted.puts recounted.put_pairs s.jobs_given))
+    recounted.gone recounted.go c.recount-lost.result recounted.puts recounted.put_pairs s.jobs_given s.released.items c.forget_released.new.released.items))
+
+pub returns-clause-pictures : goal.returns-clause-pictures
+returns-clause-pictures g c = λ back.
+    let s = c.self.inside in
+    let accounts : IsPermutation (pictures_of s.places s.cache.pairs s.released.items)
+    (pictures_of c.recount-lost.new.places c.recount-lost.new.cache.pairs c.recount-lost.new.released.items) =
+    subst (λ (held : List g.row.P.Denot). IsPermutation ((held ++ values_of s.cache.pairs) ++ s.released.items)
+    (pictures_of c.recount-lost.new.places c.recount-lost.new.cache.pairs c.recount-lost.new.released.items)) c.make_ready.ensures.same.pictures
+    (subst (λ (gone : List g.row.P.Denot). IsPermutation (pictures_of c.make_ready.new.places s.cache.pairs gone)
+    (pictures_of c.recount-lost.new.places c.recount-lost.new.cache.pairs c.recount-lost.new.released.items)) c.make_ready.ensures.released
+    c.recount-lost.ensures.accounts) in
+    rw (← c.sweep.ensures, ← c.self.view_is)
+    (subst (λ (gone : List g.row.P.Denot). IsPermutation (pictures_of s.places s.cache.pairs s.released.items)
+    (pictures_of c.recount-lost.new.places c.recount-lost.new.cache.pairs gone)) (sym (c.forget_released.ensures.stay back)) accounts)

@@ -3,7 +3,7 @@ use Rattle.picture_store.proofs.Stays.{kept_stays, viewed_stays}
 use Rattle.picture_store.proofs.store.PictureStore.sweep.Goals as goal
 
 pub invariant_of-self : goal.invariant_of-self
-invariant_of-self c =
+invariant_of-self g c =
     let s = c.self.inside in
     let stay = rw (c.deref.ensures.value, c.deref-2.ensures.value) at c.sweep_at.ensures.stay in
     record {
@@ -21,15 +21,15 @@ invariant_of-self c =
     }
 
 pub returns-in_err-sweep_threshold : goal.returns-in_err-sweep_threshold
-returns-in_err-sweep_threshold c =
+returns-in_err-sweep_threshold g c =
     let s = c.self.inside in
     let stay = rw (c.deref.ensures.value, c.deref-2.ensures.value) at c.sweep_at.ensures.stay in
     rw (← c.self.view_is)
     (viewed_stays s.keys c.sweep_at.new.keys s.ids.items s.outcomes.items s.numbers.items s.places s.cache.pairs s.jobs_out.items
-    c.self.invariant.kept stay s.cache.capacity s.jobs_given)
+    c.self.invariant.kept stay s.cache.capacity s.jobs_given s.released.items)
 
 pub invariant_of-self-2 : goal.invariant_of-self-2
-invariant_of-self-2 c =
+invariant_of-self-2 g c =
     let s = c.self.inside in
     let stay = rw (c.deref.ensures.value, c.deref-2.ensures.value) at c.sweep_at.ensures.stay in
     record {
@@ -47,9 +47,9 @@ invariant_of-self-2 c =
     }
 
 pub returns : goal.returns
-returns c =
+returns g c =
     let s = c.self.inside in
     let stay = rw (c.deref.ensures.value, c.deref-2.ensures.value) at c.sweep_at.ensures.stay in
     rw (← c.self.view_is)
     (viewed_stays s.keys c.sweep_at.new.keys s.ids.items s.outcomes.items s.numbers.items s.places s.cache.pairs s.jobs_out.items
-    c.self.invariant.kept stay s.cache.capacity s.jobs_given)
+    c.self.invariant.kept stay s.cache.capacity s.jobs_given s.released.items)

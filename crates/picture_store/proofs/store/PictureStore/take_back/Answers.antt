@@ -5,7 +5,7 @@ use Rattle.picture_store.proofs.Settled.{none_settled}
 use Rattle.picture_store.proofs.store.PictureStore.take_back.Goals as goal
 
 pub invariant_of-self : goal.invariant_of-self
-invariant_of-self c =
+invariant_of-self g c =
     let s = c.self.inside in
     rw (c.remove.ensures.items)
     (record {
@@ -21,8 +21,8 @@ invariant_of-self c =
     })
 
 pub returns : goal.returns
-returns c =
+returns g c =
     let s = c.self.inside in
     rw (← c.self.view_is)
     (seen_without s.keys s.ids.items s.outcomes.items s.numbers.items s.places s.cache.pairs s.cache.capacity s.jobs_out.items
-    c.remove.new.self.items s.jobs_given c.args.at c.remove.ensures.items)
+    c.remove.new.self.items s.jobs_given s.released.items c.args.at c.remove.ensures.items)

@@ -12,19 +12,19 @@ use Rattle.picture_store.proofs.Viewed.{viewed}
 use Rattle.picture_store.proofs.store.PictureStore.take_for.Goals as goal
 
 pub schedule_for-requires-clause-columns : goal.schedule_for-requires-clause-columns
-schedule_for-requires-clause-columns c =
+schedule_for-requires-clause-columns g c =
     let s = c.self.inside in
     rw (c.deref.ensures.value, c.deref-2.ensures.value, c.deref-3.ensures.value) (record {
       outcomes_many = sym c.self.invariant.kept.same;
       found_many =
-          found_length s.keys s.ids.items s.outcomes.items s.numbers.items s.places s.cache.pairs s.cache.capacity s.jobs_out.items s.jobs_given
+          found_length s.keys s.ids.items s.outcomes.items s.numbers.items s.places s.cache.pairs s.cache.capacity s.jobs_out.items s.jobs_given s.released.items
           c.self.invariant.kept;
       one = c.self.invariant.kept.right.one;
       stand = c.self.invariant.kept.stand;
     })
 
 pub invariant_of-self-in_default : goal.invariant_of-self-in_default
-invariant_of-self-in_default c =
+invariant_of-self-in_default g c =
     let s = c.self.inside in
     let schedule = c.in_ok-schedule.schedule in
     let are =
@@ -45,7 +45,7 @@ invariant_of-self-in_default c =
     }
 
 pub invariant_of-self-2 : goal.invariant_of-self-2
-invariant_of-self-2 c =
+invariant_of-self-2 g c =
     let s = c.self.inside in
     let schedule = c.in_ok-schedule.schedule in
     let are =
@@ -66,7 +66,7 @@ invariant_of-self-2 c =
     }
 
 pub returns-in_default-clause-tells : goal.returns-in_default-clause-tells
-returns-in_default-clause-tells c =
+returns-in_default-clause-tells g c =
     let s = c.self.inside in
     let are =
     rw (c.deref.ensures.value, c.deref-2.ensures.value, c.deref-3.ensures.value, c.deref-4.ensures.value) at
@@ -74,13 +74,13 @@ returns-in_default-clause-tells c =
     let schedule = c.in_ok-schedule.schedule in
     let none = rw (c.deref-5.ensures.value, c.deref-6.ensures.value) at c.in_default.ensures.due in
     rw (← c.self.view_is) (
-      λ any. none_needed_due s.keys s.ids.items s.outcomes.items s.numbers.items s.places s.cache.pairs s.cache.capacity s.jobs_out.items s.jobs_given
+      λ any. none_needed_due s.keys s.ids.items s.outcomes.items s.numbers.items s.places s.cache.pairs s.cache.capacity s.jobs_out.items s.jobs_given s.released.items
           c.self.invariant.kept c.args.at schedule.dependents.items (heap_items schedule.queue) are.1 none any.0 any.1 any.2,
       refl,
     )
 
 pub returns-in_default-clause-waits : goal.returns-in_default-clause-waits
-returns-in_default-clause-waits c =
+returns-in_default-clause-waits g c =
     let s = c.self.inside in
     let are =
     rw (c.deref.ensures.value, c.deref-2.ensures.value, c.deref-3.ensures.value, c.deref-4.ensures.value) at
@@ -88,22 +88,22 @@ returns-in_default-clause-waits c =
     let schedule = c.in_ok-schedule.schedule in
     let none = rw (c.deref-5.ensures.value, c.deref-6.ensures.value) at c.in_default.ensures.due in
     rw (← c.self.view_is)
-    (λ is pending. one_needed_out s.keys s.ids.items s.outcomes.items s.numbers.items s.places s.cache.pairs s.cache.capacity s.jobs_out.items s.jobs_given
+    (λ is pending. one_needed_out s.keys s.ids.items s.outcomes.items s.numbers.items s.places s.cache.pairs s.cache.capacity s.jobs_out.items s.jobs_given s.released.items
     c.self.invariant.kept c.args.at schedule.dependents.items (heap_items schedule.queue) are.1 none pending)
 
 pub give-requires-clause-due : goal.give-requires-clause-due
-give-requires-clause-due c =
+give-requires-clause-due g c =
     let s = c.self.inside in
     let are =
     rw (c.deref.ensures.value, c.deref-2.ensures.value, c.deref-3.ensures.value, c.deref-4.ensures.value) at
     c.in_ok-schedule.ensures in
     let schedule = c.in_ok-schedule.schedule in
     let is = rw (c.deref-5.ensures.value, c.deref-6.ensures.value) at c.in-Some.ensures.due in
-    is_due s.keys s.ids.items s.outcomes.items s.numbers.items s.places s.cache.pairs s.cache.capacity s.jobs_out.items s.jobs_given
+    is_due s.keys s.ids.items s.outcomes.items s.numbers.items s.places s.cache.pairs s.cache.capacity s.jobs_out.items s.jobs_given s.released.items
     c.self.invariant.kept c.args.at schedule.dependents.items (heap_items schedule.queue) are.1 c.in-Some.place c.in-Some.key is
 
 pub returns-in_err-give-clause-tells : goal.returns-in_err-give-clause-tells
-returns-in_err-give-clause-tells c =
+returns-in_err-give-clause-tells g c =
     let s = c.self.inside in
     let are =
     rw (c.deref.ensures.value, c.deref-2.ensures.value, c.deref-3.ensures.value, c.deref-4.ensures.value) at
@@ -112,16 +112,16 @@ returns-in_err-give-clause-tells c =
     let is = rw (c.deref-5.ensures.value, c.deref-6.ensures.value) at c.in-Some.ensures.due in
     let p = err_from_is_err_and c.from_residual-in_err-give.result c.from_residual-in_err-give.ensures.1 in
     rw (p.1, p.2)
-    (subst (λ (old : StoreValue). TellsTakeFor old c.args.at (Err c.in_err-give.field-0.0) c.give.new.self) c.self.view_is
-    (refusal_told (viewed s.keys s.ids.items s.outcomes.items s.numbers.items s.places s.cache.pairs s.cache.capacity s.jobs_out.items s.jobs_given)
+    (subst (λ (old : StoreValue g.row.P.Denot). TellsTakeFor g.P.Decoded.IsOf old c.args.at (Err c.in_err-give.field-0.0) c.give.new.self) c.self.view_is
+    (refusal_told g.P.Decoded.IsOf (viewed s.keys s.ids.items s.outcomes.items s.numbers.items s.places s.cache.pairs s.cache.capacity s.jobs_out.items s.jobs_given s.released.items)
     c.args.at c.in-Some.place c.in_err-give.field-0.0 c.give.new.self
-    (is_needed s.keys s.ids.items s.outcomes.items s.numbers.items s.places s.cache.pairs s.cache.capacity s.jobs_out.items s.jobs_given
+    (is_needed s.keys s.ids.items s.outcomes.items s.numbers.items s.places s.cache.pairs s.cache.capacity s.jobs_out.items s.jobs_given s.released.items
     c.self.invariant.kept c.args.at schedule.dependents.items (heap_items schedule.queue) are.1 c.in-Some.place c.in-Some.key is)
-    (is_due s.keys s.ids.items s.outcomes.items s.numbers.items s.places s.cache.pairs s.cache.capacity s.jobs_out.items s.jobs_given
+    (is_due s.keys s.ids.items s.outcomes.items s.numbers.items s.places s.cache.pairs s.cache.capacity s.jobs_out.items s.jobs_given s.released.items
     c.self.invariant.kept c.args.at schedule.dependents.items (heap_items schedule.queue) are.1 c.in-Some.place c.in-Some.key is) c.in_err-give.ensures))
 
 pub returns-clause-tells : goal.returns-clause-tells
-returns-clause-tells c =
+returns-clause-tells g c =
     let s = c.self.inside in
     let are =
     rw (c.deref.ensures.value, c.deref-2.ensures.value, c.deref-3.ensures.value, c.deref-4.ensures.value) at
@@ -129,6 +129,6 @@ returns-clause-tells c =
     let schedule = c.in_ok-schedule.schedule in
     let is = rw (c.deref-5.ensures.value, c.deref-6.ensures.value) at c.in-Some.ensures.due in
     rw (← c.self.view_is)
-    (job_told s.keys s.ids.items s.outcomes.items s.numbers.items s.places s.cache.pairs s.cache.capacity s.jobs_out.items s.jobs_given
+    (job_told s.keys s.ids.items s.outcomes.items s.numbers.items s.places s.cache.pairs s.cache.capacity s.jobs_out.items s.jobs_given s.released.items
     c.self.invariant.kept c.args.at schedule.dependents.items (heap_items schedule.queue) are.1 c.in-Some.place c.in-Some.key is c.in_ok-give.field-0
     c.give.new.self c.in_ok-give.ensures)

@@ -1,6 +1,6 @@
 use Rattle.std.proofs.Common.{◌≡◌, Bool, ap, sym, ◌∙◌, subst}
 use Rattle.std.specs.Prelude.{◌&&◌, not}
-use Rattle.edit_engine.specs.declared.showing.Shown.TheVariants.{Pending}
+use Rattle.stream_session.specs.declared.showing.Shown.TheVariants.{Pending}
 use Rattle.seat_books.specs.Following.{Sees}
 use Rattle.seat_books.specs.Sets.{has}
 use Rattle.seat_books.proofs.Checked.{Sees-pending}

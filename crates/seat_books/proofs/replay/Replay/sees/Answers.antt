@@ -1,5 +1,5 @@
 use Rattle.std.proofs.Common.{refl}
-use Rattle.edit_engine.specs.declared.showing.Shown.TheVariants as shown
+use Rattle.stream_session.specs.declared.showing.Shown.TheVariants as shown
 use Rattle.seat_books.proofs.Checked.{Sees-plain}
 use Rattle.seat_books.proofs.replay.Replay.sees.Goals as goal
 

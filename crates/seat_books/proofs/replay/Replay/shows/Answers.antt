@@ -1,11 +1,11 @@
 use Rattle.std.proofs.Common.{◌≡◌, ℕ, true, cond, ap, sym, ◌∙◌, subst, eqb, rules}
 use Rattle.std.specs.Prelude.{Contains}
-use Rattle.picture_keys.specs.Keys.{Key}
-use Rattle.picture_keys.specs.KeyPictures.{picture_of_key}
+use Rattle.decode_jobs.specs.Keys.{Key}
+use Rattle.stand_in_device.specs.KeyPictures.{picture_of_key}
 use Rattle.picture_store.specs.Stores.{IsNumberOf}
 use Rattle.stream_edits.specs.Edits.{Register}
-use Rattle.edit_engine.specs.Machines.{store_of}
-use Rattle.edit_engine.specs.Showing.{HasKey}
+use Rattle.stream_session.specs.Machines.{store_of}
+use Rattle.stream_session.specs.Showing.{HasKey}
 use Rattle.seat_books.specs.declared.replay.Replay.{Replay}
 use Rattle.seat_books.specs.Following.{Stays}
 use Rattle.seat_books.specs.Sets.{has}

@@ -1,4 +1,4 @@
-use Rattle.std.proofs.Common.{List, Result}
+use Rattle.std.proofs.Common.{Result}
 use Rattle.std.specs.Vec.Iter.{into_iter_items}
 use Rattle.serve_messages.specs.declared.failure.Failure.{Failure}
 use Rattle.serve_messages.specs.declared.answer.Answer.{Answer}

@@ -1,0 +1,15 @@
+//! What is given to a decoder and what it brings, over the pictures of any decoder.
+//!
+//! A `Job` is the requests of a picture with the pictures of its references; a `Finished` is a job
+//! with a picture that the decoder made of it. `Decoded` is what a decoder's pictures are: a ghost
+//! member says which it makes of what. Below are h264_controls and dep_keys.
+#![tactic(auto)]
+
+mod decoded;
+mod input;
+mod job;
+mod same;
+
+pub use decoded::Decoded;
+pub use input::{Input, Reference, picture_of_frame};
+pub use job::{Finished, Job, Undone};

@@ -1,7 +1,0 @@
-use Rattle.std.proofs.Common.{sym}
-use Rattle.edit_engine.proofs.Placed.{found}
-use Rattle.edit_engine.proofs.session.Session.show.Goals as goal
-
-pub returns-in-Some : goal.returns-in-Some
-returns-in-Some c =
-    c.show_at.ensures c.args.id (found _ c.args.id c.in-Some.place (sym c.in-Some.ensures.value))

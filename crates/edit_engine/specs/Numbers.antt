@@ -1,9 +1,0 @@
--- The numbers of faults.
-use Rattle.std.specs.Prelude.{ℕ}
-use Rattle.edit_engine.specs.declared.config.ConfigFault.{ConfigFault}
-use Rattle.edit_engine.specs.declared.config.ConfigFault.TheVariants.{Cache, Memory}
-
--- the number of a fault of a configuration
-abbrev pub number_of_config : ConfigFault → ℕ
-number_of_config Cache = 1
-number_of_config Memory = 2

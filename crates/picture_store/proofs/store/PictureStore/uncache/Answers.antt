@@ -1,0 +1,27 @@
+use Rattle.picture_store.proofs.Uncached.{kept_left, numbered_left, uncaches}
+use Rattle.picture_store.proofs.store.PictureStore.uncache.Goals as goal
+
+pub invariant_of-self : goal.invariant_of-self
+invariant_of-self g c =
+    let s = c.self.inside in
+    record {
+      kept =
+          kept_left s.keys s.ids.items s.outcomes.items s.numbers.items s.places s.cache c.take_oldest.new.self s.jobs_out.items
+          c.self.invariant.kept c.take_oldest.result c.take_oldest.ensures.oldest;
+      counted = c.self.invariant.counted;
+      apart = λ number used among.
+          c.self.invariant.apart number used
+          (numbered_left s.keys s.ids.items s.outcomes.items s.numbers.items s.places s.cache c.take_oldest.new.self s.jobs_out.items
+          c.self.invariant.kept c.take_oldest.result c.take_oldest.ensures.oldest number among);
+      settled = c.self.invariant.settled;
+      looked = c.self.invariant.looked;
+      behind = c.self.invariant.behind;
+      scheduled = c.self.invariant.scheduled;
+    }
+
+pub returns : goal.returns
+returns g c =
+    let s = c.self.inside in
+    rw (← c.self.view_is)
+    (uncaches s.keys s.ids.items s.outcomes.items s.numbers.items s.places s.cache c.take_oldest.new.self s.jobs_out.items
+    c.self.invariant.kept c.take_oldest.result c.take_oldest.ensures.oldest s.jobs_given s.released.items)

@@ -1,5 +1,0 @@
-use Rattle.std.proofs.Common.{length}
-use Rattle.stand_in_device.proofs.same.+same_references.Given as goal
-
-abbrev pub decreases-same_references : goal.decreases-same_references
-decreases-same_references l = length l.references.now

@@ -1,0 +1,46 @@
+//! What a session is made with.
+
+ghost use Rattle.std.specs.Prelude.{◌≡◌};
+ghost use Rattle.stream_session.specs.declared.config.ConfigFault.TheVariants.{Memory};
+ghost use Rattle.stream_session.specs.Numbers.{number_of_config};
+
+use std::alloc::AllocError;
+use thiserror::Error;
+
+/// What a session is made with.
+#[derive(Clone, Copy, Debug, PartialEq, Eq)]
+pub struct Config {
+    /// How many pictures the cache has room for, 1 to `MOST_ROOM`.
+    pub cache: u16,
+}
+
+/// Why no session is made.
+#[derive(Clone, Copy, Debug, PartialEq, Eq, Hash, Error)]
+pub enum ConfigFault {
+    /// The room of the cache is out of its range.
+    #[error("Cache")]
+    Cache,
+    /// A growth was refused.
+    #[error("Memory")]
+    Memory,
+}
+
+impl ConfigFault {
+    /// The fault's number, from 1 in the order above.
+    pub fn number(self) -> u8
+        ensures { result ≡ number_of_config self }
+    {
+        match self {
+            ConfigFault::Cache => 1,
+            ConfigFault::Memory => 2,
+        }
+    }
+}
+
+impl From<AllocError> for ConfigFault {
+    ghost from_gives = { λ error fault. fault ≡ Memory };
+
+    fn from(_: AllocError) -> ConfigFault {
+        ConfigFault::Memory
+    }
+}

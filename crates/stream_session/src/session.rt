@@ -1,0 +1,367 @@
+//! The session: a stream under edits, and the pictures of its units.
+
+ghost use Rattle.std.specs.Prelude.{◌≡◌, ◌<◌, ◌≤◌, ◌↔◌, ℕ, [], length, None, Some, true, IfOk, IfSome, IsErrOf, OnErr};
+ghost use Rattle.request_core.specs.Fold.{outcomes_of};
+ghost use Rattle.picture_cache.specs.Bounded.{most_room};
+ghost use Rattle.picture_store.specs.Stores.{AreNumbered};
+ghost use Rattle.stream_edits.specs.Changes.{IsInside};
+ghost use Rattle.stream_edits.specs.Journals.{edits_of};
+ghost use Rattle.stream_edits.specs.Streams.{ids_of, last_of, place_of};
+ghost use Rattle.stream_edits.specs.Edits.{no_units, Replays};
+ghost use Rattle.stream_session.specs.Grouping.{AnswersGroup};
+ghost use Rattle.stream_session.specs.Machines.{empty, AnswersEdit, KeepsPictures, store_of};
+ghost use Rattle.stream_session.specs.Taken.{input_of};
+ghost use Rattle.stream_session.specs.Moves.{ComeTo, Moves};
+ghost use Rattle.stream_session.specs.Jobs.{AnswersGiveBack, AnswersGiveBackOf, AnswersLand, AnswersLandOf, AnswersTake, TellsTake};
+ghost use Rattle.stream_session.specs.Needing.{AnswersTakeFor, IsAnyOutFor, IsPendingIn, TellsTakeFor};
+
+mod asking;
+mod releasing;
+
+use crate::change_costs::ChangeCosts;
+use crate::config::{Config, ConfigFault};
+use crate::stretches::stretch_of;
+use base_types::Shared;
+use decode_jobs::{Decoded, Finished, Job};
+use dep_keys::KeyId;
+use picture_keys::HashedOutcome;
+use picture_store::{JobAt, Landing, MOST_ROOM, PictureStore, Returning, TakeRefused};
+use pictures::AuId;
+use std::alloc::{AllocError, Global};
+use std::marker::Model;
+use stream_edits::{
+    AcceptedEdit, AcceptedGroup, Change, Edit, EditRefused, GroupReceipt, GroupRefused,
+    JournalEntry, Last, ReadEdit, ReadGroup, Receipt, change_of, change_of_group, place_of,
+};
+use stream_fold::OrderedFold;
+
+/// A stream of access units under edits, with each unit's outcome, and with pictures, which jobs
+/// bring. Clauses see the accepted edits and what they leave, the keys whose pictures are held or
+/// cached, and the jobs that are out.
+#[derive(Debug)]
+pub struct Session<P: Decoded> {
+    alloc: Global,
+    journal: Vec<JournalEntry>,
+    ids_given: u32,
+    ordered: OrderedFold,
+    store: PictureStore<P>,
+}
+
+// By hand, so that whoever drops a session isn't proved over all that it holds.
+impl<P: Decoded> Drop for Session<P> {
+    fn drop(self) {
+        let Session {
+            alloc: _,
+            journal: _,
+            ids_given: _,
+            ordered: _,
+            store: _,
+        } = self;
+    }
+}
+
+impl<P: Decoded> Model for Session<P> {
+    ghost use Rattle.std.specs.Coded.{codes};
+    ghost use Rattle.dep_keys.specs.Trees.{tree_code};
+    ghost use Rattle.picture_keys.specs.contracts.works.Works as works;
+    ghost use Rattle.stream_session.specs.Machines.{Machine};
+
+    ghost Value = { Machine P };
+
+    ghost coded = { Prim.hlevel (codes, tree_code works.the_row.coded, P.code) };
+
+    ghost use Rattle.stream_session.specs.Kept.{IsKept, machine_of};
+
+    ghost view = { λ s. machine_of s.journal.items
+        (record { ids_given = s.ids_given; stream = s.ordered.folded.stream }) s.store };
+
+    ghost invariant = { λ s. IsKept s.journal.items
+        (record { ids_given = s.ids_given; stream = s.ordered.folded.stream })
+        s.store };
+}
+
+impl<P: Decoded> Session<P> {
+    /// A session with an empty stream.
+    pub fn new(alloc: Global, config: Config) -> Result<Session<P>, ConfigFault>
+        ensures ok { IfOk result (λ session. session ≡ empty config.cache) }
+        ensures cache { IsErrOf result ConfigFault.Cache
+            ↔ ((1 ≤ config.cache) × (config.cache ≤ most_room) → ⊥) }
+    {
+        if config.cache == 0 || config.cache > MOST_ROOM {
+            return Err(ConfigFault::Cache);
+        }
+        Ok(Session {
+            alloc,
+            journal: Vec::new(alloc),
+            ids_given: 0,
+            ordered: OrderedFold::new(alloc)?,
+            store: PictureStore::new(alloc, config.cache)?,
+        })
+    }
+
+    /// Edits the stream. A refused edit changes nothing and spends no id.
+    ///
+    /// The refusal is the first in the order of `EditRefused`, but for Memory, which may stand in
+    /// for a later one, as `stream_edits::change_of` says.
+    ///
+    /// A picture stays held where nothing that it is made of changes. One whose unit is gone or is
+    /// made of something else is cached while there is room, and held again at once where a unit is
+    /// made of the same once more.
+    pub fn edit(&mut self, edit: Edit) -> Result<Receipt, EditRefused>
+        ensures answers { AnswersEdit self.old edit result self.new }
+        // Where pictures go back to the host, no picture comes or goes.
+        ensures pictures { P.GoesBack ≡ true → KeepsPictures self.old self.new }
+    {
+        let read = edit.read(self.alloc)?;
+        self.edit_read(read)
+    }
+
+    /// Edits the stream as `edit` does, by an edit whose text is read.
+    pub fn edit_read(&mut self, read: ReadEdit) -> Result<Receipt, EditRefused>
+        ensures answers { AnswersEdit self.old read result self.new }
+        // Where pictures go back to the host, no picture comes or goes.
+        ensures pictures { P.GoesBack ≡ true → KeepsPictures self.old self.new }
+    {
+        let (units, ids) = (self.ordered.units(), self.store.ids());
+        let accepted = change_of(self.alloc, units, ids, self.ids_given, &read)?;
+        let AcceptedEdit {
+            change,
+            id,
+            ids_given,
+        } = accepted;
+        let hashed = read.hashed();
+        let entry = JournalEntry::of_edit(read.into_edit());
+        let costs = self.make(change, ids_given, entry)?;
+        Ok(Receipt {
+            number: self.journal.len() as u64,
+            id,
+            steps: costs.steps,
+            hashed: hashed as u64,
+            lost_pictures: costs.lost_pictures,
+        })
+    }
+
+    /// Makes edits together, as one step: all of them, each on the stream that those before it
+    /// left, or none. An edit may name an id that one before it gave.
+    ///
+    /// The pictures change once, between the streams before and after the group, by the rule of an
+    /// edit. A refused group changes nothing and spends no id. Memory may stand in for the refusal
+    /// of an edit.
+    pub fn edit_group(&mut self, edits: Vec<Edit>) -> Result<GroupReceipt, GroupRefused>
+        ensures answers { AnswersGroup self.old edits.items result self.new }
+        // Where pictures go back to the host, no picture comes or goes.
+        ensures pictures { P.GoesBack ≡ true → KeepsPictures self.old self.new }
+    {
+        let group = ReadGroup::read(self.alloc, edits)?;
+        self.edit_group_read(group)
+    }
+
+    /// Makes edits together as `edit_group` does, those of a group whose texts are read.
+    pub fn edit_group_read(&mut self, group: ReadGroup) -> Result<GroupReceipt, GroupRefused>
+        ensures answers { AnswersGroup self.old group result self.new }
+        // Where pictures go back to the host, no picture comes or goes.
+        ensures pictures { P.GoesBack ≡ true → KeepsPictures self.old self.new }
+    {
+        let (units, ids) = (self.ordered.units(), self.store.ids());
+        let accepted = change_of_group(self.alloc, units, ids, self.ids_given, &group)?;
+        let AcceptedGroup {
+            change,
+            ids,
+            ids_given,
+            hashed,
+        } = accepted;
+        let entry = JournalEntry::of_group(group.into_edits());
+        let costs = self.make(change, ids_given, entry)?;
+        Ok(GroupReceipt {
+            number: self.journal.len() as u64,
+            ids,
+            steps: costs.steps,
+            hashed: hashed as u64,
+            lost_pictures: costs.lost_pictures,
+        })
+    }
+
+    /// Makes the change that edits come to, with so many ids given then.
+    fn make(
+        &mut self,
+        change: Change,
+        ids_given: u32,
+        edits: JournalEntry,
+    ) -> Result<ChangeCosts, AllocError>
+        requires inside { IsInside change self.old.register.stream }
+        requires come { ComeTo self.old.register edits change ids_given }
+        ensures ok { IfOk result (λ costs. Moves self.old edits change ids_given costs.steps
+            costs.lost_pictures self.new) }
+        ensures err { OnErr result (self.new ≡ self.old) }
+        ensures pictures { P.GoesBack ≡ true → KeepsPictures self.old self.new }
+    {
+        let outcomes = self.store.outcomes();
+        let prepared = self.ordered.prepare(self.alloc, change, outcomes)?;
+        let stretch = stretch_of(self.alloc, &self.ordered, &prepared)?;
+        let steps = prepared.refolded().steps();
+        self.journal.reserve(1)?;
+        let lost = self.store.refit(stretch, self.ordered.states())?;
+        self.ordered.commit(prepared);
+        self.journal.push_reserved(edits);
+        self.ids_given = ids_given;
+        Ok(ChangeCosts {
+            steps,
+            lost_pictures: lost as u64,
+        })
+    }
+
+    /// Gives a picture to decode: the earliest one of the stream that isn't held and isn't out as a
+    /// job, and whose references' pictures are all held. `None` where there is no such picture.
+    ///
+    /// The job isn't bound to its unit: its result is taken wherever the same picture is wanted
+    /// when it lands.
+    pub fn take(&mut self) -> Result<Option<Job<P>>, TakeRefused>
+        ensures answers { AnswersTake P.IsOf self.old result self.new }
+        // A pending unit stays so only as long as a job is out.
+        ensures waits { IfOk result (λ job. job ≡ None
+            → (id : ℕ) → IsPendingIn self.old id → IsAnyOutFor self.old id) }
+    {
+        match self.take_told() {
+            Ok(Some((_, job))) => Ok(Some(job)),
+            Ok(None) => Ok(None),
+            Err(refused) => Err(refused),
+        }
+    }
+
+    /// Gives a picture to decode as `take` does, and tells the unit of the job.
+    pub fn take_told(&mut self) -> Result<Option<(AuId, Job<P>)>, TakeRefused>
+        ensures tells { TellsTake P.IsOf self.old result self.new }
+        ensures waits { IfOk result (λ told. told ≡ None
+            → (id : ℕ) → IsPendingIn self.old id → IsAnyOutFor self.old id) }
+    {
+        match self.store.take() {
+            Ok(Some(JobAt { at, job })) => Ok(Some((self.store.ids()[at], job))),
+            Ok(None) => Ok(None),
+            Err(refused) => Err(refused),
+        }
+    }
+
+    /// Gives a picture to decode for the unit that has the id: the earliest one that is due of
+    /// those that it needs, down to pictures that are held. `None` where there is none, as for an
+    /// id that isn't there. Whoever lands what is taken for a unit gets to its picture: while it is
+    /// pending, `None` is answered only as long as a job that it waits for is out.
+    pub fn take_for(&mut self, id: AuId) -> Result<Option<Job<P>>, TakeRefused>
+        ensures answers { AnswersTakeFor P.IsOf self.old id result self.new }
+        ensures waits { IfOk result (λ job. job ≡ None
+            → IsPendingIn self.old id → IsAnyOutFor self.old id) }
+    {
+        match self.take_told_for(id) {
+            Ok(Some((_, job))) => Ok(Some(job)),
+            Ok(None) => Ok(None),
+            Err(refused) => Err(refused),
+        }
+    }
+
+    /// Gives a picture to decode as `take_for` does, and tells the unit of the job.
+    pub fn take_told_for(&mut self, id: AuId) -> Result<Option<(AuId, Job<P>)>, TakeRefused>
+        ensures tells { TellsTakeFor P.IsOf self.old id result self.new }
+        ensures waits { IfOk result (λ told. told ≡ None
+            → IsPendingIn self.old id → IsAnyOutFor self.old id) }
+    {
+        let Some(place) = self.find(id) else {
+            return Ok(None);
+        };
+        match self.store.take_for(place) {
+            Ok(Some(JobAt { at, job })) => {
+                let ids = self.store.ids();
+                Ok(Some((ids[at], job)))
+            }
+            Ok(None) => Ok(None),
+            Err(refused) => Err(refused),
+        }
+    }
+
+    /// Takes the result of a job, in any order and at any time. A picture that isn't taken is still
+    /// the host's. It takes no memory.
+    pub fn land(&mut self, finished: Finished<P>) -> Landing
+        ensures { AnswersLand P.IsDecoded self.old finished result self.new }
+    {
+        self.store.land(finished)
+    }
+
+    /// Takes a picture of the job of this number as `land` takes a result, from whoever knows the
+    /// job by its number alone. That the decoder made it of what the job was given is what whoever
+    /// calls this owes. It takes no memory.
+    pub fn land_number(&mut self, number: u64, picture: P) -> Landing
+        requires { IfSome (input_of self.old number) (λ input. P.IsDecoded input picture) }
+        ensures { AnswersLandOf self.old number picture result self.new }
+    {
+        self.store.land_number(number, picture)
+    }
+
+    /// Takes a job back that wasn't decoded, so that its picture is given to decode again. It takes
+    /// no memory.
+    pub fn give_back(&mut self, job: Job<P>) -> Returning
+        ensures { AnswersGiveBack self.old job result self.new }
+    {
+        self.store.give_back(job)
+    }
+
+    /// Takes the job of this number back, as `give_back` does, from whoever spent it.
+    pub fn give_back_number(&mut self, number: u64) -> Returning
+        ensures { AnswersGiveBackOf self.old number result self.new }
+    {
+        self.store.give_back_number(number)
+    }
+
+    /// The number of each unit's key, in decoding order; nothing for a unit that isn't valid.
+    pub fn numbers(&self) -> &[Option<KeyId>]
+        ensures value { result.now ≡ self.now.numbers }
+        ensures numbered { AreNumbered (store_of self.now) }
+    {
+        self.store.numbers()
+    }
+
+    /// The place of the unit that has the id, in decoding order. The last one's is found at once.
+    pub fn place(&self, id: AuId) -> Option<usize>
+        ensures { result ≡ place_of self.now.register.stream id }
+    {
+        self.find(id)
+    }
+
+    /// The place of the unit that has the id, within the stream.
+    fn find(&self, id: AuId) -> Option<usize>
+        ensures value { result ≡ place_of self.now.register.stream id }
+        ensures inside { IfSome result (λ place. place < length self.now.register.stream) }
+    {
+        place_of(self.store.ids(), id)
+    }
+
+    /// The ids of all units, in decoding order.
+    pub fn ids(&self) -> &[AuId]
+        ensures { result.now ≡ ids_of self.now.register.stream }
+    {
+        self.store.ids()
+    }
+
+    /// Each unit's outcome, in decoding order.
+    pub fn outcomes(&self) -> &[Shared<HashedOutcome>]
+        ensures { result.now ≡ outcomes_of self.now.register.stream }
+    {
+        self.store.outcomes()
+    }
+
+    /// How many units the stream has, and the id of the last one.
+    pub fn last(&self) -> Last
+        ensures { result ≡ last_of self.now.register.stream }
+    {
+        Last {
+            units: self.ordered.units().len(),
+            id: self.ordered.units().last().map(|unit| unit.0),
+        }
+    }
+
+    /// The accepted edits, in order, those of a group as one entry.
+    pub fn journal(&self) -> &[JournalEntry]
+        ensures value { result.now ≡ self.now.journal }
+        // Each accepted after those before it, they lead to the stream.
+        ensures replayed { Replays no_units (edits_of self.now.journal) self.now.register }
+    {
+        self.journal.as_slice()
+    }
+}

@@ -132,6 +132,10 @@ def check_first_run(it):
     first = it.serves("the first run of a clone")
     time.sleep(SECONDS + 0.5)
     again = [it.serves("a later run") for _ in range(4)]
+    link = it.clone / "samples/link"
+    link.symlink_to("../bin/preview")
+    it.serves("a run by a symbolic link", command="samples/link")
+    link.unlink()
     print(f"the first run took {first:.3f} s, later ones {min(again):.3f} s", flush=True)
     if first > SECONDS:
         it.failures += 1

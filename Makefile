@@ -1,16 +1,17 @@
-# The C interface: the static library, its header, its pkg-config file and manual pages.
+# The C interface: the library, static and shared, its headers, its pkg-config files and manual pages.
 #     make                     puts the library into build/, where it is missing or older than its sources: that of dist/ where
 #                              that was built of these sources, else one that is proved and built first
 #     make CC=COMPILER         the same for the machine that the compiler compiles for: Linux on x86-64, or on aarch64
-#     make install PREFIX=..   puts program, library, header, pkg-config file and manual pages below PREFIX (/usr/local), and the
-#                              library into LIBDIR (its lib); there is a program for x86-64 alone. DESTDIR comes before both
+#     make install PREFIX=..   puts program, library, headers, pkg-config files and manual pages below PREFIX (/usr/local), and the
+#                              library into LIBDIR (its lib; where PREFIX is /usr, the folder in it that the compiler has for
+#                              its machine); there is a program for x86-64 alone. DESTDIR comes before both
 #     make check               builds and runs the tests in C and C++: under AddressSanitizer and UndefinedBehaviorSanitizer,
 #                              and under valgrind where it is there; those for aarch64 under qemu, where that is there
 #     make check-install       installs into an empty folder, and builds and runs a program by what pkg-config says alone
 #     make examples            builds the examples
 # What is built lies in BUILD (build), and is of one machine: for another one all is built anew.
 PREFIX = /usr/local
-LIBDIR = $(PREFIX)/lib
+LIBDIR = $(PREFIX)/lib$(if $(filter /usr,$(PREFIX)),$(addprefix /,$(shell $(CC) -print-multiarch)))
 DESTDIR =
 BUILD = build
 CC = gcc
@@ -27,13 +28,16 @@ target := $(if $(filter %x32 %ilp32,$(machine)),,$(filter x86_64-linux aarch64-l
     $(firstword $(subst -, ,$(machine)))-$(findstring linux,$(machine))))
 
 library = $(BUILD)/libcupdaisy.a
+# The shared library, and the name by which what is linked against it asks for it: another one, where that would run no more.
+shared = $(BUILD)/libcupdaisy.so.$(VERSION)
+soname = libcupdaisy.so.0
 archive = crates/cupdaisy/out/$(target)/libcupdaisy.a
 sources = crates.txt $(shell tools/sources --files cupdaisy)
 in_cpp = $(patsubst examples/%.cpp,$(BUILD)/%,$(wildcard examples/*.cpp))
 examples = $(patsubst examples/%.c,$(BUILD)/%,$(wildcard examples/*.c)) \
     $(if $(shell command -v $(firstword $(CXX))),$(in_cpp),no-cpp)
 
-all: $(library) $(BUILD)/cupdaisy.pc
+all: $(library) $(BUILD)/libcupdaisy.so $(BUILD)/cupdaisy.pc
 
 # It is written where it names another machine, so that what is of another one is older.
 $(BUILD)/machine: always
@@ -50,24 +54,45 @@ $(library): $(sources) c/heap.c $(BUILD)/machine
 	$(RANLIB) -D $(BUILD)/new.a
 	mv $(BUILD)/new.a $@
 
-pkg_config = sed 's|@PREFIX@|$(PREFIX)|; s|@LIBDIR@|$(patsubst $(PREFIX)/%,$${prefix}/%,$(LIBDIR))|; s|@VERSION@|$(VERSION)|' \
-    cupdaisy.pc.in
+# Nothing is exported but what c/cupdaisy.map names.
+$(shared): $(library) c/cupdaisy.map
+	$(CC) -shared -Wl,-soname,$(soname) -Wl,--version-script=c/cupdaisy.map -Wl,-z,defs,-z,relro,-z,now \
+	    -Wl,--whole-archive $(library) -Wl,--no-whole-archive -o $@
+
+# The names that a loader and a linker look for.
+$(BUILD)/libcupdaisy.so: $(shared)
+	ln -sf libcupdaisy.so.$(VERSION) $(BUILD)/$(soname)
+	ln -sf $(soname) $@
+
+# A pkg-config file by its name and what it links.
+pkg_config = sed 's|@NAME@|$(1)|; s|@LINKED@|$(2)|; s|@PREFIX@|$(PREFIX)|; s|@VERSION@|$(VERSION)|; \
+    s|@LIBDIR@|$(patsubst $(PREFIX)/%,$${prefix}/%,$(LIBDIR))|' cupdaisy.pc.in
+for_shared = $(call pkg_config,cupdaisy,-lcupdaisy)
+for_static = $(call pkg_config,cupdaisy-static,-l:libcupdaisy.a)
 
 $(BUILD)/cupdaisy.pc: cupdaisy.pc.in
 	mkdir -p $(BUILD)
-	$(pkg_config) > $@
+	$(for_shared) >$@
 
-install: $(library) $(if $(filter x86_64-linux,$(target)),install-program,no-program)
-	mkdir -p '$(DESTDIR)$(LIBDIR)/pkgconfig' '$(DESTDIR)$(PREFIX)/include' '$(DESTDIR)$(PREFIX)/share/man/man3'
-	cp $(library) '$(DESTDIR)$(LIBDIR)/libcupdaisy.a'
-	cp include/cupdaisy.h '$(DESTDIR)$(PREFIX)/include/cupdaisy.h'
-	cp man/cupdaisy.3 '$(DESTDIR)$(PREFIX)/share/man/man3/cupdaisy.3'
-	$(pkg_config) > '$(DESTDIR)$(LIBDIR)/pkgconfig/cupdaisy.pc'
+lib = $(DESTDIR)$(LIBDIR)
+usr = $(DESTDIR)$(PREFIX)
+
+install: $(library) $(shared) $(if $(filter x86_64-linux,$(target)),install-program,no-program)
+	mkdir -p '$(lib)/pkgconfig' '$(usr)/include' '$(usr)/share/man/man3'
+	install -m 644 $(library) '$(lib)/libcupdaisy.a'
+	install -m 644 $(shared) '$(lib)/libcupdaisy.so.$(VERSION)'
+	ln -sf libcupdaisy.so.$(VERSION) '$(lib)/$(soname)'
+	ln -sf $(soname) '$(lib)/libcupdaisy.so'
+	install -m 644 include/cupdaisy.h examples/cupdaisy.hpp '$(usr)/include'
+	install -m 644 man/cupdaisy.3 '$(usr)/share/man/man3/cupdaisy.3'
+	$(for_shared) >'$(lib)/pkgconfig/cupdaisy.pc'
+	$(for_static) >'$(lib)/pkgconfig/cupdaisy-static.pc'
+	@[ -n '$(DESTDIR)' ] || echo 'The loader finds the shared library in $(LIBDIR) once ldconfig has run, where that is a folder of its own.'
 
 install-program:
-	mkdir -p '$(DESTDIR)$(PREFIX)/bin' '$(DESTDIR)$(PREFIX)/share/man/man1'
-	program=$$(tools/program) && cp "$$program" '$(DESTDIR)$(PREFIX)/bin/preview'
-	cp man/preview.1 '$(DESTDIR)$(PREFIX)/share/man/man1/preview.1'
+	mkdir -p '$(usr)/bin' '$(usr)/share/man/man1'
+	program=$$(tools/program) && install -m 755 "$$program" '$(usr)/bin/preview'
+	install -m 644 man/preview.1 '$(usr)/share/man/man1/preview.1'
 
 no-program:
 	@echo 'There is no program preview for $(machine); examples/plan_lines.c plans a file.'
@@ -89,9 +114,6 @@ $(BUILD)/%: examples/%.c $(wildcard examples/*.h) include/cupdaisy.h $(library)
 
 $(BUILD)/%: examples/%.cpp $(wildcard examples/*.h examples/*.hpp) include/cupdaisy.h $(library)
 	$(CXX) -std=c++11 $(WARNINGS) $(CFLAGS) -Iinclude $< $(library) -o $@
-
-$(BUILD)/libcupdaisy.so: $(library)
-	$(CC) -shared -Wl,--whole-archive $(library) -Wl,--no-whole-archive -o $@
 
 clean:
 	rm -rf $(BUILD)

@@ -1,0 +1,268 @@
+"""The session."""
+import weakref
+from ctypes import byref, c_size_t, c_uint32, c_uint64
+from types import TracebackType
+from typing import Any, Generic, Iterator, NamedTuple, Optional, Sequence, TypeVar
+
+from .kernel import PredWeights
+from .library import (DONE, HAS_FAULT, NO_PICTURE, NO_SUCH_PLACE, NO_WEIGHTS, NOT_HELD, NOTHING_DUE, PENDING, STALE, Refused,
+                      called, filled, text_of)
+from .records import (Edit, GroupReceipt, Handle, Job, JobInput, JobReference, JournalEdit, LoadReceipt, Outcome, Receipt,
+                      Request)
+
+T = TypeVar("T")
+
+
+class Reference(NamedTuple):
+    """A picture that a job's requests may refer to: what `reference_ts` of the decoded picture buffer has for it, and its surface;
+    none where the host has taken that back by `drop` or `uncache` since the job was taken."""
+    timestamp: int
+    surface: Any
+
+
+class Session(Generic[T]):
+    """A session over a stream, which keeps the surfaces that were landed, objects of any kind, until it gives them back. It is closed
+    at the end of a `with`."""
+
+    def __init__(self, cache: int = 64) -> None:
+        self.surfaces: dict[int, T] = {}    # by their handles
+        self.given = 0                      # handles, none of them twice
+        self.handle = Handle()
+        self.done("open", cache)
+        self.closing = weakref.finalize(self, called, "close", byref(self.handle))
+
+    def __enter__(self) -> "Session[T]":
+        return self
+
+    def __exit__(self, kind: Optional[type[BaseException]], raised: Optional[BaseException],
+                 trace: Optional[TracebackType]) -> None:
+        self.close()
+
+    def close(self) -> list[T]:
+        """Closes the session: the surfaces that it had. Any later call is refused."""
+        self.closing()
+        had, self.surfaces = list(self.surfaces.values()), {}
+        return had
+
+    # How calls are made.
+
+    def call(self, name: str, *operands: Any) -> int:
+        return called(name, byref(self.handle), *operands)
+
+    def done(self, name: str, *operands: Any) -> None:
+        """Makes a call, whose refusal is raised."""
+        status = self.call(name, *operands)
+        if status != DONE:
+            raise Refused(status)
+
+    def told(self, out: Any, name: str, *operands: Any, absent: Sequence[int] = ()) -> Any:
+        """What a call writes into its last parameter; None where its status is one of the absent ones."""
+        status = self.call(name, *operands, byref(out))
+        if status in absent:
+            return None
+        if status != DONE:
+            raise Refused(status)
+        return out
+
+    def number(self, kind: Any, name: str, *operands: Any, absent: Sequence[int] = ()) -> Any:
+        out = self.told(kind(), name, *operands, absent=absent)
+        return None if out is None else out.value
+
+    def bytes_told(self, name: str, *operands: Any) -> bytes:
+        status, text = filled(name, byref(self.handle), *operands)
+        if status != DONE:
+            raise Refused(status)
+        return text
+
+    # Edits. A refused one changes nothing and spends no id.
+
+    def insert_first(self, text: bytes) -> Receipt:
+        return self.told(Receipt(), "insert_first", *text_of(text))
+
+    def insert_after(self, unit: int, text: bytes) -> Receipt:
+        return self.told(Receipt(), "insert_after", unit, *text_of(text))
+
+    def insert_last(self, text: bytes) -> Receipt:
+        return self.told(Receipt(), "insert_last", *text_of(text))
+
+    def delete(self, unit: int) -> Receipt:
+        return self.told(Receipt(), "delete", unit)
+
+    def replace(self, unit: int, text: bytes) -> Receipt:
+        return self.told(Receipt(), "replace", unit, *text_of(text))
+
+    def group(self, edits: Sequence[tuple[int, int, bytes]]) -> tuple[GroupReceipt, list[int]]:
+        """Makes edits as one step, each a kind, an id and a text: the receipt and the ids."""
+        asked, texts = (Edit * max(len(edits), 1))(), b"".join(text for _, _, text in edits)
+        begin = 0
+        for place, (kind, unit, text) in enumerate(edits):
+            asked[place] = Edit(kind, unit, begin, len(text))
+            begin += len(text)
+        ids, receipt = (c_uint32 * max(len(edits), 1))(), GroupReceipt(index=len(edits))
+        status = self.call("group", asked, len(edits), *text_of(texts), ids, len(edits), byref(receipt))
+        if status != DONE:
+            raise Refused(status, receipt.index if receipt.index < len(edits) else None)
+        return receipt, list(ids)[:len(edits)]
+
+    def load(self, text: bytes) -> LoadReceipt:
+        """Inserts the access units of a byte stream after the last one."""
+        receipt = LoadReceipt()
+        status = self.call("load", *text_of(text), byref(receipt))
+        if status != DONE:
+            raise Refused(status, receipt.index)
+        return receipt
+
+    # Questions about the stream as it is now.
+
+    def __len__(self) -> int:
+        return self.number(c_size_t, "units")
+
+    def __iter__(self) -> Iterator[int]:
+        """The units in decoding order."""
+        return (self.id_at(place) for place in range(len(self)))
+
+    def ids(self) -> list[int]:
+        """The units in decoding order."""
+        return list(self)
+
+    def in_output_order(self) -> Iterator[int]:
+        """The valid units in output order."""
+        position = 0
+        while (unit := self.unit_at(position)) is not None:
+            yield unit
+            position += 1
+
+    def id_at(self, place: int) -> Any:
+        """The unit at a place; None past the end."""
+        return self.number(c_uint32, "id_at", place, absent=(NO_SUCH_PLACE,))
+
+    def place(self, unit: int) -> int:
+        return self.number(c_size_t, "place", unit)
+
+    def position(self, unit: int) -> int:
+        """The position of a valid unit in output order."""
+        return self.number(c_size_t, "position", unit)
+
+    def unit_at(self, position: int) -> Optional[int]:
+        """The unit at a position in output order; None where no unit has it."""
+        return self.number(c_uint32, "unit_at", position, absent=(NO_SUCH_PLACE,))
+
+    def outcome(self, unit: int) -> Outcome:
+        return self.told(Outcome(), "outcome_of", unit)
+
+    def key(self, unit: int) -> int:
+        """The number of a valid unit's key: of all that its picture is made of."""
+        return self.number(c_uint64, "key", unit)
+
+    def in_use(self, key: int) -> bool:
+        """Whether some unit has the key of this number."""
+        return self.number(c_uint32, "in_use", key) == 1
+
+    def unit_request(self, unit: int, slice: int) -> Request:
+        return self.told(Request(), "unit_request", unit, slice)
+
+    def unit_requests(self, unit: int) -> Iterator[Request]:
+        """The requests of a valid unit, one a slice."""
+        return (self.unit_request(unit, slice) for slice in range(self.outcome(unit).slices))
+
+    def unit_weights(self, unit: int, slice: int) -> Optional[PredWeights]:
+        """The weights of a slice; None where it has none."""
+        return self.told(PredWeights(), "unit_weights", unit, slice, absent=(NO_WEIGHTS,))
+
+    def unit_bytes(self, unit: int, slice: int) -> bytes:
+        """The bytes of a slice: its NAL unit after a start code of three bytes."""
+        return self.bytes_told("unit_bytes", unit, slice)
+
+    def journal(self) -> list[list[tuple[int, int, bytes]]]:
+        """The accepted edits: for each, or each group, a list of kinds, ids and texts."""
+        entries = range(self.number(c_size_t, "journal"))
+        return [[self.journal_edit(entry, index) for index in range(self.number(c_size_t, "journal_entry", entry))]
+                for entry in entries]
+
+    def journal_edit(self, entry: int, index: int) -> tuple[int, int, bytes]:
+        edit = self.told(JournalEdit(), "journal_edit_at", entry, index)
+        return edit.kind, edit.id, self.bytes_told("journal_text", entry, index)
+
+    # Pictures.
+
+    def show(self, unit: int) -> Optional[T]:
+        """The surface with the unit's picture as the stream is now; None where there is none now."""
+        surface = self.number(c_uint64, "show", unit, absent=(PENDING, HAS_FAULT, NO_PICTURE))
+        return None if surface is None else self.surfaces[surface]
+
+    def take(self) -> Optional[Job]:
+        """A job: the earliest picture that isn't held or out, and whose references are all held; None where none is due."""
+        return self.told(Job(), "take", absent=(NOTHING_DUE,))
+
+    def take_for(self, unit: int) -> Optional[Job]:
+        """A job for what the unit's picture needs."""
+        return self.told(Job(), "take_for", unit, absent=(NOTHING_DUE,))
+
+    def jobs(self) -> Iterator[Job]:
+        """Jobs that are taken as they are asked for, until none is due. Each is to be landed or given back."""
+        while (job := self.take()) is not None:
+            yield job
+
+    def jobs_for(self, unit: int) -> Iterator[Job]:
+        """The same for what the unit's picture needs."""
+        while (job := self.take_for(unit)) is not None:
+            yield job
+
+    def land(self, job: int, surface: T) -> bool:
+        """Lands a job by its number: the host's decoder made this surface's picture of the job's requests and of the surfaces of its
+        references. False where the picture is wanted no more, and the surface is the caller's."""
+        handle = self.given + 1
+        status = self.call("land", job, handle)
+        if status == STALE:
+            return False
+        if status != DONE:
+            raise Refused(status)
+        self.given, self.surfaces[handle] = handle, surface
+        return True
+
+    def give_back(self, job: int) -> None:
+        """Gives a job back, so that its picture is given to decode again."""
+        self.done("give_back", job)
+
+    def drop(self, unit: int) -> Optional[T]:
+        """The surface of a unit's picture, which is the host's again: the picture has to be made anew. None where it isn't held."""
+        return self.taken("drop_picture", unit)
+
+    def uncache(self) -> Optional[T]:
+        """The same of the picture that was cached first. None where none is cached."""
+        return self.taken("uncache")
+
+    def taken(self, name: str, *operands: Any) -> Optional[T]:
+        surface = self.number(c_uint64, name, *operands, absent=(NOT_HELD,))
+        return None if surface is None else self.surfaces.pop(surface)
+
+    def released(self) -> Iterator[T]:
+        """The surfaces that edits let go and that no job which is out refers to: they are the host's again. Those that aren't asked
+        for stay."""
+        surface, count = c_uint64(), c_size_t()
+        while True:
+            self.done("released", byref(surface), 1, byref(count))
+            if count.value == 0:
+                return
+            yield self.surfaces.pop(surface.value)
+
+    def job_input(self, job: int) -> JobInput:
+        return self.told(JobInput(), "job_input_of", job)
+
+    def job_references(self, job: int) -> list[Reference]:
+        """The pictures that a job's requests may refer to."""
+        found = (self.told(JobReference(), "job_reference", job, index) for index in range(self.job_input(job).references))
+        return [Reference(each.timestamp, self.surfaces.get(each.surface)) for each in found]
+
+    def job_request(self, job: int, slice: int) -> Request:
+        return self.told(Request(), "job_request", job, slice)
+
+    def job_requests(self, job: int) -> Iterator[Request]:
+        """The requests of a job, one a slice."""
+        return (self.job_request(job, slice) for slice in range(self.job_input(job).slices))
+
+    def job_weights(self, job: int, slice: int) -> Optional[PredWeights]:
+        return self.told(PredWeights(), "job_weights", job, slice, absent=(NO_WEIGHTS,))
+
+    def job_bytes(self, job: int, slice: int) -> bytes:
+        return self.bytes_told("job_bytes", job, slice)

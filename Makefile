@@ -2,12 +2,14 @@
 #     make                     puts the library into build/, where it is missing or older than its sources: that of dist/ where
 #                              that was built of these sources, else one that is proved and built first
 #     make CC=COMPILER         the same for the machine that the compiler compiles for: Linux on x86-64, or on aarch64
-#     make install PREFIX=..   puts program, library, headers, pkg-config files and manual pages below PREFIX (/usr/local), and the
-#                              library into LIBDIR (its lib; where PREFIX is /usr, the folder in it that the compiler has for
-#                              its machine); there is a program for x86-64 alone. DESTDIR comes before both
+#     make install PREFIX=..   puts program, library, headers, pkg-config files, manual pages and completions below PREFIX
+#                              (/usr/local), and the library into LIBDIR: its lib, and where PREFIX is /usr the folder in that
+#                              which the compiler has for its machine. There is a program for x86-64 alone. DESTDIR comes
+#                              before both
 #     make check               builds and runs the tests in C and C++: under AddressSanitizer and UndefinedBehaviorSanitizer,
 #                              and under valgrind where it is there; those for aarch64 under qemu, where that is there
 #     make check-install       installs into an empty folder, and builds and runs a program by what pkg-config says alone
+#     make deb                 makes Debian's packages of these, in build/packages
 #     make examples            builds the examples
 # What is built lies in BUILD (build), and is of one machine: for another one all is built anew.
 PREFIX = /usr/local
@@ -93,6 +95,9 @@ install-program:
 	mkdir -p '$(usr)/bin' '$(usr)/share/man/man1'
 	program=$$(tools/program) && install -m 755 "$$program" '$(usr)/bin/preview'
 	install -m 644 man/preview.1 '$(usr)/share/man/man1/preview.1'
+	mkdir -p '$(usr)/share/bash-completion/completions' '$(usr)/share/zsh/site-functions'
+	install -m 644 packages/completions/preview.bash '$(usr)/share/bash-completion/completions/preview'
+	install -m 644 packages/completions/_preview '$(usr)/share/zsh/site-functions/_preview'
 
 no-program:
 	@echo 'There is no program preview for $(machine); examples/plan_lines.c plans a file.'
@@ -103,6 +108,10 @@ check: $(library) examples
 
 check-install: $(library)
 	tools/check-install
+
+# tools/build-packages calls make for each machine.
+deb:
+	tools/build-packages
 
 examples: $(examples) $(BUILD)/libcupdaisy.so
 
@@ -120,4 +129,4 @@ clean:
 
 always:
 
-.PHONY: all install install-program no-program check check-install examples no-cpp clean always
+.PHONY: all install install-program no-program check check-install deb examples no-cpp clean always

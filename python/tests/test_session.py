@@ -1,5 +1,6 @@
 """Sessions through the module: each call, and surfaces that come back exactly once."""
 import gc
+import os
 import pathlib
 import random
 import unittest
@@ -10,7 +11,7 @@ import cupdaisy
 # An IDR picture with its parameter sets, and parameter sets alone.
 SETS = bytes.fromhex("000001674200 0ADA79 00000168CE3880")
 PICTURE = SETS + bytes.fromhex("00000165888480")
-SAMPLES = pathlib.Path(__file__).resolve().parents[2] / "samples"
+SAMPLES = pathlib.Path(os.environ.get("CUPDAISY_SAMPLES") or pathlib.Path(__file__).resolve().parents[2] / "samples")
 SURFACES = 24
 
 

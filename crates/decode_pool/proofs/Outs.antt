@@ -148,11 +148,11 @@ taken_differ old new (Ok (Some job)) answers apart =
     let takes : pictures.Takes IsPicture (store_of old) job (store_of new) = answers.0 in
     let more : OutValue = record {
       number = job.number;
-      key = key_of (known_after [] takes.before) takes.plan.requests;
+      key = key_of (known_after [] takes.gives.before) takes.gives.plan.requests;
       input = job.input;
     } in
-    more_differ old new more (record { number = takes.number_is; free = takes.due.free })
-    (ap (λ (store : StoreValue). store.jobs_out) takes.new_is) (ap (λ (store : StoreValue). store.jobs_given) takes.new_is) apart
+    more_differ old new more (record { number = takes.gives.number_is; free = takes.gives.due.free })
+    (ap (λ (store : StoreValue). store.jobs_out) takes.gives.new_is) (ap (λ (store : StoreValue). store.jobs_given) takes.gives.new_is) apart
 taken_differ old new (Ok None) answers apart =
     same_differ old new (ap (λ (store : StoreValue). store.jobs_out) answers.0.1)
     (ap (λ (store : StoreValue). store.jobs_given) answers.0.1) apart

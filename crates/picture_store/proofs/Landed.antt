@@ -21,6 +21,7 @@ use Rattle.key_slots.specs.Places.{place_at, numbers_held}
 use Rattle.picture_store.specs.Places.{PlacesValue}
 use Rattle.picture_store.specs.Kept.{Trees, key_for, keys_for, jobs_for, IsRight, IsJobRight, IsKept}
 use Rattle.key_slots.proofs.Held.{held_found, found_held}
+use Rattle.picture_store.proofs.Among.{held_among}
 use Rattle.picture_store.proofs.Lifting.{for_contains, contains_for}
 use Rattle.picture_store.proofs.Tables.{none_not_some}
 use Rattle.picture_store.proofs.Viewed.{seen, viewed}
@@ -298,6 +299,7 @@ module _ {P : Type 0} {IsDecoded : InputValue P → P → Type 0} {IsOf : Key �
             subst (Contains (keys_for keys (numbers_held places))) same
                 (contains_for keys (numbers_held places) number (found_held places number picture held)),
             subst (λ k. IsOf k picture) (same_Some right.0 keyed.0 (sym right.1 ∙ keyed.2)) right.2,
+            held_among places number picture held,
           )
 
       -- else none is

@@ -1,5 +1,6 @@
 pub mod Tables
 pub mod Lifting
+pub mod Among
 pub mod Loops
 pub mod Fronts
 pub mod Needed

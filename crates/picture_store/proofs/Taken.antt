@@ -16,7 +16,7 @@ use Rattle.picture_keys.specs.Numbered.{AllStandFor}
 use Rattle.picture_store.specs.declared.job_out.JobOut.{JobOut}
 use Rattle.picture_store.specs.Stores.{OutValue, StoreValue, IsReady}
 use Rattle.picture_store.specs.Jobs.{IsDue, IsAnyDue, Gives, Takes}
-use Rattle.key_slots.specs.Places.{place_at, numbers_held}
+use Rattle.key_slots.specs.Places.{place_at, numbers_held, pictures_held}
 use Rattle.picture_store.specs.Places.{PlacesValue}
 use Rattle.picture_store.specs.Due.{IsDueNumber, IsNotDue}
 use Rattle.picture_store.specs.Inputs.{HasKnown, IsInputOf}
@@ -181,13 +181,14 @@ module _ {P : Type 0} {IsDecoded : InputValue P → P → Type 0} {IsOf : Key �
 
     -- the job of the unit is given
     pub given_job : (outcome : Outcome) → unit.0.1 ≡ outcome
-        → (input : InputValue P) → IsInputOf IsOf known outcome input → (next from : ℕ) → next ≡ given + 1
-        → (more : List (JobOut P)) → more ≡ out ++ (record { number = next; key = number; input = input; first_place = from }) ∷ []
+        → (input : InputValue P) → IsInputOf IsOf known outcome input
+        → All (λ reference. Contains (pictures_held places) reference.picture) input.references
+        → (next from : ℕ) → next ≡ given + 1 → (more : List (JobOut P)) → more ≡ out ++ (record { number = next; key = number; input = input; first_place = from }) ∷ []
         → Gives IsOf (viewed keys ids outcomes numbers places cached room out given released) at (record { number = next; input = input })
         (viewed keys ids outcomes numbers places cached room more next released)
-    given_job (Faulty fault) same input made next from next_is more more_is = absurd made
-    given_job Empty same input made next from next_is more more_is = absurd made
-    given_job (Planned plan) same input made next from next_is more more_is =
+    given_job (Faulty fault) same input made held next from next_is more more_is = absurd made
+    given_job Empty same input made held next from next_is more more_is = absurd made
+    given_job (Planned plan) same input made held next from next_is more more_is =
         let tree : tree_at keys number ≡ Some (key_of known plan.requests) =
         tree_is ∙ ap (key_of_outcome known) same in
         let key_same : key_for keys number ≡ key_of known plan.requests =
@@ -205,6 +206,7 @@ module _ {P : Type 0} {IsDecoded : InputValue P → P → Type 0} {IsOf : Key �
           number_is = next_is;
           requests_are = made.0;
           shows = made.1;
+          held = held;
           new_is =
               ap (λ (jobs : List (OutValue P)). record (viewed keys ids outcomes numbers places cached room out given released) { jobs_out = jobs; jobs_given = next })
               (ap (jobs_for keys) more_is
@@ -216,25 +218,17 @@ module _ {P : Type 0} {IsDecoded : InputValue P → P → Type 0} {IsOf : Key �
     pub taken : (job : JobValue P) (new : StoreValue P)
         → Gives IsOf (viewed keys ids outcomes numbers places cached room out given released) at job new
         → All (IsNotDue keys places out) (take at numbers)
-        → (takes : Takes IsOf (viewed keys ids outcomes numbers places cached room out given released) job new) × (at ≡ length takes.before)
+        → (takes : Takes IsOf (viewed keys ids outcomes numbers places cached room out given released) job new) × (at ≡ takes.at)
     taken job new gives none = (
       record {
-        before = gives.before;
-        id = gives.id;
-        plan = gives.plan;
-        after = gives.after;
-        stands = gives.stands;
-        due = gives.due;
+        at = at;
+        gives = gives;
         earliest =
             subst (λ (units : List (ℕ × Outcome)). All (λ key. IfSome key
             (λ k. IsDue (viewed keys ids outcomes numbers places cached room out given released) k → ⊥)) (keys_of units)) before_is
             (All-from_contains (keys_after [] (take at (zip ids outcomes))) (none_before none));
-        number_is = gives.number_is;
-        requests_are = gives.requests_are;
-        shows = gives.shows;
-        new_is = gives.new_is;
       },
-      gives.at_is,
+      refl,
     )
       where
         before_is : take at (zip ids outcomes) ≡ gives.before

@@ -16,7 +16,7 @@ use Rattle.picture_store.specs.declared.answers.Landing.{Landing}
 use Rattle.picture_store.specs.declared.answers.Landing.TheVariants as landings
 use Rattle.picture_store.specs.declared.answers.Returning.{Returning}
 use Rattle.picture_store.specs.declared.answers.Returning.TheVariants as returnings
-use Rattle.picture_store.specs.Pictures.{HoldMore}
+use Rattle.picture_store.specs.Pictures.{HoldMore, ReferToHeld}
 use Rattle.picture_store.specs.Stores.{OutValue, StoreValue, units_of, IsInUse, IsReady}
 
 -- how many numbers of jobs there are
@@ -37,30 +37,8 @@ module _ {P : Type 0} where
   IsAnyDue store = (key : Key) × IsDue store key
 
 module _ {P : Type 0} (IsOf : Key → P → Type 0) where
-  -- a job is taken: it is that of the due key whose unit stands earliest, under the next number, with
-  -- the requests of that unit and the pictures of their references
-  pub record Takes (old : StoreValue P) (job : JobValue P) (new : StoreValue P) : Type 0 where
-    pub before : List (ℕ × Outcome)
-    pub id : ℕ
-    pub plan : Plan
-    pub after : List (ℕ × Outcome)
-    pub stands : units_of old ≡ before ++ (id, outcomes.Plan plan) ∷ after
-    pub due : IsDue old (key_of (known_after [] before) plan.requests)
-    pub earliest : All (λ key. IfSome key (λ key. IsDue old key → ⊥)) (keys_of before)
-    pub number_is : job.number ≡ old.jobs_given + 1
-    pub requests_are : job.input.requests ≡ plan.requests
-    pub shows : ShowsKnown IsOf (known_after [] before) job.input
-    pub new_is : new ≡ record old {
-      jobs_out = old.jobs_out ++ (record {
-        number = job.number;
-        key = key_of (known_after [] before) plan.requests;
-        input = job.input;
-      }) ∷ [];
-      jobs_given = job.number;
-    }
-
   -- the job of the unit at a place, which is due, is given: under the next number, with the requests
-  -- of that unit and the pictures of their references
+  -- of that unit and the pictures of their references, each of which is held
   pub record Gives (old : StoreValue P) (at : ℕ) (job : JobValue P) (new : StoreValue P) : Type 0 where
     pub before : List (ℕ × Outcome)
     pub id : ℕ
@@ -72,6 +50,7 @@ module _ {P : Type 0} (IsOf : Key → P → Type 0) where
     pub number_is : job.number ≡ old.jobs_given + 1
     pub requests_are : job.input.requests ≡ plan.requests
     pub shows : ShowsKnown IsOf (known_after [] before) job.input
+    pub held : ReferToHeld old.pictures job.input.references
     pub new_is : new ≡ record old {
       jobs_out = old.jobs_out ++ (record {
         number = job.number;
@@ -80,6 +59,12 @@ module _ {P : Type 0} (IsOf : Key → P → Type 0) where
       }) ∷ [];
       jobs_given = job.number;
     }
+
+  -- a job is taken: that of the due key whose unit stands earliest is given
+  pub record Takes (old : StoreValue P) (job : JobValue P) (new : StoreValue P) : Type 0 where
+    pub at : ℕ
+    pub gives : Gives old at job new
+    pub earliest : All (λ key. IfSome key (λ key. IsDue old key → ⊥)) (keys_of gives.before)
 
   -- what `take` answers: a job, that none is due, or why none is given though one is due
   abbrev pub AnswersTake : StoreValue P → Result (Option (JobValue P)) TakeRefused → StoreValue P → Type 0
@@ -90,7 +75,7 @@ module _ {P : Type 0} (IsOf : Key → P → Type 0) where
 
   -- what `take` tells: what it answers, and of a job at which place its unit stands
   abbrev pub TellsTake : StoreValue P → Result (Option (JobAt P)) TakeRefused → StoreValue P → Type 0
-  TellsTake old (Ok (Some told)) new = (takes : Takes old told.job new) × (told.at ≡ length takes.before)
+  TellsTake old (Ok (Some told)) new = (takes : Takes old told.job new) × (told.at ≡ takes.at)
   TellsTake old (Ok None) new = AnswersTake old (Ok None) new
   TellsTake old (Err refused) new = AnswersTake old (Err refused) new
 

@@ -9,10 +9,12 @@ module _ {P : Type 0} where
   HasKey store at key = slice_get (unit_keys store) at ≡ Some (Some key)
 
 module _ {P : Type 0} (IsOf : Key → P → Type 0) where
-  -- what is shown of the unit at a place: a picture of its key where that is held, and else nothing
+  -- what is shown of the unit at a place: a picture of its key, one of those that are held, where the
+  -- key is held, and else nothing
   abbrev pub IsPictureAt : StoreValue P → ℕ → Option P → Type 0
   IsPictureAt store at (Some picture) =
       (key : Key) × HasKey store at key × Contains store.held key × IsOf key picture
+      × Contains store.pictures.held picture
   IsPictureAt store at None = (key : Key) → HasKey store at key → Contains store.held key → ⊥
 
 module _ {P : Type 0} where

@@ -1,11 +1,11 @@
 //! What a job is given to decode.
 
-ghost use Rattle.std.specs.Prelude.{◌≡◌, Some, IfOk};
+ghost use Rattle.std.specs.Prelude.{◌≡◌, Some, All, Contains, IfOk};
 ghost use Rattle.dep_keys.specs.KeyMaps.{tree_at};
 ghost use Rattle.decode_jobs.specs.Keys.{Key};
 ghost use Rattle.picture_keys.specs.Known.{Known};
 ghost use Rattle.picture_store.specs.Stores.{IsReady};
-ghost use Rattle.key_slots.specs.Places.{numbers_held};
+ghost use Rattle.key_slots.specs.Places.{numbers_held, pictures_held};
 ghost use Rattle.picture_store.specs.Kept.{keys_for, AreRight};
 ghost use Rattle.picture_store.specs.Inputs.{HasKnown, IsInputOf};
 
@@ -31,8 +31,10 @@ pub(crate) fn input_of<F: Fingerprint<Works>, P: Decoded>(
     requires ready { (tree : Key) × (tree_at keys.now key ≡ Some tree)
         × IsReady (keys_for keys.now (numbers_held places.now)) tree }
     requires known { (known : Known) × HasKnown keys.now outcome.now key known }
-    ensures { IfOk result (λ input. (known : Known) → HasKnown keys.now outcome.now key known
+    ensures known { IfOk result (λ input. (known : Known) → HasKnown keys.now outcome.now key known
         → IsInputOf P.IsOf known outcome.now input) }
+    ensures held { IfOk result (λ input. All
+        (λ reference. Contains (pictures_held places.now) reference.picture) input.references) }
 {
     // A key that is due is live, and that of a valid unit.
     let (Outcome::Plan(plan), Some(node)) = (outcome, keys.node(key)) else {

@@ -11,11 +11,11 @@ ghost use Rattle.picture_keys.specs.Following.{AreNumberedSome, Follow};
 ghost use Rattle.key_slots.specs.Counting.{times, times_in};
 ghost use Rattle.picture_store.specs.Kept.{AreSwept, numbers_out, IsStored, KeepsStored};
 ghost use Rattle.picture_store.specs.Needs.{AgreeAt, TellNeeds, between};
-ghost use Rattle.picture_store.specs.Stretches.{IsStretch};
+ghost use Rattle.picture_store.specs.Stretches.{IsStretch, ids_with, outcomes_with};
 
 use crate::job_out::JobOut;
 use crate::stretch::Stretch;
-use base_types::Shared;
+use base_types::{Shared, replace_range};
 use checkpoints::Checkpoints;
 use decode_jobs::Decoded;
 use dep_keys::{Fingerprint, KeyId, Keys};
@@ -213,6 +213,30 @@ pub(crate) fn make_room(
 {
     ids.reserve(count)?;
     outcomes.reserve(count)
+}
+
+/// Puts the units of a stretch, for which there is room, in the place of those that go.
+pub(crate) fn put_stretch(
+    ids: &mut Vec<AuId>,
+    outcomes: &mut Vec<Shared<HashedOutcome>>,
+    stretch: Stretch,
+)
+    requires stretch { IsStretch stretch ids.old.items }
+    requires same { length ids.old.items ≡ length outcomes.old.items }
+    requires ids_room { vec_len ids.old + length stretch.ids.items ≤ vec_capacity ids.old }
+    requires outcomes_room { vec_len outcomes.old + length stretch.outcomes.items
+        ≤ vec_capacity outcomes.old }
+    ensures ids { ids.new.items ≡ ids_with stretch ids.old.items }
+    ensures outcomes { outcomes.new.items ≡ outcomes_with stretch outcomes.old.items }
+{
+    let Stretch {
+        from,
+        to,
+        ids: other_ids,
+        outcomes: other_outcomes,
+    } = stretch;
+    replace_range(ids, from, to, other_ids);
+    replace_range(outcomes, from, to, other_outcomes);
 }
 
 /// Forgets the keys that are neither stored nor below one that is.

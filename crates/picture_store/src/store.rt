@@ -25,7 +25,7 @@ use crate::due::{first_due, first_to_do};
 use crate::inputs::input_of;
 use crate::job_out::{JobOut, lower_all};
 use crate::recounting::{forget_released, make_ready, recount};
-use crate::refitting::{keys_from, make_room, sweep_at};
+use crate::refitting::{keys_from, make_room, put_stretch, sweep_at};
 use crate::refusals::TakeRefused;
 use crate::schedule::{Schedule, earliest_due, schedule_for};
 use crate::stretch::Stretch;
@@ -215,14 +215,8 @@ impl<P: Decoded> PictureStore<P> {
             &mut self.released,
         );
         forget_released(&mut self.released);
-        let Stretch {
-            from,
-            to,
-            ids,
-            outcomes,
-        } = stretch;
-        replace_range(&mut self.ids, from, to, ids);
-        replace_range(&mut self.outcomes, from, to, outcomes);
+        let from = stretch.from;
+        put_stretch(&mut self.ids, &mut self.outcomes, stretch);
         replace_range(&mut self.numbers, from, past, later);
         self.units_settled = self.units_settled.min(from);
         self.units_not_due = self.units_not_due.min(from);

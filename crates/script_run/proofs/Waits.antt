@@ -86,11 +86,11 @@ takes_one old None job new took =
     let takes = is.2.0 in
     record {
       stream = is.2.1.1;
-      held = ap (λ (s : StoreValue). s.held) takes.new_is;
+      held = ap (λ (s : StoreValue). s.held) takes.gives.new_is;
       more = _;
       number_is = is.1;
-      out = ap (λ (s : StoreValue). s.jobs_out) takes.new_is;
-      given = ap (λ (s : StoreValue). s.jobs_given) takes.new_is ∙ takes.number_is;
+      out = ap (λ (s : StoreValue). s.jobs_out) takes.gives.new_is;
+      given = ap (λ (s : StoreValue). s.jobs_given) takes.gives.new_is ∙ takes.gives.number_is;
     }
 takes_one old (Some id) job new took =
     let answered : ◌≡◌ {A = Result (Option TakenJob) TakeRefused} took.0 (Ok (Some job)) = cc in

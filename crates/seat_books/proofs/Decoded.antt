@@ -44,28 +44,28 @@ module _ (before mid : Machine) (id : ℕ) (job : JobValue) (told : TellsTake be
   abbrev pub given : OutValue
   given = record {
     number = job.number;
-    key = key_of (known_after [] takes.before) takes.plan.requests;
+    key = key_of (known_after [] takes.gives.before) takes.gives.plan.requests;
     input = job.input;
   }
 
   pub out_one : mid.jobs_out ≡ given ∷ []
-  out_one = ap (λ (store : StoreValue). store.jobs_out) takes.new_is ∙ ap (λ (jobs : List OutValue). jobs ++ given ∷ []) none
+  out_one = ap (λ (store : StoreValue). store.jobs_out) takes.gives.new_is ∙ ap (λ (jobs : List OutValue). jobs ++ given ∷ []) none
 
   pub stays_take : Stays before mid
   stays_take = record {
     journal_stays = told.0.1.0;
     register_stays = told.0.1.1;
-    numbers_stay = ap (λ (store : StoreValue). store.numbers) takes.new_is;
+    numbers_stay = ap (λ (store : StoreValue). store.numbers) takes.gives.new_is;
   }
 
   pub held_stays : mid.held ≡ before.held
-  held_stays = ap (λ (store : StoreValue). store.held) takes.new_is
+  held_stays = ap (λ (store : StoreValue). store.held) takes.gives.new_is
 
   pub cached_stays : mid.cached ≡ before.cached
-  cached_stays = ap (λ (store : StoreValue). store.cached) takes.new_is
+  cached_stays = ap (λ (store : StoreValue). store.cached) takes.gives.new_is
 
   pub due : pictures.IsDue (store_of before) given.key
-  due = takes.due
+  due = takes.gives.due
 
   -- its unit has its key
   pub given_has : (journal : List (List Edit)) (n : ℕ) → LeadTo journal n mid.register → HasKey mid.register.stream id given.key
@@ -197,7 +197,7 @@ Stays-decoded before mid new id job landing told answer =
     record {
       journal_stays = answer.1.0 ∙ told.0.1.0;
       register_stays = answer.1.1 ∙ told.0.1.1;
-      numbers_stay = store ∙ ap (λ (store : StoreValue). store.numbers) told.0.0.new_is;
+      numbers_stay = store ∙ ap (λ (store : StoreValue). store.numbers) told.0.0.gives.new_is;
     }
   where
     numbers_land : (old : StoreValue) (job : JobValue) (landing : Landing) (new : StoreValue) → pictures.AnswersResult IsMade old job landing new

@@ -2,7 +2,7 @@
 use Rattle.std.proofs.Common.{◌≡◌, ℕ, ◌==◌, List, get_or, map, Option, None, Some, option_map, refl, ap, sym, ◌∙◌}
 use Rattle.std.specs.Prelude.{All, Contains, position, slice_get, slice_index_or, option_and_then}
 use Rattle.std.proofs.lemmas.Bool.{eq-eqb, eqb-true}
-use Rattle.std.proofs.lemmas.List.Elements.{All-map, Contains-get_or}
+use Rattle.std.proofs.lemmas.List.Elements.{Contains-get_or}
 use Rattle.std.proofs.lemmas.List.Quantifiers.{position-Some}
 use Rattle.std.proofs.lemmas.Option.{slice_get-map, slice_get-get_or}
 use Rattle.decode_jobs.specs.Inputs.{InputValue}
@@ -15,7 +15,7 @@ use Rattle.stream_edits.specs.Edits.{Register}
 use Rattle.stream_session.specs.Jobs.{KeepsStream}
 use Rattle.stream_session.specs.Kept.{machine_of}
 use Rattle.stream_session.specs.Machines.{Machine, store_of}
-use Rattle.stream_session.specs.Taken.{as_taken, input_among, taken_of}
+use Rattle.stream_session.specs.Taken.{as_taken, input_among}
 
 module _ {P : Type 0} where
   -- a machine is its stream's and its pictures'

@@ -1,7 +1,7 @@
 -- Needed units of a session are those of its store.
 use Rattle.decode_jobs.specs.Keys.{Key}
 use Rattle.std.proofs.Common.{◌≡◌, refl, sym, ap, ◌∙◌, subst, ℕ, ◌<◌, List, length, Option, None, Some}
-use Rattle.std.specs.Prelude.{slice_get, Ok, Err}
+use Rattle.std.specs.Prelude.{slice_get, Err}
 use Rattle.std.proofs.lemmas.Option.{same_Some}
 use Rattle.unit_outcomes.specs.declared.outcome.Outcome.TheVariants.{Plan as Planned}
 use Rattle.decode_jobs.specs.Jobs.{JobValue}

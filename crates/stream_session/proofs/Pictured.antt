@@ -85,7 +85,7 @@ module _ {P : Type 0} (IsOf : Key → P → Type 0) where
   -- where a job is taken
   pub UnitsStay-take : (old : StoreValue P) (answer : Result (Option (JobValue P)) TakeRefused) (new : StoreValue P)
       → pictures.AnswersTake IsOf old answer new → UnitsStay old new
-  UnitsStay-take old (Ok (Some job)) new takes = same_units old new _ takes.new_is refl refl
+  UnitsStay-take old (Ok (Some job)) new takes = same_units old new _ takes.gives.new_is refl refl
   UnitsStay-take old (Ok None) new is = same_units old new old is.1 refl refl
   UnitsStay-take old (Err JobsSpent) new is = same_units old new old is.2 refl refl
   UnitsStay-take old (Err Memory) new is = same_units old new old is.2 refl refl

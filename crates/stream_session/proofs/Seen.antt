@@ -89,4 +89,4 @@ module _ {P : Type 0} (IsOf : Key → P → Type 0) where
     -- a picture that is held
     pub shows_ready : IsStoreOf register.stream store → place_of register.stream id ≡ Some place → (picture : P)
         → IsPictureAt IsOf store place (Some picture) → Shows IsOf (machine_of journal register store) id (shown.Ready picture)
-    shows_ready is stands picture held = (held.0, key_found journal register store id place is stands held.0 held.1, held.2, held.3)
+    shows_ready is stands picture held = (held.0, key_found journal register store id place is stands held.0 held.1, held.2, held.3, held.4)

@@ -68,41 +68,41 @@ module _ {P : Type 0} {IsOf : Key → P → Type 0} where
   module _ (stream : Stream) (old : StoreValue P) (is : IsStoreOf stream old) (job : JobValue P) (new : StoreValue P) (takes : Takes IsOf old job new) where
     -- the job's key
     abbrev key : Key
-    key = key_of (known_after [] takes.before) takes.plan.requests
+    key = key_of (known_after [] takes.gives.before) takes.gives.plan.requests
 
     -- the job's unit
     abbrev unit : ℕ × Outcome
-    unit = (takes.id, outcomes.Plan takes.plan)
+    unit = (takes.gives.id, outcomes.Plan takes.gives.plan)
 
     -- its place is one of the stream's
-    pub within_stream : length takes.before < length (ids_of stream)
+    pub within_stream : length takes.gives.before < length (ids_of stream)
     within_stream =
-        subst (λ (ids : List ℕ). length takes.before < length ids) is.identified
-        (within_ids old.ids old.outcomes takes.before unit takes.after takes.stands)
+        subst (λ (ids : List ℕ). length takes.gives.before < length ids) is.identified
+        (within_ids old.ids old.outcomes takes.gives.before unit takes.gives.after takes.gives.stands)
 
     -- the keys of the stream
-    keys_same : keys_in stream ≡ keys_of (takes.before ++ unit ∷ takes.after)
+    keys_same : keys_in stream ≡ keys_of (takes.gives.before ++ unit ∷ takes.gives.after)
     keys_same =
         ap (λ (ids : List ℕ). keys_of (zip ids (outcomes_of stream))) (sym is.identified)
         ∙ (ap (λ (became : List Outcome). keys_of (zip old.ids became)) (sym is.folded)
-        ∙ ap (λ (units : List (ℕ × Outcome)). keys_of units) takes.stands)
+        ∙ ap (λ (units : List (ℕ × Outcome)). keys_of units) takes.gives.stands)
 
     -- it is the first with the job's key
-    pub first_with : (id : ℕ) → slice_get (ids_of stream) (length takes.before) ≡ Some id → IsFirstWith stream key id
+    pub first_with : (id : ℕ) → slice_get (ids_of stream) (length takes.gives.before) ≡ Some id → IsFirstWith stream key id
     first_with id stands = record {
-      at = length takes.before;
+      at = length takes.gives.before;
       stands = stands;
       has =
-          ap (λ (keys : List (Option Key)). slice_get keys (length takes.before)) keys_same
-          ∙ key_between [] takes.before unit takes.after;
+          ap (λ (keys : List (Option Key)). slice_get keys (length takes.gives.before)) keys_same
+          ∙ key_between [] takes.gives.before unit takes.gives.after;
       first =
-          subst (λ (keys : List (Option Key)). All (λ other. other ≡ Some key → ⊥) (take (length takes.before) keys)) (sym keys_same)
-          (subst (All (λ other. other ≡ Some key → ⊥)) (sym (keys_before [] takes.before (unit ∷ takes.after)))
-          (λ k d within. not_this old key (slice_index_or (keys_of takes.before) k d) takes.due (takes.earliest k d within)));
+          subst (λ (keys : List (Option Key)). All (λ other. other ≡ Some key → ⊥) (take (length takes.gives.before) keys)) (sym keys_same)
+          (subst (All (λ other. other ≡ Some key → ⊥)) (sym (keys_before [] takes.gives.before (unit ∷ takes.gives.after)))
+          (λ k d within. not_this old key (slice_index_or (keys_of takes.gives.before) k d) takes.gives.due (takes.earliest k d within)));
     }
 
     -- the job goes out, and its unit is told
-    pub told_seen : (journal : List (List Edit)) (given : ℕ) (id : ℕ) → slice_get (ids_of stream) (length takes.before) ≡ Some id
+    pub told_seen : (journal : List (List Edit)) (given : ℕ) (id : ℕ) → slice_get (ids_of stream) (length takes.gives.before) ≡ Some id
         → TellsTake IsOf (machine_of journal (record { ids_given = given; stream = stream }) old) (Ok (Some (id, job)))
         (machine_of journal (record { ids_given = given; stream = stream }) new)
     told_seen journal given id stands = (
@@ -110,7 +110,7 @@ module _ {P : Type 0} {IsOf : Key → P → Type 0} where
       (
         record { number = job.number; key = key; input = job.input },
         subst (λ (out : List (OutValue P)). Contains out (record { number = job.number; key = key; input = job.input }))
-            (sym (ap (λ (store : StoreValue P). store.jobs_out) takes.new_is))
+            (sym (ap (λ (store : StoreValue P). store.jobs_out) takes.gives.new_is))
             (Contains-push old.jobs_out (record { number = job.number; key = key; input = job.input })),
         refl,
         first_with id stands,

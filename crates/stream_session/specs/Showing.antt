@@ -20,11 +20,13 @@ abbrev pub HasKey : Stream → ℕ → Key → Type 0
 HasKey stream id key = option_and_then (slice_get (keys_in stream)) (place_of stream id) ≡ Some (Some key)
 
 module _ {P : Type 0} (IsOf : Key → P → Type 0) where
-  -- what is shown of the unit that has the id: a picture of its key where one is held, that it
-  -- isn't, the unit's fault, that the unit has no picture, or that there is no such unit
+  -- what is shown of the unit that has the id: a picture of its key, one of those that are held, where
+  -- the key is held, that it isn't, the unit's fault, that the unit has no picture, or that there is no
+  -- such unit
   abbrev pub Shows : Machine P → ℕ → Shown P → Type 0
   Shows machine id (shown.Ready picture) =
       (key : Key) × HasKey machine.register.stream id key × Contains machine.held key × IsOf key picture
+      × Contains machine.pictures.held picture
   Shows machine id shown.Pending =
       (key : Key) × HasKey machine.register.stream id key × (Contains machine.held key → ⊥)
   Shows machine id (shown.Fault fault) = outcome_in machine.register.stream id ≡ Some (outcomes.Fault fault)

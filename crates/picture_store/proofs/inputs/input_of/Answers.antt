@@ -1,5 +1,6 @@
 use Rattle.std.proofs.Common.{◌≡◌, ap, ◌∙◌}
 use Rattle.decode_jobs.specs.Keys.{named_by_all}
+use Rattle.picture_store.proofs.Among.{shown_among}
 use Rattle.picture_store.proofs.Prepared.{enough, units_covered, is_input}
 use Rattle.picture_store.proofs.inputs.input_of.Goals as goal
 
@@ -21,8 +22,8 @@ references_of-requires-clause-least g c =
     c.in-Plan-Some.is-0 c.requires.known.0 c.requires.known.1 c.deref.result.now c.entries.result.now units_are
     c.entries.ensures
 
-pub returns : goal.returns
-returns g c = λ known has.
+pub returns-clause-known : goal.returns-clause-known
+returns-clause-known g c = λ known has.
     let plan = c.in-Plan-Some.plan in
     let units_are : c.deref.result.now ≡ named_by_all plan.requests =
     c.deref.ensures.value ∙ (c.in_ok-units.ensures ∙ ap named_by_all c.as_slice-requests.ensures) in
@@ -31,3 +32,9 @@ returns g c = λ known has.
     c.requires.right c.requires.ready c.in_ok-references.references.items c.in_ok-copies.field-0.items c.new.result
     c.in_ok-references.ensures.shown c.in_ok-references.ensures.there
     (c.in_ok-copies.ensures ∙ c.as_slice-requests.ensures) c.new.ensures
+
+pub returns-clause-held : goal.returns-clause-held
+returns-clause-held g c =
+    rw (c.new.ensures)
+    (shown_among c.args.places.now c.deref.result.now c.entries.result.now c.in_ok-references.references.items
+    c.in_ok-references.ensures.shown)

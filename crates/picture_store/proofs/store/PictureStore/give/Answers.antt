@@ -56,7 +56,7 @@ new-job-requires g c =
     c.self.invariant.kept c.args.at c.args.key there (rw (← c.self.view_is) at c.requires.due) in
     let same = outcome_same s.keys s.ids.items s.outcomes.items s.numbers.items s.places s.cache.pairs s.cache.capacity s.jobs_out.items s.jobs_given s.released.items
     c.self.invariant.kept c.args.at within c.args.key is due c.index-outcome.result.now c.index-outcome.ensures in
-    let input = rw (c.deref-2.ensures, c.deref.ensures) at c.in_ok-input.ensures in
+    let input = rw (c.deref-2.ensures, c.deref.ensures) at c.in_ok-input.ensures.known in
     let made = input (known s.keys s.ids.items s.outcomes.items s.numbers.items s.places s.cache.pairs s.cache.capacity s.jobs_out.items s.jobs_given s.released.items
     c.self.invariant.kept c.args.at within c.args.key is due) (has_known s.keys s.ids.items s.outcomes.items s.numbers.items s.places s.cache.pairs s.cache.capacity s.jobs_out.items s.jobs_given s.released.items
     c.self.invariant.kept c.args.at within c.args.key is due c.index-outcome.result.now same) in
@@ -73,7 +73,7 @@ invariant_of-self-2 g c =
     c.self.invariant.kept c.args.at c.args.key there (rw (← c.self.view_is) at c.requires.due) in
     let same = outcome_same s.keys s.ids.items s.outcomes.items s.numbers.items s.places s.cache.pairs s.cache.capacity s.jobs_out.items s.jobs_given s.released.items
     c.self.invariant.kept c.args.at within c.args.key is due c.index-outcome.result.now c.index-outcome.ensures in
-    let input = rw (c.deref-2.ensures, c.deref.ensures) at c.in_ok-input.ensures in
+    let input = rw (c.deref-2.ensures, c.deref.ensures) at c.in_ok-input.ensures.known in
     let made = input (known s.keys s.ids.items s.outcomes.items s.numbers.items s.places s.cache.pairs s.cache.capacity s.jobs_out.items s.jobs_given s.released.items
     c.self.invariant.kept c.args.at within c.args.key is due) (has_known s.keys s.ids.items s.outcomes.items s.numbers.items s.places s.cache.pairs s.cache.capacity s.jobs_out.items s.jobs_given s.released.items
     c.self.invariant.kept c.args.at within c.args.key is due c.index-outcome.result.now same) in
@@ -115,7 +115,7 @@ returns g c =
     c.self.invariant.kept c.args.at c.args.key there (rw (← c.self.view_is) at c.requires.due) in
     let same = outcome_same s.keys s.ids.items s.outcomes.items s.numbers.items s.places s.cache.pairs s.cache.capacity s.jobs_out.items s.jobs_given s.released.items
     c.self.invariant.kept c.args.at within c.args.key is due c.index-outcome.result.now c.index-outcome.ensures in
-    let input = rw (c.deref-2.ensures, c.deref.ensures) at c.in_ok-input.ensures in
+    let input = rw (c.deref-2.ensures, c.deref.ensures) at c.in_ok-input.ensures.known in
     let made = input (known s.keys s.ids.items s.outcomes.items s.numbers.items s.places s.cache.pairs s.cache.capacity s.jobs_out.items s.jobs_given s.released.items
     c.self.invariant.kept c.args.at within c.args.key is due) (has_known s.keys s.ids.items s.outcomes.items s.numbers.items s.places s.cache.pairs s.cache.capacity s.jobs_out.items s.jobs_given s.released.items
     c.self.invariant.kept c.args.at within c.args.key is due c.index-outcome.result.now same) in
@@ -126,6 +126,6 @@ returns g c =
       refl,
       rw (← c.self.view_is, c.new-job.ensures)
           (given_job s.keys s.ids.items s.outcomes.items s.numbers.items s.places s.cache.pairs s.cache.capacity s.jobs_out.items s.jobs_given s.released.items
-          c.self.invariant.kept c.args.at within c.args.key is due c.index-outcome.result.now same c.in_ok-input.input made c.in-Some.number s.units_not_due
+          c.self.invariant.kept c.args.at within c.args.key is due c.index-outcome.result.now same c.in_ok-input.input made c.in_ok-input.ensures.held c.in-Some.number s.units_not_due
           (omega (arith, c.in-Some.ensures)) c.push_reserved.new.self.items more),
     )

@@ -140,13 +140,26 @@ pub recount-lost-requires-clause-apart : goal.recount-lost-requires-clause-apart
 recount-lost-requires-clause-apart g c = λ number used.
     c.self.invariant.apart number (subst (λ n. 0 < n) (ap (λ slot. slot.uses) (c.make_ready.ensures.same.slots number)) used)
 
-pub replace_range-requires-3-clause-ordered : goal.replace_range-requires-3-clause-ordered
-replace_range-requires-3-clause-ordered g c =
+pub put_stretch-requires-clause-stretch : goal.put_stretch-requires-clause-stretch
+put_stretch-requires-clause-stretch g c =
+    let stretch = rw (← c.sweep.ensures, ← c.self.view_is) at c.requires.stretch in
+    rw (c.make_room.ensures.ids) stretch
+
+pub put_stretch-requires-clause-same : goal.put_stretch-requires-clause-same
+put_stretch-requires-clause-same g c = rw (c.make_room.ensures.ids, c.make_room.ensures.outcomes) c.self.invariant.kept.same
+
+pub put_stretch-requires-clause-outcomes_room : goal.put_stretch-requires-clause-outcomes_room
+put_stretch-requires-clause-outcomes_room g c =
+    let stretch : IsStretch c.args.stretch c.self.inside.ids.items = rw (← c.sweep.ensures, ← c.self.view_is) at c.requires.stretch in
+    omega (arith, stretch.same, c.in_ok-make_room.ensures.outcomes_room, c.len.ensures)
+
+pub replace_range-requires-clause-ordered : goal.replace_range-requires-clause-ordered
+replace_range-requires-clause-ordered g c =
     let stretch : IsStretch c.args.stretch c.self.inside.ids.items = rw (← c.sweep.ensures, ← c.self.view_is) at c.requires.stretch in
     omega (arith, stretch.ordered, c.in_ok-past.ensures.behind.0)
 
-pub replace_range-requires-3-clause-inside : goal.replace_range-requires-3-clause-inside
-replace_range-requires-3-clause-inside g c =
+pub replace_range-requires-clause-inside : goal.replace_range-requires-clause-inside
+replace_range-requires-clause-inside g c =
     let s = c.self.inside in
     let behind = rw (c.deref.ensures.value, c.make_room.ensures.ids) at c.in_ok-past.ensures.behind in
     omega (
@@ -197,11 +210,11 @@ invariant_of-self-2 g c =
     let recounted : IsRecounted s.places s.cache.pairs s.cache.capacity numbers c.recount-lost.new.places c.recount-lost.new.cache.pairs c.recount-lost.result =
     recounted_same s.places c.make_ready.new.places s.cache.pairs s.cache.capacity numbers c.recount-lost.new.places
     c.recount-lost.new.cache.pairs c.recount-lost.result c.make_ready.ensures.same counted in
-    let found_are : c.replace_range-3.new.items.items ≡ numbers = rw (c.make_ready.ensures.numbers) at c.replace_range-3.ensures.items in
-    let ids_are : c.replace_range.new.items.items ≡ ids_with c.args.stretch ids =
-    rw (c.make_room.ensures.ids) at c.replace_range.ensures.items in
-    let outcomes_are : c.replace_range-2.new.items.items ≡ outcomes_with c.args.stretch outcomes =
-    rw (c.make_room.ensures.outcomes) at c.replace_range-2.ensures.items in
+    let found_are : c.replace_range.new.items.items ≡ numbers = rw (c.make_ready.ensures.numbers) at c.replace_range.ensures.items in
+    let ids_are : c.put_stretch.new.ids.items ≡ ids_with c.args.stretch ids =
+    rw (c.make_room.ensures.ids) at c.put_stretch.ensures.ids in
+    let outcomes_are : c.put_stretch.new.outcomes.items ≡ outcomes_with c.args.stretch outcomes =
+    rw (c.make_room.ensures.outcomes) at c.put_stretch.ensures.outcomes in
     let in_front : c.args.stretch.from ≤ length s.numbers.items =
     omega (
       arith,
@@ -296,11 +309,11 @@ returns-clause-ok g c =
     let recounted : IsRecounted s.places s.cache.pairs s.cache.capacity numbers c.recount-lost.new.places c.recount-lost.new.cache.pairs c.recount-lost.result =
     recounted_same s.places c.make_ready.new.places s.cache.pairs s.cache.capacity numbers c.recount-lost.new.places
     c.recount-lost.new.cache.pairs c.recount-lost.result c.make_ready.ensures.same counted in
-    let found_are : c.replace_range-3.new.items.items ≡ numbers = rw (c.make_ready.ensures.numbers) at c.replace_range-3.ensures.items in
-    let ids_are : c.replace_range.new.items.items ≡ ids_with c.args.stretch ids =
-    rw (c.make_room.ensures.ids) at c.replace_range.ensures.items in
-    let outcomes_are : c.replace_range-2.new.items.items ≡ outcomes_with c.args.stretch outcomes =
-    rw (c.make_room.ensures.outcomes) at c.replace_range-2.ensures.items in
+    let found_are : c.replace_range.new.items.items ≡ numbers = rw (c.make_ready.ensures.numbers) at c.replace_range.ensures.items in
+    let ids_are : c.put_stretch.new.ids.items ≡ ids_with c.args.stretch ids =
+    rw (c.make_room.ensures.ids) at c.put_stretch.ensures.ids in
+    let outcomes_are : c.put_stretch.new.outcomes.items ≡ outcomes_with c.args.stretch outcomes =
+    rw (c.make_room.ensures.outcomes) at c.put_stretch.ensures.outcomes in
     let room : c.recount-lost.new.cache.capacity ≡ s.cache.capacity = c.recount-lost.ensures.room in
     let old : StoreValue g.row.P.Denot = viewed s.keys ids outcomes s.numbers.items s.places s.cache.pairs s.cache.capacity s.jobs_out.items s.jobs_given s.released.items in
     let is : viewed c.keys_from.new.keys ids outcomes s.numbers.items s.places s.cache.pairs s.cache.capacity s.jobs_out.items s.jobs_given s.released.items ≡ old =

@@ -18,10 +18,11 @@ bounds-ids-at g c =
     let is : IsStoreOf s.ordered.folded.stream s.store =
     IsStoreOf-kept s.journal.items (record { ids_given = s.ids_given; stream = s.ordered.folded.stream }) s.store c.self.invariant in
     let told = rw c.in-Ok-Some.field-0-is at c.in-Ok-Some.ensures.tells in
-    let stay : c.take.new.self.ids ≡ s.store.ids = ap (λ (store : StoreValue g.row.P.Denot). store.ids) told.0.new_is in
+    let stay : c.take.new.self.ids ≡ s.store.ids = ap (λ (store : StoreValue g.row.P.Denot). store.ids) told.0.gives.new_is in
     omega (
       arith,
       told.1,
+      told.0.gives.at_is,
       within_stream s.ordered.folded.stream s.store is c.in-Ok-Some.field-0-0.job c.take.new.self told.0,
       ap length is.identified,
       ap length stay,
@@ -37,6 +38,7 @@ offset_bounds-ids-at g c =
     omega (
       arith,
       told.1,
+      told.0.gives.at_is,
       within_stream s.ordered.folded.stream s.store is c.in-Ok-Some.field-0-0.job c.take.new.self told.0,
       length-map s.ordered.folded.stream (λ unit. unit.0),
       c.self.invariant.bounded,
@@ -50,11 +52,12 @@ returns-clause-tells g c =
     elim c.match-take.branch [
       | in-Ok-Some w ↦
           let told = rw w.in-Ok-Some.field-0-is at (w.in-Ok-Some.ensures {u = tt}).tells in
-          let stay : c.take.new.self.ids ≡ s.store.ids = ap (λ (store : StoreValue g.row.P.Denot). store.ids) told.0.new_is in
+          let stay : c.take.new.self.ids ≡ s.store.ids = ap (λ (store : StoreValue g.row.P.Denot). store.ids) told.0.gives.new_is in
           let same : w.ids.result.now ≡ ids_of s.ordered.folded.stream = w.ids.ensures ∙ (stay ∙ is.identified) in
           let within : w.in-Ok-Some.field-0-0.at < length (ids_of s.ordered.folded.stream) = omega (
             arith,
             told.1,
+            told.0.gives.at_is,
             within_stream s.ordered.folded.stream s.store is w.in-Ok-Some.field-0-0.job c.take.new.self told.0,
           ) in
           let read : w.index-ids-at.result ≡ get_or (ids_of s.ordered.folded.stream) w.in-Ok-Some.field-0-0.at w.index-ids-at.result =
@@ -62,7 +65,7 @@ returns-clause-tells g c =
           rw (w.result-is, ← c.self.view_is)
           (told_seen s.ordered.folded.stream s.store is w.in-Ok-Some.field-0-0.job c.take.new.self told.0 s.journal.items s.ids_given
           w.index-ids-at.result
-          (id_read s.ordered.folded.stream w.in-Ok-Some.field-0-0.at (length told.0.before) w.index-ids-at.result told.1 within read))
+          (id_read s.ordered.folded.stream w.in-Ok-Some.field-0-0.at (length told.0.gives.before) w.index-ids-at.result (told.1 ∙ told.0.gives.at_is) within read))
       | in-Ok-None w ↦
           let told = rw w.in-Ok-None.field-0-is at (w.in-Ok-None.ensures {u = tt}).tells in
           rw (w.result-is, ← c.self.view_is)

@@ -26,4 +26,4 @@ pub use stream_edits::{
     Edit, EditRefused, GroupReceipt, GroupRefused, JournalEntry, Last, Place, ReadEdit, ReadGroup,
     Receipt, ids_differ,
 };
-pub use stream_session::{Config, ConfigFault, NoSuchUnit};
+pub use stream_session::{Config, ConfigFault, Doubt, NoSuchUnit};

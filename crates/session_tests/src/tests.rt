@@ -2,6 +2,7 @@ ghost use Rattle.std.specs.Prelude.{◌≡◌};
 ghost use Rattle.stream_session.specs.Machines.{empty};
 
 mod damage;
+mod doubt;
 mod edits;
 mod foreign;
 mod groups;

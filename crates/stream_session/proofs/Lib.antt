@@ -1,6 +1,7 @@
 pub mod Placed
 pub mod Ends
 pub mod Looked
+pub mod InColumns
 pub mod Stretched
 pub mod Accepted
 pub mod Pictured

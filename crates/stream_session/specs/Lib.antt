@@ -10,3 +10,4 @@ pub mod Needing
 pub mod Taken
 pub mod Numbers
 pub mod Kept
+pub mod Doubting

@@ -13,12 +13,14 @@
 
 mod change_costs;
 mod config;
+mod doubting;
 mod refusals;
 mod session;
 mod showing;
 mod stretches;
 
 pub use config::{Config, ConfigFault};
+pub use doubts::Doubt;
 pub use refusals::NoSuchUnit;
 pub use session::Session;
 pub use showing::{Dropped, Shown};

@@ -1,21 +1,26 @@
 //! What is asked of a session.
 
-ghost use Rattle.std.specs.Prelude.{◌≡◌, ◌<◌, ◌↔◌, ℕ, length, slice_get, Contains, Some, None, IsTrue, IfOk, IfSome, MatchOption, MatchResult};
+ghost use Rattle.std.specs.Prelude.{◌≡◌, ◌+◌, ◌<◌, ◌≤◌, ◌↔◌, ℕ, length, slice_get, Contains, Some, None, IsTrue, IfOk, IfSome, MatchOption, MatchResult};
 ghost use Rattle.picture_store.specs.Stores.{AreOneToOne, IsNumberInUse};
 ghost use Rattle.stream_edits.specs.Streams.{end_of, ids_of, place_of, start_of};
 ghost use Rattle.stream_session.specs.Streams.{outcome_in, position_in};
 ghost use Rattle.stream_session.specs.Machines.{store_of};
 ghost use Rattle.stream_session.specs.Showing.{HasNumber, Shows};
 ghost use Rattle.stream_session.specs.Taken.{input_of};
+ghost use Rattle.doubts.specs.InDoubt.{AreDoubts};
+ghost use Rattle.stream_session.specs.Doubting.{seen_in};
 ghost use Rattle.decode_jobs.specs.Inputs.{is_whole};
 
 use super::Session;
+use crate::doubting::doubts_of;
 use crate::refusals::NoSuchUnit;
 use crate::showing::Shown;
 use decode_jobs::{Decoded, Input};
 use dep_keys::KeyId;
+use doubts::Doubt;
 use output_order::Comparisons;
 use pictures::AuId;
+use std::alloc::AllocError;
 use stream_edits::Place;
 use unit_outcomes::Outcome;
 
@@ -112,6 +117,19 @@ impl<P: Decoded> Session<P> {
         ensures one { AreOneToOne (store_of self.now) (store_of self.now) }
     {
         self.store.in_use(key)
+    }
+
+    /// Of so many units from a place of the stream on, the break that each follows, and whether its
+    /// picture is in doubt: whether it may be made of other frames than its encoder meant. It takes
+    /// a time that grows with the units from the last valid IDR picture before the stretch on, up
+    /// to the stretch's end.
+    pub fn doubts(&self, from: usize, count: usize) -> Result<Vec<Doubt>, AllocError>
+        requires { from + count ≤ length self.now.register.stream }
+        ensures { IfOk result (λ doubts.
+            AreDoubts (seen_in self.now.register.stream) from count doubts.items) }
+    {
+        let (units, outcomes) = (self.ordered.units(), self.store.outcomes());
+        doubts_of(self.alloc, units, outcomes, from, count)
     }
 
     /// How many jobs are out. It takes no memory.

@@ -4,6 +4,7 @@ import json
 import pathlib
 import struct
 
+from cupdaisy import doubts
 from cupdaisy.command_line import NOT_INSTALLED, parser_of
 from cupdaisy.kernel_structs import CONTROLS, HEADER, TYPES, UNDIGESTED, Differs, Structs, record, shown_by_run
 from cupdaisy.processes import printed_anyway
@@ -11,7 +12,7 @@ from cupdaisy.program import PREVIEW
 from cupdaisy.streams import START, cut, slices_in, split
 
 REQUEST = ("timestamp", "hold_capture_buf", "bytes", *(f"v4l2_ctrl_h264_{name}" for name in CONTROLS))
-PLAN = ["unit", "position", "begins_period", "counts", "requests"]
+PLAN = ["unit", "position", "begins_period", "counts"]
 # Where the names of a member's flags begin.
 FLAGS = {("v4l2_ctrl_h264_sps", "flags"): "V4L2_H264_SPS_FLAG_",
          ("v4l2_ctrl_h264_sps", "constraint_set_flags"): "V4L2_H264_SPS_CONSTRAINT_SET",
@@ -71,17 +72,30 @@ def record_of(layouts, request, text, pictures):
     return record(form, request["v4l2_ctrl_h264_slice_params"], request["v4l2_ctrl_h264_decode_params"]["dpb"], text, pictures)
 
 
-def shown(layouts, line, slices, pictures):
+def members(line, told):
+    """The members that a line has, by what is told of its unit."""
+    follows, in_doubt = told
+    following = ["follows"] if follows is not None else []
+    if line.get("follows") != follows or line.get("in_doubt", False) != in_doubt:
+        raise Differs(f"follows {line.get('follows')}, in doubt {line.get('in_doubt')}, and not {told}")
+    if "requests" not in line:
+        return ["unit", "fault" if "fault" in line else "no_picture", *following]
+    return [*PLAN, *following, *(["in_doubt"] if in_doubt else []), "requests"]
+
+
+def shown(layouts, line, slices, told, pictures):
     """What has to be shown of the unit of a line, whose picture is put among those by their timestamps."""
+    if list(line) != members(line, told):
+        raise Differs(f"a line has {list(line)}")
     if "fault" in line:
-        if list(line) != ["unit", "fault"] or list(line["fault"]) != ["number", "name"]:
-            raise Differs(f"a fault has {list(line)}")
+        if list(line["fault"]) != ["number", "name"]:
+            raise Differs(f"a fault has {list(line['fault'])}")
         return f"fault {line['fault']['number']} {line['fault']['name']}"
     if "no_picture" in line:
-        if line != {"unit": line["unit"], "no_picture": True}:
+        if line["no_picture"] is not True:
             raise Differs(f"a unit without a picture has {line}")
         return "empty"
-    if list(line) != PLAN or list(line["counts"]) != ["top", "bottom"] or len(line["requests"]) != len(slices):
+    if list(line["counts"]) != ["top", "bottom"] or len(line["requests"]) != len(slices):
         raise Differs(f"a plan has {list(line)}, and {len(line['requests'])} requests for {len(slices)} slices")
     timestamp = 1000 * line["unit"]
     records = b""
@@ -102,10 +116,10 @@ def compare(program, layouts, file):
         print(f"{file}: {len(lines)} lines and {len(answers)} shown for {len(units)} units")
         return False
     pictures, differing = {}, 0
-    for line, nals, answer in zip(lines, units, answers):
+    for line, nals, answer, told in zip(lines, units, answers, doubts.told(lines, units)):
         slices = [START + nal for nal in slices_in(nals)]
         try:
-            expected = f"show {line['unit']} {shown(layouts, line, slices, pictures)}"
+            expected = f"show {line['unit']} {shown(layouts, line, slices, told, pictures)}"
         except (Differs, KeyError, IndexError, TypeError, struct.error) as fault:
             expected = f"unit {line['unit']}: {fault!r}"
         if expected != answer:

@@ -1,3 +1,4 @@
 mod drawing;
 mod json;
+mod plans_json;
 mod window;

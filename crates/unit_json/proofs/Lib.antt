@@ -1,3 +1,4 @@
 mod FoldSteps
 mod SaidLines
+mod SeenIds
 pub mod Ends

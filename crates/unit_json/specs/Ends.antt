@@ -9,15 +9,20 @@ use Rattle.console_io.specs.declared.chunks.PrintFault.TheVariants as print
 use Rattle.console_io.specs.declared.input.InputFault.{InputFault}
 use Rattle.unit_json.specs.JsonLines.{refused_line}
 use Rattle.unit_json.specs.declared.json_line.JsonLine.{JsonLine}
-use Rattle.unit_json.specs.Said.{AreSaid, Said}
-use Rattle.unit_json.specs.StreamLines.{stream_lines}
+use Rattle.unit_json.specs.Said.{Said, SaysStream}
+use Rattle.unit_json.specs.declared.decode_mode.DecodeMode.{DecodeMode}
+use Rattle.unit_json.specs.declared.decode_mode.DecodeMode.TheVariants.{SliceBased}
 
--- the text is a stream, and the lines of its units were written
-pub record WritesJson (says : JsonLine → List ℕ → Type 0) (text : List ℕ) (old new : Option (List ℕ)) : Type 0 where
+-- the text is a stream, and the lines of its units were written for a decoder of this mode
+pub record WritesJsonFor (says : JsonLine → List ℕ → Type 0) (mode : DecodeMode) (text : List ℕ) (old new : Option (List ℕ)) : Type 0 where
   pub parts : List (List (List ℕ))
   pub stream : IsStream text parts
   pub bounded : length parts ≤ most_units
-  pub said : AreSaid says (stream_lines parts) old new
+  pub said : SaysStream says mode parts old new
+
+-- the same for a decoder of slices
+abbrev pub WritesJson : (JsonLine → List ℕ → Type 0) → List ℕ → Option (List ℕ) → Option (List ℕ) → Type 0
+WritesJson says text old new = WritesJsonFor says SliceBased text old new
 
 -- why not all is printed: the input wasn't read, the stream is refused, or a line wasn't printed
 pub data JsonEnd : Type 0 where

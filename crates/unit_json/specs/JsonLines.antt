@@ -1,35 +1,58 @@
 -- The JSON object of a line (docs/OUTPUT.md).
-use Rattle.std.specs.Prelude.{ℕ, true, Option, map}
+use Rattle.std.specs.Prelude.{ℕ, true, false, Option, None, map, option_map}
 use Rattle.std.specs.Option.{unwrap_or}
 use Rattle.access_unit.specs.declared.room.Refusal.{Refusal}
+use Rattle.doubts.specs.declared.doubt.Doubt.{Doubt}
+use Rattle.frame_requests.specs.FrameRequests.{frame_request}
 use Rattle.unit_outcomes.specs.declared.outcome.Outcome.{Outcome}
 use Rattle.unit_outcomes.specs.declared.outcome.Outcome.TheVariants as outcomes
 use Rattle.unit_outcomes.specs.declared.outcome.Plan.{Plan as PlanValue}
 use Rattle.pictures.specs.declared.counts.Counts.{Counts}
 use Rattle.unit_json.specs.RequestsJson.{request_json}
+use Rattle.unit_json.specs.FramesJson.{frame_json}
+use Rattle.unit_json.specs.declared.decode_mode.DecodeMode.{DecodeMode}
+use Rattle.unit_json.specs.declared.decode_mode.DecodeMode.TheVariants.{SliceBased, FrameBased}
 use Rattle.unit_json.specs.declared.json_line.CountsJson.{CountsJson}
+use Rattle.unit_json.specs.declared.json_line.HeadJson.{HeadJson}
 use Rattle.unit_json.specs.declared.json_line.JsonLine.{JsonLine}
-use Rattle.unit_json.specs.declared.json_line.JsonLine.TheVariants.{Plan, Fault, NoPicture, NoUnit, Refused}
-use Rattle.unit_json.specs.declared.json_line.PlanJson.{PlanJson}
+use Rattle.unit_json.specs.declared.json_line.JsonLine.TheVariants.{Plan, Frame, Fault, NoPicture, NoUnit, Refused}
 
 abbrev pub counts_json : Counts → CountsJson
 counts_json counts = record { top = counts.top; bottom = counts.bottom }
 
--- a plan, with the unit's id and position
-abbrev pub plan_json : ℕ → ℕ → PlanValue → PlanJson
-plan_json id position plan = record {
+-- what a plan has before its requests: the unit's id and position, and what is told of it
+abbrev pub head_json : ℕ → ℕ → PlanValue → Doubt → HeadJson
+head_json id position plan told = record {
   unit = id;
   position = position;
   begins_period = plan.begins_period;
   counts = counts_json plan.counts;
-  requests = map request_json plan.requests;
+  follows = told.follows;
+  in_doubt = told.in_doubt;
 }
 
--- the line of a unit's outcome
+-- the line of a plan: with the requests of its slices, or with that of its picture
+abbrev pub plan_line : DecodeMode → HeadJson → PlanValue → JsonLine
+plan_line SliceBased head plan = Plan (record { head = head; requests = map request_json plan.requests })
+plan_line FrameBased head plan = Frame (record {
+  head = head;
+  request = option_map (frame_json plan.requests) (frame_request plan.requests);
+})
+
+-- the line of a unit's outcome, of which this is told
+abbrev pub told_line : DecodeMode → ℕ → Option ℕ → Outcome → Doubt → JsonLine
+told_line mode id position (outcomes.Plan plan) told =
+    plan_line mode (head_json id (unwrap_or position 0) plan told) plan
+told_line mode id position (outcomes.Fault fault) told = Fault id fault told.follows
+told_line mode id position outcomes.Empty told = NoPicture id true told.follows
+
+-- nothing is told
+abbrev pub untold : Doubt
+untold = record { follows = None; in_doubt = false }
+
+-- the line of a unit's outcome, of which nothing is told
 abbrev pub unit_line : ℕ → Option ℕ → Outcome → JsonLine
-unit_line id position (outcomes.Plan plan) = Plan (plan_json id (unwrap_or position 0) plan)
-unit_line id position (outcomes.Fault fault) = Fault id fault
-unit_line id position outcomes.Empty = NoPicture id true
+unit_line id position outcome = told_line SliceBased id position outcome untold
 
 -- the line of a unit that isn't there
 abbrev pub no_unit_line : ℕ → JsonLine

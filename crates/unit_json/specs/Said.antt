@@ -1,6 +1,8 @@
 -- Lines that a writer got as texts.
 use Rattle.std.specs.Prelude.{◌≡◌, ℕ, List, [], ◌∷◌, Option}
 use Rattle.std.specs.Io.KnownBytes.{Appends}
+use Rattle.unit_json.specs.StreamLines.{AreStreamLines}
+use Rattle.unit_json.specs.declared.decode_mode.DecodeMode.{DecodeMode}
 use Rattle.unit_json.specs.declared.json_line.JsonLine.{JsonLine}
 
 -- a text that says the line was written
@@ -11,3 +13,9 @@ Said says line old new = (text : List ℕ) × says line text × Appends old new 
 abbrev pub AreSaid : (JsonLine → List ℕ → Type 0) → List JsonLine → Option (List ℕ) → Option (List ℕ) → Type 0
 AreSaid says [] old new = old ≡ new
 AreSaid says (line ∷ lines) old new = (mid : Option (List ℕ)) × Said says line old mid × AreSaid says lines mid new
+
+-- the lines of a stream were
+pub record SaysStream (says : JsonLine → List ℕ → Type 0) (mode : DecodeMode) (units : List (List (List ℕ))) (old new : Option (List ℕ)) : Type 0 where
+  pub lines : List JsonLine
+  pub of_stream : AreStreamLines mode units lines
+  pub said : AreSaid says lines old new

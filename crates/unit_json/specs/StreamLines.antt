@@ -1,9 +1,13 @@
 -- The lines of a stream (docs/OUTPUT.md).
-use Rattle.std.specs.Prelude.{ℕ, ◌+◌, List, [], ◌∷◌, Option}
+use Rattle.std.specs.Prelude.{◌≡◌, ℕ, ◌+◌, List, [], ◌∷◌, length, Option}
+use Rattle.doubts.specs.InDoubt.{AreDoubts}
+use Rattle.doubts.specs.declared.doubt.Doubt.{Doubt}
 use Rattle.unit_outcomes.specs.declared.outcome.Outcome.{Outcome}
 use Rattle.output_order.specs.OutputOrder.{positions_of}
 use Rattle.request_core.specs.Fold.{outcomes_of}
-use Rattle.unit_json.specs.JsonLines.{unit_line}
+use Rattle.unit_json.specs.JsonLines.{told_line}
+use Rattle.unit_json.specs.Seen.{stream_seen}
+use Rattle.unit_json.specs.declared.decode_mode.DecodeMode.{DecodeMode}
 use Rattle.unit_json.specs.declared.json_line.JsonLine.{JsonLine}
 
 -- the units with ids from this one on
@@ -11,14 +15,26 @@ abbrev pub numbered_from : ℕ → List (List (List ℕ)) → List (ℕ × List 
 numbered_from id [] = []
 numbered_from id (unit ∷ units) = (id, unit) ∷ numbered_from (id + 1) units
 
--- the lines of units with ids from this one on, by the outcome of each and its position
-abbrev pub json_lines : ℕ → List Outcome → List (Option ℕ) → List JsonLine
-json_lines id [] positions = []
-json_lines id (outcome ∷ outcomes) [] = []
-json_lines id (outcome ∷ outcomes) (position ∷ positions) =
-    unit_line id position outcome ∷ json_lines (id + 1) outcomes positions
+-- the lines of units with ids from this one on, by the outcome of each, its position, and what is
+-- told of it
+abbrev pub json_lines : DecodeMode → ℕ → List Outcome → List (Option ℕ) → List Doubt → List JsonLine
+json_lines mode id [] positions told = []
+json_lines mode id (outcome ∷ outcomes) [] told = []
+json_lines mode id (outcome ∷ outcomes) (position ∷ positions) [] = []
+json_lines mode id (outcome ∷ outcomes) (position ∷ positions) (doubt ∷ told) =
+    told_line mode id position outcome doubt ∷ json_lines mode (id + 1) outcomes positions told
 
--- the lines of a stream: its plain fold, and where in the output each picture stands
-abbrev pub stream_lines : List (List (List ℕ)) → List JsonLine
-stream_lines units =
-    json_lines 1 (outcomes_of (numbered_from 1 units)) (positions_of (outcomes_of (numbered_from 1 units)))
+-- the outcomes of a stream's plain fold
+abbrev pub stream_outcomes : List (List (List ℕ)) → List Outcome
+stream_outcomes units = outcomes_of (numbered_from 1 units)
+
+-- the lines of a stream with these outcomes: where in the output each picture stands, and which are
+-- in doubt
+pub record AreLinesOf (mode : DecodeMode) (units : List (List (List ℕ))) (outcomes : List Outcome) (lines : List JsonLine) : Type 0 where
+  pub told : List Doubt
+  pub are_told : AreDoubts (stream_seen units outcomes) 0 (length units) told
+  pub are_lines : lines ≡ json_lines mode 1 outcomes (positions_of outcomes) told
+
+-- the lines of a stream
+abbrev pub AreStreamLines : DecodeMode → List (List (List ℕ)) → List JsonLine → Type 0
+AreStreamLines mode units lines = AreLinesOf mode units (stream_outcomes units) lines

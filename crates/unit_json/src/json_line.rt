@@ -1,11 +1,14 @@
 //! A line of JSON.
 
 ghost use Rattle.std.specs.Prelude.{◌≡◌, IfOk};
-ghost use Rattle.unit_json.specs.JsonLines.{counts_json, no_unit_line, plan_json, refused_line, unit_line};
+ghost use Rattle.unit_json.specs.JsonLines.{counts_json, head_json, no_unit_line, plan_line, refused_line, told_line, unit_line};
 
+use crate::decode_mode::DecodeMode;
+use crate::frame_json::FrameJson;
 use crate::numbered::{write_fault, write_refusal};
 use crate::request_json::RequestsJson;
 use access_unit::Refusal;
+use doubts::Doubt;
 use pictures::{AuId, Counts};
 use serde::Serialize;
 use std::alloc::{AllocError, Global};
@@ -15,18 +18,25 @@ use unit_outcomes::{Outcome, Plan, ValidityFault};
 #[derive(Debug, Drop, Serialize)]
 #[serde(untagged)]
 pub enum JsonLine {
-    /// A valid unit.
+    /// A valid unit, with the requests of its slices.
     Plan(PlanJson),
-    /// A unit with a fault, which is an object of number and name.
+    /// A valid unit, with the request of its picture.
+    Frame(FramePlanJson),
+    /// A unit with a fault, which is an object of number and name, and the id of the break that it
+    /// follows.
     Fault {
         unit: u32,
         #[serde(serialize_with = "write_fault")]
         fault: ValidityFault,
+        #[serde(skip_serializing_if = "Option::is_none")]
+        follows: Option<u32>,
     },
     /// A unit without a slice; the member is true.
     NoPicture {
         unit: u32,
         no_picture: bool,
+        #[serde(skip_serializing_if = "Option::is_none")]
+        follows: Option<u32>,
     },
     /// A unit that isn't there, by the number that was asked for; the member is true.
     NoUnit {
@@ -41,9 +51,26 @@ pub enum JsonLine {
     },
 }
 
-/// The plan of a valid unit.
+/// The plan of a valid unit, with the requests of its slices.
 #[derive(Debug, Drop, Serialize)]
 pub struct PlanJson {
+    #[serde(flatten)]
+    pub head: HeadJson,
+    pub requests: RequestsJson,
+}
+
+/// The plan of a valid unit, with the request of its picture, which each has.
+#[derive(Debug, Drop, Serialize)]
+pub struct FramePlanJson {
+    #[serde(flatten)]
+    pub head: HeadJson,
+    #[serde(skip_serializing_if = "Option::is_none")]
+    pub request: Option<FrameJson>,
+}
+
+/// What the plan of a valid unit has before its requests.
+#[derive(Clone, Copy, Debug, PartialEq, Eq, Serialize)]
+pub struct HeadJson {
     /// The unit's id.
     pub unit: u32,
     /// The place of its picture in output order.
@@ -52,7 +79,12 @@ pub struct PlanJson {
     pub begins_period: bool,
     /// Its picture order counts, before operation 5 resets them.
     pub counts: CountsJson,
-    pub requests: RequestsJson,
+    /// The id of the break that it follows.
+    #[serde(skip_serializing_if = "Option::is_none")]
+    pub follows: Option<u32>,
+    /// Whether it is in doubt.
+    #[serde(skip_serializing_if = "is_false")]
+    pub in_doubt: bool,
 }
 
 /// Picture order counts.
@@ -62,8 +94,15 @@ pub struct CountsJson {
     pub bottom: i32,
 }
 
+/// What is said of a unit of which nothing is told.
+const UNTOLD: Doubt = Doubt {
+    follows: None,
+    in_doubt: false,
+};
+
 impl JsonLine {
-    /// The line of a unit, by its outcome and its place in output order, which each plan has.
+    /// The line of a unit, with the requests of its slices, by its outcome and its place in output
+    /// order, which each plan has.
     pub fn of_unit(
         alloc: Global,
         id: AuId,
@@ -72,21 +111,58 @@ impl JsonLine {
     ) -> Result<JsonLine, AllocError>
         ensures { IfOk result (λ line. line ≡ unit_line id position outcome.now) }
     {
+        JsonLine::of_told(alloc, DecodeMode::SliceBased, id, position, outcome, UNTOLD)
+    }
+
+    /// The same with what is told of the unit, and with the requests that a decoder of this mode
+    /// takes.
+    pub fn of_told(
+        alloc: Global,
+        mode: DecodeMode,
+        id: AuId,
+        position: Option<usize>,
+        outcome: &Outcome,
+        told: Doubt,
+    ) -> Result<JsonLine, AllocError>
+        ensures { IfOk result (λ line. line ≡ told_line mode id position outcome.now told) }
+    {
         match outcome {
-            Outcome::Plan(plan) => Ok(JsonLine::Plan(PlanJson::of(
-                alloc,
-                id,
-                position.unwrap_or_default(),
-                plan,
-            )?)),
+            Outcome::Plan(plan) => {
+                let position = position.unwrap_or_default();
+                JsonLine::of_plan(alloc, mode, HeadJson::of(id, position, plan, told), plan)
+            }
             Outcome::Fault(fault) => Ok(JsonLine::Fault {
                 unit: id.number(),
                 fault: *fault,
+                follows: number_of(told.follows),
             }),
             Outcome::Empty => Ok(JsonLine::NoPicture {
                 unit: id.number(),
                 no_picture: true,
+                follows: number_of(told.follows),
             }),
+        }
+    }
+
+    /// The line of a plan, after what stands before its requests.
+    fn of_plan(
+        alloc: Global,
+        mode: DecodeMode,
+        head: HeadJson,
+        plan: &Plan,
+    ) -> Result<JsonLine, AllocError>
+        ensures { IfOk result (λ line. line ≡ plan_line mode head plan.now) }
+    {
+        let requests = plan.requests.as_slice();
+        match mode {
+            DecodeMode::SliceBased => Ok(JsonLine::Plan(PlanJson {
+                head,
+                requests: RequestsJson::of(alloc, requests)?,
+            })),
+            DecodeMode::FrameBased => Ok(JsonLine::Frame(FramePlanJson {
+                head,
+                request: FrameJson::of(requests)?,
+            })),
         }
     }
 
@@ -108,17 +184,19 @@ impl JsonLine {
     }
 }
 
-impl PlanJson {
-    fn of(alloc: Global, id: AuId, position: usize, plan: &Plan) -> Result<PlanJson, AllocError>
-        ensures { IfOk result (λ object. object ≡ plan_json id position plan.now) }
+impl HeadJson {
+    /// What stands before the requests of the plan of a unit.
+    pub fn of(id: AuId, position: usize, plan: &Plan, told: Doubt) -> HeadJson
+        ensures { result ≡ head_json id position plan.now told }
     {
-        Ok(PlanJson {
+        HeadJson {
             unit: id.number(),
             position,
             begins_period: plan.begins_period,
             counts: CountsJson::of(plan.counts),
-            requests: RequestsJson::of(alloc, plan.requests.as_slice())?,
-        })
+            follows: number_of(told.follows),
+            in_doubt: told.in_doubt,
+        }
     }
 }
 
@@ -131,4 +209,18 @@ impl CountsJson {
             bottom: counts.bottom,
         }
     }
+}
+
+/// The number of an id.
+fn number_of(id: Option<AuId>) -> Option<u32>
+    ensures { result ≡ id }
+{
+    match id {
+        Some(id) => Some(id.number()),
+        None => None,
+    }
+}
+
+fn is_false(value: &bool) -> bool {
+    !*value
 }

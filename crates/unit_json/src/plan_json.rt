@@ -3,10 +3,10 @@
 ghost use Rattle.std.specs.Prelude.{◌≡◌, ◌≢◌, [], IfSome};
 ghost use Rattle.std.specs.Io.KnownBytes.{Keeps};
 ghost use Rattle.console_io.specs.Messages.{Tells};
-ghost use Rattle.unit_json.specs.Ends.{FailsJson, FailsText, WritesJson};
+ghost use Rattle.unit_json.specs.Ends.{FailsJson, FailsText, WritesJson, WritesJsonFor};
 
 use crate::printing::{print_line, print_stream};
-use crate::{Encoder, JsonLine};
+use crate::{DecodeMode, Encoder, JsonLine};
 use access_unit::{MOST_UNITS, ReadFault, read_units};
 use bytes::Bytes;
 use console_io::{
@@ -16,9 +16,37 @@ use std::alloc::Global;
 use std::io::Read;
 use std::thread::Threads;
 
-/// Prints the units of the stream that the reader gives, a line each by this encoder, or the line
-/// of its refusal. Where the reader fails or memory runs out, `errors` is told; the reader has this
+/// Prints the units of the stream that the reader gives, a line each by this encoder with the
+/// requests for a decoder of this mode, or the line of its refusal. Where the reader fails or memory runs out, `errors` is told; the reader has this
 /// name there.
+pub fn plan_json_for<J: Encoder, R: Read, W: Sink, E: Sink>(
+    threads: &(impl Threads + Sync),
+    alloc: Global,
+    encoder: &J,
+    mode: DecodeMode,
+    name: &str,
+    reader: &mut R,
+    writer: &mut W,
+    errors: &mut E,
+) -> Ended
+    ensures done { result.status ≡ Status.Success
+        → Keeps (E.contents errors.old) (E.contents errors.new) }
+    // What is written at success says the plain fold of the stream that was read.
+    ensures planned { result.status ≡ Status.Success → IfSome (R.remaining reader.old) (λ text.
+        WritesJsonFor J.says mode text (W.contents writer.old) (W.contents writer.new)) }
+    ensures ends { result.status ≡ Status.Failure
+        → FailsJson J.says (R.remaining reader.old) name.now result.told (W.refuses writer.new)
+        (W.contents writer.old) (W.contents writer.new)
+        (E.refuses errors.new) (E.contents errors.old) (E.contents errors.new) }
+    ensures usage { result.status ≢ Status.Usage }
+{
+    match whole_input(alloc, reader) {
+        Ok(text) => plan_text(threads, alloc, encoder, mode, text, writer, errors),
+        Err(fault) => Ended::failed(say_input_fault(fault, name, errors)),
+    }
+}
+
+/// The same for a decoder of slices.
 pub fn plan_json_on<J: Encoder, R: Read, W: Sink, E: Sink>(
     threads: &(impl Threads + Sync),
     alloc: Global,
@@ -30,7 +58,6 @@ pub fn plan_json_on<J: Encoder, R: Read, W: Sink, E: Sink>(
 ) -> Ended
     ensures done { result.status ≡ Status.Success
         → Keeps (E.contents errors.old) (E.contents errors.new) }
-    // What is written at success says the plain fold of the stream that was read.
     ensures planned { result.status ≡ Status.Success → IfSome (R.remaining reader.old) (λ text.
         WritesJson J.says text (W.contents writer.old) (W.contents writer.new)) }
     ensures ends { result.status ≡ Status.Failure
@@ -39,10 +66,8 @@ pub fn plan_json_on<J: Encoder, R: Read, W: Sink, E: Sink>(
         (E.refuses errors.new) (E.contents errors.old) (E.contents errors.new) }
     ensures usage { result.status ≢ Status.Usage }
 {
-    match whole_input(alloc, reader) {
-        Ok(text) => plan_text(threads, alloc, encoder, text, writer, errors),
-        Err(fault) => Ended::failed(say_input_fault(fault, name, errors)),
-    }
+    let mode = DecodeMode::SliceBased;
+    plan_json_for(threads, alloc, encoder, mode, name, reader, writer, errors)
 }
 
 /// Prints the units of the stream of this text, or the line of its refusal.
@@ -50,6 +75,7 @@ fn plan_text<J: Encoder, W: Sink, E: Sink>(
     threads: &(impl Threads + Sync),
     alloc: Global,
     encoder: &J,
+    mode: DecodeMode,
     text: Vec<u8>,
     writer: &mut W,
     errors: &mut E,
@@ -57,7 +83,7 @@ fn plan_text<J: Encoder, W: Sink, E: Sink>(
     ensures done { result.status ≡ Status.Success
         → Keeps (E.contents errors.old) (E.contents errors.new) }
     ensures planned { result.status ≡ Status.Success
-        → WritesJson J.says text.items (W.contents writer.old) (W.contents writer.new) }
+        → WritesJsonFor J.says mode text.items (W.contents writer.old) (W.contents writer.new) }
     ensures ends { result.status ≡ Status.Failure
         → FailsText J.says text.items result.told (W.refuses writer.new)
         (W.contents writer.old) (W.contents writer.new)
@@ -65,7 +91,7 @@ fn plan_text<J: Encoder, W: Sink, E: Sink>(
     ensures usage { result.status ≢ Status.Usage }
 {
     match Bytes::from_vec(text) {
-        Ok(text) => plan_shared(threads, alloc, encoder, &text, writer, errors),
+        Ok(text) => plan_shared(threads, alloc, encoder, mode, &text, writer, errors),
         Err(_) => Ended::failed(say_print_fault(PrintFault::Memory, errors)),
     }
 }
@@ -75,6 +101,7 @@ fn plan_shared<J: Encoder, W: Sink, E: Sink>(
     threads: &(impl Threads + Sync),
     alloc: Global,
     encoder: &J,
+    mode: DecodeMode,
     text: &Bytes,
     writer: &mut W,
     errors: &mut E,
@@ -82,7 +109,7 @@ fn plan_shared<J: Encoder, W: Sink, E: Sink>(
     ensures done { result.status ≡ Status.Success
         → Keeps (E.contents errors.old) (E.contents errors.new) }
     ensures planned { result.status ≡ Status.Success
-        → WritesJson J.says text.now (W.contents writer.old) (W.contents writer.new) }
+        → WritesJsonFor J.says mode text.now (W.contents writer.old) (W.contents writer.new) }
     ensures ends { result.status ≡ Status.Failure
         → FailsText J.says text.now result.told (W.refuses writer.new)
         (W.contents writer.old) (W.contents writer.new)
@@ -90,7 +117,7 @@ fn plan_shared<J: Encoder, W: Sink, E: Sink>(
     ensures usage { result.status ≢ Status.Usage }
 {
     match read_units(threads, alloc, text, MOST_UNITS) {
-        Ok(units) => match print_stream(alloc, encoder, &units, writer) {
+        Ok(units) => match print_stream(alloc, encoder, mode, &units, writer) {
             Ok(()) => Ended::done(),
             Err(fault) => Ended::failed(say_print_fault(fault, errors)),
         },

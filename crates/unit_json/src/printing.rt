@@ -2,14 +2,16 @@
 
 ghost use Rattle.std.specs.Prelude.{◌≡◌, ◌≤◌, length, IsErrOf, OnOk};
 ghost use Rattle.access_unit.specs.Rooms.{most_units};
-ghost use Rattle.unit_json.specs.JsonLines.{unit_line};
-ghost use Rattle.unit_json.specs.StreamLines.{json_lines, stream_lines};
-ghost use Rattle.unit_json.specs.Said.{AreSaid, Said};
+ghost use Rattle.unit_json.specs.JsonLines.{told_line};
+ghost use Rattle.unit_json.specs.StreamLines.{json_lines};
+ghost use Rattle.unit_json.specs.Said.{AreSaid, Said, SaysStream};
 
 use crate::folding::fold;
-use crate::{Encoder, JsonLine};
+use crate::telling::told;
+use crate::{DecodeMode, Encoder, JsonLine};
 use access_unit::Unit;
 use console_io::{PrintFault, Sink, write_bytes};
+use doubts::Doubt;
 use pictures::AuId;
 use std::alloc::Global;
 use unit_outcomes::Outcome;
@@ -18,36 +20,43 @@ use unit_outcomes::Outcome;
 pub(crate) fn print_stream<J: Encoder, W: Sink>(
     alloc: Global,
     encoder: &J,
+    mode: DecodeMode,
     units: &[Unit],
     writer: &mut W,
 ) -> Result<(), PrintFault>
     requires { length units.now ≤ most_units }
-    ensures ok { OnOk result (AreSaid J.says (stream_lines units.now)
+    ensures ok { OnOk result (SaysStream J.says mode units.now
         (W.contents writer.old) (W.contents writer.new)) }
     ensures refused { IsErrOf result PrintFault.Unwritten → W.refuses writer.new }
 {
     let outcomes = fold(alloc, units)?;
     let positions = output_order::positions(alloc, &outcomes)?;
-    print_units(alloc, encoder, &outcomes, &positions, writer)
+    let told = told(alloc, units, &outcomes)?;
+    print_units(alloc, encoder, mode, &outcomes, &positions, &told, writer)
 }
 
-/// Prints the line of each unit by its outcome, with ids from 1 on.
+/// Prints the line of each unit by its outcome and what is told of it, with ids from 1 on.
 fn print_units<J: Encoder, W: Sink>(
     alloc: Global,
     encoder: &J,
+    mode: DecodeMode,
     outcomes: &[Outcome],
     positions: &[Option<usize>],
+    told: &[Doubt],
     writer: &mut W,
 ) -> Result<(), PrintFault>
     requires positions { length positions.now ≡ length outcomes.now }
+    requires told { length told.now ≡ length outcomes.now }
     requires few { length outcomes.now ≤ most_units }
-    ensures ok { OnOk result (AreSaid J.says (json_lines 1 outcomes.now positions.now)
+    ensures ok { OnOk result (AreSaid J.says
+        (json_lines mode 1 outcomes.now positions.now told.now)
         (W.contents writer.old) (W.contents writer.new)) }
     ensures refused { IsErrOf result PrintFault.Unwritten → W.refuses writer.new }
 {
     for (place, outcome) in outcomes.iter().enumerate() {
         let id = AuId::new(place as u32 + 1);
-        print_unit(alloc, encoder, id, positions[place], outcome, writer)?;
+        let (position, told) = (positions[place], told[place]);
+        print_unit(alloc, encoder, mode, id, position, outcome, told, writer)?;
     }
     Ok(())
 }
@@ -56,16 +65,18 @@ fn print_units<J: Encoder, W: Sink>(
 fn print_unit<J: Encoder, W: Sink>(
     alloc: Global,
     encoder: &J,
+    mode: DecodeMode,
     id: AuId,
     position: Option<usize>,
     outcome: &Outcome,
+    told: Doubt,
     writer: &mut W,
 ) -> Result<(), PrintFault>
-    ensures ok { OnOk result (Said J.says (unit_line id position outcome.now)
+    ensures ok { OnOk result (Said J.says (told_line mode id position outcome.now told)
         (W.contents writer.old) (W.contents writer.new)) }
     ensures refused { IsErrOf result PrintFault.Unwritten → W.refuses writer.new }
 {
-    let line = JsonLine::of_unit(alloc, id, position, outcome)?;
+    let line = JsonLine::of_told(alloc, mode, id, position, outcome, told)?;
     print_line(alloc, encoder, &line, writer)
 }
 

@@ -1,5 +1,5 @@
 use Rattle.unit_json.proofs.Ends.{ends-unread}
-use Rattle.unit_json.proofs.plan_json.plan_json_on.Goals as goal
+use Rattle.unit_json.proofs.plan_json.plan_json_for.Goals as goal
 
 pub returns-in-Err-clause-ends : goal.returns-in-Err-clause-ends
 returns-in-Err-clause-ends g c failure =

@@ -1,4 +1,4 @@
--- A handle and its parts own what a box of a runner owns.
+-- A handle and its parts own what a box of a session owns.
 use mir.Syntax.{impl, tnil, dnil}
 use mathlib.Core.List.{[]}
 use denote.Signature.{Slot, plain}
@@ -6,16 +6,16 @@ use Rattle.std_alloc.proofs.BoxSteps.Form.{Bx}
 use Rattle.std_heap.specs.contracts.Global as Heap
 use Rattle.std_heap.specs.contracts.GlobalAllocator.TheImpl.{ghosts, dict}
 use Rattle.std_heap.proofs.Global.TheLaws as heap
-use Rattle.edit_engine.specs.contracts.runner.Runner as Runner
-use Rattle.edit_engine.proofs.runner.Runner.TheLaws as runner
+use Rattle.session_calls.specs.contracts.surface_session.SurfaceSession as Session
+use Rattle.session_calls.proofs.surface_session.SurfaceSession.TheLaws as session
 use Rattle.cupdaisy.specs.contracts.held.parts.Parts as Parts
 use Rattle.cupdaisy.specs.contracts.held.Held as Held
 
 abbrev pub E : Bx
-E = record { row = Runner.the_row; laws = runner.the_row_laws; al = record { row = Heap.the_row; laws = heap.the_row_laws; g = ghosts; d = dict; drops = impl [] tnil dnil } }
+E = record { row = Session.the_row; laws = session.the_row_laws; al = record { row = Heap.the_row; laws = heap.the_row_laws; g = ghosts; d = dict; drops = impl [] tnil dnil } }
 
 abbrev pub FromParts : Slot 0
-FromParts = plain (λ _. Parts.the_row Runner.the_row Heap.the_row ghosts)
+FromParts = plain (λ _. Parts.the_row Session.the_row Heap.the_row ghosts)
 
 abbrev pub FromHeld : Slot 0
 FromHeld = plain (λ _. Held.the_row)

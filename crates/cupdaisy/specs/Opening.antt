@@ -1,7 +1,7 @@
 -- Sessions that are opened and closed.
 use Rattle.std.specs.Prelude.{◌≡◌, ◌≤◌, ◌⊎◌, ℕ, Option, None, Some}
 use Rattle.picture_cache.specs.Bounded.{most_room}
-use Rattle.edit_engine.specs.Machines.{Machine}
+use Rattle.session_calls.specs.Machines.{Machine}
 use Rattle.stream_session.specs.Machines.{empty}
 use Rattle.session_calls.specs.Statuses.{cache_range, done, is_open, memory, no_session}
 

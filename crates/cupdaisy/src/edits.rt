@@ -9,12 +9,12 @@ ghost use Rattle.session_calls.specs.Loading.{LoadsTo};
 ghost use Rattle.cupdaisy.specs.Calls.{Does, DoesTwo};
 
 use crate::Handle;
-use edit_engine::Place;
 use pictures::AuId;
 use session_calls::{
     EditAsked, EditReceipt, GroupTold, LoadTold, NO_SESSION, delete, insert, insert_last, replace,
 };
 use std::alloc::Global;
+use stream_edits::Place;
 
 /// Inserts a unit before all others.
 #[unsafe(no_mangle)]
@@ -27,11 +27,11 @@ pub extern "C" fn cupdaisy_insert_first(
     ensures { Does session.old.held.state result receipt.old receipt.new session.new.held.state
         (λ old new. EditsByCopy old (Insert First text.now) result receipt.old receipt.new new) }
 {
-    let Some(mut runner) = session.take(alloc) else {
+    let Some(mut inner) = session.take(alloc) else {
         return NO_SESSION;
     };
-    let status = insert(alloc, &mut runner, Place::First, text, receipt);
-    session.put(runner);
+    let status = insert(alloc, &mut inner, Place::First, text, receipt);
+    session.put(inner);
     status
 }
 
@@ -48,17 +48,17 @@ pub extern "C" fn cupdaisy_insert_after(
         (λ old new. EditsByCopy old (Insert (After id) text.now) result receipt.old
         receipt.new new) }
 {
-    let Some(mut runner) = session.take(alloc) else {
+    let Some(mut inner) = session.take(alloc) else {
         return NO_SESSION;
     };
     let status = insert(
         alloc,
-        &mut runner,
+        &mut inner,
         Place::After(AuId::new(id)),
         text,
         receipt,
     );
-    session.put(runner);
+    session.put(inner);
     status
 }
 
@@ -74,11 +74,11 @@ pub extern "C" fn cupdaisy_insert_last(
         (λ old new. EditsByCopy old (Insert (end_of old.register.stream) text.now) result
         receipt.old receipt.new new) }
 {
-    let Some(mut runner) = session.take(alloc) else {
+    let Some(mut inner) = session.take(alloc) else {
         return NO_SESSION;
     };
-    let status = insert_last(alloc, &mut runner, text, receipt);
-    session.put(runner);
+    let status = insert_last(alloc, &mut inner, text, receipt);
+    session.put(inner);
     status
 }
 
@@ -93,11 +93,11 @@ pub extern "C" fn cupdaisy_delete(
     ensures { Does session.old.held.state result receipt.old receipt.new session.new.held.state
         (λ old new. EditsBy old (Delete id) result receipt.old receipt.new new) }
 {
-    let Some(mut runner) = session.take(alloc) else {
+    let Some(mut inner) = session.take(alloc) else {
         return NO_SESSION;
     };
-    let status = delete(alloc, &mut runner, id, receipt);
-    session.put(runner);
+    let status = delete(alloc, &mut inner, id, receipt);
+    session.put(inner);
     status
 }
 
@@ -113,11 +113,11 @@ pub extern "C" fn cupdaisy_replace(
     ensures { Does session.old.held.state result receipt.old receipt.new session.new.held.state
         (λ old new. EditsByCopy old (Replace id text.now) result receipt.old receipt.new new) }
 {
-    let Some(mut runner) = session.take(alloc) else {
+    let Some(mut inner) = session.take(alloc) else {
         return NO_SESSION;
     };
-    let status = replace(alloc, &mut runner, id, text, receipt);
-    session.put(runner);
+    let status = replace(alloc, &mut inner, id, text, receipt);
+    session.put(inner);
     status
 }
 
@@ -136,11 +136,11 @@ pub extern "C" fn cupdaisy_group(
         (λ old new. GroupsTo old texts.now edits.now result (ids.old, receipt.old)
         (ids.new, receipt.new) new) }
 {
-    let Some(mut runner) = session.take(alloc) else {
+    let Some(mut inner) = session.take(alloc) else {
         return NO_SESSION;
     };
-    let status = session_calls::group(alloc, &mut runner, edits, texts, ids, receipt);
-    session.put(runner);
+    let status = session_calls::group(alloc, &mut inner, edits, texts, ids, receipt);
+    session.put(inner);
     status
 }
 
@@ -155,10 +155,10 @@ pub extern "C" fn cupdaisy_load(
     ensures { Does session.old.held.state result receipt.old receipt.new session.new.held.state
         (λ old new. LoadsTo old text.now result receipt.new new) }
 {
-    let Some(mut runner) = session.take(alloc) else {
+    let Some(mut inner) = session.take(alloc) else {
         return NO_SESSION;
     };
-    let status = session_calls::load(alloc, &mut runner, text, receipt);
-    session.put(runner);
+    let status = session_calls::load(alloc, &mut inner, text, receipt);
+    session.put(inner);
     status
 }

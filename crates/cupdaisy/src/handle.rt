@@ -3,11 +3,11 @@
 ghost use Rattle.std.specs.Prelude.{◌≡◌, None, Some, is_some, MatchOption};
 
 use crate::held::Held;
-use edit_engine::Runner;
+use session_calls::SurfaceSession;
 use std::alloc::Global;
 use std::mem::replace;
 
-/// A session, or none, as C keeps it: a pointer and whether it points to a runner.
+/// A session, or none, as C keeps it: a pointer and whether it points to one.
 #[repr(C)]
 pub struct Handle {
     pub held: Held,
@@ -26,21 +26,21 @@ impl Handle {
         }
     }
 
-    /// The handle of a runner.
-    fn of(runner: Box<Runner, Global>) -> Handle
-        ensures { result.held.state ≡ Some runner.value }
+    /// The handle of a session.
+    fn of(session: Box<SurfaceSession, Global>) -> Handle
+        ensures { result.held.state ≡ Some session.value }
     {
         Handle {
-            held: Held::of(runner),
+            held: Held::of(session),
             full: true,
         }
     }
 
-    /// The runner, if there is one.
-    fn into_runner(self) -> Option<Box<Runner, Global>>
+    /// The session, if there is one.
+    fn into_session(self) -> Option<Box<SurfaceSession, Global>>
         ensures { MatchOption result
             (self.held.state ≡ None)
-            (λ runner. self.held.state ≡ Some runner.value) }
+            (λ session. self.held.state ≡ Some session.value) }
     {
         let Handle { held, full } = self;
         if full {
@@ -51,22 +51,22 @@ impl Handle {
         }
     }
 
-    /// Takes the runner out, if there is one, and leaves none.
-    pub fn take(&mut self, alloc: Global) -> Option<Box<Runner, Global>>
+    /// Takes the session out, if there is one, and leaves none.
+    pub fn take(&mut self, alloc: Global) -> Option<Box<SurfaceSession, Global>>
         ensures leaves { self.new.held.state ≡ None }
         ensures takes { MatchOption result
             (self.old.held.state ≡ None)
-            (λ runner. self.old.held.state ≡ Some runner.value) }
+            (λ session. self.old.held.state ≡ Some session.value) }
     {
-        replace(self, Handle::empty(alloc)).into_runner()
+        replace(self, Handle::empty(alloc)).into_session()
     }
 
-    /// Puts a runner where there is none.
-    pub fn put(&mut self, runner: Box<Runner, Global>)
+    /// Puts a session where there is none.
+    pub fn put(&mut self, session: Box<SurfaceSession, Global>)
         requires { self.old.held.state ≡ None }
-        ensures { self.new.held.state ≡ Some runner.value }
+        ensures { self.new.held.state ≡ Some session.value }
     {
-        let Handle { held, full: _ } = replace(self, Handle::of(runner));
+        let Handle { held, full: _ } = replace(self, Handle::of(session));
         held.close();
     }
 }

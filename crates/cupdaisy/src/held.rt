@@ -1,12 +1,12 @@
-//! A boxed runner whose type names no other type, or none.
+//! A boxed session whose type names no other type, or none.
 
 ghost use Rattle.std.specs.Prelude.{◌≡◌, Option, None, Some, is_some, true};
 ghost use Rattle.cupdaisy.specs.Ownership.{State, held_owns, state_coded};
 
 mod parts;
 
-use edit_engine::Runner;
 use parts::Parts;
+use session_calls::SurfaceSession;
 use std::alloc::Global;
 use std::marker::Model;
 
@@ -16,7 +16,7 @@ pub struct Opaque {
     byte: u8,
 }
 
-/// A runner in a block of its own, or none; it is as large as a pointer. Clauses see the runner's
+/// A session in a block of its own, or none; it is as large as a pointer. Clauses see the session's
 /// state.
 #[repr(C)]
 pub struct Held {
@@ -40,14 +40,14 @@ impl Held {
         }
     }
 
-    /// The runner.
-    pub fn of(runner: Box<Runner, Global>) -> Held
-        ensures { result.state ≡ Some runner.value }
+    /// The session.
+    pub fn of(session: Box<SurfaceSession, Global>) -> Held
+        ensures { result.state ≡ Some session.value }
     {
-        Held::of_parts(Parts::of(runner))
+        Held::of_parts(Parts::of(session))
     }
 
-    fn of_parts(parts: Parts<Runner, Global>) -> Held
+    fn of_parts(parts: Parts<SurfaceSession, Global>) -> Held
         ensures { result.state ≡ Some parts.value }
     {
         let Parts { ptr, alloc } = parts;
@@ -57,7 +57,7 @@ impl Held {
         }
     }
 
-    fn into_parts(self) -> Parts<Runner, Global>
+    fn into_parts(self) -> Parts<SurfaceSession, Global>
         requires { is_some self.state ≡ true }
         ensures { self.state ≡ Some result.value }
     {
@@ -68,8 +68,8 @@ impl Held {
         }
     }
 
-    /// The runner, of which there is one.
-    pub fn into_box(self) -> Box<Runner, Global>
+    /// The session, of which there is one.
+    pub fn into_box(self) -> Box<SurfaceSession, Global>
         requires { is_some self.state ≡ true }
         ensures { self.state ≡ Some result.value }
     {

@@ -1,7 +1,8 @@
 //! Jobs: pictures to decode.
 
-ghost use Rattle.session_calls.specs.Jobs.{GivesBackTo, LandsTo, TakesForTo, TakesTo};
-ghost use Rattle.session_calls.specs.JobInputs.{TellsPicture, input_told, reference_told};
+ghost use Rattle.std.specs.Prelude.{IfSome};
+ghost use Rattle.session_calls.specs.Jobs.{GivesBackTo, IsMadeFor, LandsTo, TakesForTo, TakesTo};
+ghost use Rattle.session_calls.specs.JobInputs.{input_told, reference_told};
 ghost use Rattle.session_calls.specs.Telling.{Tells};
 ghost use Rattle.stream_session.specs.Taken.{input_of};
 ghost use Rattle.cupdaisy.specs.Calls.{Asks, Changes, Does};
@@ -16,11 +17,11 @@ pub extern "C" fn cupdaisy_take(alloc: Global, session: &mut Handle, job: &mut J
     ensures { Does session.old.held.state result job.old job.new session.new.held.state
         (λ old new. TakesTo old result job.old job.new new) }
 {
-    let Some(mut runner) = session.take(alloc) else {
+    let Some(mut inner) = session.take(alloc) else {
         return NO_SESSION;
     };
-    let status = session_calls::take(&mut runner, job);
-    session.put(runner);
+    let status = session_calls::take(&mut inner, job);
+    session.put(inner);
     status
 }
 
@@ -35,25 +36,27 @@ pub extern "C" fn cupdaisy_take_for(
     ensures { Does session.old.held.state result job.old job.new session.new.held.state
         (λ old new. TakesForTo old id result job.old job.new new) }
 {
-    let Some(mut runner) = session.take(alloc) else {
+    let Some(mut inner) = session.take(alloc) else {
         return NO_SESSION;
     };
-    let status = session_calls::take_for(&mut runner, id, job);
-    session.put(runner);
+    let status = session_calls::take_for(&mut inner, id, job);
+    session.put(inner);
     status
 }
 
-/// Lands the job of the number.
+/// Lands the job of the number: its surface is held from then on, where its picture is wanted. Else
+/// the surface is still the host's.
 #[unsafe(no_mangle)]
-pub extern "C" fn cupdaisy_land(alloc: Global, session: &mut Handle, job: u64) -> u32
+pub extern "C" fn cupdaisy_land(alloc: Global, session: &mut Handle, job: u64, surface: u64) -> u32
+    requires { IfSome session.old.held.state (λ machine. IsMadeFor machine job surface) }
     ensures { Changes session.old.held.state result session.new.held.state
-        (λ old new. LandsTo old job result new) }
+        (λ old new. LandsTo old job surface result new) }
 {
-    let Some(mut runner) = session.take(alloc) else {
+    let Some(mut inner) = session.take(alloc) else {
         return NO_SESSION;
     };
-    let status = session_calls::land(&mut runner, job);
-    session.put(runner);
+    let status = session_calls::land(&mut inner, job, surface);
+    session.put(inner);
     status
 }
 
@@ -63,11 +66,11 @@ pub extern "C" fn cupdaisy_give_back(alloc: Global, session: &mut Handle, job: u
     ensures { Changes session.old.held.state result session.new.held.state
         (λ old new. GivesBackTo old job result new) }
 {
-    let Some(mut runner) = session.take(alloc) else {
+    let Some(mut inner) = session.take(alloc) else {
         return NO_SESSION;
     };
-    let status = session_calls::give_back(&mut runner, job);
-    session.put(runner);
+    let status = session_calls::give_back(&mut inner, job);
+    session.put(inner);
     status
 }
 
@@ -82,11 +85,11 @@ pub extern "C" fn cupdaisy_job_input_of(
     ensures { Asks session.old.held.state result input.old input.new session.new.held.state
         (λ machine. Tells (input_told (input_of machine job)) result input.old input.new) }
 {
-    let Some(runner) = session.take(alloc) else {
+    let Some(inner) = session.take(alloc) else {
         return NO_SESSION;
     };
-    let status = session_calls::job_input(&runner, job, input);
-    session.put(runner);
+    let status = session_calls::job_input(&inner, job, input);
+    session.put(inner);
     status
 }
 
@@ -103,29 +106,10 @@ pub extern "C" fn cupdaisy_job_reference(
         (λ machine. Tells (reference_told (input_of machine job) index) result reference.old
         reference.new) }
 {
-    let Some(runner) = session.take(alloc) else {
+    let Some(inner) = session.take(alloc) else {
         return NO_SESSION;
     };
-    let status = session_calls::job_reference(&runner, job, index, reference);
-    session.put(runner);
-    status
-}
-
-/// The picture that the job of the number makes.
-#[unsafe(no_mangle)]
-pub extern "C" fn cupdaisy_job_picture(
-    alloc: Global,
-    session: &mut Handle,
-    job: u64,
-    picture: &mut [u8; 32],
-) -> u32
-    ensures { Asks session.old.held.state result picture.old picture.new session.new.held.state
-        (λ machine. TellsPicture (input_of machine job) result picture.old picture.new) }
-{
-    let Some(runner) = session.take(alloc) else {
-        return NO_SESSION;
-    };
-    let status = session_calls::job_picture(alloc, &runner, job, picture);
-    session.put(runner);
+    let status = session_calls::job_reference(&inner, job, index, reference);
+    session.put(inner);
     status
 }

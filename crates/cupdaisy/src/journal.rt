@@ -17,11 +17,11 @@ pub extern "C" fn cupdaisy_journal(alloc: Global, session: &mut Handle, entries:
     ensures { Asks session.old.held.state result entries.old entries.new session.new.held.state
         (λ machine. (result ≡ done) × (entries.new ≡ length machine.journal)) }
 {
-    let Some(runner) = session.take(alloc) else {
+    let Some(inner) = session.take(alloc) else {
         return NO_SESSION;
     };
-    let status = session_calls::journal(runner.session(), entries);
-    session.put(runner);
+    let status = session_calls::journal(&inner, entries);
+    session.put(inner);
     status
 }
 
@@ -36,11 +36,11 @@ pub extern "C" fn cupdaisy_journal_entry(
     ensures { Asks session.old.held.state result edits.old edits.new session.new.held.state
         (λ machine. Tells (edits_at machine entry) result edits.old edits.new) }
 {
-    let Some(runner) = session.take(alloc) else {
+    let Some(inner) = session.take(alloc) else {
         return NO_SESSION;
     };
-    let status = session_calls::journal_entry(runner.session(), entry, edits);
-    session.put(runner);
+    let status = session_calls::journal_entry(&inner, entry, edits);
+    session.put(inner);
     status
 }
 
@@ -57,11 +57,11 @@ pub extern "C" fn cupdaisy_journal_edit_at(
         (λ machine. Tells (told_as told_journal (edit_in machine entry index)) result edit.old
         edit.new) }
 {
-    let Some(runner) = session.take(alloc) else {
+    let Some(inner) = session.take(alloc) else {
         return NO_SESSION;
     };
-    let status = session_calls::journal_edit(runner.session(), entry, index, edit);
-    session.put(runner);
+    let status = session_calls::journal_edit(&inner, entry, index, edit);
+    session.put(inner);
     status
 }
 
@@ -80,10 +80,10 @@ pub extern "C" fn cupdaisy_journal_text(
         (λ machine. FillsText (edit_in machine entry index) result text.old text.new needed.old
         needed.new) }
 {
-    let Some(runner) = session.take(alloc) else {
+    let Some(inner) = session.take(alloc) else {
         return NO_SESSION;
     };
-    let status = session_calls::journal_text(runner.session(), entry, index, text, needed);
-    session.put(runner);
+    let status = session_calls::journal_text(&inner, entry, index, text, needed);
+    session.put(inner);
     status
 }

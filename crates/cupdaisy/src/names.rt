@@ -23,7 +23,7 @@ pub extern "C" fn cupdaisy_fault_name(fault: u32, name: &mut [u8], needed: &mut 
 /// The version.
 #[unsafe(no_mangle)]
 pub extern "C" fn cupdaisy_version() -> u32
-    ensures { result ≡ 1000 }
+    ensures { result ≡ 3000 }
 {
     session_calls::version()
 }
@@ -31,7 +31,7 @@ pub extern "C" fn cupdaisy_version() -> u32
 /// Writes the version as text.
 #[unsafe(no_mangle)]
 pub extern "C" fn cupdaisy_version_text(text: &mut [u8], needed: &mut usize) -> u32
-    ensures { Fills (codes "0.1.0") result text.old text.new needed.new }
+    ensures { Fills (codes "0.3.0") result text.old text.new needed.new }
 {
     session_calls::version_text(text, needed)
 }

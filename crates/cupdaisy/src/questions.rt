@@ -19,11 +19,11 @@ pub extern "C" fn cupdaisy_units(alloc: Global, session: &mut Handle, units: &mu
     ensures { Asks session.old.held.state result units.old units.new session.new.held.state
         (λ machine. (result ≡ done) × (units.new ≡ length machine.register.stream)) }
 {
-    let Some(runner) = session.take(alloc) else {
+    let Some(inner) = session.take(alloc) else {
         return NO_SESSION;
     };
-    let status = session_calls::units(runner.session(), units);
-    session.put(runner);
+    let status = session_calls::units(&inner, units);
+    session.put(inner);
     status
 }
 
@@ -38,11 +38,11 @@ pub extern "C" fn cupdaisy_id_at(
     ensures { Asks session.old.held.state result id.old id.new session.new.held.state
         (λ machine. Tells (id_at machine.register.stream place) result id.old id.new) }
 {
-    let Some(runner) = session.take(alloc) else {
+    let Some(inner) = session.take(alloc) else {
         return NO_SESSION;
     };
-    let status = session_calls::id_at(runner.session(), place, id);
-    session.put(runner);
+    let status = session_calls::id_at(&inner, place, id);
+    session.put(inner);
     status
 }
 
@@ -57,11 +57,11 @@ pub extern "C" fn cupdaisy_place(
     ensures { Asks session.old.held.state result place.old place.new session.new.held.state
         (λ machine. Tells (place_told machine.register.stream id) result place.old place.new) }
 {
-    let Some(runner) = session.take(alloc) else {
+    let Some(inner) = session.take(alloc) else {
         return NO_SESSION;
     };
-    let status = session_calls::place(runner.session(), id, place);
-    session.put(runner);
+    let status = session_calls::place(&inner, id, place);
+    session.put(inner);
     status
 }
 
@@ -77,11 +77,11 @@ pub extern "C" fn cupdaisy_position(
         (λ machine. Tells (position_told machine.register.stream id) result position.old
         position.new) }
 {
-    let Some(runner) = session.take(alloc) else {
+    let Some(inner) = session.take(alloc) else {
         return NO_SESSION;
     };
-    let status = session_calls::position(runner.session(), id, position);
-    session.put(runner);
+    let status = session_calls::position(&inner, id, position);
+    session.put(inner);
     status
 }
 
@@ -97,11 +97,11 @@ pub extern "C" fn cupdaisy_unit_at(
         (λ machine. (answer : Result ℕ ℕ) × IsAtPosition machine.register.stream position answer
         × Tells answer result id.old id.new) }
 {
-    let Some(runner) = session.take(alloc) else {
+    let Some(inner) = session.take(alloc) else {
         return NO_SESSION;
     };
-    let status = session_calls::unit_at(runner.session(), position, id);
-    session.put(runner);
+    let status = session_calls::unit_at(&inner, position, id);
+    session.put(inner);
     status
 }
 
@@ -117,30 +117,30 @@ pub extern "C" fn cupdaisy_outcome_of(
         (λ machine. Tells (outcome_told machine.register.stream id) result outcome.old
         outcome.new) }
 {
-    let Some(runner) = session.take(alloc) else {
+    let Some(inner) = session.take(alloc) else {
         return NO_SESSION;
     };
-    let status = session_calls::outcome(runner.session(), id, outcome);
-    session.put(runner);
+    let status = session_calls::outcome(&inner, id, outcome);
+    session.put(inner);
     status
 }
 
-/// The picture of the unit of the id, by its name.
+/// The surface of the unit of the id, as the stream is now.
 #[unsafe(no_mangle)]
 pub extern "C" fn cupdaisy_show(
     alloc: Global,
     session: &mut Handle,
     id: u32,
-    picture: &mut [u8; 32],
+    surface: &mut u64,
 ) -> u32
-    ensures { Asks session.old.held.state result picture.old picture.new session.new.held.state
-        (λ machine. ShowsTo machine id result picture.old picture.new) }
+    ensures { Asks session.old.held.state result surface.old surface.new session.new.held.state
+        (λ machine. ShowsTo machine id result surface.old surface.new) }
 {
-    let Some(runner) = session.take(alloc) else {
+    let Some(inner) = session.take(alloc) else {
         return NO_SESSION;
     };
-    let status = session_calls::show(runner.session(), id, picture);
-    session.put(runner);
+    let status = session_calls::show(&inner, id, surface);
+    session.put(inner);
     status
 }
 
@@ -151,11 +151,11 @@ pub extern "C" fn cupdaisy_key(alloc: Global, session: &mut Handle, id: u32, key
         (λ machine. (answer : Result ℕ ℕ) × IsKeyOf machine id answer
         × Tells answer result key.old key.new) }
 {
-    let Some(runner) = session.take(alloc) else {
+    let Some(inner) = session.take(alloc) else {
         return NO_SESSION;
     };
-    let status = session_calls::key(runner.session(), id, key);
-    session.put(runner);
+    let status = session_calls::key(&inner, id, key);
+    session.put(inner);
     status
 }
 
@@ -170,10 +170,10 @@ pub extern "C" fn cupdaisy_in_use(
     ensures { Asks session.old.held.state result in_use.old in_use.new session.new.held.state
         (λ machine. (result ≡ done) × TellsUse machine.numbers key in_use.new) }
 {
-    let Some(runner) = session.take(alloc) else {
+    let Some(inner) = session.take(alloc) else {
         return NO_SESSION;
     };
-    let status = session_calls::in_use(runner.session(), key, in_use);
-    session.put(runner);
+    let status = session_calls::in_use(&inner, key, in_use);
+    session.put(inner);
     status
 }

@@ -22,11 +22,11 @@ pub extern "C" fn cupdaisy_unit_request(
         (λ machine. Tells (told_as request_layout (request_of_unit machine id slice)) result
         request.old request.new) }
 {
-    let Some(runner) = session.take(alloc) else {
+    let Some(inner) = session.take(alloc) else {
         return NO_SESSION;
     };
-    let status = session_calls::unit_request(runner.session(), id, slice, request);
-    session.put(runner);
+    let status = session_calls::unit_request(&inner, id, slice, request);
+    session.put(inner);
     status
 }
 
@@ -43,11 +43,11 @@ pub extern "C" fn cupdaisy_unit_weights(
         (λ machine. Tells (weights_of (request_of_unit machine id slice)) result weights.old
         weights.new) }
 {
-    let Some(runner) = session.take(alloc) else {
+    let Some(inner) = session.take(alloc) else {
         return NO_SESSION;
     };
-    let status = session_calls::unit_weights(runner.session(), id, slice, weights);
-    session.put(runner);
+    let status = session_calls::unit_weights(&inner, id, slice, weights);
+    session.put(inner);
     status
 }
 
@@ -66,11 +66,11 @@ pub extern "C" fn cupdaisy_unit_bytes(
         (λ machine. FillsFrom (request_of_unit machine id slice) result bytes.old bytes.new
         needed.old needed.new) }
 {
-    let Some(runner) = session.take(alloc) else {
+    let Some(inner) = session.take(alloc) else {
         return NO_SESSION;
     };
-    let status = session_calls::unit_bytes(runner.session(), id, slice, bytes, needed);
-    session.put(runner);
+    let status = session_calls::unit_bytes(&inner, id, slice, bytes, needed);
+    session.put(inner);
     status
 }
 
@@ -87,11 +87,11 @@ pub extern "C" fn cupdaisy_job_request(
         (λ machine. Tells (told_as request_layout (request_of_job machine job slice)) result
         request.old request.new) }
 {
-    let Some(runner) = session.take(alloc) else {
+    let Some(inner) = session.take(alloc) else {
         return NO_SESSION;
     };
-    let status = session_calls::job_request(&runner, job, slice, request);
-    session.put(runner);
+    let status = session_calls::job_request(&inner, job, slice, request);
+    session.put(inner);
     status
 }
 
@@ -108,11 +108,11 @@ pub extern "C" fn cupdaisy_job_weights(
         (λ machine. Tells (weights_of (request_of_job machine job slice)) result weights.old
         weights.new) }
 {
-    let Some(runner) = session.take(alloc) else {
+    let Some(inner) = session.take(alloc) else {
         return NO_SESSION;
     };
-    let status = session_calls::job_weights(&runner, job, slice, weights);
-    session.put(runner);
+    let status = session_calls::job_weights(&inner, job, slice, weights);
+    session.put(inner);
     status
 }
 
@@ -131,10 +131,10 @@ pub extern "C" fn cupdaisy_job_bytes(
         (λ machine. FillsFrom (request_of_job machine job slice) result bytes.old bytes.new
         needed.old needed.new) }
 {
-    let Some(runner) = session.take(alloc) else {
+    let Some(inner) = session.take(alloc) else {
         return NO_SESSION;
     };
-    let status = session_calls::job_bytes(&runner, job, slice, bytes, needed);
-    session.put(runner);
+    let status = session_calls::job_bytes(&inner, job, slice, bytes, needed);
+    session.put(inner);
     status
 }

@@ -6,7 +6,7 @@ use Rattle.stream_edits.specs.declared.receipts.GroupReceipt.{GroupReceipt}
 use Rattle.stream_edits.specs.Edits.{Register}
 use Rattle.stream_edits.specs.Groups.{MakesAll}
 use Rattle.stream_session.specs.Grouping.{AnswersGroup}
-use Rattle.edit_engine.specs.Machines.{Machine}
+use Rattle.session_calls.specs.Machines.{Machine}
 
 -- there are as many as edits
 pub length-ids : (from : Register) (edits : List Edit) (ids : List ℕ) (to : Register) → MakesAll from edits ids to

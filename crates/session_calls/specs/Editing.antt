@@ -4,8 +4,8 @@ use Rattle.stream_edits.specs.declared.edits.Edit.{Edit}
 use Rattle.stream_edits.specs.declared.receipts.Receipt.{Receipt}
 use Rattle.stream_edits.specs.declared.refusals.EditRefused.{EditRefused}
 use Rattle.stream_edits.specs.Numbers.{number_of}
-use Rattle.edit_engine.specs.Machines.{Machine}
-use Rattle.stream_session.specs.Machines.{AnswersEdit}
+use Rattle.session_calls.specs.Machines.{Machine}
+use Rattle.stream_session.specs.Machines.{AnswersEdit, KeepsPictures}
 use Rattle.session_calls.specs.declared.editing.EditReceipt.{EditReceipt}
 use Rattle.session_calls.specs.Statuses.{memory}
 use Rattle.session_calls.specs.Telling.{Tells}
@@ -20,10 +20,15 @@ abbrev pub told_edit : Result Receipt EditRefused → Result EditReceipt ℕ
 told_edit (Ok receipt) = Ok (told_receipt receipt)
 told_edit (Err refused) = Err (number_of refused)
 
+-- the edit has its answer, and no surface comes or goes: what is neither held nor cached any more is
+-- released
+abbrev pub MakesEdit : Machine → Edit → Result Receipt EditRefused → Machine → Type 0
+MakesEdit old edit answer new = AnswersEdit old edit answer new × KeepsPictures old new
+
 -- the edit has its answer, and this is told
 abbrev pub EditsBy : Machine → Edit → ℕ → EditReceipt → EditReceipt → Machine → Type 0
 EditsBy old edit status told tells new =
-    (answer : Result Receipt EditRefused) × AnswersEdit old edit answer new
+    (answer : Result Receipt EditRefused) × MakesEdit old edit answer new
     × Tells (told_edit answer) status told tells
 
 -- memory was refused before the session was reached: nothing changes

@@ -9,8 +9,9 @@ use Rattle.stream_edits.specs.declared.group_refused.GroupRefused.{GroupRefused}
 use Rattle.stream_edits.specs.declared.group_refused.GroupRefused.TheVariants as groups
 use Rattle.stream_edits.specs.GroupRefusals.{number_of_group}
 use Rattle.stream_edits.specs.Numbers.{number_of}
-use Rattle.edit_engine.specs.Machines.{Machine}
+use Rattle.session_calls.specs.Machines.{Machine}
 use Rattle.stream_session.specs.Grouping.{AnswersGroup}
+use Rattle.stream_session.specs.Machines.{KeepsPictures}
 use Rattle.session_calls.specs.declared.grouping.EditAsked.{EditAsked}
 use Rattle.session_calls.specs.declared.grouping.GroupTold.{GroupTold}
 use Rattle.session_calls.specs.Editing.{IsWanting}
@@ -65,10 +66,14 @@ TellsGroup (Err (groups.Edit index refused)) status old new =
     (status ≡ number_of refused) × (new ≡ (old.0, told_at index))
 TellsGroup (Err refused) status old new = (status ≡ number_of_group refused) × (new ≡ old)
 
+-- the group has its answer, and no surface comes or goes
+abbrev pub MakesGroup : Machine → List Edit → Result GroupReceipt GroupRefused → Machine → Type 0
+MakesGroup old edits answer new = AnswersGroup old edits answer new × KeepsPictures old new
+
 -- the group has its answer, and this is told
 abbrev pub GroupsBy : Machine → List Edit → ℕ → List ℕ × GroupTold → List ℕ × GroupTold → Machine → Type 0
 GroupsBy old edits status told tells new =
-    (answer : Result GroupReceipt GroupRefused) × AnswersGroup old edits answer new × TellsGroup answer status told tells
+    (answer : Result GroupReceipt GroupRefused) × MakesGroup old edits answer new × TellsGroup answer status told tells
 
 -- the edits that are asked for are made together, or refused; or one of them is no edit; or memory
 -- is refused before the session is reached

@@ -1,14 +1,14 @@
 -- What a job that is out is made of, as it is told.
-use Rattle.std.specs.Prelude.{◌≡◌, ◌⊎◌, ◌/◌, ℕ, List, [], ◌∷◌, length, Option, None, Some, Result, Ok, Err, slice_get}
+use Rattle.std.specs.Prelude.{◌/◌, ℕ, List, [], ◌∷◌, length, Option, None, Some, Result, Ok, Err, slice_get}
 use Rattle.std.specs.Option.{option_map}
 use Rattle.h264_controls.specs.declared.request.Request.{Request}
-use Rattle.stand_in_device.specs.Inputs.{Reference}
-use Rattle.stand_in_device.specs.Inputs.{InputValue}
-use Rattle.stand_in_device.specs.Pictures.{picture_of}
+use Rattle.decode_jobs.specs.declared.input.Reference.{Reference}
+use Rattle.surfaces.specs.declared.surface.Surface.{Surface}
 use Rattle.session_calls.specs.declared.job_inputs.JobInput.{JobInput}
 use Rattle.session_calls.specs.declared.job_inputs.JobReference.{JobReference}
-use Rattle.session_calls.specs.Statuses.{memory, no_such_job, no_such_place}
-use Rattle.session_calls.specs.Telling.{Tells, found_or}
+use Rattle.session_calls.specs.Machines.{InputValue}
+use Rattle.session_calls.specs.Statuses.{no_such_job, no_such_place}
+use Rattle.session_calls.specs.Telling.{found_or}
 
 -- the unit of requests, by the timestamp that they have; 0 where there is none
 abbrev pub unit_of : List Request → ℕ
@@ -25,21 +25,11 @@ abbrev pub input_told : Option InputValue → Result JobInput ℕ
 input_told input = found_or no_such_job (option_map told_input input)
 
 -- a reference, as it is told
-abbrev pub told_reference : Reference → JobReference
-told_reference reference = record { timestamp = reference.timestamp; picture = reference.picture.digest }
+abbrev pub told_reference : Reference Surface → JobReference
+told_reference reference = record { timestamp = reference.timestamp; surface = reference.picture.handle }
 
 -- a reference of a job
 abbrev pub reference_told : Option InputValue → ℕ → Result JobReference ℕ
 reference_told (Some input) index =
     found_or no_such_place (option_map told_reference (slice_get input.references index))
 reference_told None index = Err no_such_job
-
--- the picture that a job makes
-abbrev pub picture_told : Option InputValue → Result (List ℕ) ℕ
-picture_told (Some input) = Ok ((picture_of input).digest)
-picture_told None = Err no_such_job
-
--- that picture is told, or memory is refused
-abbrev pub TellsPicture : Option InputValue → ℕ → List ℕ → List ℕ → Type 0
-TellsPicture input status told tells =
-    Tells (picture_told input) status told tells ⊎ ((status ≡ memory) × (tells ≡ told))

@@ -4,7 +4,7 @@ use Rattle.std.specs.Option.{option_map}
 use Rattle.stream_edits.specs.declared.edits.Edit.{Edit}
 use Rattle.stream_edits.specs.declared.edits.Edit.TheVariants.{Delete, Insert, Replace}
 use Rattle.stream_edits.specs.declared.edits.Place.TheVariants.{After, First}
-use Rattle.edit_engine.specs.Machines.{Machine}
+use Rattle.session_calls.specs.Machines.{Machine}
 use Rattle.session_calls.specs.declared.journaling.JournalEdit.{JournalEdit}
 use Rattle.session_calls.specs.Filling.{Fills}
 use Rattle.session_calls.specs.Statuses.{no_such_place}

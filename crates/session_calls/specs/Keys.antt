@@ -2,7 +2,7 @@
 use Rattle.std.specs.Prelude.{◌≡◌, ◌⊎◌, ℕ, List, Contains, Option, None, Some, Result, Ok, Err}
 use Rattle.stream_edits.specs.Streams.{place_of}
 use Rattle.picture_store.specs.Stores.{AreOneToOne}
-use Rattle.edit_engine.specs.Machines.{Machine}
+use Rattle.session_calls.specs.Machines.{Machine}
 use Rattle.stream_session.specs.Machines.{store_of}
 use Rattle.stream_session.specs.Showing.{HasNumber}
 use Rattle.session_calls.specs.Statuses.{no_such_unit, not_valid}

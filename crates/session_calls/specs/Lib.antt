@@ -1,5 +1,6 @@
 pub mod Statuses
 pub mod Telling
+pub mod Machines
 pub mod Filling
 pub mod Editing
 pub mod Grouping
@@ -9,7 +10,7 @@ pub mod Asking
 pub mod Finding
 pub mod Keys
 pub mod Showing
-pub mod Dropping
+pub mod Releasing
 pub mod Jobs
 pub mod JobInputs
 pub mod Requests

@@ -10,9 +10,9 @@ use Rattle.stream_edits.specs.declared.receipts.Receipt.{Receipt}
 use Rattle.stream_edits.specs.declared.refusals.EditRefused.{EditRefused}
 use Rattle.stream_edits.specs.Numbers.{number_of}
 use Rattle.stream_edits.specs.Streams.{Stream, end_of}
-use Rattle.edit_engine.specs.Machines.{Machine}
-use Rattle.stream_session.specs.Machines.{AnswersEdit}
+use Rattle.session_calls.specs.Machines.{Machine}
 use Rattle.session_calls.specs.declared.loading.LoadTold.{LoadTold}
+use Rattle.session_calls.specs.Editing.{MakesEdit}
 use Rattle.session_calls.specs.Statuses.{done, memory}
 
 -- nothing was inserted, with this index
@@ -40,10 +40,10 @@ abbrev pub InsertsAll : Machine → List (List (List ℕ)) → LoadTold → ℕ 
 InsertsAll old [] told status tells new = (status ≡ done) × (tells ≡ told) × (new ≡ old)
 InsertsAll old (part ∷ parts) told status tells new =
     ((receipt : Receipt) × (next : Machine)
-    × AnswersEdit old (Insert (end_of old.register.stream) (joined part)) (Ok receipt) next
+    × MakesEdit old (Insert (end_of old.register.stream) (joined part)) (Ok receipt) next
     × InsertsAll next parts (with_one told receipt) status tells new)
     ⊎ ((refused : EditRefused)
-    × AnswersEdit old (Insert (end_of old.register.stream) (joined part)) (Err refused) new
+    × MakesEdit old (Insert (end_of old.register.stream) (joined part)) (Err refused) new
     × (status ≡ number_of refused) × (tells ≡ told))
 
 -- for how many more units a stream has room

@@ -5,7 +5,6 @@ use Rattle.std.specs.Option.{option_map}
 use Rattle.unit_outcomes.specs.declared.outcome.Outcome.{Outcome}
 use Rattle.unit_outcomes.specs.declared.outcome.Outcome.TheVariants as outcomes
 use Rattle.h264_controls.specs.declared.request.Request.{Request}
-use Rattle.stand_in_device.specs.Inputs.{InputValue}
 use Rattle.linux_layouts.specs.SpsLayout.{sps_layout}
 use Rattle.linux_layouts.specs.PpsLayout.{pps_layout}
 use Rattle.linux_layouts.specs.ScalingMatrixLayout.{scaling_matrix_layout}
@@ -13,7 +12,7 @@ use Rattle.linux_layouts.specs.PredWeightsLayout.{pred_weights_layout}
 use Rattle.linux_layouts.specs.SliceParamsLayout.{slice_params_layout}
 use Rattle.linux_layouts.specs.DecodeParamsLayout.{decode_params_layout}
 use Rattle.linux_layouts.specs.declared.pred_weights.PredWeights.{PredWeights}
-use Rattle.edit_engine.specs.Machines.{Machine}
+use Rattle.session_calls.specs.Machines.{InputValue, Machine}
 use Rattle.stream_session.specs.Streams.{outcome_in}
 use Rattle.stream_session.specs.Taken.{input_of}
 use Rattle.session_calls.specs.declared.requests.SliceRequest.{SliceRequest}

@@ -6,8 +6,8 @@ ghost use Rattle.session_calls.specs.Statuses.{done};
 ghost use Rattle.session_calls.specs.Telling.{Tells};
 
 use crate::statuses::{DONE, NO_SUCH_PLACE, NO_SUCH_UNIT, NOT_VALID};
+use crate::surface_session::SurfaceSession;
 use crate::telling::tell;
-use edit_engine::Session;
 use pictures::AuId;
 use unit_outcomes::Outcome;
 
@@ -38,39 +38,39 @@ pub struct UnitOutcome {
 }
 
 /// How many units the stream has.
-pub fn units(session: &Session, units: &mut usize) -> u32
+pub fn units(session: &SurfaceSession, units: &mut usize) -> u32
     ensures { (result ≡ done) × (units.new ≡ length session.now.register.stream) }
 {
-    *units = session.last().units;
+    *units = session.inner.last().units;
     DONE
 }
 
 /// The id of the unit at a place, from 0 on in decoding order.
-pub fn id_at(session: &Session, place: usize, id: &mut u32) -> u32
+pub fn id_at(session: &SurfaceSession, place: usize, id: &mut u32) -> u32
     ensures { Tells (id_at session.now.register.stream place) result id.old id.new }
 {
-    match session.ids().get(place) {
+    match session.inner.ids().get(place) {
         Some(found) => tell(Ok(found.number()), id),
         None => NO_SUCH_PLACE,
     }
 }
 
 /// The place of the unit of the id.
-pub fn place(session: &Session, id: u32, place: &mut usize) -> u32
+pub fn place(session: &SurfaceSession, id: u32, place: &mut usize) -> u32
     ensures { Tells (place_told session.now.register.stream id) result place.old place.new }
 {
-    match session.place(AuId::new(id)) {
+    match session.inner.place(AuId::new(id)) {
         Some(found) => tell(Ok(found), place),
         None => NO_SUCH_UNIT,
     }
 }
 
 /// The position of the unit of the id in output order, from 0 on.
-pub fn position(session: &Session, id: u32, position: &mut usize) -> u32
+pub fn position(session: &SurfaceSession, id: u32, position: &mut usize) -> u32
     ensures { Tells (position_told session.now.register.stream id) result position.old
         position.new }
 {
-    match session.position(AuId::new(id)) {
+    match session.inner.position(AuId::new(id)) {
         Ok(Some(found)) => tell(Ok(found), position),
         Ok(None) => NOT_VALID,
         Err(_) => NO_SUCH_UNIT,
@@ -78,10 +78,10 @@ pub fn position(session: &Session, id: u32, position: &mut usize) -> u32
 }
 
 /// The outcome of the unit of the id.
-pub fn outcome(session: &Session, id: u32, outcome: &mut UnitOutcome) -> u32
+pub fn outcome(session: &SurfaceSession, id: u32, outcome: &mut UnitOutcome) -> u32
     ensures { Tells (outcome_told session.now.register.stream id) result outcome.old outcome.new }
 {
-    match session.outcome(AuId::new(id)) {
+    match session.inner.outcome(AuId::new(id)) {
         Ok(found) => tell(Ok(told_outcome(found)), outcome),
         Err(_) => NO_SUCH_UNIT,
     }

@@ -2,16 +2,16 @@
 
 ghost use Rattle.std.specs.Prelude.{◌≡◌};
 ghost use Rattle.stream_edits.specs.declared.edits.Edit.TheVariants.{Insert, Replace, Delete};
-ghost use Rattle.stream_session.specs.Machines.{AnswersEdit};
 ghost use Rattle.stream_edits.specs.Streams.{end_of};
-ghost use Rattle.session_calls.specs.Editing.{EditsBy, EditsByCopy, told_edit};
+ghost use Rattle.session_calls.specs.Editing.{EditsBy, EditsByCopy, MakesEdit, told_edit};
 
 use crate::statuses::MEMORY;
+use crate::surface_session::SurfaceSession;
 use crate::telling::tell;
 use bytes::Bytes;
-use edit_engine::{Edit, EditRefused, Place, Receipt, Runner};
 use pictures::AuId;
 use std::alloc::Global;
+use stream_edits::{Edit, EditRefused, Place, Receipt};
 
 /// What an accepted edit is told: how many edits and groups were accepted, with this one; how many
 /// steps of the fold it made; how many bytes were hashed for it; and the id of the unit that was
@@ -26,19 +26,28 @@ pub struct EditReceipt {
 }
 
 /// Edits the stream.
-pub fn edit(alloc: Global, runner: &mut Runner, edit: Edit, receipt: &mut EditReceipt) -> u32
-    ensures { EditsBy runner.old edit result receipt.old receipt.new runner.new }
+pub fn edit(
+    alloc: Global,
+    session: &mut SurfaceSession,
+    edit: Edit,
+    receipt: &mut EditReceipt,
+) -> u32
+    ensures { EditsBy session.old edit result receipt.old receipt.new session.new }
 {
-    let answer = answer_to(alloc, runner, edit);
+    let answer = answer_to(alloc, session, edit);
     tell(told_edit(answer), receipt)
 }
 
 /// What an edit is answered.
-fn answer_to(alloc: Global, runner: &mut Runner, edit: Edit) -> Result<Receipt, EditRefused>
-    ensures { AnswersEdit runner.old edit result runner.new }
+fn answer_to(
+    alloc: Global,
+    session: &mut SurfaceSession,
+    edit: Edit,
+) -> Result<Receipt, EditRefused>
+    ensures { MakesEdit session.old edit result session.new }
 {
     let read = edit.read(alloc)?;
-    runner.edit_read(read)
+    session.inner.edit_read(read)
 }
 
 /// An answer to an edit, as it is told.
@@ -59,16 +68,16 @@ fn told_edit(answer: Result<Receipt, EditRefused>) -> Result<EditReceipt, u32>
 /// Inserts a unit, given as the bytes of its text, which are copied.
 pub fn insert(
     alloc: Global,
-    runner: &mut Runner,
+    session: &mut SurfaceSession,
     place: Place,
     text: &[u8],
     receipt: &mut EditReceipt,
 ) -> u32
-    ensures { EditsByCopy runner.old (Insert place text.now) result receipt.old receipt.new
-        runner.new }
+    ensures { EditsByCopy session.old (Insert place text.now) result receipt.old receipt.new
+        session.new }
 {
     match Bytes::copy_from_slice(alloc, text) {
-        Ok(text) => edit(alloc, runner, Edit::Insert(place, text), receipt),
+        Ok(text) => edit(alloc, session, Edit::Insert(place, text), receipt),
         Err(_) => MEMORY,
     }
 }
@@ -76,38 +85,43 @@ pub fn insert(
 /// Inserts a unit after the last one.
 pub fn insert_last(
     alloc: Global,
-    runner: &mut Runner,
+    session: &mut SurfaceSession,
     text: &[u8],
     receipt: &mut EditReceipt,
 ) -> u32
-    ensures { EditsByCopy runner.old (Insert (end_of runner.old.register.stream) text.now)
-        result receipt.old receipt.new runner.new }
+    ensures { EditsByCopy session.old (Insert (end_of session.old.register.stream) text.now)
+        result receipt.old receipt.new session.new }
 {
-    let place = runner.session().end();
-    insert(alloc, runner, place, text, receipt)
+    let place = session.inner.end();
+    insert(alloc, session, place, text, receipt)
 }
 
 /// Takes the unit of the id out.
-pub fn delete(alloc: Global, runner: &mut Runner, id: u32, receipt: &mut EditReceipt) -> u32
-    ensures { EditsBy runner.old (Delete id) result receipt.old receipt.new runner.new }
+pub fn delete(
+    alloc: Global,
+    session: &mut SurfaceSession,
+    id: u32,
+    receipt: &mut EditReceipt,
+) -> u32
+    ensures { EditsBy session.old (Delete id) result receipt.old receipt.new session.new }
 {
-    edit(alloc, runner, Edit::Delete(AuId::new(id)), receipt)
+    edit(alloc, session, Edit::Delete(AuId::new(id)), receipt)
 }
 
 /// Puts another unit in the place of that of the id, given as the bytes of its text, which are
 /// copied.
 pub fn replace(
     alloc: Global,
-    runner: &mut Runner,
+    session: &mut SurfaceSession,
     id: u32,
     text: &[u8],
     receipt: &mut EditReceipt,
 ) -> u32
-    ensures { EditsByCopy runner.old (Replace id text.now) result receipt.old receipt.new
-        runner.new }
+    ensures { EditsByCopy session.old (Replace id text.now) result receipt.old receipt.new
+        session.new }
 {
     match Bytes::copy_from_slice(alloc, text) {
-        Ok(text) => edit(alloc, runner, Edit::Replace(AuId::new(id), text), receipt),
+        Ok(text) => edit(alloc, session, Edit::Replace(AuId::new(id), text), receipt),
         Err(_) => MEMORY,
     }
 }

@@ -1,17 +1,17 @@
 //! Groups of edits.
 
 ghost use Rattle.std.specs.Prelude.{◌≡◌, ◌≤◌, None, Some, length, IfErr, IfOk, MatchOption};
-ghost use Rattle.stream_session.specs.Grouping.{AnswersGroup};
-ghost use Rattle.session_calls.specs.Grouping.{AreAsked, GroupsBy, GroupsTo, TellsGroup, asked_edit, filled, text_in, told_at};
+ghost use Rattle.session_calls.specs.Grouping.{AreAsked, GroupsBy, GroupsTo, MakesGroup, TellsGroup, asked_edit, filled, text_in, told_at};
 ghost use Rattle.session_calls.specs.AskedFaults.{IsAskedFault};
 ghost use Rattle.session_calls.specs.declared.grouping.AskedFault.TheVariants.{Memory};
 
 use crate::journaling::{KIND_DELETE, KIND_INSERT_AFTER, KIND_INSERT_FIRST, KIND_REPLACE};
 use crate::statuses::{DONE, MEMORY, NOT_AN_EDIT, TOO_SMALL};
+use crate::surface_session::SurfaceSession;
 use bytes::Bytes;
-use edit_engine::{Edit, GroupReceipt, GroupRefused, Place, ReadGroup, Runner};
 use pictures::AuId;
 use std::alloc::{AllocError, AllocFailed, Global};
+use stream_edits::{Edit, GroupReceipt, GroupRefused, Place, ReadGroup};
 
 /// An edit as a caller asks for it: its kind, the id that it names, and where its text lies among
 /// the bytes of all texts.
@@ -65,20 +65,20 @@ impl<T: Drop> From<AllocFailed<T>> for AskedFault {
 /// Makes edits together, as one step, and tells the unit's id of each.
 pub fn group(
     alloc: Global,
-    runner: &mut Runner,
+    session: &mut SurfaceSession,
     asked: &[EditAsked],
     texts: &[u8],
     ids: &mut [u32],
     told: &mut GroupTold,
 ) -> u32
-    ensures { GroupsTo runner.old texts.now asked.now result (ids.old, told.old) (ids.new, told.new)
-        runner.new }
+    ensures { GroupsTo session.old texts.now asked.now result (ids.old, told.old) (ids.new, told.new)
+        session.new }
 {
     if ids.len() < asked.len() {
         return TOO_SMALL;
     }
     match edits_asked(alloc, texts, asked) {
-        Ok(edits) => make_group(alloc, runner, edits, ids, told),
+        Ok(edits) => make_group(alloc, session, edits, ids, told),
         Err(AskedFault::NotAnEdit { index }) => {
             *told = told_at(index);
             NOT_AN_EDIT
@@ -137,30 +137,30 @@ fn text_in(texts: &[u8], asked: EditAsked) -> Option<&[u8]>
 /// Makes these edits together, and tells the unit's id of each.
 fn make_group(
     alloc: Global,
-    runner: &mut Runner,
+    session: &mut SurfaceSession,
     edits: Vec<Edit>,
     ids: &mut [u32],
     told: &mut GroupTold,
 ) -> u32
     requires { length edits.items ≤ length ids.old }
-    ensures { GroupsBy runner.old edits.items result (ids.old, told.old) (ids.new, told.new)
-        runner.new }
+    ensures { GroupsBy session.old edits.items result (ids.old, told.old) (ids.new, told.new)
+        session.new }
 {
-    let answer = answer_to_group(alloc, runner, edits);
+    let answer = answer_to_group(alloc, session, edits);
     tell_group(answer, ids, told)
 }
 
 /// What a group is answered.
 fn answer_to_group(
     alloc: Global,
-    runner: &mut Runner,
+    session: &mut SurfaceSession,
     edits: Vec<Edit>,
 ) -> Result<GroupReceipt, GroupRefused>
-    ensures answer { AnswersGroup runner.old edits.items result runner.new }
+    ensures answer { MakesGroup session.old edits.items result session.new }
     ensures ids { IfOk result (λ receipt. length receipt.ids.items ≡ length edits.items) }
 {
     let group = ReadGroup::read(alloc, edits)?;
-    runner.edit_group_read(group)
+    session.inner.edit_group_read(group)
 }
 
 /// Tells an answer to a group.

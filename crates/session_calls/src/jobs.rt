@@ -1,12 +1,15 @@
 //! Jobs: pictures to decode.
 
 ghost use Rattle.std.specs.Prelude.{◌≡◌};
-ghost use Rattle.session_calls.specs.Jobs.{GivesBackTo, LandsTo, TakesAs, TakesForAs, TakesForTo, TakesTo, told_landing, told_reply, told_returning, told_take};
+ghost use Rattle.session_calls.specs.Jobs.{GivesBackTo, IsMadeFor, LandsTo, TakesForTo, TakesTo, told_landing, told_returning, told_take};
 
 use crate::statuses::{DONE, JOBS_SPENT, MEMORY, NO_SUCH_JOB, NOTHING_DUE, STALE};
+use crate::surface_session::SurfaceSession;
 use crate::telling::tell;
-use edit_engine::{Command, Landing, NotOut, Reply, Returning, Runner, TakeRefused, TakenJob};
+use decode_jobs::Job;
+use picture_store::{Landing, Returning, TakeRefused};
 use pictures::AuId;
+use surfaces::Surface;
 
 /// A job that was taken: its number, and the unit whose picture it makes.
 #[repr(C)]
@@ -18,103 +21,81 @@ pub struct JobTaken {
 
 /// Takes a job: the earliest picture of the stream that isn't held and isn't out, and whose
 /// references are all held.
-pub fn take(runner: &mut Runner, taken: &mut JobTaken) -> u32
-    ensures { TakesTo runner.old result taken.old taken.new runner.new }
+pub fn take(session: &mut SurfaceSession, taken: &mut JobTaken) -> u32
+    ensures { TakesTo session.old result taken.old taken.new session.new }
 {
-    tell(taken_from(runner), taken)
-}
-
-/// Takes a job, or says why there is none.
-fn taken_from(runner: &mut Runner) -> Result<JobTaken, u32>
-    ensures { TakesAs runner.old result runner.new }
-{
-    match runner.step(Command::Take) {
-        Ok(reply) => told_reply(&reply),
-        Err(_) => Err(MEMORY),
-    }
+    let answer = session.inner.take_told();
+    tell(told_take(answer), taken)
 }
 
 /// Takes a job that the unit of the id needs: the earliest of those whose references are all held.
-pub fn take_for(runner: &mut Runner, id: u32, taken: &mut JobTaken) -> u32
-    ensures { TakesForTo runner.old id result taken.old taken.new runner.new }
+pub fn take_for(session: &mut SurfaceSession, id: u32, taken: &mut JobTaken) -> u32
+    ensures { TakesForTo session.old id result taken.old taken.new session.new }
 {
-    tell(taken_for(runner, id), taken)
+    let answer = session.inner.take_told_for(AuId::new(id));
+    tell(told_take(answer), taken)
 }
 
-/// Takes a job that the unit of the id needs, or says why there is none.
-fn taken_for(runner: &mut Runner, id: u32) -> Result<JobTaken, u32>
-    ensures { TakesForAs runner.old id result runner.new }
-{
-    match runner.step(Command::TakeFor(AuId::new(id))) {
-        Ok(reply) => told_reply(&reply),
-        Err(_) => Err(MEMORY),
-    }
-}
-
-/// A reply to one who asks for a job, as it is told.
-fn told_reply(reply: &Reply) -> Result<JobTaken, u32>
-    ensures { result ≡ told_reply reply.now }
-{
-    match reply {
-        Reply::Take(answer) | Reply::TakeFor(answer) => told_take(answer),
-        _ => Err(NOTHING_DUE),
-    }
-}
-
-/// An answer to one who asks for a job, as it is told.
-fn told_take(answer: &Result<Option<TakenJob>, TakeRefused>) -> Result<JobTaken, u32>
-    ensures { result ≡ told_take answer.now }
+/// An answer to one who asks for a job, as it is told. The job itself is spent: the session knows it
+/// by its number.
+fn told_take(answer: Result<Option<(AuId, Job<Surface>)>, TakeRefused>) -> Result<JobTaken, u32>
+    ensures { result ≡ told_take answer }
 {
     match answer {
-        Ok(Some(taken)) => Ok(JobTaken {
-            number: taken.number,
-            unit: taken.unit.number(),
-        }),
+        Ok(Some((unit, job))) => Ok(told_job(unit, job)),
         Ok(None) => Err(NOTHING_DUE),
         Err(TakeRefused::JobsSpent) => Err(JOBS_SPENT),
         Err(TakeRefused::Memory) => Err(MEMORY),
     }
 }
 
-/// Lands the job of the number: its picture is held from then on, where it is wanted.
-pub fn land(runner: &mut Runner, job: u64) -> u32
-    ensures { LandsTo runner.old job result runner.new }
+/// A job of a unit, as it is told.
+fn told_job(unit: AuId, job: Job<Surface>) -> JobTaken
+    ensures { result ≡ record { number = job.number; unit = unit } }
 {
-    match runner.step(Command::Land(job)) {
-        Ok(Reply::Land(answer)) => told_landing(answer),
-        Ok(_) => unreachable!(),
-        Err(_) => MEMORY,
+    let (number, input) = job.into_parts();
+    drop(input);
+    JobTaken {
+        number,
+        unit: unit.number(),
     }
 }
 
-/// What became of a job's result, as it is told.
-fn told_landing(answer: Result<Landing, NotOut>) -> u32
+/// Lands the job of the number: its surface is held from then on, where its picture is wanted. Else
+/// the surface is still the host's. That the host's decoder made the picture of what the job has is
+/// what whoever calls this owes.
+pub fn land(session: &mut SurfaceSession, job: u64, surface: u64) -> u32
+    requires { IsMadeFor session.old job surface }
+    ensures { LandsTo session.old job surface result session.new }
+{
+    let surface = Surface { handle: surface };
+    told_landing(session.inner.land_number(job, surface))
+}
+
+/// What became of a picture of a job, as it is told.
+fn told_landing(answer: Landing) -> u32
     ensures { result ≡ told_landing answer }
 {
     match answer {
-        Ok(Landing::Taken) => DONE,
-        Ok(Landing::Stale) => STALE,
-        Ok(Landing::Foreign) | Err(_) => NO_SUCH_JOB,
+        Landing::Taken => DONE,
+        Landing::Stale => STALE,
+        Landing::Foreign => NO_SUCH_JOB,
     }
 }
 
 /// Gives the job of the number back, so that its picture is given to decode again.
-pub fn give_back(runner: &mut Runner, job: u64) -> u32
-    ensures { GivesBackTo runner.old job result runner.new }
+pub fn give_back(session: &mut SurfaceSession, job: u64) -> u32
+    ensures { GivesBackTo session.old job result session.new }
 {
-    match runner.step(Command::GiveBack(job)) {
-        Ok(Reply::GiveBack(answer)) => told_returning(answer),
-        Ok(_) => unreachable!(),
-        Err(_) => MEMORY,
-    }
+    told_returning(session.inner.give_back_number(job))
 }
 
 /// What became of a job that is given back, as it is told.
-fn told_returning(answer: Result<Returning, NotOut>) -> u32
+fn told_returning(answer: Returning) -> u32
     ensures { result ≡ told_returning answer }
 {
     match answer {
-        Ok(Returning::Returned) => DONE,
-        Ok(Returning::Foreign) | Err(_) => NO_SUCH_JOB,
+        Returning::Returned => DONE,
+        Returning::Foreign => NO_SUCH_JOB,
     }
 }

@@ -8,7 +8,8 @@ ghost use Rattle.session_calls.specs.Telling.{Tells};
 
 use crate::filling::fill;
 use crate::statuses::{DONE, NO_SUCH_PLACE};
-use edit_engine::{Edit, Place, Session};
+use crate::surface_session::SurfaceSession;
+use stream_edits::{Edit, Place};
 
 /// The kind of an edit that inserts a unit before all others.
 pub const KIND_INSERT_FIRST: u32 = 0;
@@ -30,18 +31,18 @@ pub struct JournalEdit {
 }
 
 /// How many entries the journal has.
-pub fn journal(session: &Session, entries: &mut usize) -> u32
+pub fn journal(session: &SurfaceSession, entries: &mut usize) -> u32
     ensures { (result ≡ done) × (entries.new ≡ length session.now.journal) }
 {
-    *entries = session.journal().len();
+    *entries = session.inner.journal().len();
     DONE
 }
 
 /// How many edits an entry of the journal has: one, or those of a group.
-pub fn journal_entry(session: &Session, entry: usize, edits: &mut usize) -> u32
+pub fn journal_entry(session: &SurfaceSession, entry: usize, edits: &mut usize) -> u32
     ensures { Tells (edits_at session.now entry) result edits.old edits.new }
 {
-    match session.journal().get(entry) {
+    match session.inner.journal().get(entry) {
         Some(found) => {
             *edits = found.edits().len();
             DONE
@@ -51,7 +52,12 @@ pub fn journal_entry(session: &Session, entry: usize, edits: &mut usize) -> u32
 }
 
 /// An edit of an entry of the journal.
-pub fn journal_edit(session: &Session, entry: usize, index: usize, edit: &mut JournalEdit) -> u32
+pub fn journal_edit(
+    session: &SurfaceSession,
+    entry: usize,
+    index: usize,
+    edit: &mut JournalEdit,
+) -> u32
     ensures { Tells (told_as told_journal (edit_in session.now entry index))
         result edit.old edit.new }
 {
@@ -94,7 +100,7 @@ fn told_journal(edit: &Edit) -> JournalEdit
 
 /// The text of an edit of an entry of the journal; that of a deletion is empty.
 pub fn journal_text(
-    session: &Session,
+    session: &SurfaceSession,
     entry: usize,
     index: usize,
     text: &mut [u8],
@@ -113,12 +119,12 @@ pub fn journal_text(
 }
 
 /// The edit at an index of an entry of the journal.
-fn edit_in(session: &Session, entry: usize, index: usize) -> Result<&Edit, u32>
+fn edit_in(session: &SurfaceSession, entry: usize, index: usize) -> Result<&Edit, u32>
     ensures { MatchResult result
         (λ edit. edit_in session.now entry index ≡ Ok edit.now)
         (λ why. edit_in session.now entry index ≡ Err why) }
 {
-    match session.journal().get(entry) {
+    match session.inner.journal().get(entry) {
         Some(found) => match found.edits().get(index) {
             Some(edit) => Ok(edit),
             None => Err(NO_SUCH_PLACE),

@@ -6,14 +6,14 @@ ghost use Rattle.session_calls.specs.Statuses.{done};
 ghost use Rattle.session_calls.specs.Telling.{Tells};
 
 use crate::statuses::{DONE, NO_SUCH_UNIT, NOT_VALID};
+use crate::surface_session::SurfaceSession;
 use crate::telling::tell;
 use dep_keys::KeyId;
-use edit_engine::Session;
 use pictures::AuId;
 
 /// The number of the key of the unit of the id: units have equal numbers exactly where their
 /// pictures are made alike, and a number stays while some unit has its key.
-pub fn key(session: &Session, id: u32, key: &mut u64) -> u32
+pub fn key(session: &SurfaceSession, id: u32, key: &mut u64) -> u32
     ensures { (answer : Result ℕ ℕ) × IsKeyOf session.now id answer
         × Tells answer result key.old key.new }
 {
@@ -21,10 +21,10 @@ pub fn key(session: &Session, id: u32, key: &mut u64) -> u32
 }
 
 /// The number of the key of the unit of the id, or why there is none.
-fn key_of(session: &Session, id: u32) -> Result<u64, u32>
+fn key_of(session: &SurfaceSession, id: u32) -> Result<u64, u32>
     ensures { IsKeyOf session.now id result }
 {
-    match session.key(AuId::new(id)) {
+    match session.inner.key(AuId::new(id)) {
         Ok(Some(key)) => Ok(key.number()),
         Ok(None) => Err(NOT_VALID),
         Err(_) => Err(NO_SUCH_UNIT),
@@ -33,10 +33,10 @@ fn key_of(session: &Session, id: u32) -> Result<u64, u32>
 
 /// Whether a number is that of a key in use: of one that some unit of the stream has. 1 or 0 is
 /// told.
-pub fn in_use(session: &Session, key: u64, in_use: &mut u32) -> u32
+pub fn in_use(session: &SurfaceSession, key: u64, in_use: &mut u32) -> u32
     ensures { (result ≡ done) × TellsUse session.now.numbers key in_use.new }
 {
-    *in_use = u32::from(is_among(session.numbers(), key));
+    *in_use = u32::from(is_among(session.inner.numbers(), key));
     DONE
 }
 

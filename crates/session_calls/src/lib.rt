@@ -1,14 +1,12 @@
-//! What the calls of a program in another language do with a session: they edit it, ask of it, and
-//! take, land and give back jobs, and answer each by a number.
+//! What the calls of a program in another language do with a session over surfaces of its own: they
+//! edit it, ask of it, take, land and give back jobs, take surfaces back, and answer each by a number.
 //!
-//! A call has a runner, which the handle of cupdaisy lends it, and tells what it is asked by
+//! A call has a `SurfaceSession`, which the handle of cupdaisy lends it, and tells what it is asked by
 //! writing where its caller says; where it can't, its status says why, and nothing is written.
-//! Below are edit_engine and cupdaisy; above is cupdaisy, the library whose exports these
-//! are.
+//! Below are stream_session and surfaces; above is cupdaisy, the library whose exports these are.
 #![tactic(auto)]
 
 mod asking;
-mod dropping;
 mod editing;
 mod filling;
 mod finding;
@@ -19,19 +17,20 @@ mod journaling;
 mod keys;
 mod loading;
 mod naming;
+mod releasing;
 mod requests;
 mod showing;
 mod statuses;
+mod surface_session;
 mod telling;
 
 pub use asking::{
     KIND_EMPTY, KIND_FAULT, KIND_PLAN, UnitOutcome, id_at, outcome, place, position, units,
 };
-pub use dropping::{clear_cache, drop_picture};
 pub use editing::{EditReceipt, delete, edit, insert, insert_last, replace};
 pub use finding::unit_at;
 pub use grouping::{EditAsked, GroupTold, group};
-pub use job_inputs::{JobInput, JobReference, job_input, job_picture, job_reference};
+pub use job_inputs::{JobInput, JobReference, job_input, job_reference};
 pub use jobs::{JobTaken, give_back, land, take, take_for};
 pub use journaling::{
     JournalEdit, KIND_DELETE, KIND_INSERT_AFTER, KIND_INSERT_FIRST, KIND_REPLACE, journal,
@@ -40,6 +39,7 @@ pub use journaling::{
 pub use keys::{in_use, key};
 pub use loading::{LoadTold, load};
 pub use naming::{fault_name, status_name, version, version_text};
+pub use releasing::{drop_picture, released, uncache};
 pub use requests::{
     SliceRequest, job_bytes, job_request, job_weights, unit_bytes, unit_request, unit_weights,
 };
@@ -49,3 +49,4 @@ pub use statuses::{
     NO_SUCH_NAME, NO_SUCH_PLACE, NO_SUCH_SLICE, NO_SUCH_UNIT, NO_WEIGHTS, NOT_AN_EDIT, NOT_HELD,
     NOT_VALID, NOTHING_DUE, PENDING, STALE, TOO_SMALL,
 };
+pub use surface_session::SurfaceSession;

@@ -3,15 +3,16 @@
 ghost use Rattle.std.specs.Prelude.{◌≡◌};
 ghost use Rattle.annexb.specs.ByteStream.{joined};
 ghost use Rattle.stream_edits.specs.declared.edits.Edit.TheVariants.{Insert};
-ghost use Rattle.stream_session.specs.Machines.{AnswersEdit};
+ghost use Rattle.session_calls.specs.Editing.{MakesEdit};
 ghost use Rattle.stream_edits.specs.Streams.{end_of};
 ghost use Rattle.session_calls.specs.Loading.{InsertsAll, LoadsTo, index_of, none_at, number_of_refusal, with_one};
 
 use crate::statuses::{DONE, MEMORY};
+use crate::surface_session::SurfaceSession;
 use access_unit::{MOST_UNITS, ReadFault, Refusal, Unit, read_alone};
-use edit_engine::{EditRefused, ReadEdit, Receipt, Runner};
 use picture_keys::HashedUnit;
 use std::alloc::Global;
+use stream_edits::{EditRefused, ReadEdit, Receipt};
 
 /// What is told of a stream that is loaded. Its units have the ids from the first one's on.
 #[repr(C)]
@@ -33,13 +34,13 @@ pub struct LoadTold {
 
 /// Inserts the access units of a text after the last one, each by an edit. A text that is refused
 /// inserts none; an edit that is refused ends it, and those before it stay.
-pub fn load(alloc: Global, runner: &mut Runner, text: &[u8], told: &mut LoadTold) -> u32
-    ensures { LoadsTo runner.old text.now result told.new runner.new }
+pub fn load(alloc: Global, session: &mut SurfaceSession, text: &[u8], told: &mut LoadTold) -> u32
+    ensures { LoadsTo session.old text.now result told.new session.new }
 {
-    let room = MOST_UNITS.saturating_sub(runner.session().last().units);
+    let room = MOST_UNITS.saturating_sub(session.inner.last().units);
     *told = none_at(0);
     match read_alone(alloc, text, room) {
-        Ok(units) => insert_all(alloc, units, runner, told),
+        Ok(units) => insert_all(alloc, units, session, told),
         Err(ReadFault::Refused(refusal)) => {
             *told = none_at(index_of(refusal));
             number_of_refusal(refusal)
@@ -49,11 +50,16 @@ pub fn load(alloc: Global, runner: &mut Runner, text: &[u8], told: &mut LoadTold
 }
 
 /// Inserts the units after the last one, and tells what was inserted.
-fn insert_all(alloc: Global, units: Vec<Unit>, runner: &mut Runner, told: &mut LoadTold) -> u32
-    ensures { InsertsAll runner.old units.items told.old result told.new runner.new }
+fn insert_all(
+    alloc: Global,
+    units: Vec<Unit>,
+    session: &mut SurfaceSession,
+    told: &mut LoadTold,
+) -> u32
+    ensures { InsertsAll session.old units.items told.old result told.new session.new }
 {
     for unit in units {
-        match insert_last(alloc, unit, runner) {
+        match insert_last(alloc, unit, session) {
             Ok(receipt) => *told = with_one(*told, receipt),
             Err(refused) => return u32::from(refused.number()),
         }
@@ -62,12 +68,18 @@ fn insert_all(alloc: Global, units: Vec<Unit>, runner: &mut Runner, told: &mut L
 }
 
 /// Inserts a unit after the last one.
-fn insert_last(alloc: Global, unit: Unit, runner: &mut Runner) -> Result<Receipt, EditRefused>
-    ensures { AnswersEdit runner.old (Insert (end_of runner.old.register.stream) (joined unit))
-        result runner.new }
+fn insert_last(
+    alloc: Global,
+    unit: Unit,
+    session: &mut SurfaceSession,
+) -> Result<Receipt, EditRefused>
+    ensures { MakesEdit session.old (Insert (end_of session.old.register.stream) (joined unit))
+        result session.new }
 {
-    let place = runner.session().end();
-    runner.edit_read(ReadEdit::insertion(alloc, place, HashedUnit::of(unit))?)
+    let place = session.inner.end();
+    session
+        .inner
+        .edit_read(ReadEdit::insertion(alloc, place, HashedUnit::of(unit))?)
 }
 
 /// What is told where nothing was inserted.

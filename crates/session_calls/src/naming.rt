@@ -126,14 +126,14 @@ fn named_fault(fault: u32) -> Option<&'static str>
 
 /// The version: a million times the major number, a thousand times the minor one, and the patch.
 pub fn version() -> u32
-    ensures { result ≡ 1000 }
+    ensures { result ≡ 3000 }
 {
-    1_000
+    3_000
 }
 
 /// Writes the version as text.
 pub fn version_text(text: &mut [u8], needed: &mut usize) -> u32
-    ensures { Fills (codes "0.1.0") result text.old text.new needed.new }
+    ensures { Fills (codes "0.3.0") result text.old text.new needed.new }
 {
-    fill("0.1.0".as_bytes(), text, needed)
+    fill("0.3.0".as_bytes(), text, needed)
 }

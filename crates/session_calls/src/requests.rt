@@ -6,7 +6,7 @@ ghost use Rattle.session_calls.specs.Telling.{Tells};
 
 use crate::filling::fill;
 use crate::statuses::{DONE, NO_SUCH_JOB, NO_SUCH_SLICE, NO_SUCH_UNIT, NO_WEIGHTS, NOT_VALID};
-use edit_engine::{Runner, Session};
+use crate::surface_session::SurfaceSession;
 use h264_controls::Request;
 use linux_layouts::{DecodeParams, Pps, PredWeights, ScalingMatrix, SliceParams, Sps};
 use pictures::AuId;
@@ -56,7 +56,12 @@ impl SliceRequest {
 }
 
 /// The request of a slice of the unit of the id, as the stream is now.
-pub fn unit_request(session: &Session, id: u32, slice: usize, request: &mut SliceRequest) -> u32
+pub fn unit_request(
+    session: &SurfaceSession,
+    id: u32,
+    slice: usize,
+    request: &mut SliceRequest,
+) -> u32
     ensures { Tells (told_as request_layout (request_of_unit session.now id slice))
         result request.old request.new }
 {
@@ -67,11 +72,16 @@ pub fn unit_request(session: &Session, id: u32, slice: usize, request: &mut Slic
 }
 
 /// The request of a slice of the job of the number, as it was when the job was taken.
-pub fn job_request(runner: &Runner, job: u64, slice: usize, request: &mut SliceRequest) -> u32
-    ensures { Tells (told_as request_layout (request_of_job runner.now job slice))
+pub fn job_request(
+    session: &SurfaceSession,
+    job: u64,
+    slice: usize,
+    request: &mut SliceRequest,
+) -> u32
+    ensures { Tells (told_as request_layout (request_of_job session.now job slice))
         result request.old request.new }
 {
-    match request_of_job(runner, job, slice) {
+    match request_of_job(session, job, slice) {
         Ok(found) => tell_request(found, request),
         Err(why) => why,
     }
@@ -86,7 +96,12 @@ fn tell_request(found: &Request, request: &mut SliceRequest) -> u32
 }
 
 /// The weight table of a slice of the unit of the id.
-pub fn unit_weights(session: &Session, id: u32, slice: usize, weights: &mut PredWeights) -> u32
+pub fn unit_weights(
+    session: &SurfaceSession,
+    id: u32,
+    slice: usize,
+    weights: &mut PredWeights,
+) -> u32
     ensures { Tells (weights_of (request_of_unit session.now id slice))
         result weights.old weights.new }
 {
@@ -97,11 +112,16 @@ pub fn unit_weights(session: &Session, id: u32, slice: usize, weights: &mut Pred
 }
 
 /// The weight table of a slice of the job of the number.
-pub fn job_weights(runner: &Runner, job: u64, slice: usize, weights: &mut PredWeights) -> u32
-    ensures { Tells (weights_of (request_of_job runner.now job slice))
+pub fn job_weights(
+    session: &SurfaceSession,
+    job: u64,
+    slice: usize,
+    weights: &mut PredWeights,
+) -> u32
+    ensures { Tells (weights_of (request_of_job session.now job slice))
         result weights.old weights.new }
 {
-    match request_of_job(runner, job, slice) {
+    match request_of_job(session, job, slice) {
         Ok(found) => tell_weights(found, weights),
         Err(why) => why,
     }
@@ -122,7 +142,7 @@ fn tell_weights(found: &Request, weights: &mut PredWeights) -> u32
 
 /// The bytes of a slice of the unit of the id: its NAL unit after a start code of three bytes.
 pub fn unit_bytes(
-    session: &Session,
+    session: &SurfaceSession,
     id: u32,
     slice: usize,
     bytes: &mut [u8],
@@ -139,28 +159,28 @@ pub fn unit_bytes(
 
 /// The bytes of a slice of the job of the number.
 pub fn job_bytes(
-    runner: &Runner,
+    session: &SurfaceSession,
     job: u64,
     slice: usize,
     bytes: &mut [u8],
     needed: &mut usize,
 ) -> u32
-    ensures { FillsFrom (request_of_job runner.now job slice)
+    ensures { FillsFrom (request_of_job session.now job slice)
         result bytes.old bytes.new needed.old needed.new }
 {
-    match request_of_job(runner, job, slice) {
+    match request_of_job(session, job, slice) {
         Ok(found) => fill(found.bytes().as_slice(), bytes, needed),
         Err(why) => why,
     }
 }
 
 /// The request of a slice of the unit of the id, or the status that says why there is none.
-fn request_of_unit(session: &Session, id: u32, slice: usize) -> Result<&Request, u32>
+fn request_of_unit(session: &SurfaceSession, id: u32, slice: usize) -> Result<&Request, u32>
     ensures { MatchResult result
         (λ request. request_of_unit session.now id slice ≡ Ok request.now)
         (λ why. request_of_unit session.now id slice ≡ Err why) }
 {
-    match session.outcome(AuId::new(id)) {
+    match session.inner.outcome(AuId::new(id)) {
         Ok(outcome) => request_in(outcome, slice),
         Err(_) => Err(NO_SUCH_UNIT),
     }
@@ -183,12 +203,12 @@ fn request_in(outcome: &Outcome, slice: usize) -> Result<&Request, u32>
 }
 
 /// The request of a slice of the job of the number, or the status that says why there is none.
-fn request_of_job(runner: &Runner, job: u64, slice: usize) -> Result<&Request, u32>
+fn request_of_job(session: &SurfaceSession, job: u64, slice: usize) -> Result<&Request, u32>
     ensures { MatchResult result
-        (λ request. request_of_job runner.now job slice ≡ Ok request.now)
-        (λ why. request_of_job runner.now job slice ≡ Err why) }
+        (λ request. request_of_job session.now job slice ≡ Ok request.now)
+        (λ why. request_of_job session.now job slice ≡ Err why) }
 {
-    match runner.input(job) {
+    match session.inner.job_input(job) {
         Some(input) => match input.requests().get(slice) {
             Some(request) => Ok(request),
             None => Err(NO_SUCH_SLICE),

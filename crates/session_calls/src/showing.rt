@@ -3,16 +3,17 @@
 ghost use Rattle.session_calls.specs.Showing.{ShowsTo};
 
 use crate::statuses::{HAS_FAULT, NO_PICTURE, NO_SUCH_UNIT, PENDING};
+use crate::surface_session::SurfaceSession;
 use crate::telling::tell;
-use edit_engine::{Session, Shown};
 use pictures::AuId;
+use stream_session::Shown;
 
-/// The picture of the unit of the id, by the 32 bytes of its name.
-pub fn show(session: &Session, id: u32, picture: &mut [u8; 32]) -> u32
-    ensures { ShowsTo session.now id result picture.old picture.new }
+/// The surface of the unit of the id, as the stream is now.
+pub fn show(session: &SurfaceSession, id: u32, surface: &mut u64) -> u32
+    ensures { ShowsTo session.now id result surface.old surface.new }
 {
-    match session.show(AuId::new(id)) {
-        Shown::Ready(found) => tell(Ok(found.digest), picture),
+    match session.inner.show(AuId::new(id)) {
+        Shown::Ready(found) => tell(Ok(found.handle), surface),
         Shown::Pending => PENDING,
         Shown::Fault(_) => HAS_FAULT,
         Shown::Empty => NO_PICTURE,

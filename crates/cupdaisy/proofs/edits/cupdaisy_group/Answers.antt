@@ -4,4 +4,4 @@ use Rattle.cupdaisy.proofs.edits.cupdaisy_group.Goals as goal
 pub returns : goal.returns
 returns c =
     rw c.in-Some.ensures.takes
-    (c.group-status.new.runner, c.put.ensures, rw c.deref_mut.ensures.value at c.group-status.ensures)
+    (c.group-status.new.session, c.put.ensures, rw c.deref_mut.ensures.value at c.group-status.ensures)

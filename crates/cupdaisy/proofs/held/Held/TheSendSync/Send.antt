@@ -1,4 +1,4 @@
--- What a handle owns may cross threads, as a box of a runner may.
+-- What a handle owns may cross threads, as a box of a session may.
 use mir.Raw.{raw}
 use base.Shift.{Keyless}
 use denote.Memory.{lone}
@@ -11,15 +11,15 @@ use Rattle.std.specs.Prelude.{Option, None, Some}
 use Rattle.std.proofs.Crossing as heap
 use Rattle.std_alloc.proofs.SendSync.{quiet, lies}
 use Rattle.std_heap.proofs.Global.TheSendSync as handle
-use Rattle.edit_engine.specs.contracts.runner.Runner as Runner
-use Rattle.edit_engine.proofs.runner.Runner.TheSendSync.{the_send as runner}
+use Rattle.session_calls.specs.contracts.surface_session.SurfaceSession as Session
+use Rattle.session_calls.proofs.surface_session.SurfaceSession.TheSendSync.{the_send as session}
 use Rattle.cupdaisy.specs.Ownership.{State, held_owns}
 use Rattle.cupdaisy.specs.contracts.held.Held.{the_row, the_type}
 
 -- what is owned names no key
 owned : (alloc : Global) (at : Ptr) (state : Option State) → Keyless (held_owns alloc at state)
 owned alloc at None = tt
-owned alloc at (Some state) = (lies Runner.the_row runner at state, heap.frees.frees alloc (raw (lone Runner.the_row.mir)) at)
+owned alloc at (Some state) = (lies Session.the_row session at state, heap.frees.frees alloc (raw (lone Session.the_row.mir)) at)
 
 pub send : IsSend the_row
 send =

@@ -1,4 +1,4 @@
--- `into_parts` moves two fields, and what they own goes with them: a runner, since there is one.
+-- `into_parts` moves two fields, and what they own goes with them: a session, since there is one.
 use mathlib.Core.Path.{◌≡◌, refl, sym, subst}
 use mathlib.Core.List.{List, [], ◌∷◌, ◌++◌}
 use seplogic.Ra.Ura.{Ura}

@@ -50,8 +50,7 @@ pub extern "C" fn cupdaisy_released(
 ) -> u32
     ensures { DoesTwo session.old.held.state result surfaces.old surfaces.new count.old count.new
         session.new.held.state
-        (λ old new. ReleasesTo old result (surfaces.old, count.old) (surfaces.new, count.new)
-        new) }
+        (λ old new. ReleasesTo old result surfaces.old surfaces.new count.new new) }
 {
     let Some(mut inner) = session.take(alloc) else {
         return NO_SESSION;

@@ -1,5 +1,5 @@
 -- What a job that is out is made of, as it is told.
-use Rattle.std.specs.Prelude.{◌/◌, ℕ, List, [], ◌∷◌, length, Option, None, Some, Result, Ok, Err, slice_get}
+use Rattle.std.specs.Prelude.{◌/◌, ℕ, List, [], ◌∷◌, length, Option, None, Some, Result, Err, slice_get}
 use Rattle.std.specs.Option.{option_map}
 use Rattle.h264_controls.specs.declared.request.Request.{Request}
 use Rattle.decode_jobs.specs.declared.input.Reference.{Reference}

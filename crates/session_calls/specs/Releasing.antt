@@ -1,5 +1,5 @@
 -- Surfaces that go back to the host, and what is told of them.
-use Rattle.std.specs.Prelude.{◌≡◌, ◌≤◌, ◌++◌, ◌⊎◌, ℕ, List, length, map, All, IsPermutation, Option, Result, Ok, Err, ⊥}
+use Rattle.std.specs.Prelude.{◌≡◌, ◌≤◌, ◌++◌, ◌⊎◌, ℕ, List, length, map, All, IsPermutation, Option, Result, Ok, Err}
 use Rattle.std.specs.Option.{option_map}
 use Rattle.surfaces.specs.declared.surface.Surface.{Surface}
 use Rattle.picture_store.specs.Released.{IsUnreferred}
@@ -45,8 +45,11 @@ IsNoneLeft machine = All (λ surface. IsUnreferred machine.jobs_out surface → 
 
 -- as many surfaces go back as there is room for, or all that can; they are told at the start of the
 -- room, and how many they are
-abbrev pub ReleasesTo : Machine → ℕ → List ℕ × ℕ → List ℕ × ℕ → Machine → Type 0
-ReleasesTo old status told tells new =
-    (surfaces : List Surface) × Release old surfaces new × (length surfaces ≤ length told.0)
-    × ((length surfaces ≡ length told.0) ⊎ IsNoneLeft new)
-    × (status ≡ done) × (tells ≡ (filled (map handle_of surfaces) told.0, length surfaces))
+abbrev pub GoBack : Machine → List ℕ → ℕ → List ℕ → Machine → Type 0
+GoBack old told count tells new =
+    (surfaces : List Surface) × Release old surfaces new × (count ≡ length surfaces) × (count ≤ length told)
+    × ((count ≡ length told) ⊎ IsNoneLeft new) × (tells ≡ filled (map handle_of surfaces) told)
+
+-- so it is, with this status
+abbrev pub ReleasesTo : Machine → ℕ → List ℕ → List ℕ → ℕ → Machine → Type 0
+ReleasesTo old status told tells count new = (status ≡ done) × GoBack old told count tells new

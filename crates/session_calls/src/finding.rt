@@ -8,6 +8,8 @@ use crate::statuses::NO_SUCH_PLACE;
 use crate::surface_session::SurfaceSession;
 use crate::telling::tell;
 use pictures::AuId;
+use stream_session::Session;
+use surfaces::Surface;
 
 /// How far a unit may stand before the place of its position, where it is looked for first.
 const MOST_REORDERED: usize = 64;
@@ -17,15 +19,15 @@ pub fn unit_at(session: &SurfaceSession, position: usize, id: &mut u32) -> u32
     ensures { (answer : Result ℕ ℕ) × IsAtPosition session.now.register.stream position answer
         × Tells answer result id.old id.new }
 {
-    tell(id_at_position(session, position), id)
+    tell(id_at_position(&session.inner, position), id)
 }
 
 /// The id of the unit at a position. It is looked for a little before the place of the same number
 /// and after it, and then further before it.
-fn id_at_position(session: &SurfaceSession, position: usize) -> Result<u32, u32>
+fn id_at_position(session: &Session<Surface>, position: usize) -> Result<u32, u32>
     ensures { IsAtPosition session.now.register.stream position result }
 {
-    let ids = session.inner.ids();
+    let ids = session.ids();
     let near = position.saturating_sub(MOST_REORDERED).min(ids.len());
     let (before, from) = ids.split_at(near);
     match find_among(session, from, position) {
@@ -38,7 +40,7 @@ fn id_at_position(session: &SurfaceSession, position: usize) -> Result<u32, u32>
 }
 
 /// The first of these ids whose unit has the position.
-fn find_among(session: &SurfaceSession, ids: &[AuId], position: usize) -> Option<AuId>
+fn find_among(session: &Session<Surface>, ids: &[AuId], position: usize) -> Option<AuId>
     ensures { MatchOption result
         (All (λ id. HasPosition session.now.register.stream position id → ⊥) ids.now)
         (HasPosition session.now.register.stream position) }
@@ -52,10 +54,10 @@ fn find_among(session: &SurfaceSession, ids: &[AuId], position: usize) -> Option
 }
 
 /// Whether the unit of the id has the position.
-fn has_position(session: &SurfaceSession, id: AuId, position: usize) -> bool
+fn has_position(session: &Session<Surface>, id: AuId, position: usize) -> bool
     ensures { IsTrue result ↔ HasPosition session.now.register.stream position id }
 {
-    match session.inner.position(id) {
+    match session.position(id) {
         Ok(Some(found)) => found == position,
         Ok(None) | Err(_) => false,
     }

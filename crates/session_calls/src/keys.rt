@@ -10,6 +10,8 @@ use crate::surface_session::SurfaceSession;
 use crate::telling::tell;
 use dep_keys::KeyId;
 use pictures::AuId;
+use stream_session::Session;
+use surfaces::Surface;
 
 /// The number of the key of the unit of the id: units have equal numbers exactly where their
 /// pictures are made alike, and a number stays while some unit has its key.
@@ -17,14 +19,14 @@ pub fn key(session: &SurfaceSession, id: u32, key: &mut u64) -> u32
     ensures { (answer : Result ℕ ℕ) × IsKeyOf session.now id answer
         × Tells answer result key.old key.new }
 {
-    tell(key_of(session, id), key)
+    tell(key_of(&session.inner, id), key)
 }
 
 /// The number of the key of the unit of the id, or why there is none.
-fn key_of(session: &SurfaceSession, id: u32) -> Result<u64, u32>
+fn key_of(session: &Session<Surface>, id: u32) -> Result<u64, u32>
     ensures { IsKeyOf session.now id result }
 {
-    match session.inner.key(AuId::new(id)) {
+    match session.key(AuId::new(id)) {
         Ok(Some(key)) => Ok(key.number()),
         Ok(None) => Err(NOT_VALID),
         Err(_) => Err(NO_SUCH_UNIT),

@@ -1,13 +1,13 @@
 //! Surfaces that go back to the host.
 
 ghost use Rattle.std.specs.Prelude.{◌≡◌};
-ghost use Rattle.session_calls.specs.Releasing.{DropsTo, ReleasesTo, UncachesTo, told_dropped};
+ghost use Rattle.session_calls.specs.Releasing.{DropsTo, GoBack, ReleasesTo, UncachesTo, told_dropped};
 
 use crate::statuses::{DONE, NO_SUCH_UNIT, NOT_HELD};
 use crate::surface_session::SurfaceSession;
 use crate::telling::tell;
 use pictures::AuId;
-use stream_session::Dropped;
+use stream_session::{Dropped, Session};
 use surfaces::Surface;
 
 /// Gives back the surface of the unit of the id. It is held no more, also for each unit that has the
@@ -43,18 +43,21 @@ pub fn uncache(session: &mut SurfaceSession, surface: &mut u64) -> u32
 /// Gives back surfaces that edits let go and to which no job that is out refers, as many as there is
 /// room for, and tells how many.
 pub fn released(session: &mut SurfaceSession, surfaces: &mut [u64], count: &mut usize) -> u32
-    ensures { ReleasesTo session.old result (surfaces.old, count.old) (surfaces.new, count.new)
-        session.new }
+    ensures { ReleasesTo session.old result surfaces.old surfaces.new count.new session.new }
+{
+    *count = go_back(&mut session.inner, surfaces);
+    DONE
+}
+
+/// Gives released surfaces back until there is no more room, or none is left that can go.
+fn go_back(session: &mut Session<Surface>, surfaces: &mut [u64]) -> usize
+    ensures { GoBack session.old surfaces.old result surfaces.new session.new }
 {
     for index in 0..surfaces.len() {
-        match session.inner.take_released() {
+        match session.take_released() {
             Some(found) => surfaces[index] = found.handle,
-            None => {
-                *count = index;
-                return DONE;
-            }
+            None => return index,
         }
     }
-    *count = surfaces.len();
-    DONE
+    surfaces.len()
 }

@@ -2,7 +2,7 @@ use Rattle.std.proofs.Common.{◌≡◌, List, map, length}
 use Rattle.surfaces.specs.declared.surface.Surface.{Surface}
 use Rattle.session_calls.specs.Grouping.{filled}
 use Rattle.session_calls.specs.Releasing.{Release, handle_of}
-use Rattle.session_calls.proofs.releasing.released.Given as goal
+use Rattle.session_calls.proofs.releasing.go_back.Given as goal
 
 -- the surfaces so far have gone back, and stand in front of what was there
 abbrev pub invariant-loop-index : goal.invariant-loop-index

@@ -22,8 +22,8 @@ use denote.Steps.{heard, nothing}
 use denote.Triple.Spec.{triple_of}
 use denote.Triple.Table.{entered}
 use denote.Triple.Walked.{says, Stays, stay_dropped, walk_of, ends_at, Goes-dropped, walk_Meets}
-use Rattle.std.specs.Prelude.{Bool, true, Option, None, Some, is_some}
-use Rattle.std_alloc.proofs.BoxSteps.Form.{D, B, word, box_typed}
+use Rattle.std.specs.Prelude.{true, Option, None, Some, is_some}
+use Rattle.std_alloc.proofs.BoxSteps.Form.{D, word, box_typed}
 use Rattle.std_alloc.proofs.BoxSteps.Steps.{box_out, box_in}
 use Rattle.cupdaisy.specs.Ownership.{State}
 use Rattle.cupdaisy.proofs.AsBox.{E, FromHeld as From}

@@ -22,7 +22,7 @@ AR = $(shell $(CC) -print-prog-name=ar)
 RANLIB = $(shell $(CC) -print-prog-name=ranlib)
 CFLAGS = -O2 -g
 WARNINGS = -Wall -Wextra -Wpedantic -Wconversion -Werror
-VERSION = 0.1.0
+VERSION = 0.3.0
 
 # What the compiler compiles for, and the folder of dist/ that has the library for it, if one has.
 machine := $(shell $(CC) -dumpmachine)

@@ -2,7 +2,7 @@
  * How long calls of the C interface take: calls UNITS TURNS
  * UNITS is a file as units.h reads it. Of so many turns it prints a line each: a name, and the seconds of a processor that one
  * call took, of `show`, of an edit (another picture in the place of one), of a request of a unit and of a job, and of a job taken
- * and landed.
+ * and landed, without its requests and without anything that a decoder would do.
  */
 #define _POSIX_C_SOURCE 200809L
 #include "cupdaisy.h"
@@ -36,7 +36,7 @@ static size_t settle(void)
     cupdaisy_job job;
     size_t jobs = 0;
     for (; cupdaisy_take(&session, &job) == CUPDAISY_DONE; jobs++)
-        expect(cupdaisy_land(&session, job.number), "land");
+        expect(cupdaisy_land(&session, job.number, job.number), "land");
     return jobs;
 }
 
@@ -58,11 +58,11 @@ static void time_edits(const struct text *text, uint32_t id, size_t turns)
 
 static void time_questions(uint32_t units, size_t turns)
 {
-    uint8_t picture[32];
+    uint64_t surface = 0;
     cupdaisy_request request;
     double begin = now();
     for (size_t turn = 0; turn < turns; turn++)
-        expect(cupdaisy_show(&session, (uint32_t)turn % units + 1, picture), "show");
+        expect(cupdaisy_show(&session, (uint32_t)turn % units + 1, &surface), "show");
     tell("show", begin, turns);
     begin = now();
     for (size_t turn = 0; turn < turns; turn++)

@@ -114,12 +114,12 @@ static unsigned open_files(void)
 static double shows_a_second(cupdaisy_session *session, size_t units)
 {
     cupdaisy_job job;
-    uint8_t picture[32];
+    uint64_t surface = 0;
     while (cupdaisy_take(session, &job) == CUPDAISY_DONE)
-        expect(cupdaisy_land(session, job.number), "land");
+        expect(cupdaisy_land(session, job.number, job.number), "land");
     double begin = seconds(CLOCK_PROCESS_CPUTIME_ID);
     for (uint32_t i = 0; i < SHOWS; i++)
-        expect(cupdaisy_show(session, i % (uint32_t)units + 1, picture), "show");
+        expect(cupdaisy_show(session, i % (uint32_t)units + 1, &surface), "show");
     return SHOWS / (seconds(CLOCK_PROCESS_CPUTIME_ID) - begin);
 }
 

@@ -1,23 +1,22 @@
 /*
  * A session in C++: it is opened where it is made, and closed where its scope ends. A status that the caller can't go on from
- * is thrown as Refused; a call that finds nothing says so by what it returns. cupdaisy.h says what each call does.
+ * is thrown as Refused; a call that finds nothing says so by what it returns. cupdaisy.h says what each call does. What a session
+ * has of the host's surfaces is the host's again where its scope ends.
  */
 #ifndef CUPDAISY_HPP
 #define CUPDAISY_HPP
 
 #include "cupdaisy.h"
 
-#include <algorithm>
 #include <array>
-#include <iterator>
 #include <stdexcept>
 #include <string>
 #include <vector>
 
 namespace cupdaisy {
 
-/* The name of a picture, under which a host files its surface. */
-using Picture = std::array<std::uint8_t, 32>;
+/* The number under which the host knows a surface that it decoded a picture to. */
+using Surface = std::uint64_t;
 using Bytes = std::vector<std::uint8_t>;
 
 inline std::string name_of(std::uint32_t status)
@@ -105,8 +104,8 @@ public:
         return is_found(cupdaisy_unit_at(&handle, position, &id), CUPDAISY_NO_SUCH_PLACE);
     }
 
-    /* CUPDAISY_DONE with the picture's name, CUPDAISY_PENDING, CUPDAISY_HAS_FAULT, CUPDAISY_NO_PICTURE or CUPDAISY_NO_SUCH_UNIT. */
-    std::uint32_t show(std::uint32_t id, Picture &picture) { return cupdaisy_show(&handle, id, picture.data()); }
+    /* CUPDAISY_DONE with the picture's surface, or CUPDAISY_PENDING, _HAS_FAULT, _NO_PICTURE or _NO_SUCH_UNIT. */
+    std::uint32_t show(std::uint32_t id, Surface &surface) { return cupdaisy_show(&handle, id, &surface); }
 
     bool take(cupdaisy_job &job) { return is_found(cupdaisy_take(&handle, &job), CUPDAISY_NOTHING_DUE); }
 
@@ -116,13 +115,30 @@ public:
         return is_found(cupdaisy_take_for(&handle, id, &job), CUPDAISY_NOTHING_DUE);
     }
 
-    /* The picture is gone: whether it was held. */
-    bool drop(std::uint32_t id) { return is_found(cupdaisy_drop_picture(&handle, id), CUPDAISY_NOT_HELD); }
+    /* The surface of the unit's picture is the host's again, if that was held: whether it was. */
+    bool drop(std::uint32_t id, Surface &surface)
+    {
+        return is_found(cupdaisy_drop_picture(&handle, id, &surface), CUPDAISY_NOT_HELD);
+    }
 
-    void clear_cache() { expect(cupdaisy_clear_cache(&handle)); }
+    /* The surface of the picture that was cached first is the host's again, if one is cached. */
+    bool uncache(Surface &surface) { return is_found(cupdaisy_uncache(&handle, &surface), CUPDAISY_NOT_HELD); }
 
-    /* Whether the picture was still wanted. */
-    bool land(std::uint64_t job) { return is_found(cupdaisy_land(&handle, job), CUPDAISY_STALE); }
+    /* The surfaces that edits let go and that are the host's again. */
+    std::vector<Surface> released()
+    {
+        std::vector<Surface> all;
+        std::array<Surface, 16> some = {};
+        std::size_t count = some.size();
+        while (count == some.size()) {
+            expect(cupdaisy_released(&handle, some.data(), some.size(), &count));
+            all.insert(all.end(), some.begin(), some.begin() + static_cast<std::ptrdiff_t>(count));
+        }
+        return all;
+    }
+
+    /* Says that the host's decoder made the surface's picture of the job: whether the session has the surface now. */
+    bool land(std::uint64_t job, Surface surface) { return is_found(cupdaisy_land(&handle, job, surface), CUPDAISY_STALE); }
 
     void give_back(std::uint64_t job) { expect(cupdaisy_give_back(&handle, job)); }
 
@@ -133,26 +149,17 @@ public:
         return input;
     }
 
-    /* The names of the pictures that a job refers to. */
-    std::vector<Picture> references(std::uint64_t job)
+    /* The surfaces that a job refers to. */
+    std::vector<Surface> references(std::uint64_t job)
     {
-        std::vector<Picture> pictures;
+        std::vector<Surface> surfaces;
         const std::uint64_t count = input(job).references;
         for (std::size_t index = 0; index < count; index++) {
             cupdaisy_reference reference;
             expect(cupdaisy_job_reference(&handle, job, index, &reference));
-            Picture picture;
-            std::copy(std::begin(reference.picture), std::end(reference.picture), picture.begin());
-            pictures.push_back(picture);
+            surfaces.push_back(reference.surface);
         }
-        return pictures;
-    }
-
-    Picture picture(std::uint64_t job)
-    {
-        Picture picture;
-        expect(cupdaisy_job_picture(&handle, job, picture.data()));
-        return picture;
+        return surfaces;
     }
 
     /* The bytes of a slice of a job, after a start code of three bytes. */

@@ -2,9 +2,12 @@
 
     with cupdaisy.Session() as session:
         receipt = session.insert_last(text)
-        session.settle()
-        print(session.show(receipt.id).hex())
+        for job in session.jobs():
+            session.land(job.number, decode(job))
+        print(session.show(receipt.id))
 
+`decode` makes a job's picture in a surface of the host's, and answers the number under which the session is to know that. The
+session has it until it gives it back: by drop, uncache or released, or where it is closed.
 The shared object build/libcupdaisy.so, which `make examples` makes of the archive, is loaded; CUPDAISY_LIBRARY in the
 environment names another. include/cupdaisy.h says what each call does. A refused call raises Refused; a call that finds
 nothing (a place past the end, no job due, a pending picture) answers None. A session is used by one thread at a time.
@@ -59,7 +62,7 @@ class JobInput(Record):
 
 
 class Reference(Record):
-    _fields_ = [("timestamp", c_uint64), ("picture", c_ubyte * 32)]
+    _fields_ = [("timestamp", c_uint64), ("surface", c_uint64)]
 
 
 class Edit(Record):
@@ -78,7 +81,7 @@ class Request(Record):
 
 
 HANDLE, TEXT, SIZE, OUT_SIZE = POINTER(Handle), (c_void_p, c_size_t), c_size_t, POINTER(c_size_t)
-OUT_ID, OUT_NUMBER, OUT_PICTURE, WEIGHTS = POINTER(c_uint32), POINTER(c_uint64), c_ubyte * 32, c_ubyte * 772
+OUT_ID, OUT_NUMBER, WEIGHTS = POINTER(c_uint32), POINTER(c_uint64), c_ubyte * 772
 FILLED = (*TEXT, OUT_SIZE)
 # The types of each call's parameters after the handle, in the header's order.
 CALLS = {
@@ -90,10 +93,10 @@ CALLS = {
     "units": (OUT_SIZE,), "id_at": (SIZE, OUT_ID), "place": (c_uint32, OUT_SIZE), "position": (c_uint32, OUT_SIZE),
     "unit_at": (SIZE, OUT_ID), "outcome_of": (c_uint32, POINTER(Outcome)), "key": (c_uint32, OUT_NUMBER),
     "in_use": (c_uint64, OUT_ID),
-    "show": (c_uint32, POINTER(OUT_PICTURE)), "take": (POINTER(Job),), "take_for": (c_uint32, POINTER(Job)),
-    "land": (c_uint64,), "give_back": (c_uint64,), "drop_picture": (c_uint32,), "clear_cache": (),
+    "show": (c_uint32, OUT_NUMBER), "take": (POINTER(Job),), "take_for": (c_uint32, POINTER(Job)),
+    "land": (c_uint64, c_uint64), "give_back": (c_uint64,), "drop_picture": (c_uint32, OUT_NUMBER), "uncache": (OUT_NUMBER,),
+    "released": (OUT_NUMBER, SIZE, OUT_SIZE),
     "job_input_of": (c_uint64, POINTER(JobInput)), "job_reference": (c_uint64, SIZE, POINTER(Reference)),
-    "job_picture": (c_uint64, POINTER(OUT_PICTURE)),
     "unit_request": (c_uint32, SIZE, POINTER(Request)), "unit_weights": (c_uint32, SIZE, POINTER(WEIGHTS)),
     "job_request": (c_uint64, SIZE, POINTER(Request)), "job_weights": (c_uint64, SIZE, POINTER(WEIGHTS)),
     "unit_bytes": (c_uint32, SIZE, *FILLED), "job_bytes": (c_uint64, SIZE, *FILLED),
@@ -260,9 +263,8 @@ class Session:
         return self.number(c_uint32, "in_use", key) == 1
 
     def show(self, unit):
-        """The name of the unit's picture; None where it isn't there now."""
-        out = self.told(OUT_PICTURE(), "show", unit, absent=(PENDING, HAS_FAULT, NO_PICTURE))
-        return None if out is None else bytes(out)
+        """The surface of the unit's picture; None where it isn't there now."""
+        return self.number(c_uint64, "show", unit, absent=(PENDING, HAS_FAULT, NO_PICTURE))
 
     def take(self):
         return self.told(Job(), "take", absent=(NOTHING_DUE,))
@@ -271,9 +273,9 @@ class Session:
         """A job for what the unit's picture needs."""
         return self.told(Job(), "take_for", unit, absent=(NOTHING_DUE,))
 
-    def land(self, job):
-        """Whether the picture was wanted."""
-        status = self.call("land", job)
+    def land(self, job, surface):
+        """Says that the surface has the picture of the job: whether the session has the surface now."""
+        status = self.call("land", job, surface)
         if status not in (DONE, STALE):
             raise Refused(status)
         return status == DONE
@@ -281,36 +283,38 @@ class Session:
     def give_back(self, job):
         self.done("give_back", job)
 
-    def settle(self):
-        """Takes and lands until no picture is due."""
+    def jobs(self):
+        """Takes jobs until no picture is due; each is landed or given back before the next one is asked for."""
         while job := self.take():
-            self.land(job.number)
+            yield job
 
-    def settle_for(self, unit):
-        """Takes and lands what the unit's picture needs."""
+    def jobs_for(self, unit):
+        """Takes the jobs that the unit's picture needs."""
         while job := self.take_for(unit):
-            self.land(job.number)
+            yield job
 
     def drop(self, unit):
-        """The unit's picture is gone: whether it was held."""
-        status = self.call("drop_picture", unit)
-        if status not in (DONE, NOT_HELD):
-            raise Refused(status)
-        return status == DONE
+        """The surface of the unit's picture, which is the host's again; None where that isn't held."""
+        return self.number(c_uint64, "drop_picture", unit, absent=(NOT_HELD,))
 
-    def clear_cache(self):
-        self.done("clear_cache")
+    def uncache(self):
+        """The surface of the picture that was cached first, which is the host's again; None where none is cached."""
+        return self.number(c_uint64, "uncache", absent=(NOT_HELD,))
+
+    def released(self):
+        """The surfaces that edits let go, which are the host's again."""
+        some, count = (c_uint64 * 16)(), c_size_t(16)
+        while count.value == len(some):
+            self.done("released", some, len(some), byref(count))
+            yield from some[:count.value]
 
     def job_input(self, job):
         return self.told(JobInput(), "job_input_of", job)
 
     def job_references(self, job):
-        """The timestamps and the names of the pictures that a job's requests refer to."""
+        """The timestamps and the surfaces of the pictures that a job's requests refer to."""
         found = (self.told(Reference(), "job_reference", job, index) for index in range(self.job_input(job).references))
-        return [(each.timestamp, bytes(each.picture)) for each in found]
-
-    def job_picture(self, job):
-        return bytes(self.told(OUT_PICTURE(), "job_picture", job))
+        return [(each.timestamp, each.surface) for each in found]
 
     def unit_request(self, unit, place):
         return self.told(Request(), "unit_request", unit, place)

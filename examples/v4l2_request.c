@@ -7,9 +7,11 @@
  * many requests may be in flight, 1 to 16; it is 1 where it isn't given.
  *
  * Shown here of what a host has to know:
+ *   - the session knows surfaces by numbers of the host's, here the indices of CAPTURE buffers. It has a surface from `land` on
+ *     until it gives it back; where a job's result is stale, the surface is the host's still.
  *   - a unit keeps its id when it is replaced, and a surface its timestamp while it is queued anew. So each decode has a
- *     timestamp of its own, and reference_ts is rewritten: the job tells the name of the picture behind each timestamp of
- *     the controls, and the host knows in which surface that picture lies, and when it was decoded.
+ *     timestamp of its own, and reference_ts is rewritten: the job tells the surface behind each timestamp of the controls, and
+ *     the host knows when that was decoded.
  *   - a valid entry of the decoded picture buffer that no list names gets the time of its surface too, as long as there is one.
  *     Some drivers number their frames by all valid entries: to them an entry without a surface is a frame that is gone.
  *   - a request a slice, with the CAPTURE buffer held but for the last; or a request a picture, without slice_params and
@@ -17,8 +19,9 @@
  *   - the slices' bytes with their start codes or without.
  *   - with several requests in flight, the pictures that later units need are decoded too, as soon as what they refer to is
  *     there; a surface isn't used again while a job that is out refers to it.
- *   - there are fewer surfaces than pictures. A host takes jobs for what it shows next alone, and says which picture is gone when
- *     it needs a surface for another: first those that are in no decoded picture buffer any more.
+ *   - there are fewer surfaces than pictures. A host takes jobs for what it shows next alone. When it needs a surface for another
+ *     picture, it takes back what edits let go, then what is cached, and then drops a picture: first those that are in no decoded
+ *     picture buffer any more.
  *   - where the pictures' size or depth changes, the queues are stopped and their buffers made anew.
  *
  * Exit status: 0; 1 with a message where the file, the session or the device fails; 2 for wrong words; 3 with a message where
@@ -151,7 +154,11 @@ static void finish_flight(struct host *host)
     memmove(host->flights, host->flights + 1, host->flying * sizeof host->flights[0]);
     host->surfaces[first.surface].touched = ++host->turns;
     tell(&host->driver, "land job %llu\n", (unsigned long long)first.job);
-    expect(cupdaisy_land(&host->session, first.job), "land");
+    uint32_t status = cupdaisy_land(&host->session, first.job, first.surface);
+    if (status == CUPDAISY_STALE || status == CUPDAISY_NO_SUCH_JOB)
+        host->surfaces[first.surface].is_used = false;
+    else
+        expect(status, "land");
 }
 
 /* Whether pictures of a sequence parameter set are of the size and depth for which the driver was set up. */
@@ -173,6 +180,8 @@ static void be_ready(struct host *host, struct v4l2_ctrl_h264_sps *sps)
         return;
     while (host->flying > 0)
         finish_flight(host);
+    while (reclaim(host))
+        continue;
     for (size_t i = 0; i < SURFACES; i++)
         if (host->surfaces[i].is_used)
             drop(host, &host->surfaces[i]);
@@ -184,8 +193,8 @@ static void be_ready(struct host *host, struct v4l2_ctrl_h264_sps *sps)
     host->is_set_up = true;
 }
 
-/* Queues a job, to be decoded into a surface, and files that under the picture's name. Whether it did: it gives the job back where
- * each surface was touched since a turn, or the driver's mode can't take the picture. */
+/* Queues a job, to be decoded into a surface. Whether it did: it gives the job back where each surface was touched since a turn, or
+ * the driver's mode can't take the picture. */
 static bool decode(struct host *host, cupdaisy_job job, uint64_t turn)
 {
     cupdaisy_job_input input;
@@ -222,7 +231,6 @@ static bool decode(struct host *host, cupdaisy_job job, uint64_t turn)
     surface->decoded = host->clock;
     surface->touched = ++host->turns;
     expect(cupdaisy_key(&host->session, job.unit, &surface->key), "key");
-    expect(cupdaisy_job_picture(&host->session, job.number, surface->picture), "picture");
     host->flights[host->flying++] = (struct flight){job.number, index, referred, host->driver.queued};
     return true;
 }
@@ -258,10 +266,10 @@ static bool decode_ahead(struct host *host, size_t position, uint64_t turn)
 /* Decodes what the unit's picture needs, and shows the surface that it lies in. */
 static void show(struct host *host, size_t position, uint32_t unit)
 {
-    uint8_t picture[32];
+    uint64_t number = 0;
     uint64_t turn = ++host->turns;
-    uint32_t status = cupdaisy_show(&host->session, unit, picture);
-    for (; status == CUPDAISY_PENDING; status = cupdaisy_show(&host->session, unit, picture)) {
+    uint32_t status = cupdaisy_show(&host->session, unit, &number);
+    for (; status == CUPDAISY_PENDING; status = cupdaisy_show(&host->session, unit, &number)) {
         host->impossible = 0;
         if (decode_for(host, unit, UINT64_MAX))
             continue;
@@ -278,10 +286,8 @@ static void show(struct host *host, size_t position, uint32_t unit)
         finish_flight(host);
     }
     expect(status, "show");
-    const struct surface *surface = find(host, picture);
-    if (surface == NULL)
-        stop("a picture that is shown lies in no surface");
-    tell(&host->driver, "show unit %u surface %lu\n", (unsigned)unit, (unsigned long)(surface - host->surfaces));
+    touched(host, number);
+    tell(&host->driver, "show unit %u surface %lu\n", (unsigned)unit, (unsigned long)number);
 }
 
 static void load(struct host *host, const char *path)

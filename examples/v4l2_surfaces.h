@@ -1,6 +1,6 @@
 /*
- * The surfaces of examples/v4l2_request.c: which picture lies in which, when it was decoded, which may be used for another one, and
- * what time each entry of the decoded picture buffer gets.
+ * The surfaces of examples/v4l2_request.c: which the session has, when each was decoded, which may be used for another picture, and
+ * what time each entry of the decoded picture buffer gets. The session knows a surface by the index of its CAPTURE buffer.
  */
 #ifndef V4L2_SURFACES_H
 #define V4L2_SURFACES_H
@@ -14,12 +14,11 @@
 enum { FEWEST_SURFACES = 17, SURFACES = FEWEST_SURFACES + MOST_REQUESTS - 1, FIRST_DECODE = 1000000000 };
 
 struct surface {
-    bool is_used;
-    uint8_t picture[32]; /* the name under which it is filed */
-    uint64_t key;        /* the number of the key of that picture */
-    uint32_t unit;       /* a unit that has the picture */
-    uint64_t decoded;    /* the timestamp of its decode, which the driver knows */
-    uint64_t touched;    /* when it was last decoded, referred to or shown */
+    bool is_used;     /* whether the session has it, or a job that is out is decoded into it */
+    uint64_t key;     /* the number of the key of its picture */
+    uint32_t unit;    /* a unit that has the picture */
+    uint64_t decoded; /* the timestamp of its decode, which the driver knows */
+    uint64_t touched; /* when it was last decoded, referred to or shown */
 };
 
 /* A job whose requests are in flight. */
@@ -63,15 +62,13 @@ static void expect(uint32_t status, const char *what)
     exit(1);
 }
 
-/* The surface with the picture of this name. */
-static struct surface *find(struct host *host, const uint8_t *picture)
+/* A surface that the session names. */
+static struct surface *touched(struct host *host, uint64_t number)
 {
-    for (size_t i = 0; i < SURFACES; i++)
-        if (host->surfaces[i].is_used && memcmp(host->surfaces[i].picture, picture, 32) == 0) {
-            host->surfaces[i].touched = ++host->turns;
-            return &host->surfaces[i];
-        }
-    return NULL;
+    if (number >= SURFACES || !host->surfaces[number].is_used)
+        stop("the session names a surface that it doesn't have");
+    host->surfaces[number].touched = ++host->turns;
+    return &host->surfaces[number];
 }
 
 /* The surface of a reference of a job. */
@@ -79,19 +76,36 @@ static struct surface *surface_of(struct host *host, uint64_t job, size_t index,
 {
     cupdaisy_reference reference;
     expect(cupdaisy_job_reference(&host->session, job, index, &reference), "reference");
-    struct surface *surface = find(host, reference.picture);
-    if (surface == NULL)
-        stop("a picture that a job refers to lies in no surface");
     *timestamp = reference.timestamp;
-    return surface;
+    return touched(host, reference.surface);
 }
 
-/* Says that the picture of a surface is gone. */
-static void drop(struct host *host, struct surface *surface)
+/* Takes surfaces back whose pictures no unit has any more: those that edits let go, or else the one that was cached first. Whether
+ * there was one. A host that edits its stream has some. */
+static bool reclaim(struct host *host)
 {
+    uint64_t numbers[SURFACES];
+    size_t count = 0;
+    expect(cupdaisy_released(&host->session, numbers, SURFACES, &count), "released");
+    if (count == 0) {
+        uint32_t status = cupdaisy_uncache(&host->session, numbers);
+        if (status == CUPDAISY_NOT_HELD)
+            return false;
+        expect(status, "uncache");
+        count = 1;
+    }
+    for (size_t i = 0; i < count; i++)
+        touched(host, numbers[i])->is_used = false;
+    return true;
+}
+
+/* Takes back the surface of a picture that is held. */
+static void drop(struct host *host, const struct surface *surface)
+{
+    uint64_t number = 0;
     tell(&host->driver, "drop unit %u\n", (unsigned)surface->unit);
-    expect(cupdaisy_drop_picture(&host->session, surface->unit), "drop");
-    surface->is_used = false;
+    expect(cupdaisy_drop_picture(&host->session, surface->unit, &number), "drop");
+    touched(host, number)->is_used = false;
 }
 
 /* The surfaces that jobs which are out decode into or refer to. */
@@ -103,23 +117,31 @@ static uint32_t busy(const struct host *host)
     return surfaces;
 }
 
-/* A surface for the next picture, but none of these: a free one, or the one that was touched longest ago, whose picture is gone
- * then. NULL where each was touched since a turn. */
+/* A surface that isn't used, but none of these; NULL where there is none. */
+static struct surface *unused(struct host *host, uint32_t kept)
+{
+    for (size_t i = 0; i < host->driver.capture.buffers; i++)
+        if ((kept >> i & 1u) == 0 && !host->surfaces[i].is_used)
+            return &host->surfaces[i];
+    return NULL;
+}
+
+/* A surface for the next picture, but none of these: an unused one, or one that the session gives back as no unit has its picture,
+ * or the one that was touched longest ago, whose picture is dropped then. NULL where each was touched since a turn. */
 static struct surface *free_surface(struct host *host, uint32_t kept, uint64_t turn)
 {
     struct surface *oldest = NULL;
-    for (size_t i = 0; i < host->driver.capture.buffers; i++) {
+    struct surface *found = unused(host, kept);
+    while (found == NULL && reclaim(host))
+        found = unused(host, kept);
+    for (size_t i = 0; found == NULL && i < host->driver.capture.buffers; i++) {
         struct surface *surface = &host->surfaces[i];
-        if ((kept >> i & 1u) != 0)
-            continue;
-        if (!surface->is_used)
-            return surface;
-        if (surface->touched < turn && (oldest == NULL || surface->touched < oldest->touched))
+        if ((kept >> i & 1u) == 0 && surface->touched < turn && (oldest == NULL || surface->touched < oldest->touched))
             oldest = surface;
     }
     if (oldest != NULL)
         drop(host, oldest);
-    return oldest;
+    return found != NULL ? found : oldest;
 }
 
 /* The surface that has the picture of the unit of a timestamp, or will have it. As the stream is now: a host whose stream is edited

@@ -6,7 +6,16 @@
  * the Linux kernel's stateless decoder interface; when an edit changes what a picture is made of, it asks for that picture
  * anew, and for no other. What the calls answer of the session is proved; see docs/C.md.
  *
+ * Nothing is decoded here. A surface is a number by which the host knows where it decoded a picture to; any will do. The
+ * session has the surfaces that are landed: it says which one has a unit's picture as the stream is now, and of which ones a
+ * job's picture is made. It gives each back once, by cupdaisy_drop_picture, cupdaisy_uncache or cupdaisy_released, and all that
+ * it has by cupdaisy_close. What was landed and didn't come back is just what is held for units, cached or released.
+ *
  * What C owes, which nothing checks:
+ *   - Whoever lands a surface owes that the host's decoder made its picture of the job's requests, and of the pictures in the
+ *     surfaces of the job's references. It stays in the surface until that comes back. A surface that came back while a job that
+ *     is out refers to it isn't decoded into before that job was landed or given back.
+ *   - No surface is landed that the session still has.
  *   - A handle is all zeros before its first use (CUPDAISY_NONE), afterwards as a call left it. It is never copied, and
  *     each field is the library's.
  *   - Each pointer points to memory of its type; none is null, also where a count is 0. No two of a call overlap, but for
@@ -53,7 +62,7 @@ extern "C" {
 #define CUPDAISY_NOTHING_DUE 108  /* no picture is due */
 #define CUPDAISY_JOBS_SPENT 109   /* all numbers of jobs were given */
 #define CUPDAISY_STALE 110        /* the result of the job is wanted no more */
-#define CUPDAISY_NOT_HELD 111     /* the unit isn't valid, or its picture isn't held */
+#define CUPDAISY_NOT_HELD 111     /* the unit isn't valid, its picture isn't held, or the cache is empty */
 #define CUPDAISY_PENDING 112      /* the unit is valid, and its picture isn't held */
 #define CUPDAISY_HAS_FAULT 113    /* the unit has a fault, which cupdaisy_outcome_of tells */
 #define CUPDAISY_NO_PICTURE 114   /* the unit has no slice, so that it has no picture */
@@ -105,10 +114,10 @@ typedef struct cupdaisy_job_input {
     uint64_t references; /* how many references it has */
 } cupdaisy_job_input;
 
-/* A picture that the requests of a job may refer to: reference_ts of the decoded picture buffer, and its name. */
+/* A picture that the requests of a job may refer to: reference_ts of the decoded picture buffer, and its surface. */
 typedef struct cupdaisy_reference {
     uint64_t timestamp;
-    uint8_t picture[32];
+    uint64_t surface;
 } cupdaisy_reference;
 
 /* The kinds of edits. */
@@ -157,8 +166,8 @@ typedef struct cupdaisy_journal_edit {
  *   - Drivers differ in whether the start code belongs to the slice's bytes: V4L2_STATELESS_H264_START_CODE_NONE wants the
  *     bytes from unit_begins on; header_bit_size stays.
  *   - A CAPTURE buffer keeps its timestamp while it is queued anew, and a unit keeps its id when it is replaced; so each
- *     decode gets a timestamp of its own, and each reference_ts of the decoded picture buffer is rewritten by the job's
- *     references.
+ *     decode gets a timestamp of its own, and each reference_ts of the decoded picture buffer is rewritten: to that of the
+ *     surface which the job's reference with this timestamp names.
  *   - An entry of a list whose fields are 0 is missing, whatever its index.
  *   - 8-bit 4:2:0 is all that some drivers take.
  *   - Most drivers are frame-based: one request has the bytes of all slices one after the other, without slice_params and
@@ -185,7 +194,7 @@ typedef struct cupdaisy_request {
  */
 uint32_t cupdaisy_open(cupdaisy_session *session, uint16_t cache);
 
-/* Closes the session and frees all that it has. The handle may be opened again. */
+/* Closes the session and frees all that it has. All surfaces are the host's then. The handle may be opened again. */
 uint32_t cupdaisy_close(cupdaisy_session *session);
 
 /*
@@ -260,12 +269,11 @@ uint32_t cupdaisy_key(cupdaisy_session *session, uint32_t id, uint64_t *key);
 uint32_t cupdaisy_in_use(cupdaisy_session *session, uint64_t key, uint32_t *in_use);
 
 /*
- * What is shown of the unit of the id: the name of its picture as the stream is now, whatever was decoded before. A name
- * is a SHA-256 of all that a picture is made of, so two pictures have one name exactly where they are made alike. Takes no
- * memory.
- * PENDING where the picture isn't held: take jobs and land them; HAS_FAULT; NO_PICTURE; NO_SUCH_UNIT.
+ * What is shown of the unit of the id: the surface of its picture as the stream is now, whatever was decoded before. Units whose
+ * pictures are made alike have one surface. Takes no memory.
+ * PENDING where the picture isn't held: take jobs, decode and land them; HAS_FAULT; NO_PICTURE; NO_SUCH_UNIT.
  */
-uint32_t cupdaisy_show(cupdaisy_session *session, uint32_t id, uint8_t picture[32]);
+uint32_t cupdaisy_show(cupdaisy_session *session, uint32_t id, uint64_t *surface);
 
 /*
  * Takes a job: the earliest picture of the stream that isn't held and isn't out as a job, and whose references are all
@@ -284,37 +292,45 @@ uint32_t cupdaisy_take(cupdaisy_session *session, cupdaisy_job *job);
 uint32_t cupdaisy_take_for(cupdaisy_session *session, uint32_t id, cupdaisy_job *job);
 
 /*
- * Lands the job of the number: its picture was made, and is held from then on where it is wanted. Jobs may land in any
- * order, and late. The library makes the picture's name anew for it. Takes memory.
- * STALE where the picture isn't wanted any more, or is held already: the job is out no more; NO_SUCH_JOB; MEMORY.
+ * Lands the job of the number: the host's decoder made this surface's picture of the job's requests and of the pictures in the
+ * surfaces of its references. It is held from then on, and the session has the surface until it gives it back. Jobs may land in
+ * any order, and late. Takes no memory.
+ * STALE where the picture isn't wanted any more, or is held already: the job is out no more, and the surface is still the host's.
+ * NO_SUCH_JOB, and the surface is still the host's.
  */
-uint32_t cupdaisy_land(cupdaisy_session *session, uint64_t job);
+uint32_t cupdaisy_land(cupdaisy_session *session, uint64_t job, uint64_t surface);
 
 /* Gives the job of the number back, so that its picture is given to decode again. NO_SUCH_JOB. */
 uint32_t cupdaisy_give_back(cupdaisy_session *session, uint64_t job);
 
 /*
- * Says that the picture of the unit of the id is no longer there, as its surface is used for another: it isn't held any
- * more, nor is it cached, and a job may make it again. Units that have one picture share that. Jobs that are out stay. Takes
- * no memory.
+ * Gives back the surface of the unit's picture, to be used for another: the picture isn't held any more, nor is it cached, and a
+ * job may make it again. Units that have one picture share that. Jobs that are out stay, and may still refer to the surface.
+ * Takes no memory.
  * NOT_HELD where the unit isn't valid, or its picture isn't held; NO_SUCH_UNIT.
  */
-uint32_t cupdaisy_drop_picture(cupdaisy_session *session, uint32_t id);
+uint32_t cupdaisy_drop_picture(cupdaisy_session *session, uint32_t id, uint64_t *surface);
 
 /*
- * Says that the pictures of the cache, which no unit has any more, are no longer there, so that no edit takes one of them
- * back. Takes no memory.
+ * Gives back the surface of the picture that was cached first, of those which no unit has any more, so that no edit takes it
+ * back. Jobs that are out may still refer to it. Takes no memory.
+ * NOT_HELD where the cache is empty.
  */
-uint32_t cupdaisy_clear_cache(cupdaisy_session *session);
+uint32_t cupdaisy_uncache(cupdaisy_session *session, uint64_t *surface);
 
 /*
- * What the job of the number, which is out, is made of, as it was when it was taken; a reference of it by its index, from 0
- * on; and the name of the picture that it makes, under which `show` answers once it has landed. NO_SUCH_JOB; NO_SUCH_PLACE;
- * cupdaisy_job_picture takes memory, and may answer MEMORY.
+ * Gives back surfaces that edits let go, as the cache had no room for them or found no memory, and to which no job that is out
+ * refers. As many as `surfaces` has room for are written, `count` of them, and the rest of it stays as it was. Where `count` is less
+ * than there is room for, no more can go back now. Takes no memory.
+ */
+uint32_t cupdaisy_released(cupdaisy_session *session, uint64_t *surfaces, size_t surfaces_length, size_t *count);
+
+/*
+ * What the job of the number, which is out, is made of, as it was when it was taken; and a reference of it by its index, from 0
+ * on. NO_SUCH_JOB; NO_SUCH_PLACE.
  */
 uint32_t cupdaisy_job_input_of(cupdaisy_session *session, uint64_t job, cupdaisy_job_input *input);
 uint32_t cupdaisy_job_reference(cupdaisy_session *session, uint64_t job, size_t index, cupdaisy_reference *reference);
-uint32_t cupdaisy_job_picture(cupdaisy_session *session, uint64_t job, uint8_t picture[32]);
 
 /*
  * The request of a slice, from 0 on: of the unit of the id, as the stream is now; of the job of the number, which is out, as

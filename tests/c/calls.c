@@ -41,13 +41,13 @@ static void fill(cupdaisy_session *session)
     EXPECT(cupdaisy_insert_last(session, P2, sizeof P2, &receipt) == CUPDAISY_DONE && is_receipt(receipt, 3, 3));
 }
 
-/* Takes and lands until nothing is due; how many jobs there were. */
+/* Takes and lands until nothing is due, each job in the surface of its number; how many jobs there were. */
 static int settle(cupdaisy_session *session)
 {
     int jobs = 0;
     cupdaisy_job job = {0, 0};
     while (cupdaisy_take(session, &job) == CUPDAISY_DONE) {
-        EXPECT(cupdaisy_land(session, job.number) == CUPDAISY_DONE);
+        EXPECT(cupdaisy_land(session, job.number, job.number) == CUPDAISY_DONE);
         jobs++;
     }
     EXPECT(cupdaisy_take(session, &job) == CUPDAISY_NOTHING_DUE);
@@ -92,10 +92,10 @@ static void faults_are_told(void)
     EXPECT(outcome.kind == CUPDAISY_EMPTY && outcome.fault == 0);
     size_t position = 9;
     EXPECT(cupdaisy_position(&session, 1, &position) == CUPDAISY_NOT_VALID && position == 9);
-    uint8_t picture[32] = {7};
-    EXPECT(cupdaisy_show(&session, 1, picture) == CUPDAISY_HAS_FAULT && picture[0] == 7);
-    EXPECT(cupdaisy_show(&session, 2, picture) == CUPDAISY_NO_PICTURE && picture[0] == 7);
-    EXPECT(cupdaisy_show(&session, 3, picture) == CUPDAISY_NO_SUCH_UNIT && picture[0] == 7);
+    uint64_t surface = 7;
+    EXPECT(cupdaisy_show(&session, 1, &surface) == CUPDAISY_HAS_FAULT && surface == 7);
+    EXPECT(cupdaisy_show(&session, 2, &surface) == CUPDAISY_NO_PICTURE && surface == 7);
+    EXPECT(cupdaisy_show(&session, 3, &surface) == CUPDAISY_NO_SUCH_UNIT && surface == 7);
     EXPECT(cupdaisy_close(&session) == CUPDAISY_DONE);
 }
 
@@ -130,10 +130,9 @@ static void deleted_unit_is_repaired(void)
     cupdaisy_outcome outcome = {0, 0, 0, 0, 0, 0, 0};
     EXPECT(cupdaisy_outcome_of(&session, 3, &outcome) == CUPDAISY_DONE && outcome.fault == 11);
     EXPECT(cupdaisy_insert_after(&session, 1, P1, sizeof P1, &receipt) == CUPDAISY_DONE && is_receipt(receipt, 5, 4));
-    uint8_t picture[32];
-    memset(picture, 0, sizeof picture);
-    EXPECT(cupdaisy_show(&session, 3, picture) == CUPDAISY_DONE);
-    EXPECT(cupdaisy_show(&session, 4, picture) == CUPDAISY_DONE);
+    uint64_t surface = 0;
+    EXPECT(cupdaisy_show(&session, 3, &surface) == CUPDAISY_DONE && surface == 3);
+    EXPECT(cupdaisy_show(&session, 4, &surface) == CUPDAISY_DONE && surface == 2);
     EXPECT(cupdaisy_close(&session) == CUPDAISY_DONE);
 }
 
@@ -143,23 +142,24 @@ static void stale_and_late(void)
     EXPECT(cupdaisy_open(&session, 16) == CUPDAISY_DONE);
     cupdaisy_receipt receipt = {0, 0, 0, 0};
     cupdaisy_job job = {7, 7};
-    uint8_t picture[32] = {0};
+    uint64_t surface = 7;
     EXPECT(cupdaisy_take(&session, &job) == CUPDAISY_NOTHING_DUE && job.number == 7 && job.unit == 7);
     EXPECT(cupdaisy_insert_last(&session, A, sizeof A, &receipt) == CUPDAISY_DONE);
     EXPECT(cupdaisy_insert_last(&session, P1, sizeof P1, &receipt) == CUPDAISY_DONE);
     EXPECT(cupdaisy_take(&session, &job) == CUPDAISY_DONE && job.number == 1 && job.unit == 1);
     EXPECT(cupdaisy_take(&session, &job) == CUPDAISY_NOTHING_DUE && job.number == 1);
-    EXPECT(cupdaisy_land(&session, 1) == CUPDAISY_DONE);
+    EXPECT(cupdaisy_land(&session, 1, 11) == CUPDAISY_DONE);
     EXPECT(cupdaisy_take(&session, &job) == CUPDAISY_DONE && job.number == 2 && job.unit == 2);
     EXPECT(cupdaisy_replace(&session, 2, P1x, sizeof P1x, &receipt) == CUPDAISY_DONE);
-    EXPECT(cupdaisy_land(&session, 2) == CUPDAISY_STALE);
-    EXPECT(cupdaisy_show(&session, 2, picture) == CUPDAISY_PENDING);
+    EXPECT(cupdaisy_land(&session, 2, 12) == CUPDAISY_STALE);
+    EXPECT(cupdaisy_show(&session, 2, &surface) == CUPDAISY_PENDING && surface == 7);
     EXPECT(cupdaisy_take(&session, &job) == CUPDAISY_DONE && job.number == 3 && job.unit == 2);
     EXPECT(cupdaisy_replace(&session, 2, P1, sizeof P1, &receipt) == CUPDAISY_DONE);
     EXPECT(cupdaisy_replace(&session, 2, P1x, sizeof P1x, &receipt) == CUPDAISY_DONE);
-    EXPECT(cupdaisy_land(&session, 3) == CUPDAISY_DONE);
-    EXPECT(cupdaisy_show(&session, 2, picture) == CUPDAISY_DONE);
-    EXPECT(cupdaisy_land(&session, 3) == CUPDAISY_NO_SUCH_JOB);
+    EXPECT(cupdaisy_land(&session, 3, 12) == CUPDAISY_DONE);
+    EXPECT(cupdaisy_show(&session, 2, &surface) == CUPDAISY_DONE && surface == 12);
+    EXPECT(cupdaisy_land(&session, 3, 13) == CUPDAISY_NO_SUCH_JOB);
+    EXPECT(cupdaisy_show(&session, 2, &surface) == CUPDAISY_DONE && surface == 12);
     EXPECT(cupdaisy_give_back(&session, 3) == CUPDAISY_NO_SUCH_JOB);
     EXPECT(cupdaisy_close(&session) == CUPDAISY_DONE);
 }
@@ -176,12 +176,16 @@ static void equal_units_have_one_picture(void)
     EXPECT(cupdaisy_take(&session, &job) == CUPDAISY_NOTHING_DUE);
     EXPECT(cupdaisy_give_back(&session, 1) == CUPDAISY_DONE);
     EXPECT(cupdaisy_take(&session, &job) == CUPDAISY_DONE && job.number == 2 && job.unit == 1);
-    EXPECT(cupdaisy_land(&session, 2) == CUPDAISY_DONE);
-    uint8_t first[32] = {0};
-    uint8_t second[32] = {1};
-    EXPECT(cupdaisy_show(&session, 1, first) == CUPDAISY_DONE);
-    EXPECT(cupdaisy_show(&session, 2, second) == CUPDAISY_DONE);
-    EXPECT(memcmp(first, second, sizeof first) == 0);
+    EXPECT(cupdaisy_land(&session, 2, UINT64_MAX) == CUPDAISY_DONE);
+    uint64_t surface = 0;
+    EXPECT(cupdaisy_show(&session, 1, &surface) == CUPDAISY_DONE && surface == UINT64_MAX);
+    surface = 0;
+    EXPECT(cupdaisy_show(&session, 2, &surface) == CUPDAISY_DONE && surface == UINT64_MAX);
+    /* One of them is enough to drop it, and it comes back once. */
+    surface = 0;
+    EXPECT(cupdaisy_drop_picture(&session, 2, &surface) == CUPDAISY_DONE && surface == UINT64_MAX);
+    EXPECT(cupdaisy_drop_picture(&session, 1, &surface) == CUPDAISY_NOT_HELD);
+    EXPECT(cupdaisy_show(&session, 1, &surface) == CUPDAISY_PENDING);
     EXPECT(cupdaisy_close(&session) == CUPDAISY_DONE);
 }
 
@@ -191,12 +195,8 @@ static void jobs_are_told(void)
     EXPECT(cupdaisy_open(&session, 16) == CUPDAISY_DONE);
     fill(&session);
     cupdaisy_job job = {0, 0};
-    uint8_t first[32] = {0};
-    uint8_t shown[32] = {0};
     EXPECT(cupdaisy_take(&session, &job) == CUPDAISY_DONE);
-    EXPECT(cupdaisy_job_picture(&session, job.number, first) == CUPDAISY_DONE);
-    EXPECT(cupdaisy_land(&session, job.number) == CUPDAISY_DONE);
-    EXPECT(cupdaisy_show(&session, 1, shown) == CUPDAISY_DONE && memcmp(first, shown, sizeof first) == 0);
+    EXPECT(cupdaisy_land(&session, job.number, 5) == CUPDAISY_DONE);
     EXPECT(cupdaisy_take(&session, &job) == CUPDAISY_DONE && job.number == 2 && job.unit == 2);
     /* The unit is replaced: the job stays as it was taken. */
     cupdaisy_receipt receipt = {0, 0, 0, 0};
@@ -205,12 +205,16 @@ static void jobs_are_told(void)
     EXPECT(cupdaisy_job_input_of(&session, 2, &input) == CUPDAISY_DONE);
     EXPECT(input.unit == 2 && input.slices == 1 && input.references == 1);
     EXPECT(cupdaisy_job_input_of(&session, 1, &input) == CUPDAISY_NO_SUCH_JOB && input.unit == 2);
-    cupdaisy_reference reference = {0, {0}};
+    cupdaisy_reference reference = {0, 0};
     EXPECT(cupdaisy_job_reference(&session, 2, 0, &reference) == CUPDAISY_DONE);
-    EXPECT(reference.timestamp == 1000 && memcmp(first, reference.picture, sizeof first) == 0);
+    EXPECT(reference.timestamp == 1000 && reference.surface == 5);
     EXPECT(cupdaisy_job_reference(&session, 2, 1, &reference) == CUPDAISY_NO_SUCH_PLACE);
     EXPECT(cupdaisy_job_reference(&session, 1, 0, &reference) == CUPDAISY_NO_SUCH_JOB);
-    EXPECT(cupdaisy_job_picture(&session, 1, first) == CUPDAISY_NO_SUCH_JOB);
+    EXPECT(reference.timestamp == 1000 && reference.surface == 5);
+    /* A job that is out still refers to a surface that was dropped. */
+    uint64_t surface = 0;
+    EXPECT(cupdaisy_drop_picture(&session, 1, &surface) == CUPDAISY_DONE && surface == 5);
+    EXPECT(cupdaisy_job_reference(&session, 2, 0, &reference) == CUPDAISY_DONE && reference.surface == 5);
     uint8_t bytes[16];
     memset(bytes, 7, sizeof bytes);
     size_t needed = 0;
@@ -262,18 +266,20 @@ static void pictures_are_dropped(void)
     for (uint32_t number = 1; number <= 3; number++) {
         EXPECT(cupdaisy_take_for(&session, 3, &job) == CUPDAISY_DONE && job.number == number && job.unit == number);
         EXPECT(cupdaisy_take_for(&session, 3, &job) == CUPDAISY_NOTHING_DUE && job.number == number);
-        EXPECT(cupdaisy_land(&session, number) == CUPDAISY_DONE);
+        EXPECT(cupdaisy_land(&session, number, 10 + number) == CUPDAISY_DONE);
     }
-    uint8_t picture[32] = {0};
-    EXPECT(cupdaisy_show(&session, 3, picture) == CUPDAISY_DONE);
-    EXPECT(cupdaisy_drop_picture(&session, 2) == CUPDAISY_DONE);
-    EXPECT(cupdaisy_drop_picture(&session, 2) == CUPDAISY_NOT_HELD);
-    EXPECT(cupdaisy_drop_picture(&session, 9) == CUPDAISY_NO_SUCH_UNIT);
-    EXPECT(cupdaisy_show(&session, 2, picture) == CUPDAISY_PENDING);
-    EXPECT(cupdaisy_show(&session, 3, picture) == CUPDAISY_DONE);
+    uint64_t surface = 0;
+    EXPECT(cupdaisy_show(&session, 3, &surface) == CUPDAISY_DONE && surface == 13);
+    EXPECT(cupdaisy_drop_picture(&session, 2, &surface) == CUPDAISY_DONE && surface == 12);
+    surface = 7;
+    EXPECT(cupdaisy_drop_picture(&session, 2, &surface) == CUPDAISY_NOT_HELD && surface == 7);
+    EXPECT(cupdaisy_drop_picture(&session, 9, &surface) == CUPDAISY_NO_SUCH_UNIT && surface == 7);
+    EXPECT(cupdaisy_uncache(&session, &surface) == CUPDAISY_NOT_HELD && surface == 7);
+    EXPECT(cupdaisy_show(&session, 2, &surface) == CUPDAISY_PENDING);
+    EXPECT(cupdaisy_show(&session, 3, &surface) == CUPDAISY_DONE && surface == 13);
     EXPECT(cupdaisy_take_for(&session, 3, &job) == CUPDAISY_NOTHING_DUE);
     EXPECT(cupdaisy_take(&session, &job) == CUPDAISY_DONE && job.number == 4 && job.unit == 2);
-    EXPECT(cupdaisy_land(&session, 4) == CUPDAISY_DONE);
+    EXPECT(cupdaisy_land(&session, 4, 12) == CUPDAISY_DONE);
     uint64_t key = 0;
     uint32_t in_use = 7;
     EXPECT(cupdaisy_key(&session, 3, &key) == CUPDAISY_DONE);
@@ -281,13 +287,45 @@ static void pictures_are_dropped(void)
     cupdaisy_receipt receipt = {0, 0, 0, 0};
     EXPECT(cupdaisy_delete(&session, 3, &receipt) == CUPDAISY_DONE);
     EXPECT(cupdaisy_in_use(&session, key, &in_use) == CUPDAISY_DONE && in_use == 0);
-    /* The deleted unit's picture is cached, and comes back with the unit; a cleared cache has it no more. */
+    /* The deleted unit's picture is cached, and comes back with the unit; not so once its surface went back. */
     EXPECT(cupdaisy_insert_last(&session, P2, sizeof P2, &receipt) == CUPDAISY_DONE && receipt.id == 4);
-    EXPECT(cupdaisy_show(&session, 4, picture) == CUPDAISY_DONE);
+    EXPECT(cupdaisy_show(&session, 4, &surface) == CUPDAISY_DONE && surface == 13);
     EXPECT(cupdaisy_delete(&session, 4, &receipt) == CUPDAISY_DONE);
-    EXPECT(cupdaisy_clear_cache(&session) == CUPDAISY_DONE);
+    surface = 7;
+    EXPECT(cupdaisy_uncache(&session, &surface) == CUPDAISY_DONE && surface == 13);
+    EXPECT(cupdaisy_uncache(&session, &surface) == CUPDAISY_NOT_HELD && surface == 13);
     EXPECT(cupdaisy_insert_last(&session, P2, sizeof P2, &receipt) == CUPDAISY_DONE && receipt.id == 5);
-    EXPECT(cupdaisy_show(&session, 5, picture) == CUPDAISY_PENDING);
+    EXPECT(cupdaisy_show(&session, 5, &surface) == CUPDAISY_PENDING);
+    EXPECT(cupdaisy_close(&session) == CUPDAISY_DONE);
+}
+
+/* What a cache of one picture has no room for goes back, but not while a job that is out refers to it. */
+static void pictures_are_released(void)
+{
+    cupdaisy_session session = CUPDAISY_NONE;
+    EXPECT(cupdaisy_open(&session, 1) == CUPDAISY_DONE);
+    fill(&session);
+    cupdaisy_job job = {0, 0};
+    cupdaisy_receipt receipt = {0, 0, 0, 0};
+    uint64_t surfaces[4] = {7, 7, 7, 7};
+    size_t count = 7;
+    EXPECT(cupdaisy_released(&session, surfaces, 4, &count) == CUPDAISY_DONE && count == 0 && surfaces[0] == 7);
+    for (uint64_t number = 1; number <= 2; number++) {
+        EXPECT(cupdaisy_take(&session, &job) == CUPDAISY_DONE && job.unit == number);
+        EXPECT(cupdaisy_land(&session, number, 10 + number) == CUPDAISY_DONE);
+    }
+    /* The third picture is made of the second one, which is cached now, and then pushed out by the first one. */
+    EXPECT(cupdaisy_take(&session, &job) == CUPDAISY_DONE && job.number == 3 && job.unit == 3);
+    EXPECT(cupdaisy_delete(&session, 2, &receipt) == CUPDAISY_DONE);
+    EXPECT(cupdaisy_released(&session, surfaces, 4, &count) == CUPDAISY_DONE && count == 0 && surfaces[0] == 7);
+    EXPECT(cupdaisy_delete(&session, 1, &receipt) == CUPDAISY_DONE);
+    EXPECT(cupdaisy_released(&session, surfaces, 4, &count) == CUPDAISY_DONE && count == 0 && surfaces[0] == 7);
+    EXPECT(cupdaisy_land(&session, 3, 13) == CUPDAISY_STALE);
+    EXPECT(cupdaisy_released(&session, surfaces, 0, &count) == CUPDAISY_DONE && count == 0 && surfaces[0] == 7);
+    EXPECT(cupdaisy_released(&session, surfaces, 4, &count) == CUPDAISY_DONE && count == 1);
+    EXPECT(surfaces[0] == 12 && surfaces[1] == 7);
+    EXPECT(cupdaisy_released(&session, surfaces, 4, &count) == CUPDAISY_DONE && count == 0 && surfaces[0] == 12);
+    EXPECT(cupdaisy_uncache(&session, surfaces) == CUPDAISY_DONE && surfaces[0] == 11);
     EXPECT(cupdaisy_close(&session) == CUPDAISY_DONE);
 }
 
@@ -332,9 +370,9 @@ static void names_are_told(void)
     EXPECT(needed == 11 && memcmp(name, "FrameNumGap", 11) == 0);
     EXPECT(cupdaisy_fault_name(11, name, 10, &needed) == CUPDAISY_TOO_SMALL && needed == 11);
     EXPECT(cupdaisy_fault_name(19, name, sizeof name, &needed) == CUPDAISY_NO_SUCH_NAME);
-    EXPECT(cupdaisy_version() == 1000);
+    EXPECT(cupdaisy_version() == 3000);
     EXPECT(cupdaisy_version_text(name, sizeof name, &needed) == CUPDAISY_DONE && needed == 5);
-    EXPECT(memcmp(name, "0.1.0", 5) == 0);
+    EXPECT(memcmp(name, "0.3.0", 5) == 0);
 }
 
 /* The texts of a group one after the other, and edits that name them. */
@@ -434,13 +472,14 @@ static void expect_no_more(cupdaisy_session *session)
     EXPECT(cupdaisy_in_use(session, 1, &id) == CUPDAISY_NO_SESSION && id == 7);
     cupdaisy_job job = {7, 7};
     EXPECT(cupdaisy_take_for(session, 1, &job) == CUPDAISY_NO_SESSION && job.number == 7);
-    EXPECT(cupdaisy_drop_picture(session, 1) == CUPDAISY_NO_SESSION);
-    EXPECT(cupdaisy_clear_cache(session) == CUPDAISY_NO_SESSION);
+    uint64_t surface = 7;
+    EXPECT(cupdaisy_drop_picture(session, 1, &surface) == CUPDAISY_NO_SESSION && surface == 7);
+    EXPECT(cupdaisy_uncache(session, &surface) == CUPDAISY_NO_SESSION && surface == 7);
+    EXPECT(cupdaisy_released(session, &surface, 1, &number) == CUPDAISY_NO_SESSION && surface == 7 && number == 7);
     cupdaisy_job_input input = {7, 7, 7};
-    cupdaisy_reference reference = {7, {7}};
+    cupdaisy_reference reference = {7, 7};
     EXPECT(cupdaisy_job_input_of(session, 1, &input) == CUPDAISY_NO_SESSION && input.unit == 7);
     EXPECT(cupdaisy_job_reference(session, 1, 0, &reference) == CUPDAISY_NO_SESSION && reference.timestamp == 7);
-    EXPECT(cupdaisy_job_picture(session, 1, bytes) == CUPDAISY_NO_SESSION && bytes[0] == 7);
     EXPECT(cupdaisy_unit_bytes(session, 1, 0, bytes, sizeof bytes, &number) == CUPDAISY_NO_SESSION && number == 7);
     EXPECT(cupdaisy_job_bytes(session, 1, 0, bytes, sizeof bytes, &number) == CUPDAISY_NO_SESSION && number == 7);
 #ifdef __linux__
@@ -477,11 +516,11 @@ static void expect_no_session(cupdaisy_session *session)
     EXPECT(number == 7 && id == 7);
     cupdaisy_outcome outcome = {7, 7, 7, 7, 7, 7, 7};
     EXPECT(cupdaisy_outcome_of(session, 1, &outcome) == CUPDAISY_NO_SESSION && outcome.kind == 7);
-    uint8_t picture[32] = {7};
-    EXPECT(cupdaisy_show(session, 1, picture) == CUPDAISY_NO_SESSION && picture[0] == 7);
+    uint64_t surface = 7;
+    EXPECT(cupdaisy_show(session, 1, &surface) == CUPDAISY_NO_SESSION && surface == 7);
     cupdaisy_job job = {7, 7};
     EXPECT(cupdaisy_take(session, &job) == CUPDAISY_NO_SESSION && job.number == 7);
-    EXPECT(cupdaisy_land(session, 1) == CUPDAISY_NO_SESSION);
+    EXPECT(cupdaisy_land(session, 1, 7) == CUPDAISY_NO_SESSION);
     EXPECT(cupdaisy_give_back(session, 1) == CUPDAISY_NO_SESSION);
     expect_no_more(session);
     EXPECT(cupdaisy_close(session) == CUPDAISY_NO_SESSION);
@@ -537,7 +576,7 @@ static size_t run_refusing(size_t at, bool after)
     for (uint64_t number = 1; number <= 3; number++) {
         WITH_MEMORY(cupdaisy_take(&session, &job));
         EXPECT(job.number == number && job.unit == number);
-        WITH_MEMORY(cupdaisy_land(&session, job.number));
+        EXPECT(cupdaisy_land(&session, job.number, 10 + number) == CUPDAISY_DONE);
     }
     WITH_MEMORY(cupdaisy_replace(&session, 2, P1x, sizeof P1x, &receipt));
     EXPECT(is_receipt(receipt, 4, 2));
@@ -562,13 +601,17 @@ static size_t run_refusing(size_t at, bool after)
     EXPECT(status == CUPDAISY_DONE && load.number == 8);
     WITH_MEMORY(cupdaisy_take_for(&session, 2, &job));
     EXPECT(job.number == 5 && job.unit == 2);
-    uint8_t made[32] = {0};
-    WITH_MEMORY(cupdaisy_job_picture(&session, 5, made));
-    WITH_MEMORY(cupdaisy_give_back(&session, 5));
-    uint8_t picture[32] = {0};
-    EXPECT(cupdaisy_show(&session, 1, picture) == CUPDAISY_DONE);
-    EXPECT(cupdaisy_show(&session, 2, picture) == CUPDAISY_PENDING);
-    EXPECT(cupdaisy_show(&session, 3, picture) == CUPDAISY_NO_SUCH_UNIT);
+    /* The replaced unit's picture and that of the one behind it are cached or released, whatever memory was refused. */
+    uint64_t back[3] = {0, 0, 0};
+    size_t count = 0;
+    EXPECT(cupdaisy_released(&session, back, 3, &count) == CUPDAISY_DONE && count <= 2);
+    while (cupdaisy_uncache(&session, &back[count]) == CUPDAISY_DONE)
+        count++;
+    EXPECT(count == 2 && back[0] + back[1] == 25 && (back[0] == 12 || back[0] == 13));
+    EXPECT(cupdaisy_give_back(&session, 5) == CUPDAISY_DONE);
+    EXPECT(cupdaisy_show(&session, 1, &back[0]) == CUPDAISY_DONE && back[0] == 11);
+    EXPECT(cupdaisy_show(&session, 2, &back[0]) == CUPDAISY_PENDING);
+    EXPECT(cupdaisy_show(&session, 3, &back[0]) == CUPDAISY_NO_SUCH_UNIT);
     EXPECT(cupdaisy_close(&session) == CUPDAISY_DONE);
     refuse_at = 0;
     return growths;
@@ -595,6 +638,7 @@ int main(void)
     equal_units_have_one_picture();
     jobs_are_told();
     pictures_are_dropped();
+    pictures_are_released();
     journal_is_told();
     names_are_told();
     groups_are_made();

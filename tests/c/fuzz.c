@@ -1,8 +1,9 @@
 /*
  * A fuzz target over the calls of cupdaisy.h: a byte string is a list of calls, each a byte for the call and bytes for what it
  * is given. After each call it is looked at whether the status is one that the header names, whether out-parameters stay as
- * they were where the header says so, whether a call took memory that takes none, and whether the units are those that the
- * accepted edits leave. At the end the session is closed, and nothing may be left on the heap.
+ * they were where the header says so, whether a call took memory that takes none, whether the units are those that the
+ * accepted edits leave, and whether the session has just the surfaces that were landed and didn't come back. At the end the session
+ * is closed, and nothing may be left on the heap.
  *
  * tools/fuzz-c builds it with libFuzzer. With -DALONE it is a program that runs the files that it is given.
  */
@@ -20,7 +21,7 @@
         }                                                                          \
     } while (0)
 
-enum { MOST_UNITS = 64, ROOM = 1024, STATUSES = 128, CALLS = 64, FAULTS = 63 };
+enum { MOST_UNITS = 64, ROOM = 1024, STATUSES = 128, CALLS = 64, FAULTS = 63, SURFACES = 8192 };
 
 /* Which statuses each call was answered by: libFuzzer takes these for code that was reached, as the library has no marks. */
 #ifndef ALONE
@@ -64,6 +65,8 @@ struct known {
     size_t units;
     uint32_t given; /* ids */
     size_t entries; /* of the journal */
+    bool has[SURFACES]; /* which surfaces the session has */
+    uint64_t jobs;      /* how many were taken */
 };
 
 static unsigned call_number;
@@ -127,6 +130,37 @@ static size_t drawn_text(struct input *input, uint8_t *text)
         text[place] = (uint8_t)next(input);
     }
     return (drawn & 0x80) != 0 ? next(input) % (length + 1) : length;
+}
+
+/* A surface that the session doesn't have. */
+static uint64_t drawn_surface(const struct known *known, struct input *input)
+{
+    uint64_t surface = next(input);
+    while (known->has[surface])
+        surface = (surface + 1) % SURFACES;
+    return surface;
+}
+
+/* A surface is the host's again: the session had it, and shows it of no unit. */
+static void came_back(struct known *known, uint64_t surface)
+{
+    EXPECT(surface < SURFACES && known->has[surface]);
+    known->has[surface] = false;
+    for (size_t place = 0; place < known->units; place++) {
+        uint64_t shown = 0;
+        EXPECT(cupdaisy_show(&known->session, known->ids[place], &shown) != CUPDAISY_DONE || shown != surface);
+    }
+}
+
+/* Whether a job that is out refers to a surface. */
+static bool is_referred(struct known *known, uint64_t surface)
+{
+    cupdaisy_reference reference;
+    for (uint64_t job = 1; job <= known->jobs; job++)
+        for (size_t index = 0; cupdaisy_job_reference(&known->session, job, index, &reference) == CUPDAISY_DONE; index++)
+            if (reference.surface == surface)
+                return true;
+    return false;
 }
 
 static void put_id(struct known *known, size_t at, uint32_t id)
@@ -328,16 +362,18 @@ static void ask_unit(struct known *known, struct input *input)
     cupdaisy_outcome outcome;
     uint64_t key = 0;
     uint32_t in_use = 0;
-    uint8_t picture[32];
+    uint64_t surface = 0;
     UNTOUCHED(outcome);
     UNTOUCHED(key);
-    UNTOUCHED(picture);
+    UNTOUCHED(surface);
     uint32_t told = answered(known, cupdaisy_outcome_of(session, id, &outcome), of_unit);
     uint32_t keyed = answered(known, cupdaisy_key(session, id, &key), of_valid);
-    uint32_t shown = answered(known, cupdaisy_show(session, id, picture), of_show);
+    uint32_t shown = answered(known, cupdaisy_show(session, id, &surface), of_show);
     EXPECT((told == CUPDAISY_DONE) == (known->is_open && place_of(known, id) < known->units));
     if (shown != CUPDAISY_DONE)
-        EXPECT_UNTOUCHED(picture);
+        EXPECT_UNTOUCHED(surface);
+    else
+        EXPECT(surface < SURFACES && known->has[surface]);
     if (keyed != CUPDAISY_DONE)
         EXPECT_UNTOUCHED(key);
     else
@@ -358,37 +394,70 @@ static const uint8_t of_take[] = {0, 108, 255};
 static const uint8_t of_land[] = {0, 105, 110, 255};
 static const uint8_t of_job[] = {0, 105, 255};
 static const uint8_t of_drop[] = {0, 16, 111, 255};
+static const uint8_t of_uncache[] = {0, 111, 255};
 static const uint8_t of_reference[] = {0, 104, 105, 255};
+
+static void land(struct known *known, uint64_t job, uint64_t surface)
+{
+    size_t before = growths;
+    uint32_t status = answered(known, cupdaisy_land(&known->session, job, surface), of_land);
+    known->has[surface] = status == CUPDAISY_DONE;
+    EXPECT(growths == before && (status == CUPDAISY_NO_SESSION || status == CUPDAISY_NO_SUCH_JOB || job <= known->jobs));
+}
+
+static bool take(struct known *known, uint32_t status, const cupdaisy_job *job)
+{
+    if (answered(known, status, of_take) != CUPDAISY_DONE) {
+        EXPECT_UNTOUCHED(*job);
+        return false;
+    }
+    EXPECT(place_of(known, job->unit) < known->units && job->number == ++known->jobs);
+    return true;
+}
 
 static void work(struct known *known, struct input *input, unsigned which)
 {
     cupdaisy_session *session = &known->session;
     uint64_t number = drawn_number(input);
     cupdaisy_job job;
-    uint8_t picture[32];
     UNTOUCHED(job);
-    UNTOUCHED(picture);
     switch (which) {
     case 0:
-        if (answered(known, cupdaisy_take(session, &job), of_take) != CUPDAISY_DONE)
-            EXPECT_UNTOUCHED(job);
-        else
-            EXPECT(place_of(known, job.unit) < known->units);
+        take(known, cupdaisy_take(session, &job), &job);
         break;
     case 1:
-        answered(known, cupdaisy_land(session, number), of_land);
+        land(known, number, drawn_surface(known, input));
         break;
     case 2:
         answered(known, cupdaisy_give_back(session, number), of_job);
         break;
     case 3:
-        if (answered(known, cupdaisy_job_picture(session, number, picture), of_job) != CUPDAISY_DONE)
-            EXPECT_UNTOUCHED(picture);
+        /* A job that is out, most often. */
+        land(known, known->jobs - number % 4, drawn_surface(known, input));
         break;
     default:
-        while (cupdaisy_take(session, &job) == CUPDAISY_DONE)
-            if (cupdaisy_land(session, job.number) == CUPDAISY_MEMORY)
-                break;
+        while (take(known, cupdaisy_take(session, &job), &job)) {
+            land(known, job.number, drawn_surface(known, input));
+            UNTOUCHED(job);
+        }
+    }
+}
+
+static void take_back_released(struct known *known, struct input *input)
+{
+    uint64_t surfaces[8];
+    size_t room = next(input) % 9;
+    size_t count = 0;
+    UNTOUCHED(surfaces);
+    UNTOUCHED(count);
+    if (answered(known, cupdaisy_released(&known->session, surfaces, room, &count), done) != CUPDAISY_DONE) {
+        EXPECT_UNTOUCHED(count);
+        count = 0;
+    }
+    EXPECT(count <= room && is_untouched(surfaces + count, (8 - count) * sizeof surfaces[0]));
+    for (size_t i = 0; i < count; i++) {
+        came_back(known, surfaces[i]);
+        EXPECT(!is_referred(known, surfaces[i]));
     }
 }
 
@@ -398,24 +467,30 @@ static void keep_few(struct known *known, struct input *input, unsigned which)
     cupdaisy_session *session = &known->session;
     uint32_t id = drawn_id(known, input);
     cupdaisy_job job;
-    uint8_t picture[32];
+    uint64_t surface = 0;
+    uint64_t shown = 0;
     UNTOUCHED(job);
     if (which == 0) {
-        if (answered(known, cupdaisy_take_for(session, id, &job), of_take) != CUPDAISY_DONE)
-            EXPECT_UNTOUCHED(job);
-        else
-            EXPECT(place_of(known, id) < known->units && place_of(known, job.unit) < known->units);
+        if (take(known, cupdaisy_take_for(session, id, &job), &job))
+            EXPECT(place_of(known, id) < known->units);
         return;
     }
     size_t before = growths;
-    if (which == 2)
-        answered(known, cupdaisy_clear_cache(session), done);
-    else {
-        uint32_t shown = cupdaisy_show(session, id, picture);
-        uint32_t status = answered(known, cupdaisy_drop_picture(session, id), of_drop);
-        EXPECT((status == CUPDAISY_DONE) == (shown == CUPDAISY_DONE));
-        EXPECT(status != CUPDAISY_DONE || cupdaisy_show(session, id, picture) == CUPDAISY_PENDING);
-    }
+    UNTOUCHED(surface);
+    uint32_t status = 0;
+    if (which == 1) {
+        uint32_t asked = cupdaisy_show(session, id, &shown);
+        status = answered(known, cupdaisy_drop_picture(session, id, &surface), of_drop);
+        EXPECT((status == CUPDAISY_DONE) == (asked == CUPDAISY_DONE));
+        EXPECT(status != CUPDAISY_DONE || (surface == shown && cupdaisy_show(session, id, &shown) == CUPDAISY_PENDING));
+    } else if (which == 2)
+        status = answered(known, cupdaisy_uncache(session, &surface), of_uncache);
+    else
+        take_back_released(known, input);
+    if (which < 3 && status == CUPDAISY_DONE)
+        came_back(known, surface);
+    else
+        EXPECT_UNTOUCHED(surface);
     EXPECT(growths == before);
 }
 
@@ -433,7 +508,7 @@ static void ask_job(struct known *known, struct input *input)
         EXPECT_UNTOUCHED(told);
         EXPECT(referred == status);
     } else
-        EXPECT(told.slices > 0 && (referred == CUPDAISY_DONE) == (index < told.references));
+        EXPECT(number <= known->jobs && told.slices > 0 && (referred == CUPDAISY_DONE) == (index < told.references));
     if (referred != CUPDAISY_DONE)
         EXPECT_UNTOUCHED(reference);
 }
@@ -570,6 +645,8 @@ static void close_session(struct known *known)
     known->units = 0;
     known->given = 0;
     known->entries = 0;
+    known->jobs = 0;
+    memset(known->has, 0, sizeof known->has);
     EXPECT(blocks == 0);
 }
 
@@ -613,7 +690,7 @@ static void call(struct known *known, struct input *input)
         refuse_at = growths + 1 + drawn % 64;
         refuse_after = drawn >= 128;
         return;
-    } else if (call_number >= 28 && call_number < 31)
+    } else if (call_number >= 28)
         keep_few(known, input, call_number - 28);
     else if (known->units + 8 > MOST_UNITS)
         edit(known, input, 2);

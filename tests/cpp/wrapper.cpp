@@ -54,24 +54,45 @@ static void jobs_are_told()
     session.load(A);
     session.insert_after(1, P1);
     cupdaisy_job job;
-    cupdaisy::Picture picture = {};
+    cupdaisy::Surface surface = 7;
     EXPECT(session.take(job) && job.number == 1 && session.references(1).empty());
-    const cupdaisy::Picture first = session.picture(1);
-    EXPECT(session.show(1, picture) == CUPDAISY_PENDING && session.land(1));
-    EXPECT(session.show(1, picture) == CUPDAISY_DONE && picture == first);
+    EXPECT(session.show(1, surface) == CUPDAISY_PENDING && surface == 7 && session.land(1, 40));
+    EXPECT(session.show(1, surface) == CUPDAISY_DONE && surface == 40);
     EXPECT(session.take(job) && job.unit == 2 && session.input(job.number).slices == 1);
-    EXPECT(session.references(job.number) == std::vector<cupdaisy::Picture>(1, first));
+    EXPECT(session.references(job.number) == std::vector<cupdaisy::Surface>(1, 40));
     EXPECT(session.bytes(job.number, 0) == P1);
     EXPECT(refusal([&] { session.bytes(job.number, 1); }) == CUPDAISY_NO_SUCH_SLICE);
     session.give_back(job.number);
     EXPECT(session.take(job) && job.number == 3 && !session.take(job));
     session.erase(2);
-    EXPECT(!session.land(3) && refusal([&] { session.land(3); }) == CUPDAISY_NO_SUCH_JOB);
+    EXPECT(!session.land(3, 41) && refusal([&] { session.land(3, 41); }) == CUPDAISY_NO_SUCH_JOB);
+}
+
+static void surfaces_go_back()
+{
+    cupdaisy::Session session(1);
+    Bytes stream = A;
+    stream.insert(stream.end(), P1.begin(), P1.end());
+    session.load(stream);
+    cupdaisy_job job;
+    cupdaisy::Surface surface = 7;
+    EXPECT(session.take_for(2, job) && job.unit == 1 && session.land(job.number, 40));
+    EXPECT(session.take_for(2, job) && job.unit == 2 && session.land(job.number, 41) && !session.take_for(2, job));
+    EXPECT(!session.uncache(surface) && session.released().empty());
+    EXPECT(session.drop(2, surface) && surface == 41 && !session.drop(2, surface));
+    EXPECT(session.take(job) && session.land(job.number, 42));
+    /* The cache has room for one of two pictures. */
+    session.erase(2);
+    session.erase(1);
+    EXPECT(session.released() == std::vector<cupdaisy::Surface>(1, 42) && session.released().empty());
+    EXPECT(session.uncache(surface) && surface == 40 && !session.uncache(surface));
+    EXPECT(refusal([&] { session.drop(2, surface); }) == CUPDAISY_NO_SUCH_UNIT && surface == 40);
 }
 
 int main()
 {
     edits_are_made();
     jobs_are_told();
+    surfaces_go_back();
     return failures != 0;
 }

@@ -5,11 +5,14 @@
 
 Each of N sessions (10 by default), by a seed of its own from --seed on, makes so many steps (60 by default): edits whose texts
 are the files' units, whole or damaged, groups of edits, loads, and jobs that are taken, landed and given back in any order.
-Each answer is compared, and after each step the whole stream: ids, outcomes, positions, keys, what is shown, and the requests
-of one unit and of one job with all their bytes. At the end the journal is that of the accepted edits.
+The host decodes by the structs that it is told: a surface holds the digest of a job's requests, of their bytes and of what the
+surfaces hold that the job refers to. Each answer is compared, and after each step the whole stream: ids, outcomes, positions,
+keys, what the surfaces hold that are shown, the requests of one unit and of one job with all their bytes, and which surfaces the
+session has. At the end the journal is that of the accepted edits.
 
 Exit status: 0 if nothing differs, else 1.
 """
+import hashlib
 import importlib.util
 import os
 import pathlib
@@ -33,7 +36,7 @@ KINDS = {"first": interface.INSERT_FIRST, "after": interface.INSERT_AFTER, "dele
          "replace": interface.REPLACE}
 CACHE, MOST_UNITS = 4096, 24
 STEPS = ("edit", "edit", "edit", "edit", "group", "load", "take", "take", "take_for", "take_for", "land", "give", "settle",
-         "settle_for", "drop", "drop", "clear")
+         "settle_for", "drop", "drop", "uncache", "released")
 
 
 class Differs(Exception):
@@ -69,6 +72,8 @@ class Drawn:
         # The number of each key that was in use before the step, or is told in it.
         self.keys, self.numbers = {}, set()
         self.given, self.undo, self.at = {}, None, -1
+        # What each surface of the host holds, by its number, and those that the session has.
+        self.contents, self.has = [], set()
 
     def begin(self):
         """Inserts the first units of a file."""
@@ -202,33 +207,89 @@ class Drawn:
             rows = {unit[0]: row for unit, row in zip(self.model.stream, self.model.rows)}
             self.jobs[taken[0]] = taken[1], rows[taken[1]], {unit: row.key for unit, row in rows.items()}, due[1]
 
+    def form(self, found, weights):
+        """The digest form of a request's structs, and their values by the controls' names."""
+        form, values = b"", {}
+        for control in kernel_structs.CONTROLS:
+            struct = weights if control == "pred_weights" else bytes(getattr(found, control))
+            form += b"" if control != "pred_weights" else b"\0" if weights is None else b"\1"
+            if struct is not None:
+                values[control], more = self.memory.read(f"v4l2_ctrl_h264_{control}", struct)
+                form += more
+        return form, values
+
+    def decoded(self, number):
+        """What a job's picture holds: the digest of its requests and of the pictures in the surfaces of its references."""
+        held = {timestamp: self.contents[surface] for timestamp, surface in self.session.job_references(number)}
+        records = b""
+        for place in range(self.session.job_input(number).slices):
+            form, values = self.form(self.session.job_request(number, place), self.session.job_weights(number, place))
+            records += kernel_structs.record(form, values["slice_params"], values["decode_params"]["dpb"],
+                                             self.session.job_bytes(number, place), held)
+        return hashlib.sha256(records).digest()
+
+    def surface(self):
+        """One that the session doesn't have, and no job that is out refers to."""
+        referred = {surface for number in self.jobs for _, surface in self.session.job_references(number)}
+        free = sorted(set(range(len(self.contents))) - self.has - referred)
+        if not free or self.rng.random() < 0.2:
+            self.contents.append(None)
+            return len(self.contents) - 1
+        return self.rng.choice(free)
+
+    def landed(self, number):
+        """Decodes a job into a surface, and lands it."""
+        surface = self.surface()
+        self.contents[surface] = self.decoded(number) if number in self.jobs else None
+        found, wanted = answered(self.session.land, number, surface), self.model.land(number)
+        same("land", found, {"taken": True, "stale": False, "none": ("refused", 105, None)}[wanted])
+        if wanted == "taken":
+            self.has.add(surface)
+        self.jobs.pop(number, None)
+
+    def came_back(self, surface):
+        """What a surface holds that is the host's again."""
+        if surface not in self.has:
+            raise Differs(f"the surface {surface} comes back, which the session doesn't have")
+        self.has.remove(surface)
+        return self.contents[surface]
+
     def settle_for(self):
         """What a unit's picture needs is made; it is ready then, if none of it is out."""
         unit = self.unit()
         while (due := self.model.due(self.model.needed(unit))) is not None:
             self.taken(answered(self.session.take_for, unit), due, self.model.take(self.model.needed(unit)))
-            number = max(self.jobs)
-            same("land", self.session.land(number), self.model.land(number) == "taken")
-            del self.jobs[number]
+            self.landed(max(self.jobs))
 
     def drop(self):
         unit = self.unit()
-        found = answered(self.session.drop, unit)
-        same("drop", found, {"dropped": True, "not held": False, "none": ("refused", 16, None)}[self.model.drop(unit)])
+        found, wanted = answered(self.session.drop, unit), self.model.drop(unit)
+        if wanted == "dropped":
+            same("drop", self.came_back(found), self.model.pictures[self.model.rows[self.model.place(unit)].key])
+        else:
+            same("drop", found, {"not held": None, "none": ("refused", 16, None)}[wanted])
 
-    def clear(self):
-        self.session.clear_cache()
-        self.model.clear()
+    def uncache(self):
+        """The picture that was cached first is one of the last group of the model's cache."""
+        surface = self.session.uncache()
+        if surface is None or not self.model.cached:
+            return same("uncache", surface, None if not self.model.cached else "a surface")
+        picture = self.came_back(surface)
+        last = [key for key in self.model.cached[-1] if self.model.pictures[key] == picture]
+        same("uncache, pictures of the last group", len(last), 1)
+        self.model.cached[-1].remove(last[0])
+        self.model.cached = [group for group in self.model.cached if group]
+
+    def released(self):
+        """The cache is large enough here, so that nothing is released."""
+        same("released", [*self.session.released()], [])
 
     def job(self):
         """The number of a job that is out, or now and then of none."""
         return self.rng.choice([*self.jobs]) if self.jobs and self.rng.random() < 0.9 else self.rng.choice((0, 7777, 1))
 
     def land(self):
-        number = self.job()
-        found, wanted = answered(self.session.land, number), self.model.land(number)
-        same("land", found, {"taken": True, "stale": False, "none": ("refused", 105, None)}[wanted])
-        self.jobs.pop(number, None)
+        self.landed(self.job())
 
     def give(self):
         number = self.job()
@@ -239,22 +300,14 @@ class Drawn:
     def settle(self):
         while self.model.due():
             self.take()
-            number = max(self.jobs)
-            same("land", self.session.land(number), self.model.land(number) == "taken")
-            del self.jobs[number]
+            self.landed(max(self.jobs))
 
     def request(self, what, found, weights, text, wanted, timestamp, is_last):
         """A request by the model's: what is told beside the controls, their digest form, and the references' timestamps."""
         same(f"{what}, timestamp, hold and unit's begin", (found.timestamp, found.hold, found.unit_begins),
              (timestamp, int(not is_last), len(START)))
         same(f"{what}, bytes", (found.bytes, text), (len(wanted.text), wanted.text))
-        form, values = b"", {}
-        for control in kernel_structs.CONTROLS:
-            struct = weights if control == "pred_weights" else bytes(getattr(found, control))
-            form += b"" if control != "pred_weights" else b"\0" if weights is None else b"\1"
-            if struct is not None:
-                values[control], more = self.memory.read(f"v4l2_ctrl_h264_{control}", struct)
-                form += more
+        form, values = self.form(found, weights)
         same(f"{what}, whether it has weights", found.has_weights, int(weights is not None))
         same(f"{what}, digest form", form.hex(), wanted.form.hex())
         named = wanted.line.split(" ")[11]
@@ -287,10 +340,11 @@ class Drawn:
                          place + 1 == len(requests))
         found = self.session.job_input(number)
         same(f"job {number}", (found.unit, found.slices), (unit, len(requests)))
-        same(f"job {number}, its picture", self.session.job_picture(number), self.model.pictures[key])
+        same(f"job {number}, its picture", self.decoded(number), self.model.pictures[key])
         named = {1000 * each: self.model.pictures[keys[each]] for request in requests for each in request.entries
                  if each is not None}
-        same(f"job {number}, its references", sorted(self.session.job_references(number)), sorted(named.items()))
+        found = [(timestamp, self.contents[surface]) for timestamp, surface in self.session.job_references(number)]
+        same(f"job {number}, its references", sorted(found), sorted(named.items()))
 
     def stream(self):
         """The whole stream."""
@@ -322,7 +376,11 @@ class Drawn:
              (interface.PLAN, 0, *outcome.counts, outcome.order, int(outcome.begins_period), len(outcome.requests)))
         same(f"position of {unit}", self.session.position(unit), row.position)
         same(f"unit at {row.position}", self.session.unit_at(row.position), unit)
-        same(f"show {unit}", self.session.show(unit), self.model.pictures[row.key] if row.key in self.model.held else None)
+        surface = self.session.show(unit)
+        same(f"show {unit}", None if surface is None else self.contents[surface],
+             self.model.pictures[row.key] if row.key in self.model.held else None)
+        if surface not in {None, *self.has}:
+            raise Differs(f"unit {unit} shows the surface {surface}, which the session doesn't have")
         key = self.session.key(unit)
         same(f"key of {unit}", key, self.keys.get(row.key, key))
         self.keys[row.key] = key
@@ -336,6 +394,7 @@ class Drawn:
         kind = self.rng.choice(STEPS)
         getattr(self, kind)()
         self.stream()
+        same("surfaces that the session has", len(self.has), len(self.model.held) + sum(map(len, self.model.cached)))
         self.keys_in_use()
         self.unit_requests()
         self.job_requests()

@@ -7,7 +7,8 @@
 #                              which the compiler has for its machine. There is a program for x86-64 alone. DESTDIR comes
 #                              before both
 #     make check               builds and runs the tests in C and C++: under AddressSanitizer and UndefinedBehaviorSanitizer,
-#                              and under valgrind where it is there; those for aarch64 under qemu, where that is there
+#                              and under valgrind where it is there; those for aarch64 under qemu, where that is there; and
+#                              those of the module for Python and of the crate for Rust
 #     make check-install       installs into an empty folder, and builds and runs a program by what pkg-config says alone
 #     make deb                 makes Debian's packages of these, in build/packages
 #     make examples            builds the examples
@@ -105,6 +106,7 @@ no-program:
 check: $(library) examples
 	tools/check-header
 	tools/check-c
+	tools/check-languages
 
 check-install: $(library)
 	tools/check-install

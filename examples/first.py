@@ -1,18 +1,18 @@
-"""Loads a stream, decodes its pictures by a function, and prints what is shown of each unit."""
+"""Loads a stream, decodes its pictures by a function, and prints what is shown of each unit.
+
+    PYTHONPATH=python python3 examples/first.py FILE
+"""
 import hashlib
 import sys
 
 import cupdaisy
 
-surfaces = []    # what each holds; the session knows a surface by its place
-
 
 def decode(job):
-    """Makes a surface's picture of a job: a sum of its slices and of the surfaces that it refers to."""
+    """Makes a surface's picture of a job: here a sum of its slices and of the surfaces that it refers to."""
     slices = [session.job_bytes(job.number, place) for place in range(session.job_input(job.number).slices)]
-    references = [surfaces[surface] for _, surface in session.job_references(job.number)]
-    surfaces.append(hashlib.sha256(b"".join(slices + references)).digest())
-    return len(surfaces) - 1
+    references = [reference.surface for reference in session.job_references(job.number)]
+    return hashlib.sha256(b"".join(slices + references)).digest()
 
 
 with cupdaisy.Session() as session:
@@ -20,6 +20,6 @@ with cupdaisy.Session() as session:
         session.load(stream.read())
     for job in session.jobs():
         session.land(job.number, decode(job))
-    for unit in session.ids():
+    for unit in session:
         surface = session.show(unit)
-        print(unit, "no picture" if surface is None else surfaces[surface].hex())
+        print(unit, surface.hex() if surface else "no picture")

@@ -15,11 +15,13 @@ PLAN, FAULT, EMPTY = 0, 1, 2
 INSERT_FIRST, INSERT_AFTER, DELETE, REPLACE = 0, 1, 2, 3
 
 SONAME = "libcupdaisy.so.0"
+# The least version that has all calls, as cupdaisy_version tells it.
+LEAST = 3000
 HANDLE, TEXT, SIZE, OUT_SIZE = POINTER(Handle), (c_void_p, c_size_t), c_size_t, POINTER(c_size_t)
 OUT_ID, OUT_NUMBER = POINTER(c_uint32), POINTER(c_uint64)
 FILLED = (*TEXT, OUT_SIZE)
 # The types of each call's parameters after the handle, in the header's order.
-CALLS: dict[str, tuple] = {
+CALLS: dict[str, tuple[Any, ...]] = {
     "open": (c_uint16,), "close": (),
     "insert_first": (*TEXT, POINTER(Receipt)), "insert_after": (c_uint32, *TEXT, POINTER(Receipt)),
     "insert_last": (*TEXT, POINTER(Receipt)), "delete": (c_uint32, POINTER(Receipt)),
@@ -38,7 +40,7 @@ CALLS: dict[str, tuple] = {
     "journal": (OUT_SIZE,), "journal_entry": (SIZE, OUT_SIZE), "journal_edit_at": (SIZE, SIZE, POINTER(JournalEdit)),
     "journal_text": (SIZE, SIZE, *FILLED),
 }
-NAMES: dict[str, tuple] = {"status_name": (c_uint32, *FILLED), "fault_name": (c_uint32, *FILLED), "version_text": FILLED}
+NAMES: dict[str, tuple[Any, ...]] = {"status_name": (c_uint32, *FILLED), "fault_name": (c_uint32, *FILLED), "version_text": FILLED}
 
 
 def places() -> list[str]:
@@ -59,10 +61,14 @@ def loaded() -> ctypes.CDLL:
     why: list[str] = []
     for place in places():
         try:
-            return ctypes.CDLL(place)
+            library = ctypes.CDLL(place)
         except OSError as fault:
             why.append(str(fault))
-    raise ImportError(f"{SONAME} isn't there: install it (`make install`, or Debian's package libcupdaisy0), or name it by "
+            continue
+        if library.cupdaisy_version() >= LEAST:
+            return library
+        why.append(f"{place} is older than 0.3")
+    raise ImportError(f"{SONAME} of version 0.3 isn't there: install it (`make install`, or Debian's package libcupdaisy0), or name it by "
                       f"CUPDAISY_LIBRARY: {'; '.join(why)}")
 
 
@@ -82,7 +88,8 @@ class Refused(Exception):
 
 def called(name: str, *operands: Any) -> int:
     """The status of a call."""
-    return getattr(LIBRARY, f"cupdaisy_{name}")(*operands)
+    status: int = getattr(LIBRARY, f"cupdaisy_{name}")(*operands)
+    return status
 
 
 def text_of(text: bytes) -> tuple[Any, int]:

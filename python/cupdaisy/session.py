@@ -2,7 +2,7 @@
 import weakref
 from ctypes import byref, c_size_t, c_uint32, c_uint64
 from types import TracebackType
-from typing import Any, Generic, Iterator, NamedTuple, Optional, Sequence, TypeVar
+from typing import Any, Generic, Iterator, NamedTuple, Optional, Sequence, TypeVar, Union
 
 from .kernel import PredWeights
 from .library import (DONE, HAS_FAULT, NO_PICTURE, NO_SUCH_PLACE, NO_WEIGHTS, NOT_HELD, NOTHING_DUE, PENDING, STALE, Refused,
@@ -11,6 +11,8 @@ from .records import (Edit, GroupReceipt, Handle, Job, JobInput, JobReference, J
                       Request)
 
 T = TypeVar("T")
+Out = TypeVar("Out", bound=Any)
+Number = Union[c_size_t, c_uint32, c_uint64]
 
 
 class Reference(NamedTuple):
@@ -47,6 +49,7 @@ class Session(Generic[T]):
     # How calls are made.
 
     def call(self, name: str, *operands: Any) -> int:
+        """The status of a call."""
         return called(name, byref(self.handle), *operands)
 
     def done(self, name: str, *operands: Any) -> None:
@@ -55,8 +58,13 @@ class Session(Generic[T]):
         if status != DONE:
             raise Refused(status)
 
-    def told(self, out: Any, name: str, *operands: Any, absent: Sequence[int] = ()) -> Any:
-        """What a call writes into its last parameter; None where its status is one of the absent ones."""
+    def told(self, out: Out, name: str, *operands: Any) -> Out:
+        """What a call writes into its last parameter."""
+        self.done(name, *operands, byref(out))
+        return out
+
+    def found(self, absent: Sequence[int], out: Out, name: str, *operands: Any) -> Optional[Out]:
+        """The same; None where its status is one of the absent ones."""
         status = self.call(name, *operands, byref(out))
         if status in absent:
             return None
@@ -64,8 +72,12 @@ class Session(Generic[T]):
             raise Refused(status)
         return out
 
-    def number(self, kind: Any, name: str, *operands: Any, absent: Sequence[int] = ()) -> Any:
-        out = self.told(kind(), name, *operands, absent=absent)
+    def number(self, kind: type[Number], name: str, *operands: Any) -> int:
+        """The number that a call writes into its last parameter."""
+        return self.told(kind(), name, *operands).value
+
+    def found_number(self, absent: Sequence[int], kind: type[Number], name: str, *operands: Any) -> Optional[int]:
+        out = self.found(absent, kind(), name, *operands)
         return None if out is None else out.value
 
     def bytes_told(self, name: str, *operands: Any) -> bytes:
@@ -119,7 +131,10 @@ class Session(Generic[T]):
 
     def __iter__(self) -> Iterator[int]:
         """The units in decoding order."""
-        return (self.id_at(place) for place in range(len(self)))
+        place = 0
+        while (unit := self.id_at(place)) is not None:
+            yield unit
+            place += 1
 
     def ids(self) -> list[int]:
         """The units in decoding order."""
@@ -132,9 +147,9 @@ class Session(Generic[T]):
             yield unit
             position += 1
 
-    def id_at(self, place: int) -> Any:
+    def id_at(self, place: int) -> Optional[int]:
         """The unit at a place; None past the end."""
-        return self.number(c_uint32, "id_at", place, absent=(NO_SUCH_PLACE,))
+        return self.found_number((NO_SUCH_PLACE,), c_uint32, "id_at", place)
 
     def place(self, unit: int) -> int:
         return self.number(c_size_t, "place", unit)
@@ -145,7 +160,7 @@ class Session(Generic[T]):
 
     def unit_at(self, position: int) -> Optional[int]:
         """The unit at a position in output order; None where no unit has it."""
-        return self.number(c_uint32, "unit_at", position, absent=(NO_SUCH_PLACE,))
+        return self.found_number((NO_SUCH_PLACE,), c_uint32, "unit_at", position)
 
     def outcome(self, unit: int) -> Outcome:
         return self.told(Outcome(), "outcome_of", unit)
@@ -167,7 +182,7 @@ class Session(Generic[T]):
 
     def unit_weights(self, unit: int, slice: int) -> Optional[PredWeights]:
         """The weights of a slice; None where it has none."""
-        return self.told(PredWeights(), "unit_weights", unit, slice, absent=(NO_WEIGHTS,))
+        return self.found((NO_WEIGHTS,), PredWeights(), "unit_weights", unit, slice)
 
     def unit_bytes(self, unit: int, slice: int) -> bytes:
         """The bytes of a slice: its NAL unit after a start code of three bytes."""
@@ -187,16 +202,16 @@ class Session(Generic[T]):
 
     def show(self, unit: int) -> Optional[T]:
         """The surface with the unit's picture as the stream is now; None where there is none now."""
-        surface = self.number(c_uint64, "show", unit, absent=(PENDING, HAS_FAULT, NO_PICTURE))
+        surface = self.found_number((PENDING, HAS_FAULT, NO_PICTURE), c_uint64, "show", unit)
         return None if surface is None else self.surfaces[surface]
 
     def take(self) -> Optional[Job]:
         """A job: the earliest picture that isn't held or out, and whose references are all held; None where none is due."""
-        return self.told(Job(), "take", absent=(NOTHING_DUE,))
+        return self.found((NOTHING_DUE,), Job(), "take")
 
     def take_for(self, unit: int) -> Optional[Job]:
         """A job for what the unit's picture needs."""
-        return self.told(Job(), "take_for", unit, absent=(NOTHING_DUE,))
+        return self.found((NOTHING_DUE,), Job(), "take_for", unit)
 
     def jobs(self) -> Iterator[Job]:
         """Jobs that are taken as they are asked for, until none is due. Each is to be landed or given back."""
@@ -233,7 +248,7 @@ class Session(Generic[T]):
         return self.taken("uncache")
 
     def taken(self, name: str, *operands: Any) -> Optional[T]:
-        surface = self.number(c_uint64, name, *operands, absent=(NOT_HELD,))
+        surface = self.found_number((NOT_HELD,), c_uint64, name, *operands)
         return None if surface is None else self.surfaces.pop(surface)
 
     def released(self) -> Iterator[T]:
@@ -262,7 +277,7 @@ class Session(Generic[T]):
         return (self.job_request(job, slice) for slice in range(self.job_input(job).slices))
 
     def job_weights(self, job: int, slice: int) -> Optional[PredWeights]:
-        return self.told(PredWeights(), "job_weights", job, slice, absent=(NO_WEIGHTS,))
+        return self.found((NO_WEIGHTS,), PredWeights(), "job_weights", job, slice)
 
     def job_bytes(self, job: int, slice: int) -> bytes:
         return self.bytes_told("job_bytes", job, slice)

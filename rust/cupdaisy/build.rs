@@ -12,7 +12,7 @@ fn main() {
     println!("cargo:rerun-if-env-changed=PKG_CONFIG_SYSROOT_DIR");
     let Some(folder) = named().or_else(installed).or_else(built) else {
         panic!(
-            "libcupdaisy isn't there: install it (`make install`, or Debian's package libcupdaisy-dev), \
+            "libcupdaisy 0.3 isn't there: install it (`make install`, or Debian's package libcupdaisy-dev), \
              or name the folder that has libcupdaisy.a by CUPDAISY_LIB_DIR"
         );
     };
@@ -33,7 +33,7 @@ fn installed() -> Option<PathBuf> {
     if !is_native && env::var_os("PKG_CONFIG_LIBDIR").is_none() {
         return None;
     }
-    let asked = Command::new("pkg-config").args(["--variable=libdir", "cupdaisy"]).output().ok()?;
+    let asked = Command::new("pkg-config").args(["--variable=libdir", "cupdaisy >= 0.3.0"]).output().ok()?;
     let folder = String::from_utf8(asked.stdout).ok()?;
     let inside = env::var("PKG_CONFIG_SYSROOT_DIR").unwrap_or_default();
     (asked.status.success() && !folder.trim().is_empty()).then(|| PathBuf::from(inside + folder.trim()))

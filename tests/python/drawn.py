@@ -1,5 +1,5 @@
 #!/usr/bin/env python3
-"""Drives drawn sessions through the C interface by ctypes, and compares every answer with the plain model in tools/.
+"""Drives drawn sessions through the module for Python, and compares every answer with the plain model in tools/.
 
     tests/python/drawn.py [--sessions N] [--steps N] [--seed N] FILE..
 
@@ -27,9 +27,11 @@ from cupdaisy.command_line import NOT_INSTALLED, parser_of    # noqa: E402
 from cupdaisy.streams import START, Refused, texts_of    # noqa: E402
 from cupdaisy.workspace import TOP    # noqa: E402
 
-# examples/cupdaisy.py, which has the name of the tools' package.
-INTERFACE = importlib.util.spec_from_file_location("interface", TOP / "examples" / "cupdaisy.py")
+# The package in python/, which has the name of the tools' package.
+HOME = TOP / "python" / "cupdaisy"
+INTERFACE = importlib.util.spec_from_file_location("interface", HOME / "__init__.py", submodule_search_locations=[str(HOME)])
 interface = importlib.util.module_from_spec(INTERFACE)
+sys.modules["interface"] = interface
 INTERFACE.loader.exec_module(interface)
 # The model's names of edits, as kinds of the interface.
 KINDS = {"first": interface.INSERT_FIRST, "after": interface.INSERT_AFTER, "delete": interface.DELETE,
@@ -60,6 +62,23 @@ def asked(edit):
     """An edit of the model's, as the interface has it: its kind, its id and its text."""
     name, *operands = edit
     return KINDS[name], 0 if name == "first" else operands[0], b"" if name == "delete" else operands[-1]
+
+
+class Session(interface.Session):
+    """A session whose host knows surfaces that it took back: it uses none of them again while a job refers to it."""
+
+    def __init__(self, cache):
+        super().__init__(cache)
+        self.known = {}    # by their handles
+
+    def land(self, job, surface):
+        self.known[self.given + 1] = surface
+        return super().land(job, surface)
+
+    def job_references(self, job):
+        found = (self.told(interface.records.JobReference(), "job_reference", job, index)
+                 for index in range(self.job_input(job).references))
+        return [(each.timestamp, self.known[each.surface]) for each in found]
 
 
 class Drawn:
@@ -211,10 +230,10 @@ class Drawn:
         """The digest form of a request's structs, and their values by the controls' names."""
         form, values = b"", {}
         for control in kernel_structs.CONTROLS:
-            struct = weights if control == "pred_weights" else bytes(getattr(found, control))
+            struct = weights if control == "pred_weights" else getattr(found, control)
             form += b"" if control != "pred_weights" else b"\0" if weights is None else b"\1"
             if struct is not None:
-                values[control], more = self.memory.read(f"v4l2_ctrl_h264_{control}", struct)
+                values[control], more = self.memory.read(f"v4l2_ctrl_h264_{control}", bytes(struct))
                 form += more
         return form, values
 
@@ -402,7 +421,7 @@ class Drawn:
 
 def run(seed, steps, files, memory):
     """Runs a session; where it differs, if it does."""
-    with interface.Session(CACHE) as session:
+    with Session(CACHE) as session:
         drawn = Drawn(random.Random(seed), files, memory, session)
         for number in range(steps):
             try:

@@ -6,6 +6,7 @@ import subprocess
 from typing import NamedTuple
 
 from cupdaisy import processes
+from cupdaisy.command_line import are_installed
 from cupdaisy.program import PREVIEW
 from cupdaisy.workspace import TOP
 
@@ -14,9 +15,14 @@ PAGES = ("README.md", "CONTRIBUTING.md", "CHANGELOG.md")
 PLAIN = ("README.md", "docs/GUARANTEES.md", "docs/GLOSSARY.md")
 WORDS, BYTES, LINES = 30, 8192, 200
 BLOCK = re.compile(r"^```(\w+)\n(.*?)^```$", re.DOTALL | re.MULTILINE)
-PATH = re.compile(r"(?<![\w/.`])((?:docs|tools|bench|samples|bin|examples|include|dist|crates)/[\w./-]*\w)")
+PATH = re.compile(r"(?<![\w/.`])((?:docs|tools|bench|samples|bin|examples|include|dist|crates|rust|python|packages)/[\w./-]*\w)")
 # What is made, and no part of the repository.
 MADE = ("bin/preview", "dist/x86_64-linux", "dist/aarch64-linux", "crates/NAME", "crates/preview/out")
+
+
+# How commands begin that run examples over what `make examples` built, and where cargo finds that and builds.
+EXAMPLES = ("build/", "PYTHONPATH=python python3 ", "cargo run ")
+BUILT = {"CUPDAISY_LIB_DIR": str(TOP / "build"), "CARGO_TARGET_DIR": str(TOP / "build/rust")}
 
 
 class Block(NamedTuple):
@@ -47,7 +53,7 @@ def run(commands):
     program = os.environ.get("PREVIEW")
     if program:
         commands = commands.replace("bin/preview", program)
-    shell = subprocess.Popen(["sh", "-ec", commands], cwd=TOP, stdin=subprocess.DEVNULL, stdout=subprocess.PIPE,
+    shell = subprocess.Popen(["sh", "-ec", commands], cwd=TOP, env={**os.environ, **BUILT}, stdin=subprocess.DEVNULL, stdout=subprocess.PIPE,
                              stderr=subprocess.PIPE, text=True, errors="replace", start_new_session=True)
     try:
         printed, _ = shell.communicate(timeout=SECONDS)
@@ -63,11 +69,17 @@ def of_program(text):
     return all(line.startswith("bin/preview") for line in text.splitlines() if line.strip())
 
 
+def of_examples(text):
+    """Whether all lines of a block call examples, and these are there."""
+    are_there = are_installed("cargo") and (TOP / "build/embed_cpp").exists()
+    return are_there and all(line.startswith(EXAMPLES) for line in text.splitlines() if line.strip())
+
+
 def differences_of_commands(text):
     """What the commands of a document print differently, each with its line."""
     shown = blocks(text)
     for block, after in zip(shown, [*shown[1:], None]):
-        if block.kind != "sh" or not of_program(block.text):
+        if block.kind != "sh" or not (of_program(block.text) or of_examples(block.text)):
             continue
         printed, status = run(block.text)
         answers = after is not None and after.kind == "text" and "\n#" not in after.before
@@ -109,11 +121,12 @@ def stands_in(wanted, files):
 
 def differences_of_programs(text):
     """The programs of a document that no test or example has."""
-    homes = {"rust": list((TOP / "crates").glob("*/src/**/*.rt")), "c": list((TOP / "examples").glob("*.c")),
+    homes = {"rust": [*(TOP / "crates").glob("*/src/**/*.rt"), *(TOP / "rust").glob("*/examples/*.rs")],
+             "c": list((TOP / "examples").glob("*.c")), "cpp": list((TOP / "examples").glob("*.cpp")),
              "python": list((TOP / "examples").glob("**/*.py"))}
     for block in blocks(text):
         if block.kind in homes and not stands_in(block.text, homes[block.kind]):
-            yield block.line, f"shows a program that no {'test' if block.kind == 'rust' else 'file of examples/'} has"
+            yield block.line, f"shows a program that no {'test or example' if block.kind == 'rust' else 'file of examples/'} has"
 
 
 def differences_of_paths(text):

@@ -47,6 +47,7 @@ class System:
         run(["debootstrap", "--variant=minbase", SUITE, self.root, MIRROR])
         self.apt("update")
         self.apt("install", "--yes", "--no-install-recommends", *NEEDED)
+        self.apt("clean")
         if base:
             run(["tar", "--create", "--file", base, "--directory", self.root, "."])
 
@@ -95,12 +96,10 @@ def bring(system, packages):
     """Puts packages, samples and examples into the system; the packages' paths in it."""
     room = system.root / "srv"
     own = [path for path in packages if path.stem.endswith(("_amd64", "_all"))]
-    for path in [*own, *(SAMPLES / name for name in FILES), *(TOP / "examples").glob("*.[ch]*")]:
+    for path in [*own, *(SAMPLES / name for name in FILES), *(TOP / "examples").glob("embed*"), TOP / "examples/file.h"]:
         shutil.copy(path, room)
     shutil.copytree(TOP / "python", room / "python", ignore=shutil.ignore_patterns("__pycache__"))
     shutil.copytree(SAMPLES, room / "samples")
-    (room / "cupdaisy.h").unlink(missing_ok=True)
-    (room / "cupdaisy.hpp").unlink(missing_ok=True)
     return [f"/srv/{path.name}" for path in own]
 
 
@@ -141,7 +140,7 @@ def build_in_rust(system):
 
 def check_examples(system):
     """The examples in each language print the same of each sample."""
-    commands = [*build_in_c(system), *build_in_rust(system), "python3 python/examples/embed.py"]
+    commands = [*build_in_c(system), *build_in_rust(system), "python3 embed.py"]
     for name in FILES:
         wanted = system.shell(f"{commands[0]} {name}")
         if not wanted.startswith("decoded ") or wanted.count("\n") != 3:
@@ -156,8 +155,8 @@ def check_module(system):
     system.shell("environment/bin/pip install --quiet --no-index --no-build-isolation ./python")
     where = system.shell("environment/bin/python -c 'import cupdaisy; print(cupdaisy.__file__)'")
     expect("what pip installs", where.startswith("/srv/environment/"), True)
-    shutil.copytree(TOP / "include", system.root / "srv/include", dirs_exist_ok=True)
-    told = system.shell("mv python/tests . && cd environment && cp -r ../tests ../samples . && "
+    # Away from python/, which would be found first.
+    told = system.shell("mv python/tests environment && cd environment && "
                         "CUPDAISY_SAMPLES=/srv/samples CUPDAISY_INCLUDE_DIR=/usr/include bin/python -m unittest discover -s tests 2>&1")
     expect("the module's tests", told.rstrip().endswith("OK"), True)
 

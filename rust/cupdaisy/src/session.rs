@@ -1,6 +1,8 @@
 //! The session.
 
+use std::fmt;
 use std::iter;
+use std::sync::atomic::{AtomicU64, Ordering};
 
 use crate::error::{Error, GroupError, LoadError, NotLanded};
 use crate::slots::Slots;
@@ -12,8 +14,17 @@ use crate::{JobInput, PredWeights, Request};
 /// A session over a stream, which owns the surfaces `T` that were landed and not given back. It is closed where it is dropped,
 /// and they are dropped with it.
 pub struct Session<T> {
+    /// Its own number, by which its jobs are known.
+    number: u64,
     raw: Raw,
     surfaces: Slots<T>,
+}
+
+impl<T> fmt::Debug for Session<T> {
+    fn fmt(&self, to: &mut fmt::Formatter<'_>) -> fmt::Result {
+        let mut shown = to.debug_struct("Session");
+        shown.field("units", &self.len()).field("surfaces", &self.surfaces()).finish_non_exhaustive()
+    }
 }
 
 fn receipt(told: Result<cupdaisy_receipt, u32>) -> Result<Receipt, Error> {
@@ -34,7 +45,9 @@ impl<T> Session<T> {
     /// A session over an empty stream, with a cache for so many pictures of units that are gone: 1 to 4,096
     /// ([`Error::CacheRange`]).
     pub fn open(cache: u16) -> Result<Self, Error> {
-        Ok(Session { raw: Raw::open(cache).map_err(Error::of)?, surfaces: Slots::new() })
+        static OPENED: AtomicU64 = AtomicU64::new(0);
+        let raw = Raw::open(cache).map_err(Error::of)?;
+        Ok(Session { number: OPENED.fetch_add(1, Ordering::Relaxed), raw, surfaces: Slots::new() })
     }
 
     /// Closes the session: the surfaces that it had.
@@ -204,7 +217,7 @@ impl<T> Session<T> {
     }
 }
 
-/// Pictures.
+/// Pictures. A job of another session is none that is out ([`Error::NoSuchJob`]).
 impl<T> Session<T> {
     /// The surface with the picture of a unit as the stream is now; none where there is none now.
     pub fn show(&self, unit: UnitId) -> Option<&T> {
@@ -228,19 +241,33 @@ impl<T> Session<T> {
     /// Takes a job: the earliest picture that isn't held and isn't out as a job, and whose references are all held. None where
     /// none is due.
     pub fn take(&mut self) -> Result<Option<Job>, Error> {
-        job(self.raw.take())
+        self.taken(self.raw.take())
     }
 
     /// Takes a job that the picture of this unit needs. None where none is due: while the picture isn't held, only where one
     /// that it needs is out as a job.
     pub fn take_for(&mut self, unit: UnitId) -> Result<Option<Job>, Error> {
-        job(self.raw.take_for(unit.0))
+        self.taken(self.raw.take_for(unit.0))
+    }
+
+    fn taken(&self, told: Result<sys::cupdaisy_job, u32>) -> Result<Option<Job>, Error> {
+        let taken = unless(sys::CUPDAISY_NOTHING_DUE, told)?;
+        Ok(taken.map(|sys::cupdaisy_job { number, unit }| Job { session: self.number, number, unit: UnitId(unit) }))
+    }
+
+    /// The number of a job of this session; 0, which no job has, of one of another.
+    fn own(&self, job: &Job) -> u64 {
+        if job.session == self.number {
+            job.number
+        } else {
+            0
+        }
     }
 
     /// Lands a job: the host's decoder made this surface's picture of the job's requests and of the surfaces of its references.
     /// Jobs may land in any order, and late.
     pub fn land(&mut self, job: Job, surface: T) -> Result<(), NotLanded<T>> {
-        match self.raw.land(job.number, self.surfaces.next()) {
+        match self.raw.land(self.own(&job), self.surfaces.next()) {
             Ok(()) => {
                 self.surfaces.put(surface);
                 Ok(())
@@ -251,19 +278,19 @@ impl<T> Session<T> {
 
     /// Gives a job back, so that its picture is given to decode again.
     pub fn give_back(&mut self, job: Job) -> Result<(), Error> {
-        self.raw.give_back(job.number).map_err(Error::of)
+        self.raw.give_back(self.own(&job)).map_err(Error::of)
     }
 
     /// What a job is made of, as it was when it was taken.
     pub fn job_input(&self, job: &Job) -> Result<JobInput, Error> {
-        self.raw.job_input_of(job.number).map_err(Error::of)
+        self.raw.job_input_of(self.own(job)).map_err(Error::of)
     }
 
     /// The pictures that a job's requests may refer to.
     pub fn references(&self, job: &Job) -> Result<Vec<Reference<'_, T>>, Error> {
         let count = self.job_input(job)?.references as usize;
         let reference = |index| {
-            let told = self.raw.job_reference(job.number, index)?;
+            let told = self.raw.job_reference(self.own(job), index)?;
             Ok(Reference { timestamp: told.timestamp, surface: self.surfaces.get(told.surface) })
         };
         (0..count).map(|index| reference(index).map_err(Error::of)).collect()
@@ -271,17 +298,17 @@ impl<T> Session<T> {
 
     /// The request of a slice of a job, from 0 on.
     pub fn job_request(&self, job: &Job, slice: usize) -> Result<Request, Error> {
-        self.raw.job_request(job.number, slice).map_err(Error::of)
+        self.raw.job_request(self.own(job), slice).map_err(Error::of)
     }
 
     /// The weights of a slice of a job; none where it has none.
     pub fn job_weights(&self, job: &Job, slice: usize) -> Result<Option<PredWeights>, Error> {
-        unless(sys::CUPDAISY_NO_WEIGHTS, self.raw.job_weights(job.number, slice))
+        unless(sys::CUPDAISY_NO_WEIGHTS, self.raw.job_weights(self.own(job), slice))
     }
 
     /// The bytes of a slice of a job: its NAL unit after a start code of three bytes.
     pub fn job_bytes(&self, job: &Job, slice: usize) -> Result<Vec<u8>, Error> {
-        self.raw.job_bytes(job.number, slice).map_err(Error::of)
+        self.raw.job_bytes(self.own(job), slice).map_err(Error::of)
     }
 
     /// The surface of a unit's picture, which is the host's again: the picture isn't held any more, and has to be made anew. Units
@@ -301,9 +328,4 @@ impl<T> Session<T> {
     pub fn released(&mut self) -> impl Iterator<Item = T> + '_ {
         iter::from_fn(|| self.raw.released()).filter_map(|surface| self.surfaces.take(surface))
     }
-}
-
-fn job(told: Result<sys::cupdaisy_job, u32>) -> Result<Option<Job>, Error> {
-    let taken = unless(sys::CUPDAISY_NOTHING_DUE, told)?;
-    Ok(taken.map(|sys::cupdaisy_job { number, unit }| Job { number, unit: UnitId(unit) }))
 }

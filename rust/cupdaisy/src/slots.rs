@@ -24,7 +24,7 @@ impl<T> Slots<T> {
     /// The handle that the next surface gets.
     pub(crate) fn next(&mut self) -> u64 {
         if self.free.is_empty() {
-            // A stream has 65,536 units, and a cache 4,096 pictures: an index is far below this bound.
+            // No host has memory for so many.
             self.free.push(u32::try_from(self.slots.len()).expect("less than 4,294,967,296 surfaces"));
             self.slots.push(Slot { turn: 0, surface: None });
         }

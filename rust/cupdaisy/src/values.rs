@@ -152,6 +152,8 @@ pub enum Shown<'a, T> {
 #[must_use = "a job that isn't landed or given back is out for ever, and no other makes its picture"]
 #[derive(Debug, PartialEq, Eq)]
 pub struct Job {
+    /// Which session it is of.
+    pub(crate) session: u64,
     pub(crate) number: u64,
     pub(crate) unit: UnitId,
 }

@@ -25,7 +25,7 @@ pub fn sha256(message: &[u8]) -> [u8; 32] {
     }
     let end = padded.len() - 8;
     padded[end..].copy_from_slice(&(8 * message.len() as u64).to_be_bytes());
-    let hash = padded.chunks_exact(64).fold(FIRST, |hash, block| compress(hash, block));
+    let hash = padded.chunks_exact(64).fold(FIRST, compress);
     let mut digest = [0; 32];
     for (bytes, word) in digest.chunks_exact_mut(4).zip(hash) {
         bytes.copy_from_slice(&word.to_be_bytes());

@@ -1,6 +1,6 @@
 """A stream is loaded, decoded by a decoder of the program's own, shown, and edited. docs/EMBEDDING.md has the same in other languages.
 
-    PYTHONPATH=python python3 python/examples/embed.py FILE
+    PYTHONPATH=python python3 examples/embed.py FILE
 """
 import sys
 from functools import reduce

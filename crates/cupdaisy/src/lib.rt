@@ -8,6 +8,7 @@
 #![tactic(auto)]
 
 mod edits;
+mod frames;
 mod handle;
 mod held;
 mod jobs;

@@ -14,5 +14,6 @@ pub mod Releasing
 pub mod Jobs
 pub mod JobInputs
 pub mod Requests
+pub mod Frames
 pub mod Journals
 pub mod Names

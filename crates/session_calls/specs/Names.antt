@@ -58,6 +58,7 @@ answers =
     ∷ (115, codes "NotAnEdit")
     ∷ (116, codes "NoWeights")
     ∷ (117, codes "NoSuchName")
+    ∷ (118, codes "SeveralSlices")
     ∷ []
 
 -- a name, or another where there is none

@@ -85,3 +85,7 @@ no_weights = 116
 -- no status or fault has the number
 abbrev pub no_such_name : ℕ
 no_such_name = 117
+
+-- without start codes a picture of several slices has no bytes
+abbrev pub several_slices : ℕ
+several_slices = 118

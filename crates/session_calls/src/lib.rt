@@ -10,6 +10,7 @@ mod asking;
 mod editing;
 mod filling;
 mod finding;
+mod frames;
 mod grouping;
 mod job_inputs;
 mod jobs;
@@ -29,6 +30,7 @@ pub use asking::{
 };
 pub use editing::{EditReceipt, delete, edit, insert, insert_last, replace};
 pub use finding::unit_at;
+pub use frames::{FrameTold, job_frame, job_frame_bytes, unit_frame, unit_frame_bytes};
 pub use grouping::{EditAsked, GroupTold, group};
 pub use job_inputs::{JobInput, JobReference, job_input, job_reference};
 pub use jobs::{JobTaken, give_back, land, take, take_for};
@@ -47,6 +49,6 @@ pub use showing::show;
 pub use statuses::{
     CACHE_RANGE, DONE, HAS_FAULT, IS_OPEN, JOBS_SPENT, MEMORY, NO_PICTURE, NO_SESSION, NO_SUCH_JOB,
     NO_SUCH_NAME, NO_SUCH_PLACE, NO_SUCH_SLICE, NO_SUCH_UNIT, NO_WEIGHTS, NOT_AN_EDIT, NOT_HELD,
-    NOT_VALID, NOTHING_DUE, PENDING, STALE, TOO_SMALL,
+    NOT_VALID, NOTHING_DUE, PENDING, SEVERAL_SLICES, STALE, TOO_SMALL,
 };
 pub use surface_session::SurfaceSession;

@@ -82,6 +82,7 @@ fn named_answer(status: u32) -> Option<&'static str>
         115 => Some("NotAnEdit"),
         116 => Some("NoWeights"),
         117 => Some("NoSuchName"),
+        118 => Some("SeveralSlices"),
         _ => None,
     }
 }

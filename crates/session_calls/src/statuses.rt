@@ -43,3 +43,5 @@ pub const NOT_AN_EDIT: u32 = 115;
 pub const NO_WEIGHTS: u32 = 116;
 /// No status or fault has the number.
 pub const NO_SUCH_NAME: u32 = 117;
+/// Without start codes a picture of several slices has no bytes.
+pub const SEVERAL_SLICES: u32 = 118;

@@ -170,6 +170,24 @@ public:
         });
     }
 
+#ifdef __linux__
+    /* The request of a job's whole picture. */
+    cupdaisy_frame frame(std::uint64_t job)
+    {
+        cupdaisy_frame frame;
+        expect(cupdaisy_job_frame(&handle, job, &frame));
+        return frame;
+    }
+#endif
+
+    /* The bytes of all slices of a job, each after a start code of three bytes; or those of its only slice, without it. */
+    Bytes frame_bytes(std::uint64_t job, bool start_codes = true)
+    {
+        return filled([&](std::uint8_t *text, std::size_t room, std::size_t *needed) {
+            return cupdaisy_job_frame_bytes(&handle, job, start_codes, text, room, needed);
+        });
+    }
+
     /* The text of an edit of the journal. */
     Bytes text(std::size_t entry, std::size_t index)
     {

@@ -14,9 +14,8 @@
  *     the host knows when that was decoded.
  *   - a valid entry of the decoded picture buffer that no list names gets the time of its surface too, as long as there is one.
  *     Some drivers number their frames by all valid entries: to them an entry without a surface is a frame that is gone.
- *   - a request a slice, with the CAPTURE buffer held but for the last; or a request a picture, without slice_params and
- *     pred_weights, and with a flag where a slice is P or B.
- *   - the slices' bytes with their start codes or without.
+ *   - a request a slice, with the CAPTURE buffer held but for the last; or a request a picture.
+ *   - the slices' bytes with their start codes or without. Without them a request for a picture has one slice.
  *   - with several requests in flight, the pictures that later units need are decoded too, as soon as what they refer to is
  *     there; a surface isn't used again while a job that is out refers to it.
  *   - there are fewer surfaces than pictures. A host takes jobs for what it shows next alone. When it needs a surface for another
@@ -25,8 +24,8 @@
  *   - where the pictures' size or depth changes, the queues are stopped and their buffers made anew.
  *
  * Exit status: 0; 1 with a message where the file, the session or the device fails; 2 for wrong words; 3 with a message where
- * pictures weren't shown, as one that they need has slices under several picture parameter sets, and a request for a whole
- * picture has one.
+ * pictures weren't shown, as a request for a whole picture can't say what one has that they need: slices under several picture
+ * parameter sets, or several slices without start codes.
  */
 #define _POSIX_C_SOURCE 200809L
 
@@ -38,41 +37,46 @@
 #include <stdlib.h>
 #include <string.h>
 
-/* Puts the bytes of a slice behind those that are there; how many there are then. */
-static size_t append_bytes(struct host *host, const struct slot *slot, uint64_t job, size_t slice, const cupdaisy_request *request,
-                           size_t count)
+/* The controls that each request has. The matrices are sent to each driver that has them. */
+static uint32_t add_picture(const struct host *host, struct v4l2_ext_control *controls, struct v4l2_ctrl_h264_sps *sps,
+                            struct v4l2_ctrl_h264_pps *pps, struct v4l2_ctrl_h264_scaling_matrix *matrix,
+                            struct v4l2_ctrl_h264_decode_params *params)
 {
-    uint8_t *bytes = slot->bytes + count;
-    size_t needed = 0;
-    expect(cupdaisy_job_bytes(&host->session, job, slice, bytes, slot->room - count, &needed), "bytes");
-    size_t skipped = host->driver.has_start_codes ? 0 : request->unit_begins;
-    memmove(bytes, bytes + skipped, needed - skipped);
-    return count + needed - skipped;
+    uint32_t count = 0;
+    if (!host->driver.has_matrices && (pps->flags & V4L2_H264_PPS_FLAG_SCALING_MATRIX_PRESENT) != 0)
+        stop("the stream has scaling matrices, and the device has no control for them");
+    add(controls, &count, V4L2_CID_STATELESS_H264_SPS, sps, sizeof *sps);
+    add(controls, &count, V4L2_CID_STATELESS_H264_PPS, pps, sizeof *pps);
+    if (host->driver.has_matrices)
+        add(controls, &count, V4L2_CID_STATELESS_H264_SCALING_MATRIX, matrix, sizeof *matrix);
+    add(controls, &count, V4L2_CID_STATELESS_H264_DECODE_PARAMS, params, sizeof *params);
+    tell(&host->driver, "VIDIOC_S_EXT_CTRLS request sps pps%s decode_params flags %u",
+         host->driver.has_matrices ? " scaling_matrix" : "", (unsigned)params->flags);
+    return count;
 }
 
-/* The controls of a request; of a slice too where these are asked for. The matrices are sent to each driver that has them. */
-static void set_request(struct host *host, const struct slot *slot, uint64_t job, size_t slice, cupdaisy_request *request)
+/* Sets the controls of a slice's request. */
+static void set_slice(struct host *host, const struct slot *slot, uint64_t job, size_t slice, cupdaisy_request *request)
 {
     struct v4l2_ctrl_h264_pred_weights weights;
     struct v4l2_ext_control controls[6];
-    uint32_t count = 0;
-    bool has_weights = !host->driver.is_frame_based && request->has_weights == 1;
-    if (!host->driver.has_matrices && (request->pps.flags & V4L2_H264_PPS_FLAG_SCALING_MATRIX_PRESENT) != 0)
-        stop("the stream has scaling matrices, and the device has no control for them");
-    add(controls, &count, V4L2_CID_STATELESS_H264_SPS, &request->sps, sizeof request->sps);
-    add(controls, &count, V4L2_CID_STATELESS_H264_PPS, &request->pps, sizeof request->pps);
-    if (host->driver.has_matrices)
-        add(controls, &count, V4L2_CID_STATELESS_H264_SCALING_MATRIX, &request->scaling_matrix, sizeof request->scaling_matrix);
-    add(controls, &count, V4L2_CID_STATELESS_H264_DECODE_PARAMS, &request->decode_params, sizeof request->decode_params);
-    if (!host->driver.is_frame_based)
-        add(controls, &count, V4L2_CID_STATELESS_H264_SLICE_PARAMS, &request->slice_params, sizeof request->slice_params);
-    if (has_weights) {
+    uint32_t count = add_picture(host, controls, &request->sps, &request->pps, &request->scaling_matrix, &request->decode_params);
+    add(controls, &count, V4L2_CID_STATELESS_H264_SLICE_PARAMS, &request->slice_params, sizeof request->slice_params);
+    if (request->has_weights == 1) {
         expect(cupdaisy_job_weights(&host->session, job, slice, &weights), "weights");
         add(controls, &count, V4L2_CID_STATELESS_H264_PRED_WEIGHTS, &weights, sizeof weights);
     }
-    tell(&host->driver, "VIDIOC_S_EXT_CTRLS request sps pps%s decode_params flags %u%s%s\n",
-         host->driver.has_matrices ? " scaling_matrix" : "", (unsigned)request->decode_params.flags,
-         host->driver.is_frame_based ? "" : " slice_params", has_weights ? " pred_weights" : "");
+    tell(&host->driver, " slice_params%s\n", request->has_weights == 1 ? " pred_weights" : "");
+    if (!set_controls(&host->driver, controls, count, slot))
+        exit(1);
+}
+
+/* Sets the controls of a picture's request. */
+static void set_frame(struct host *host, const struct slot *slot, cupdaisy_frame *frame)
+{
+    struct v4l2_ext_control controls[4];
+    uint32_t count = add_picture(host, controls, &frame->sps, &frame->pps, &frame->scaling_matrix, &frame->decode_params);
+    tell(&host->driver, "\n");
     if (!set_controls(&host->driver, controls, count, slot))
         exit(1);
 }
@@ -92,40 +96,35 @@ static void decode_slices(struct host *host, uint64_t job, const cupdaisy_job_in
         stop("the driver can't hold a surface over several slices");
     for (size_t slice = 0; slice < input->slices; slice++) {
         cupdaisy_request request;
+        size_t bytes = 0;
         const struct slot *slot = slot_of(host);
         expect(cupdaisy_job_request(&host->session, job, slice, &request), "request");
+        expect(cupdaisy_job_bytes(&host->session, job, slice, slot->bytes, slot->room, &bytes), "bytes");
         rewrite(host, job, input->references, &request.decode_params);
-        set_request(host, slot, job, slice, &request);
-        size_t bytes = append_bytes(host, slot, job, slice, &request, 0);
+        set_slice(host, slot, job, slice, &request);
+        if (!host->driver.has_start_codes)
+            memmove(slot->bytes, slot->bytes + request.unit_begins, bytes -= request.unit_begins);
         if (!queue_request(&host->driver, slot, bytes, host->clock, request.hold == 1))
             exit(1);
     }
 }
 
-/* One request, with the controls of the first slice and the bytes of all. */
+/* A request for the whole picture. */
 static void decode_frame(struct host *host, uint64_t job, const cupdaisy_job_input *input)
 {
-    cupdaisy_request first;
-    cupdaisy_request each;
+    cupdaisy_frame frame;
     size_t bytes = 0;
     const struct slot *slot = slot_of(host);
-    expect(cupdaisy_job_request(&host->session, job, 0, &first), "request");
-    for (size_t slice = 0; slice < input->slices; slice++) {
-        expect(cupdaisy_job_request(&host->session, job, slice, &each), "request");
-        bytes = append_bytes(host, slot, job, slice, &each, bytes);
-        if (each.slice_params.slice_type == V4L2_H264_SLICE_TYPE_P)
-            first.decode_params.flags |= V4L2_H264_DECODE_PARAM_FLAG_PFRAME;
-        if (each.slice_params.slice_type == V4L2_H264_SLICE_TYPE_B)
-            first.decode_params.flags |= V4L2_H264_DECODE_PARAM_FLAG_BFRAME;
-    }
-    rewrite(host, job, input->references, &first.decode_params);
-    set_request(host, slot, job, 0, &first);
+    expect(cupdaisy_job_frame(&host->session, job, &frame), "frame");
+    expect(cupdaisy_job_frame_bytes(&host->session, job, host->driver.has_start_codes, slot->bytes, slot->room, &bytes), "bytes");
+    rewrite(host, job, input->references, &frame.decode_params);
+    set_frame(host, slot, &frame);
     if (!queue_request(&host->driver, slot, bytes, host->clock, false))
         exit(1);
 }
 
-/* Whether a request for the whole picture of a job can say what its slices do: they have one picture parameter set. */
-static bool has_one_set(struct host *host, uint64_t job, const cupdaisy_job_input *input)
+/* Why a request for the whole picture of a job can't say what its slices do; NULL where it can. */
+static const char *obstacle_of(struct host *host, uint64_t job, const cupdaisy_job_input *input)
 {
     cupdaisy_request first;
     cupdaisy_request each;
@@ -133,9 +132,9 @@ static bool has_one_set(struct host *host, uint64_t job, const cupdaisy_job_inpu
     for (size_t slice = 1; slice < input->slices; slice++) {
         expect(cupdaisy_job_request(&host->session, job, slice, &each), "request");
         if (each.pps.pic_parameter_set_id != first.pps.pic_parameter_set_id)
-            return false;
+            return "several picture parameter sets";
     }
-    return true;
+    return input->slices > 1 && !host->driver.has_start_codes ? "no start codes by which they could be told apart" : NULL;
 }
 
 /* Waits for the job that was queued first, and lands it. */
@@ -202,17 +201,19 @@ static bool decode(struct host *host, cupdaisy_job job, uint64_t turn)
     uint32_t referred = 0;
     expect(cupdaisy_job_input_of(&host->session, job.number, &input), "job");
     expect(cupdaisy_job_request(&host->session, job.number, 0, &request), "request");
-    bool is_possible = !host->driver.is_frame_based || has_one_set(host, job.number, &input);
-    if (is_possible)
+    const char *obstacle = host->driver.is_frame_based ? obstacle_of(host, job.number, &input) : NULL;
+    if (obstacle == NULL)
         be_ready(host, &request.sps);
-    else
+    else {
         host->impossible = job.unit;
+        host->obstacle = obstacle;
+    }
     touch_frames(host, &request.decode_params);
     for (size_t index = 0; index < input.references; index++) {
         uint64_t timestamp = 0;
         referred |= UINT32_C(1) << (surface_of(host, job.number, index, &timestamp) - host->surfaces);
     }
-    struct surface *surface = is_possible ? free_surface(host, referred | busy(host), turn) : NULL;
+    struct surface *surface = obstacle == NULL ? free_surface(host, referred | busy(host), turn) : NULL;
     if (surface == NULL) {
         expect(cupdaisy_give_back(&host->session, job.number), "give back");
         return false;
@@ -274,8 +275,8 @@ static void show(struct host *host, size_t position, uint32_t unit)
         if (decode_for(host, unit, UINT64_MAX))
             continue;
         if (host->impossible != 0) {
-            fprintf(stderr, "v4l2_request: unit %u isn't shown: the slices of unit %u have several picture parameter sets\n",
-                    (unsigned)unit, (unsigned)host->impossible);
+            fprintf(stderr, "v4l2_request: unit %u isn't shown: the slices of unit %u have %s\n", (unsigned)unit,
+                    (unsigned)host->impossible, host->obstacle);
             host->is_left_out = true;
             return;
         }

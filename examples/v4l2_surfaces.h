@@ -40,6 +40,7 @@ struct host {
     uint64_t clock;
     uint64_t turns;
     uint32_t impossible; /* a unit that the driver's mode can't decode, which was found last */
+    const char *obstacle; /* what its slices have */
     bool is_left_out;    /* whether a picture wasn't shown for that */
     uint8_t *memory;
 };

@@ -69,6 +69,7 @@ extern "C" {
 #define CUPDAISY_NOT_AN_EDIT 115  /* an edit of a group is of no kind, or its text isn't within the bytes */
 #define CUPDAISY_NO_WEIGHTS 116   /* the slice has no weight table */
 #define CUPDAISY_NO_SUCH_NAME 117 /* no status or fault has the number */
+#define CUPDAISY_SEVERAL_SLICES 118 /* without start codes a picture of several slices has no bytes */
 
 /* A session, or none. */
 typedef struct cupdaisy_session {
@@ -170,8 +171,7 @@ typedef struct cupdaisy_journal_edit {
  *     surface which the job's reference with this timestamp names.
  *   - An entry of a list whose fields are 0 is missing, whatever its index.
  *   - 8-bit 4:2:0 is all that some drivers take.
- *   - Most drivers are frame-based: one request has the bytes of all slices one after the other, without slice_params and
- *     weights, and with V4L2_H264_DECODE_PARAM_FLAG_PFRAME or _BFRAME where a slice is P or B.
+ *   - Most drivers are frame-based: one request is for a whole picture. cupdaisy_frame has that.
  */
 typedef struct cupdaisy_request {
     uint64_t timestamp;   /* of the unit, in nanoseconds */
@@ -185,6 +185,21 @@ typedef struct cupdaisy_request {
     struct v4l2_ctrl_h264_slice_params slice_params;
     struct v4l2_ctrl_h264_decode_params decode_params;
 } cupdaisy_request;
+
+/*
+ * The request of a whole picture, for drivers of V4L2_STATELESS_H264_DECODE_MODE_FRAME_BASED: the sets, matrices and decode
+ * parameters of its first slice, with V4L2_H264_DECODE_PARAM_FLAG_PFRAME where a slice is P and none is B, and _BFRAME where one
+ * is B. It has no slice parameters and no weights. Slices under several picture parameter sets can't be told by it.
+ */
+typedef struct cupdaisy_frame {
+    uint64_t timestamp; /* of the unit, in nanoseconds */
+    uint64_t bytes;     /* how many bytes the slices have together, each with a start code of three bytes */
+    uint64_t slices;    /* how many slices the picture has */
+    struct v4l2_ctrl_h264_sps sps;
+    struct v4l2_ctrl_h264_pps pps;
+    struct v4l2_ctrl_h264_scaling_matrix scaling_matrix;
+    struct v4l2_ctrl_h264_decode_params decode_params;
+} cupdaisy_frame;
 #endif
 
 /*
@@ -351,6 +366,21 @@ uint32_t cupdaisy_unit_bytes(cupdaisy_session *session, uint32_t id, size_t slic
                              size_t *needed);
 uint32_t cupdaisy_job_bytes(cupdaisy_session *session, uint64_t job, size_t slice, uint8_t *bytes, size_t bytes_length,
                             size_t *needed);
+
+/*
+ * The request of a whole picture: of the unit of the id, as the stream is now; of the job of the number, which is out, as it was
+ * when it was taken. NO_SUCH_UNIT, NOT_VALID; NO_SUCH_JOB; MEMORY. These take memory.
+ * Its bytes are those of all slices, one after the other, each with a start code of three bytes; without start codes the NAL unit
+ * of the only slice. They are written as those of a slice are. SEVERAL_SLICES where there are several and `start_codes` is false.
+ */
+#ifdef __linux__
+uint32_t cupdaisy_unit_frame(cupdaisy_session *session, uint32_t id, cupdaisy_frame *frame);
+uint32_t cupdaisy_job_frame(cupdaisy_session *session, uint64_t job, cupdaisy_frame *frame);
+#endif
+uint32_t cupdaisy_unit_frame_bytes(cupdaisy_session *session, uint32_t id, bool start_codes, uint8_t *bytes, size_t bytes_length,
+                                   size_t *needed);
+uint32_t cupdaisy_job_frame_bytes(cupdaisy_session *session, uint64_t job, bool start_codes, uint8_t *bytes, size_t bytes_length,
+                                  size_t *needed);
 
 /*
  * The journal: the accepted edits in order, those of a group as one entry. How many entries it has; how many edits an entry

@@ -25,6 +25,10 @@ static const uint8_t I[] = {0, 0, 1, 0x65, 0x88, 0x84, 0x80};
 static const uint8_t P1[] = {0, 0, 1, 0x41, 0x9A, 0x23};
 static const uint8_t P2[] = {0, 0, 1, 0x41, 0x9A, 0x43};
 static const uint8_t P1x[] = {0, 0, 1, 0x41, 0x9A, 0x23, 0x80};
+/* Two parameter sets and an IDR picture of two slices; a P picture that refers to it. */
+static const uint8_t T[] = {0, 0, 1, 0x67, 0x4D, 0x00, 0x0A, 0x59, 0x59, 0x72, 0, 0, 1, 0x68, 0x48, 0xAD, 0xE2,
+                            0, 0, 1, 0x65, 0xB4, 0x10, 0x03, 0, 0, 1, 0x65, 0x4D, 0x04, 0x00, 0xC0};
+static const uint8_t WP[] = {0, 0, 1, 0x41, 0xD0, 0x82, 0x62, 0x38, 0xA3, 0xC4, 0x21, 0xE4, 0x60};
 static const uint8_t sets[] = {0, 0, 1, 0x67, 0x42, 0x00, 0x0A, 0xDA, 0x79};
 
 static bool is_receipt(cupdaisy_receipt receipt, uint64_t number, uint32_t id)
@@ -247,11 +251,63 @@ static void jobs_are_told(void)
     EXPECT(cupdaisy_job_weights(&session, 2, 0, &weights) == CUPDAISY_NO_WEIGHTS);
     EXPECT(weights.luma_log2_weight_denom == 0x0707);
 #endif
+    EXPECT(cupdaisy_job_frame_bytes(&session, 2, true, bytes, 5, &needed) == CUPDAISY_TOO_SMALL && needed == 6);
+    EXPECT(cupdaisy_job_frame_bytes(&session, 2, true, bytes, sizeof bytes, &needed) == CUPDAISY_DONE && needed == 6);
+    EXPECT(memcmp(bytes, P1, sizeof P1) == 0);
+    EXPECT(cupdaisy_unit_frame_bytes(&session, 2, false, bytes, sizeof bytes, &needed) == CUPDAISY_DONE && needed == 4);
+    EXPECT(memcmp(bytes, P1x + 3, sizeof P1x - 3) == 0);
+    EXPECT(cupdaisy_unit_frame_bytes(&session, 9, true, bytes, sizeof bytes, &needed) == CUPDAISY_NO_SUCH_UNIT && needed == 4);
+    EXPECT(cupdaisy_job_frame_bytes(&session, 1, true, bytes, sizeof bytes, &needed) == CUPDAISY_NO_SUCH_JOB && needed == 4);
     uint64_t key = 0;
     uint64_t other = 0;
     EXPECT(cupdaisy_key(&session, 1, &key) == CUPDAISY_DONE);
     EXPECT(cupdaisy_key(&session, 2, &other) == CUPDAISY_DONE && key != other);
     EXPECT(cupdaisy_key(&session, 9, &other) == CUPDAISY_NO_SUCH_UNIT);
+    EXPECT(cupdaisy_close(&session) == CUPDAISY_DONE);
+}
+
+/* The request of a whole picture is that of its first slice, with the flags of all, and has the bytes of all. */
+static void frames_are_told(void)
+{
+    cupdaisy_session session = CUPDAISY_NONE;
+    cupdaisy_receipt receipt = {0, 0, 0, 0};
+    uint8_t bytes[32];
+    size_t needed = 7;
+    EXPECT(cupdaisy_open(&session, 16) == CUPDAISY_DONE);
+    EXPECT(cupdaisy_insert_last(&session, T, sizeof T, &receipt) == CUPDAISY_DONE);
+    EXPECT(cupdaisy_insert_last(&session, WP, sizeof WP, &receipt) == CUPDAISY_DONE);
+    EXPECT(cupdaisy_insert_last(&session, sets, sizeof sets, &receipt) == CUPDAISY_DONE);
+    const uint8_t *slices = T + 17;
+    const size_t count = sizeof T - 17;
+    EXPECT(cupdaisy_unit_frame_bytes(&session, 1, true, bytes, sizeof bytes, &needed) == CUPDAISY_DONE && needed == count);
+    EXPECT(memcmp(bytes, slices, count) == 0);
+    EXPECT(cupdaisy_unit_frame_bytes(&session, 1, true, bytes, count - 1, &needed) == CUPDAISY_TOO_SMALL && needed == count);
+    needed = 7;
+    EXPECT(cupdaisy_unit_frame_bytes(&session, 1, false, bytes, sizeof bytes, &needed) == CUPDAISY_SEVERAL_SLICES && needed == 7);
+    EXPECT(cupdaisy_unit_frame_bytes(&session, 3, true, bytes, sizeof bytes, &needed) == CUPDAISY_NOT_VALID && needed == 7);
+#ifdef __linux__
+    cupdaisy_frame frame;
+    cupdaisy_request first;
+    EXPECT(cupdaisy_unit_frame(&session, 1, &frame) == CUPDAISY_DONE);
+    EXPECT(cupdaisy_unit_request(&session, 1, 0, &first) == CUPDAISY_DONE);
+    EXPECT(frame.timestamp == 1000 && frame.bytes == count && frame.slices == 2);
+    EXPECT(memcmp(&frame.sps, &first.sps, sizeof frame.sps) == 0 && memcmp(&frame.pps, &first.pps, sizeof frame.pps) == 0);
+    EXPECT(memcmp(&frame.scaling_matrix, &first.scaling_matrix, sizeof frame.scaling_matrix) == 0);
+    EXPECT(memcmp(&frame.decode_params, &first.decode_params, sizeof frame.decode_params) == 0);
+    EXPECT(cupdaisy_unit_frame(&session, 2, &frame) == CUPDAISY_DONE && frame.timestamp == 2000 && frame.slices == 1);
+    EXPECT(cupdaisy_unit_request(&session, 2, 0, &first) == CUPDAISY_DONE);
+    EXPECT(frame.decode_params.flags == (first.decode_params.flags | V4L2_H264_DECODE_PARAM_FLAG_PFRAME));
+    first.decode_params.flags = frame.decode_params.flags;
+    EXPECT(memcmp(&frame.decode_params, &first.decode_params, sizeof frame.decode_params) == 0);
+    frame.timestamp = 7;
+    EXPECT(cupdaisy_unit_frame(&session, 3, &frame) == CUPDAISY_NOT_VALID && frame.timestamp == 7);
+    EXPECT(cupdaisy_unit_frame(&session, 9, &frame) == CUPDAISY_NO_SUCH_UNIT && frame.timestamp == 7);
+    EXPECT(cupdaisy_job_frame(&session, 1, &frame) == CUPDAISY_NO_SUCH_JOB && frame.timestamp == 7);
+    cupdaisy_job job = {0, 0};
+    EXPECT(cupdaisy_take(&session, &job) == CUPDAISY_DONE && job.unit == 1);
+    EXPECT(cupdaisy_job_frame(&session, job.number, &frame) == CUPDAISY_DONE && frame.timestamp == 1000 && frame.slices == 2);
+    EXPECT(cupdaisy_job_frame_bytes(&session, job.number, false, bytes, sizeof bytes, &needed) == CUPDAISY_SEVERAL_SLICES);
+#endif
     EXPECT(cupdaisy_close(&session) == CUPDAISY_DONE);
 }
 
@@ -482,11 +538,16 @@ static void expect_no_more(cupdaisy_session *session)
     EXPECT(cupdaisy_job_reference(session, 1, 0, &reference) == CUPDAISY_NO_SESSION && reference.timestamp == 7);
     EXPECT(cupdaisy_unit_bytes(session, 1, 0, bytes, sizeof bytes, &number) == CUPDAISY_NO_SESSION && number == 7);
     EXPECT(cupdaisy_job_bytes(session, 1, 0, bytes, sizeof bytes, &number) == CUPDAISY_NO_SESSION && number == 7);
+    EXPECT(cupdaisy_unit_frame_bytes(session, 1, true, bytes, sizeof bytes, &number) == CUPDAISY_NO_SESSION && number == 7);
+    EXPECT(cupdaisy_job_frame_bytes(session, 1, true, bytes, sizeof bytes, &number) == CUPDAISY_NO_SESSION && number == 7);
 #ifdef __linux__
     static cupdaisy_request request;
     static struct v4l2_ctrl_h264_pred_weights weights;
     EXPECT(cupdaisy_unit_request(session, 1, 0, &request) == CUPDAISY_NO_SESSION && request.bytes == 0);
     EXPECT(cupdaisy_job_request(session, 1, 0, &request) == CUPDAISY_NO_SESSION && request.bytes == 0);
+    static cupdaisy_frame frame;
+    EXPECT(cupdaisy_unit_frame(session, 1, &frame) == CUPDAISY_NO_SESSION && frame.slices == 0);
+    EXPECT(cupdaisy_job_frame(session, 1, &frame) == CUPDAISY_NO_SESSION && frame.slices == 0);
     EXPECT(cupdaisy_unit_weights(session, 1, 0, &weights) == CUPDAISY_NO_SESSION);
     EXPECT(cupdaisy_job_weights(session, 1, 0, &weights) == CUPDAISY_NO_SESSION);
 #endif
@@ -601,6 +662,15 @@ static size_t run_refusing(size_t at, bool after)
     EXPECT(status == CUPDAISY_DONE && load.number == 8);
     WITH_MEMORY(cupdaisy_take_for(&session, 2, &job));
     EXPECT(job.number == 5 && job.unit == 2);
+    uint8_t whole[16];
+    size_t needed = 0;
+    WITH_MEMORY(cupdaisy_job_frame_bytes(&session, 5, true, whole, sizeof whole, &needed));
+    EXPECT(needed == sizeof P1x && memcmp(whole, P1x, sizeof P1x) == 0);
+#ifdef __linux__
+    cupdaisy_frame frame;
+    WITH_MEMORY(cupdaisy_job_frame(&session, 5, &frame));
+    EXPECT(frame.timestamp == 2000 && frame.bytes == sizeof P1x);
+#endif
     /* The replaced unit's picture and that of the one behind it are cached or released, whatever memory was refused. */
     uint64_t back[3] = {0, 0, 0};
     size_t count = 0;
@@ -637,6 +707,7 @@ int main(void)
     stale_and_late();
     equal_units_have_one_picture();
     jobs_are_told();
+    frames_are_told();
     pictures_are_dropped();
     pictures_are_released();
     journal_is_told();

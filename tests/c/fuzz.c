@@ -515,6 +515,8 @@ static void ask_job(struct known *known, struct input *input)
 
 static const uint8_t of_unit_slice[] = {0, 16, 103, 106, 107, 255};
 static const uint8_t of_job_slice[] = {0, 103, 105, 106, 255};
+static const uint8_t of_unit_frame[] = {0, 16, 103, 107, 118, 255};
+static const uint8_t of_job_frame[] = {0, 103, 105, 118, 255};
 
 /* The bytes of a slice have a start code of three bytes, and as many as the request says. */
 static void ask_bytes(struct known *known, struct input *input, bool of_unit_now)
@@ -539,7 +541,62 @@ static void ask_bytes(struct known *known, struct input *input, bool of_unit_now
     EXPECT(is_untouched(bytes + written, sizeof bytes - written));
 }
 
+/* The bytes of a whole picture are those of its slices. */
+static void ask_frame_bytes(struct known *known, struct input *input, bool of_unit_now)
+{
+    uint8_t bytes[ROOM];
+    uint8_t slice[ROOM];
+    size_t needed = 0;
+    size_t count = 0;
+    size_t at = 0;
+    uint32_t id = drawn_id(known, input);
+    uint64_t job = drawn_number(input);
+    bool start_codes = next(input) % 4 != 0;
+    size_t room = next(input) * 4;
+    UNTOUCHED(bytes);
+    UNTOUCHED(needed);
+    uint32_t status = of_unit_now ? cupdaisy_unit_frame_bytes(&known->session, id, start_codes, bytes, room, &needed)
+                                  : cupdaisy_job_frame_bytes(&known->session, job, start_codes, bytes, room, &needed);
+    answered(known, status, of_unit_now ? of_unit_frame : of_job_frame);
+    size_t written = status == CUPDAISY_DONE ? needed : 0;
+    EXPECT(is_untouched(bytes + written, sizeof bytes - written));
+    if (status != CUPDAISY_DONE && status != CUPDAISY_TOO_SMALL)
+        EXPECT_UNTOUCHED(needed);
+    else
+        EXPECT((status == CUPDAISY_DONE) == (needed <= room));
+    for (size_t i = 0; at < written; i++, at += count) {
+        status = of_unit_now ? cupdaisy_unit_bytes(&known->session, id, i, slice, sizeof slice, &count)
+                             : cupdaisy_job_bytes(&known->session, job, i, slice, sizeof slice, &count);
+        size_t skipped = start_codes ? 0 : 3;
+        EXPECT(status == CUPDAISY_DONE && count - skipped <= written - at);
+        count -= skipped;
+        EXPECT(memcmp(bytes + at, slice + skipped, count) == 0);
+    }
+}
+
 #ifdef __linux__
+static void ask_frame(struct known *known, struct input *input, bool of_unit_now)
+{
+    cupdaisy_frame frame;
+    cupdaisy_request first;
+    uint32_t id = drawn_id(known, input);
+    uint64_t job = drawn_number(input);
+    UNTOUCHED(frame);
+    uint32_t status = of_unit_now ? cupdaisy_unit_frame(&known->session, id, &frame)
+                                  : cupdaisy_job_frame(&known->session, job, &frame);
+    answered(known, status, of_unit_now ? of_unit_frame : of_job_frame);
+    EXPECT(status != CUPDAISY_TOO_SMALL && status != CUPDAISY_SEVERAL_SLICES);
+    if (status != CUPDAISY_DONE) {
+        EXPECT_UNTOUCHED(frame);
+        return;
+    }
+    status = of_unit_now ? cupdaisy_unit_request(&known->session, id, 0, &first)
+                         : cupdaisy_job_request(&known->session, job, 0, &first);
+    EXPECT(status == CUPDAISY_DONE && frame.timestamp == first.timestamp && frame.slices > 0 && frame.bytes >= first.bytes);
+    EXPECT(memcmp(&frame.sps, &first.sps, sizeof first.sps) == 0 && memcmp(&frame.pps, &first.pps, sizeof first.pps) == 0);
+    EXPECT(memcmp(frame.decode_params.dpb, first.decode_params.dpb, sizeof first.decode_params.dpb) == 0);
+}
+
 static const uint8_t of_unit_weights[] = {0, 16, 106, 107, 116, 255};
 static const uint8_t of_job_weights[] = {0, 105, 106, 116, 255};
 
@@ -673,9 +730,21 @@ static void ask(struct known *known, struct input *input, unsigned which)
     EXPECT(growths == before);
 }
 
+/* The request of a whole picture, and its bytes: these take memory. */
+static void ask_whole(struct known *known, struct input *input, unsigned which)
+{
+#ifdef __linux__
+    if (which >= 34) {
+        ask_frame(known, input, which == 34);
+        return;
+    }
+#endif
+    ask_frame_bytes(known, input, which % 2 == 0);
+}
+
 static void call(struct known *known, struct input *input)
 {
-    call_number = next(input) % 32;
+    call_number = next(input) % 36;
     if (call_number < 13)
         ask(known, input, call_number);
     else if (call_number < 18)
@@ -690,7 +759,9 @@ static void call(struct known *known, struct input *input)
         refuse_at = growths + 1 + drawn % 64;
         refuse_after = drawn >= 128;
         return;
-    } else if (call_number >= 28)
+    } else if (call_number >= 32)
+        ask_whole(known, input, call_number);
+    else if (call_number >= 28)
         keep_few(known, input, call_number - 28);
     else if (known->units + 8 > MOST_UNITS)
         edit(known, input, 2);

@@ -62,6 +62,10 @@ static void jobs_are_told()
     EXPECT(session.references(job.number) == std::vector<cupdaisy::Surface>(1, 40));
     EXPECT(session.bytes(job.number, 0) == P1);
     EXPECT(refusal([&] { session.bytes(job.number, 1); }) == CUPDAISY_NO_SUCH_SLICE);
+    EXPECT(session.frame_bytes(job.number) == P1 && session.frame_bytes(job.number, false) == Bytes(P1.begin() + 3, P1.end()));
+#ifdef __linux__
+    EXPECT(session.frame(job.number).slices == 1 && session.frame(job.number).bytes == P1.size());
+#endif
     session.give_back(job.number);
     EXPECT(session.take(job) && job.number == 3 && !session.take(job));
     session.erase(2);

@@ -6,10 +6,10 @@
 tests/v4l2/fake_device.c answers for the device, with planes and without, and tells each request. A surface is found by the timestamp
 of its decode alone, as a driver finds it. Slice by slice, with one request in flight and with several, the record of each request is
 computed from its structs, its bytes and the pictures of these surfaces: so each decode gives a picture, and the pictures have to be
-those that `preview run --hex` shows of the file. Frame by frame, with start codes and without, each request has to have the bytes of
-all slices of a unit, no slice_params, PFRAME and BFRAME as its slices are, and in each valid entry of the buffer the timestamp at
-which that unit was decoded, as long as a surface has it. Then streams whose pictures change their size, scaling matrices, pictures
-with several picture parameter sets, and devices that can't do what is asked of them.
+those that `preview run --hex` shows of the file. Frame by frame, with start codes and where each picture has one slice without, each
+request has to have the bytes of all slices of a unit, no slice_params, PFRAME or BFRAME as its slices are, and in each valid entry of
+the buffer the timestamp at which that unit was decoded, as long as a surface has it. Then streams whose pictures change their size,
+scaling matrices, pictures that can't be decoded whole, and devices that can't do what is asked of them.
 PROGRAM is build/v4l2_request by default, PREVIEW bin/preview or what PREVIEW in the environment names.
 
 Exit status: 0 if nothing differs, else 1; 77 if a compiler or the kernel's header isn't there.
@@ -168,7 +168,7 @@ def is_of(plan, value, surfaces, names):
     flags, lying = 0, {content: timestamp for timestamp, content in surfaces.held.values()}
     for request in plan["requests"]:
         params, dpb = request["v4l2_ctrl_h264_slice_params"], request["v4l2_ctrl_h264_decode_params"]["dpb"]
-        flags |= FLAGS[params["slice_type"]]
+        flags = max(flags, FLAGS[params["slice_type"]])
         for entry in params["ref_pic_list0"] + params["ref_pic_list1"]:
             if entry["fields"] and names[dpb[entry["index"]]["reference_ts"] // 1000] not in lying:
                 return False
@@ -231,6 +231,23 @@ def compare_sets(options, device, folder):
     expect(not {Asked(line).text for line in lines if line.startswith("request")} & set(texts), "such a picture is decoded")
 
 
+def compare_slices_untold(options, device, folder):
+    """A picture of several slices isn't decoded as a whole without start codes, by which they are told apart."""
+    file = drawn_stream(folder, "untold.264", lambda plans: all(len(sets_of(plan)) == 1 for plan in plans) and not is_of_slices(
+        plans[:1]) and is_of_slices(plans), options)
+    first = next(plan["unit"] for plan in plans_of(options, file) if len(plan["requests"]) > 1)
+    ran, lines = ran_on(options, device, file, "--frame-based", "--no-start-code")
+    expect(ran.status == 3 and f"the slices of unit {first} have no start codes".encode() in ran.errors,
+           f"status {ran.status}: {ran.errors.decode().strip()[:200]}")
+    texts = [b"".join(nals) for nals in units_of(file) if len(nals) > 1]
+    expect(not {Asked(line).text for line in lines if line.startswith("request")} & set(texts), "such a picture is decoded")
+
+
+def is_of_slices(plans):
+    """Whether a picture has several slices."""
+    return any(len(plan.get("requests", ())) > 1 for plan in plans)
+
+
 def compare_devices(options, memory, device, folder, file):
     """Devices that can't do what is asked of them, have no control for matrices, or give fewer surfaces than are asked for."""
     compare_slices(options, memory, device, file, "8", FAKE_SURFACES="17")
@@ -263,7 +280,8 @@ def main():
             try:
                 counts = [compare_slices(options, memory, device, file, requests, FAKE_PLANES=planes)
                           for planes, requests in (("1", "1"), ("0", "1"), ("1", "8"))]
-                counts += [compare_frames(options, memory, device, file, has) for has in (True, False)]
+                starts = (True,) if is_of_slices(plans_of(options, file)) else (True, False)
+                counts += [compare_frames(options, memory, device, file, has) for has in starts]
                 print(f"{file}: {', '.join(map(str, counts))} decodes compared")
             except Differs as fault:
                 failures += 1
@@ -271,6 +289,7 @@ def main():
         try:
             changes = compare_sizes(options, memory, device, folder)
             compare_sets(options, device, folder)
+            compare_slices_untold(options, device, folder)
             compare_devices(options, memory, device, folder, options.files[0])
             waiting = max(request.waiting for file in options.files for request in asked(options, device, file, "--requests", "8"))
             print(f"{changes} pictures of changing sizes, sets and devices compared; at most {waiting + 1} requests wait together")

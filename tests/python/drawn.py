@@ -334,6 +334,21 @@ class Drawn:
         same(f"{what}, reference_ts", [entry["reference_ts"] for entry in values["decode_params"]["dpb"]],
              times + [0] * (16 - len(times)))
 
+    def frame(self, what, found, first, text_of, requests):
+        """The request of a whole picture, by that of its first slice and the model's of all."""
+        text = b"".join(request.text for request in requests)
+        same(f"{what}, frame", (found.timestamp, found.bytes, found.slices), (first.timestamp, len(text), len(requests)))
+        for control in ("sps", "pps", "scaling_matrix"):
+            same(f"{what}, {control} of the frame", bytes(getattr(found, control)), bytes(getattr(first, control)))
+        whole, of_first = (self.memory.read("v4l2_ctrl_h264_decode_params", bytes(each.decode_params))[0]
+                           for each in (found, first))
+        types = {request.line.split(" ")[7] for request in requests}
+        of_first["flags"] |= 16 if "1" in types else 8 if "0" in types else 0
+        same(f"{what}, decode_params of the frame", [name for name in whole if whole[name] != of_first[name]], [])
+        same(f"{what}, bytes of the frame", text_of(True), text)
+        same(f"{what}, bytes without start codes", answered(text_of, False),
+             text[len(START):] if len(requests) == 1 else ("refused", 118, None))
+
     def unit_requests(self):
         valid = [(unit[0], row) for unit, row in zip(self.model.stream, self.model.rows) if row.key is not None]
         if not valid:
@@ -344,6 +359,8 @@ class Drawn:
             self.request(f"unit {unit} slice {place}", self.session.unit_request(unit, place),
                          self.session.unit_weights(unit, place), self.session.unit_bytes(unit, place), wanted, 1000 * unit,
                          place + 1 == len(requests))
+        self.frame(f"unit {unit}", self.session.unit_frame(unit), self.session.unit_request(unit, 0),
+                   lambda start: self.session.unit_frame_bytes(unit, start), requests)
         same("a slice past the last", answered(self.session.unit_request, unit, len(requests)), ("refused", 106, None))
 
     def job_requests(self):
@@ -357,6 +374,8 @@ class Drawn:
             self.request(f"job {number} slice {place}", self.session.job_request(number, place),
                          self.session.job_weights(number, place), self.session.job_bytes(number, place), wanted, 1000 * unit,
                          place + 1 == len(requests))
+        self.frame(f"job {number}", self.session.job_frame(number), self.session.job_request(number, 0),
+                   lambda start: self.session.job_frame_bytes(number, start), requests)
         found = self.session.job_input(number)
         same(f"job {number}", (found.unit, found.slices), (unit, len(requests)))
         same(f"job {number}, its picture", self.decoded(number), self.model.pictures[key])

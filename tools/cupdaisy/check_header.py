@@ -8,7 +8,7 @@ NUMBERS = {"u8": "uint8_t", "u16": "uint16_t", "u32": "uint32_t", "u64": "uint64
 # A struct of the library, and the type of the header that it is.
 STRUCTS = {"Handle": "cupdaisy_session", "EditReceipt": "cupdaisy_receipt", "UnitOutcome": "cupdaisy_outcome",
            "JobTaken": "cupdaisy_job", "JobInput": "cupdaisy_job_input",
-           "SliceRequest": "cupdaisy_request", "JobReference": "cupdaisy_reference",
+           "SliceRequest": "cupdaisy_request", "FrameTold": "cupdaisy_frame", "JobReference": "cupdaisy_reference",
            "JournalEdit": "cupdaisy_journal_edit", "EditAsked": "cupdaisy_edit",
            "GroupTold": "cupdaisy_group_receipt", "LoadTold": "cupdaisy_load_receipt",
            "Sps": "struct v4l2_ctrl_h264_sps", "Pps": "struct v4l2_ctrl_h264_pps",

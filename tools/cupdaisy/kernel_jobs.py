@@ -95,14 +95,14 @@ class Stream:
         ran = processes.run([HOST, self.file, *words.split()])
         return ran.status, steps_of(ran.output.decode())
 
-    def left_out(self, is_frame_based):
-        """The pictures that can't be decoded: those with slices under several PPSs, where a request has the whole picture, and those
-        that are made of them."""
+    def left_out(self, is_frame_based, start):
+        """The pictures that can't be decoded, where a request has the whole picture: those with slices under several PPSs, those with
+        several slices without start codes, and those that are made of such ones."""
         units = set()
         for unit in sorted(self.names) if is_frame_based else ():
             params = [self.controls(unit, index) for index in range(len(self.slices[unit - 1]))]
             sets = {each["v4l2_ctrl_h264_pps"]["pic_parameter_set_id"] for each in params}
-            if len(sets) > 1 or units & {named for each in params for named in named_by(each)}:
+            if len(sets) > 1 or len(params) > 1 and not start or units & {named for each in params for named in named_by(each)}:
                 units.add(unit)
         return {self.names[unit] for unit in units}
 
@@ -192,7 +192,7 @@ class Job:
 
     def compare_all(self):
         status, steps = self.stream.played(self.mode.words)
-        left_out = self.stream.left_out(self.mode.is_frame_based)
+        left_out = self.stream.left_out(self.mode.is_frame_based, self.mode.start)
         ended = int(self.read("status"))
         self.expect(ended == status == (LEFT_OUT if left_out else 0),
                     f"status {ended}, {status} without a device: {self.read('stderr').decode().strip()[:200]}")
@@ -270,8 +270,7 @@ class Job:
         wanted["v4l2_ctrl_h264_decode_params"] = params = dict(params, dpb=dpb)
         if not self.mode.is_frame_based:
             return wanted
-        for slice_params in self.slice_params(step):
-            params["flags"] |= FRAME_FLAGS[slice_params["slice_type"]]
+        params["flags"] |= max(FRAME_FLAGS[slice_params["slice_type"]] for slice_params in self.slice_params(step))
         return {name: value for name, value in wanted.items() if name not in SLICE_CONTROLS}
 
     def compare_buffers(self, steps):

@@ -2,11 +2,11 @@
 import ctypes
 import os
 import pathlib
-from ctypes import POINTER, byref, c_size_t, c_ubyte, c_uint16, c_uint32, c_uint64, c_void_p
+from ctypes import POINTER, byref, c_bool, c_size_t, c_ubyte, c_uint16, c_uint32, c_uint64, c_void_p
 from typing import Any, Optional
 
 from .kernel import PredWeights
-from .records import (Edit, GroupReceipt, Handle, Job, JobInput, JobReference, JournalEdit, LoadReceipt, Outcome, Receipt,
+from .records import (Edit, Frame, GroupReceipt, Handle, Job, JobInput, JobReference, JournalEdit, LoadReceipt, Outcome, Receipt,
                       Request)
 
 DONE, NO_SESSION, TOO_SMALL, NO_SUCH_PLACE, NO_SUCH_SLICE = 0, 100, 103, 104, 106
@@ -37,6 +37,8 @@ CALLS: dict[str, tuple[Any, ...]] = {
     "unit_request": (c_uint32, SIZE, POINTER(Request)), "unit_weights": (c_uint32, SIZE, POINTER(PredWeights)),
     "job_request": (c_uint64, SIZE, POINTER(Request)), "job_weights": (c_uint64, SIZE, POINTER(PredWeights)),
     "unit_bytes": (c_uint32, SIZE, *FILLED), "job_bytes": (c_uint64, SIZE, *FILLED),
+    "unit_frame": (c_uint32, POINTER(Frame)), "job_frame": (c_uint64, POINTER(Frame)),
+    "unit_frame_bytes": (c_uint32, c_bool, *FILLED), "job_frame_bytes": (c_uint64, c_bool, *FILLED),
     "journal": (OUT_SIZE,), "journal_entry": (SIZE, OUT_SIZE), "journal_edit_at": (SIZE, SIZE, POINTER(JournalEdit)),
     "journal_text": (SIZE, SIZE, *FILLED),
 }

@@ -103,3 +103,16 @@ class Request(Record):
     _fields_ = [("timestamp", c_uint64), ("bytes", c_uint64), ("unit_begins", c_uint32), ("hold", c_uint32),
                 ("has_weights", c_uint32), ("pps", Pps), ("sps", Sps), ("scaling_matrix", ScalingMatrix),
                 ("slice_params", SliceParams), ("decode_params", DecodeParams)]
+
+
+class Frame(Record):
+    """The request of a whole picture, for drivers that take one for all slices."""
+    timestamp: int
+    bytes: int
+    slices: int
+    sps: Sps
+    pps: Pps
+    scaling_matrix: ScalingMatrix
+    decode_params: DecodeParams
+    _fields_ = [("timestamp", c_uint64), ("bytes", c_uint64), ("slices", c_uint64), ("sps", Sps), ("pps", Pps),
+                ("scaling_matrix", ScalingMatrix), ("decode_params", DecodeParams)]

@@ -7,7 +7,7 @@ from typing import Any, Generic, Iterator, NamedTuple, Optional, Sequence, TypeV
 from .kernel import PredWeights
 from .library import (DONE, HAS_FAULT, NO_PICTURE, NO_SUCH_PLACE, NO_WEIGHTS, NOT_HELD, NOTHING_DUE, PENDING, STALE, Refused,
                       called, filled, text_of)
-from .records import (Edit, GroupReceipt, Handle, Job, JobInput, JobReference, JournalEdit, LoadReceipt, Outcome, Receipt,
+from .records import (Edit, Frame, GroupReceipt, Handle, Job, JobInput, JobReference, JournalEdit, LoadReceipt, Outcome, Receipt,
                       Request)
 
 T = TypeVar("T")
@@ -188,6 +188,14 @@ class Session(Generic[T]):
         """The bytes of a slice: its NAL unit after a start code of three bytes."""
         return self.bytes_told("unit_bytes", unit, slice)
 
+    def unit_frame(self, unit: int) -> Frame:
+        """The request of a valid unit's whole picture."""
+        return self.told(Frame(), "unit_frame", unit)
+
+    def unit_frame_bytes(self, unit: int, start_codes: bool = True) -> bytes:
+        """The bytes of all its slices, each after its start code; or those of the only one, without it."""
+        return self.bytes_told("unit_frame_bytes", unit, start_codes)
+
     def journal(self) -> list[list[tuple[int, int, bytes]]]:
         """The accepted edits: for each, or each group, a list of kinds, ids and texts."""
         entries = range(self.number(c_size_t, "journal"))
@@ -281,3 +289,11 @@ class Session(Generic[T]):
 
     def job_bytes(self, job: int, slice: int) -> bytes:
         return self.bytes_told("job_bytes", job, slice)
+
+    def job_frame(self, job: int) -> Frame:
+        """The request of a job's whole picture."""
+        return self.told(Frame(), "job_frame", job)
+
+    def job_frame_bytes(self, job: int, start_codes: bool = True) -> bytes:
+        """The bytes of all its slices, each after its start code; or those of the only one, without it."""
+        return self.bytes_told("job_frame_bytes", job, start_codes)

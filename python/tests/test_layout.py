@@ -20,7 +20,8 @@ STRUCTS = {
     "cupdaisy_receipt": records.Receipt, "cupdaisy_group_receipt": records.GroupReceipt,
     "cupdaisy_load_receipt": records.LoadReceipt, "cupdaisy_outcome": records.Outcome, "cupdaisy_job": records.Job,
     "cupdaisy_job_input": records.JobInput, "cupdaisy_reference": records.JobReference, "cupdaisy_edit": records.Edit,
-    "cupdaisy_journal_edit": records.JournalEdit, "cupdaisy_request": records.Request}
+    "cupdaisy_journal_edit": records.JournalEdit, "cupdaisy_request": records.Request,
+    "cupdaisy_frame": records.Frame}
 # Members that have another name in C, where it is a word of Python's.
 IN_C = {("Edit", "begin"): "from"}
 CONSTANTS = ("DONE", "NO_SESSION", "TOO_SMALL", "NO_SUCH_PLACE", "NO_SUCH_SLICE", "NOTHING_DUE", "STALE", "NOT_HELD", "PENDING",
@@ -68,7 +69,7 @@ class Layout(unittest.TestCase):
                     is_pointer = "*" in parameter
                     self.assertEqual(is_pointer, kind is ctypes.c_void_p or hasattr(kind, "contents"), parameter)
                     if not is_pointer:
-                        size = {"size_t": 8, "uint16_t": 2, "uint32_t": 4, "uint64_t": 8}[parameter.split()[0]]
+                        size = {"bool": 1, "size_t": 8, "uint16_t": 2, "uint32_t": 4, "uint64_t": 8}[parameter.split()[0]]
                         self.assertEqual(ctypes.sizeof(kind), size, parameter)
 
 

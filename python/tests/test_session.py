@@ -83,6 +83,13 @@ class Calls(unittest.TestCase):
             self.assertEqual(request, session.unit_request(1, 0))
             self.assertEqual(request.bytes, len(session.unit_bytes(1, 0)))
             self.assertIsNone(session.unit_weights(1, 0))
+            frame = session.unit_frame(1)
+            self.assertEqual((frame.slices, frame.bytes, frame.sps, frame.pps), (1, request.bytes, request.sps, request.pps))
+            self.assertEqual(session.unit_frame_bytes(1), session.unit_bytes(1, 0))
+            self.assertEqual(session.unit_frame_bytes(1, start_codes=False), session.unit_bytes(1, 0)[3:])
+            job = session.take()
+            self.assertEqual(session.job_frame(job.number), frame)
+            self.assertEqual(session.job_frame_bytes(job.number), session.unit_frame_bytes(1))
             self.assertTrue(session.in_use(session.key(1)))
 
     def test_names(self):

@@ -82,6 +82,7 @@ numbered! {
     107 NotValid "the unit has a fault or no slice";
     109 JobsSpent "all numbers of jobs were given";
     110 Stale "the picture is wanted no more";
+    118 SeveralSlices "without start codes a picture of several slices has no bytes";
 }
 
 impl error::Error for Error {}

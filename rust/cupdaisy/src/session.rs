@@ -9,7 +9,7 @@ use crate::slots::Slots;
 use crate::sys::handle::Raw;
 use crate::sys::{self, cupdaisy_edit, cupdaisy_group_receipt, cupdaisy_receipt};
 use crate::values::{Edit, Group, Job, JournalEdit, Loaded, Outcome, Receipt, Reference, Shown, UnitId};
-use crate::{JobInput, PredWeights, Request};
+use crate::{Frame, JobInput, PredWeights, Request};
 
 /// A session over a stream, which owns the surfaces `T` that were landed and not given back. It is closed where it is dropped,
 /// and they are dropped with it.
@@ -200,6 +200,17 @@ impl<T> Session<T> {
         self.raw.unit_bytes(unit.0, slice).map_err(Error::of)
     }
 
+    /// The request of a valid unit's whole picture, for a decoder that takes one for all slices.
+    pub fn unit_frame(&self, unit: UnitId) -> Result<Frame, Error> {
+        self.raw.unit_frame(unit.0).map_err(Error::of)
+    }
+
+    /// The bytes of all slices of a valid unit, each after its start code; or those of its only slice, without it
+    /// ([`Error::SeveralSlices`]).
+    pub fn unit_frame_bytes(&self, unit: UnitId, start_codes: bool) -> Result<Vec<u8>, Error> {
+        self.raw.unit_frame_bytes(unit.0, start_codes).map_err(Error::of)
+    }
+
     /// The accepted edits, those of a group as one entry.
     pub fn journal(&self) -> Result<Vec<Vec<JournalEdit>>, Error> {
         let entries = self.raw.journal().map_err(Error::of)?;
@@ -309,6 +320,17 @@ impl<T> Session<T> {
     /// The bytes of a slice of a job: its NAL unit after a start code of three bytes.
     pub fn job_bytes(&self, job: &Job, slice: usize) -> Result<Vec<u8>, Error> {
         self.raw.job_bytes(self.own(job), slice).map_err(Error::of)
+    }
+
+    /// The request of a job's whole picture, for a decoder that takes one for all slices.
+    pub fn job_frame(&self, job: &Job) -> Result<Frame, Error> {
+        self.raw.job_frame(self.own(job)).map_err(Error::of)
+    }
+
+    /// The bytes of all slices of a job, each after its start code; or those of its only slice, without it
+    /// ([`Error::SeveralSlices`]).
+    pub fn job_frame_bytes(&self, job: &Job, start_codes: bool) -> Result<Vec<u8>, Error> {
+        self.raw.job_frame_bytes(self.own(job), start_codes).map_err(Error::of)
     }
 
     /// The surface of a unit's picture, which is the host's again: the picture isn't held any more, and has to be made anew. Units

@@ -53,6 +53,7 @@ fn structs() -> String {
     same!(to, "cupdaisy_journal_edit" cupdaisy_journal_edit: kind id bytes);
     same!(to, "cupdaisy_request" cupdaisy_request: timestamp bytes unit_begins hold has_weights pps sps scaling_matrix
         slice_params decode_params);
+    same!(to, "cupdaisy_frame" cupdaisy_frame: timestamp bytes slices sps pps scaling_matrix decode_params);
     same!(to, "struct v4l2_ctrl_h264_sps" v4l2_ctrl_h264_sps: profile_idc constraint_set_flags level_idc
         seq_parameter_set_id chroma_format_idc bit_depth_luma_minus8 bit_depth_chroma_minus8 log2_max_frame_num_minus4
         pic_order_cnt_type log2_max_pic_order_cnt_lsb_minus4 max_num_ref_frames num_ref_frames_in_pic_order_cnt_cycle
@@ -89,7 +90,7 @@ fn constants() -> String {
     same!(CUPDAISY_DONE CUPDAISY_MEMORY CUPDAISY_NO_SUCH_UNIT CUPDAISY_NO_SESSION CUPDAISY_IS_OPEN CUPDAISY_CACHE_RANGE
         CUPDAISY_TOO_SMALL CUPDAISY_NO_SUCH_PLACE CUPDAISY_NO_SUCH_JOB CUPDAISY_NO_SUCH_SLICE CUPDAISY_NOT_VALID
         CUPDAISY_NOTHING_DUE CUPDAISY_JOBS_SPENT CUPDAISY_STALE CUPDAISY_NOT_HELD CUPDAISY_PENDING CUPDAISY_HAS_FAULT
-        CUPDAISY_NO_PICTURE CUPDAISY_NOT_AN_EDIT CUPDAISY_NO_WEIGHTS CUPDAISY_NO_SUCH_NAME CUPDAISY_PLAN
+        CUPDAISY_NO_PICTURE CUPDAISY_NOT_AN_EDIT CUPDAISY_NO_WEIGHTS CUPDAISY_NO_SUCH_NAME CUPDAISY_SEVERAL_SLICES CUPDAISY_PLAN
         CUPDAISY_FAULT CUPDAISY_EMPTY CUPDAISY_INSERT_FIRST CUPDAISY_INSERT_AFTER CUPDAISY_DELETE CUPDAISY_REPLACE
         V4L2_H264_NUM_DPB_ENTRIES V4L2_H264_REF_LIST_LEN);
     to

@@ -44,6 +44,7 @@ plain!(
     cupdaisy_load_receipt,
     cupdaisy_journal_edit,
     cupdaisy_request,
+    cupdaisy_frame,
     v4l2_ctrl_h264_pred_weights,
 );
 
@@ -113,6 +114,8 @@ told! {
     unit_weights = cupdaisy_unit_weights(id: u32, slice: usize) -> v4l2_ctrl_h264_pred_weights;
     job_request = cupdaisy_job_request(job: u64, slice: usize) -> cupdaisy_request;
     job_weights = cupdaisy_job_weights(job: u64, slice: usize) -> v4l2_ctrl_h264_pred_weights;
+    unit_frame = cupdaisy_unit_frame(id: u32) -> cupdaisy_frame;
+    job_frame = cupdaisy_job_frame(job: u64) -> cupdaisy_frame;
     journal = cupdaisy_journal() -> usize;
     journal_entry = cupdaisy_journal_entry(entry: usize) -> usize;
     journal_edit_at = cupdaisy_journal_edit_at(entry: usize, index: usize) -> cupdaisy_journal_edit;
@@ -133,6 +136,8 @@ macro_rules! filled {
 filled! {
     unit_bytes = cupdaisy_unit_bytes(id: u32, slice: usize);
     job_bytes = cupdaisy_job_bytes(job: u64, slice: usize);
+    unit_frame_bytes = cupdaisy_unit_frame_bytes(id: u32, start_codes: bool);
+    job_frame_bytes = cupdaisy_job_frame_bytes(job: u64, start_codes: bool);
     journal_text = cupdaisy_journal_text(entry: usize, index: usize);
 }
 

@@ -31,6 +31,7 @@ pub const CUPDAISY_NO_PICTURE: u32 = 114;
 pub const CUPDAISY_NOT_AN_EDIT: u32 = 115;
 pub const CUPDAISY_NO_WEIGHTS: u32 = 116;
 pub const CUPDAISY_NO_SUCH_NAME: u32 = 117;
+pub const CUPDAISY_SEVERAL_SLICES: u32 = 118;
 
 pub const CUPDAISY_PLAN: u32 = 0;
 pub const CUPDAISY_FAULT: u32 = 1;
@@ -149,6 +150,22 @@ pub struct cupdaisy_request {
     pub decode_params: v4l2_ctrl_h264_decode_params,
 }
 
+/// The request of a whole picture.
+#[repr(C)]
+#[derive(Clone, Copy, Debug, PartialEq, Eq)]
+pub struct cupdaisy_frame {
+    /// Of the unit, in nanoseconds.
+    pub timestamp: u64,
+    /// How many bytes the slices have together, each with a start code of three bytes.
+    pub bytes: u64,
+    /// How many slices the picture has.
+    pub slices: u64,
+    pub sps: v4l2_ctrl_h264_sps,
+    pub pps: v4l2_ctrl_h264_pps,
+    pub scaling_matrix: v4l2_ctrl_h264_scaling_matrix,
+    pub decode_params: v4l2_ctrl_h264_decode_params,
+}
+
 type Status = u32;
 type Handle = *mut cupdaisy_session;
 
@@ -247,6 +264,24 @@ extern "C" {
         session: Handle,
         job: u64,
         slice: usize,
+        bytes: *mut u8,
+        bytes_length: usize,
+        needed: *mut usize,
+    ) -> Status;
+    pub fn cupdaisy_unit_frame(session: Handle, id: u32, frame: *mut cupdaisy_frame) -> Status;
+    pub fn cupdaisy_job_frame(session: Handle, job: u64, frame: *mut cupdaisy_frame) -> Status;
+    pub fn cupdaisy_unit_frame_bytes(
+        session: Handle,
+        id: u32,
+        start_codes: bool,
+        bytes: *mut u8,
+        bytes_length: usize,
+        needed: *mut usize,
+    ) -> Status;
+    pub fn cupdaisy_job_frame_bytes(
+        session: Handle,
+        job: u64,
+        start_codes: bool,
         bytes: *mut u8,
         bytes_length: usize,
         needed: *mut usize,

@@ -7,7 +7,7 @@ use cupdaisy::sys::v4l2::{
     v4l2_ctrl_h264_decode_params, v4l2_ctrl_h264_pps, v4l2_ctrl_h264_scaling_matrix, v4l2_ctrl_h264_slice_params,
     v4l2_ctrl_h264_sps, v4l2_h264_reference,
 };
-use cupdaisy::{Job, PredWeights, Request, Session};
+use cupdaisy::{Error, Job, PredWeights, Request, Session};
 
 use super::sha256::sha256;
 
@@ -143,5 +143,32 @@ pub fn picture<T>(session: &Session<T>, job: &Job, digest: impl Fn(&T) -> Digest
         let weights = session.job_weights(job, slice).unwrap();
         form.request(&request, weights.as_ref(), &session.job_bytes(job, slice).unwrap(), &pictures);
     }
+    check_frame(session, job, slices);
     Some(sha256(&form.0))
+}
+
+/// The request of a job's whole picture is that of its first slice but for its flags, and its bytes those of all slices.
+fn check_frame<T>(session: &Session<T>, job: &Job, slices: usize) {
+    const PFRAME_BFRAME: u32 = 8 | 16;
+    let (frame, first) = (session.job_frame(job).unwrap(), session.job_request(job, 0).unwrap());
+    let texts: Vec<_> = (0..slices).map(|slice| session.job_bytes(job, slice).unwrap()).collect();
+    let types: Vec<_> =
+        (0..slices).map(|slice| session.job_request(job, slice).unwrap().slice_params.slice_type).collect();
+    assert_eq!((frame.timestamp, frame.slices), (first.timestamp, slices as u64));
+    assert_eq!((frame.sps, frame.pps, frame.scaling_matrix), (first.sps, first.pps, first.scaling_matrix));
+    let flag = if types.contains(&B) {
+        16
+    } else if types.contains(&P) {
+        8
+    } else {
+        0
+    };
+    assert_eq!(frame.decode_params.flags & PFRAME_BFRAME, flag);
+    let mut params = frame.decode_params;
+    params.flags = params.flags & !PFRAME_BFRAME | first.decode_params.flags & PFRAME_BFRAME;
+    assert_eq!(params, first.decode_params);
+    assert_eq!(frame.bytes, texts.iter().map(Vec::len).sum::<usize>() as u64);
+    assert_eq!(session.job_frame_bytes(job, true), Ok(texts.concat()));
+    let alone = if slices == 1 { Ok(texts[0][3..].to_vec()) } else { Err(Error::SeveralSlices) };
+    assert_eq!(session.job_frame_bytes(job, false), alone);
 }

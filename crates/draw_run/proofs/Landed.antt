@@ -69,8 +69,8 @@ landed between new job only landings.Taken outs is lands =
 pub out-landed : (old between new : Machine) (job : JobValue) (answer : Landing) → old.jobs_out ≡ []
     → AnswersTake old (Ok (Some job)) between → AnswersLand between job answer new → new.jobs_out ≡ []
 out-landed old between new job answer none takes lands =
-    let key = key_of (known_after [] takes.0.before) takes.0.plan.requests in
+    let key = key_of (known_after [] takes.0.gives.before) takes.0.gives.plan.requests in
     let only : OutValue = record { number = job.number; key = key; input = job.input } in
     landed between new job only answer
-    (ap (λ (s : StoreValue). s.jobs_out) takes.0.new_is ∙ ap (λ (l : List OutValue). l ++ only ∷ []) none)
+    (ap (λ (s : StoreValue). s.jobs_out) takes.0.gives.new_is ∙ ap (λ (l : List OutValue). l ++ only ∷ []) none)
     (refl, refl) lands

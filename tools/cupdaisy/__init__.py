@@ -22,6 +22,7 @@
     kernel_spoils   the same with spoiled controls
     decode_stream   the program bench/decode_stream, built where it is missing
     damage          damaged copies of streams
+    mending         what `preview mend` writes of a text and tells
     doubts          which units of a plan are in doubt
 
 Python 3.10 with its standard library is all that they need; CONTRIBUTING.md names the programs that some commands run.

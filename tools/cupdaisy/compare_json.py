@@ -13,6 +13,9 @@ from cupdaisy.streams import START, cut, slices_in, split
 
 REQUEST = ("timestamp", "hold_capture_buf", "bytes", *(f"v4l2_ctrl_h264_{name}" for name in CONTROLS))
 PLAN = ["unit", "position", "begins_period", "counts"]
+FRAME = ("v4l2_ctrl_h264_sps", "v4l2_ctrl_h264_pps", "v4l2_ctrl_h264_scaling_matrix")
+# The flags of a picture where a slice is P and none is B, and where one is B.
+PFRAME, BFRAME = "V4L2_H264_DECODE_PARAM_FLAG_PFRAME", "V4L2_H264_DECODE_PARAM_FLAG_BFRAME"
 # Where the names of a member's flags begin.
 FLAGS = {("v4l2_ctrl_h264_sps", "flags"): "V4L2_H264_SPS_FLAG_",
          ("v4l2_ctrl_h264_sps", "constraint_set_flags"): "V4L2_H264_SPS_CONSTRAINT_SET",
@@ -83,6 +86,20 @@ def members(line, told):
     return [*PLAN, *following, *(["in_doubt"] if in_doubt else []), "requests"]
 
 
+def framed(line):
+    """The line of the same unit with the request of its picture, by the requests of its slices."""
+    if "requests" not in line:
+        return line
+    first = line["requests"][0]
+    types = {request["v4l2_ctrl_h264_slice_params"]["slice_type"] for request in line["requests"]}
+    params = first["v4l2_ctrl_h264_decode_params"]
+    flags = [params["flags"]] if params["flags"] else []
+    flags += [BFRAME] if 1 in types else [PFRAME] if 0 in types else []
+    request = {"timestamp": first["timestamp"], "bytes": sum(request["bytes"] for request in line["requests"]),
+               **{name: first[name] for name in FRAME}, "v4l2_ctrl_h264_decode_params": {**params, "flags": "|".join(flags)}}
+    return {**{name: value for name, value in line.items() if name != "requests"}, "request": request}
+
+
 def shown(layouts, line, slices, told, pictures):
     """What has to be shown of the unit of a line, whose picture is put among those by their timestamps."""
     if list(line) != members(line, told):
@@ -125,6 +142,14 @@ def compare(program, layouts, file):
         if expected != answer:
             differing += 1
             print(f"{file}: {expected}, and {answer}")
+    frames = printed_anyway([program, "plan", "--json", "--frames", file]).splitlines()
+    for line, frame in zip(lines, frames):
+        if json.dumps(framed(line)) != json.dumps(json.loads(frame)):
+            differing += 1
+            print(f"{file}: unit {line['unit']} has another request of its picture")
+    if len(frames) != len(lines):
+        differing += 1
+        print(f"{file}: {len(frames)} lines with --frames")
     print(f"{file}: {len(units)} units compared, {differing} differences")
     return not differing
 

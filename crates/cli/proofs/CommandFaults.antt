@@ -4,7 +4,7 @@ use Rattle.clap.specs.Kinds.{HasKind, or_else}
 use Rattle.clap.specs.Words.{Kinds, Text, fault_of, kind_of, is_simple_and_free}
 use Rattle.clap.specs.declared.Error.{Error}
 use Rattle.clap.specs.declared.error.ErrorKind.{ErrorKind}
-use Rattle.clap.specs.declared.error.ErrorKind.TheVariants.{MissingSubcommand, OutOfMemory}
+use Rattle.clap.specs.declared.error.ErrorKind.TheVariants.{MissingRequiredArgument, OutOfMemory}
 use Rattle.clap.proofs.FaultLemmas.{first_fails}
 use Rattle.cli.specs.CommandLine.{HasOne, IsRequest, Wanted, faults_of, preview_app, wanted_in}
 
@@ -14,7 +14,7 @@ preview-simple = refl
 
 -- where clap finds no fault and something is asked for there is none
 pub no-fault : (words : List Text) (wanted : Wanted) → fault_of preview_app words ≡ [] → wanted_in words ≡ Some wanted → faults_of words ≡ []
-no-fault words wanted none some = ap₂ (λ (a : Kinds) (o : Option Wanted). or_else a (cond (is_some o) [] (MissingSubcommand ∷ []))) none some
+no-fault words wanted none some = ap₂ (λ (a : Kinds) (o : Option Wanted). or_else a (cond (is_some o) [] (MissingRequiredArgument ∷ []))) none some
 
 -- an error of clap's is one of the command line
 pub clap-fails : (words : List Text) (e : Error) → HasKind (fault_of preview_app words) e → HasKind (faults_of words) e

@@ -9,23 +9,25 @@ use Rattle.clap.specs.declared.builder.ValueParser.TheVariants.{Unsigned}
 use Rattle.clap.specs.declared.parser.matches.Found.{Found}
 use Rattle.clap.proofs.ValueTestLemmas.{Accepts-accepts, accepts-Accepts}
 use Rattle.clap.proofs.WalkLemmas.{first_value-rows, one_text-rows}
+use Rattle.unit_json.specs.declared.decode_mode.DecodeMode.{DecodeMode}
 use Rattle.cli.specs.Bounds.{most_id}
-use Rattle.cli.specs.CommandLine.{Wanted, audit, audit_in, cache_in, draw_in, drawing, from_by, from_in, has_flag, is_true, number_in, number_of, plan, plan_in, run, run_in, several, units_in, workers_in}
-
--- the plan of a name, as JSON or not
-abbrev plan_with : Bool → Text → Wanted
-plan_with json name = plan name json
-
--- the value of FILE is what is planned, and as JSON where `--json` was given
-pub plan-read : (f : Found) (name : Option Text) (json : Bool) → name ≡ first_value f (codes "FILE")
-    → json ≡ has_flag (codes "json") (rows_of f) → option_map (plan_with json) name ≡ plan_in (rows_of f)
-plan-read f name json is given =
-    ap (λ (j : Bool). option_map (plan_with j) name) given
-    ∙ ap (option_map (plan_with (has_flag (codes "json") (rows_of f)))) (is ∙ first_value-rows f (codes "FILE"))
+use Rattle.cli.specs.CommandLine.{Wanted, audit, audit_in, cache_in, draw_in, drawing, form_in, from_by, from_in, has_flag, is_true, mend, mend_in, number_in, number_of, plan, plan_in, run, run_in, several, units_in, workers_in}
 
 -- with no value of FILE nothing is planned
 pub no-file : (f : Found) → None ≡ first_value f (codes "FILE") → None ≡ plan_in (rows_of f)
-no-file f none = ap (option_map (plan_with (has_flag (codes "json") (rows_of f)))) (none ∙ first_value-rows f (codes "FILE"))
+no-file f none =
+    ap (option_and_then (λ name. option_map (plan name) (form_in (rows_of f)))) (none ∙ first_value-rows f (codes "FILE"))
+
+-- with one it is planned in the form that the flags give
+pub plan-read : (f : Found) (name : Text) (form : Option (Option DecodeMode)) → Some name ≡ first_value f (codes "FILE")
+    → form_in (rows_of f) ≡ form → option_map (plan name) form ≡ plan_in (rows_of f)
+plan-read f name form file is =
+    ap (λ (form : Option (Option DecodeMode)). option_map (plan name) form) (sym is)
+    ∙ ap (option_and_then (λ t. option_map (plan t) (form_in (rows_of f)))) (file ∙ first_value-rows f (codes "FILE"))
+
+-- the value of FILE is what is mended
+pub mend-read : (f : Found) (name : Option Text) → name ≡ first_value f (codes "FILE") → option_map mend name ≡ mend_in (rows_of f)
+mend-read f name is = ap (option_map mend) (is ∙ first_value-rows f (codes "FILE"))
 
 -- the script by which the stream is edited
 abbrev script_of : Found → Option Text

@@ -13,7 +13,9 @@ use Rattle.script_run.specs.RunFaults.{fault_of_input}
 use Rattle.script_run.proofs.Told.{stops-unread}
 use Rattle.script_run.specs.Messages.{run_fault_text}
 use Rattle.shared_run.proofs.Told.{ends-unread, stops-unread as seat-stops-unread}
-use Rattle.cli.specs.CommandLine.{audit, draw, plan, run}
+use Rattle.cli.specs.CommandLine.{audit, draw, mend, plan, run}
+use Rattle.stream_mending.specs.declared.running.MendFault.TheVariants as mending
+use Rattle.unit_json.specs.declared.decode_mode.DecodeMode.{DecodeMode}
 use Rattle.unit_json.proofs.Ends.{ends-unread as ends-unread-json}
 use Rattle.cli.specs.Programs.{FailsAt, StopsScript, says_json}
 
@@ -32,17 +34,25 @@ told-so told mute had has name input.Memory tells = tells
 module _ {T : Type 0} (files : Files) (standard : Option (List ℕ)) (told : Result T PrintFault) (refused mute : Type 0) (old had has : Option (List ℕ)) where
   -- of a plan
   pub plan-unopened : (name : List ℕ) (it : InputFault) → Tells told mute had has (input_fault_text name it)
-      → FailsAt files standard (plan name false) told refused old old mute had has
+      → FailsAt files standard (plan name None) told refused old old mute had has
   plan-unopened name input.Unread tells =
       (fault.Unread, some-all (text_named files standard name) (λ text. Keeps-refl old), tells)
   plan-unopened name input.Memory tells =
       (fault.Memory, some-all (text_named files standard name) (λ text. inl (Keeps-refl old)), tells)
 
   -- of one as JSON
-  pub plan_json-unopened : (name : List ℕ) (it : InputFault) → Tells told mute had has (input_fault_text name it)
-      → FailsAt files standard (plan name true) told refused old old mute had has
-  plan_json-unopened name it tells =
+  pub plan_json-unopened : (name : List ℕ) (mode : DecodeMode) (it : InputFault) → Tells told mute had has (input_fault_text name it)
+      → FailsAt files standard (plan name (Some mode)) told refused old old mute had has
+  plan_json-unopened name mode it tells =
       ends-unread-json says_json (text_named files standard name) name told refused old mute had has it tells
+
+  -- of a stream that is to be mended
+  pub mend-unopened : (name : List ℕ) (it : InputFault) → Tells told mute had has (input_fault_text name it)
+      → FailsAt files standard (mend name) told refused old old mute had has
+  mend-unopened name input.Unread tells =
+      (mending.Unread, some-all (text_named files standard name) (λ text. Keeps-refl old), tells)
+  mend-unopened name input.Memory tells =
+      (mending.Memory, some-all (text_named files standard name) (λ text. Keeps-refl old), tells)
 
   -- of a drawing
   pub draw-unopened : (name : List ℕ) (from units : ℕ) (it : InputFault) → Tells told mute had has (input_fault_text name it)

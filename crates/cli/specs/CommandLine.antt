@@ -12,11 +12,13 @@ use Rattle.clap.specs.declared.builder.action.ArgAction.TheVariants.{SetTrue}
 use Rattle.clap.specs.declared.builder.ValueParser.{ValueParser}
 use Rattle.clap.specs.declared.builder.ValueParser.TheVariants.{Signed}
 use Rattle.clap.specs.declared.error.ErrorKind.{ErrorKind}
-use Rattle.clap.specs.declared.error.ErrorKind.TheVariants.{DisplayHelp, DisplayVersion, MissingSubcommand, OutOfMemory}
+use Rattle.clap.specs.declared.error.ErrorKind.TheVariants.{DisplayHelp, DisplayVersion, MissingRequiredArgument, OutOfMemory}
 use Rattle.picture_cache.specs.Bounded.{most_room}
+use Rattle.unit_json.specs.declared.decode_mode.DecodeMode.{DecodeMode}
+use Rattle.unit_json.specs.declared.decode_mode.DecodeMode.TheVariants.{SliceBased, FrameBased}
 use Rattle.cli.specs.Bounds.{most_drawn, most_id, most_workers}
 use Rattle.cli.specs.declared.asked.Asked.{Asked}
-use Rattle.cli.specs.declared.asked.Asked.TheVariants.{Audit, Draw, DrawEdited, Plan, Run, Serve}
+use Rattle.cli.specs.declared.asked.Asked.TheVariants.{Audit, Draw, DrawEdited, Mend, Plan, Run, Serve}
 
 -- a word that has to be there
 abbrev pub needed_rule : Text → Rule
@@ -35,9 +37,14 @@ option_rule name parser usual = record (new_rule name) {
 abbrev pub flag_rule : Text → Rule
 flag_rule name = record (new_rule name) { long = Some name; action = Some SetTrue }
 
--- `plan FILE [--json]`
+-- `plan FILE [--json] [--frames]`
 abbrev pub plan_app : App
-plan_app = with_rule (with_rule (new_app (codes "plan")) (needed_rule (codes "FILE"))) (flag_rule (codes "json"))
+plan_app = with_rule (with_rule (with_rule (new_app (codes "plan")) (needed_rule (codes "FILE"))) (flag_rule (codes "json")))
+    (flag_rule (codes "frames"))
+
+-- `mend FILE`
+abbrev pub mend_app : App
+mend_app = with_rule (new_app (codes "mend")) (needed_rule (codes "FILE"))
 
 -- `--from N`, an id
 abbrev pub from_rule : Rule
@@ -90,19 +97,21 @@ one_worker_rule = option_rule (codes "workers") (Signed (pos 0) (pos most_worker
 abbrev pub serve_app : App
 serve_app = with_rule (with_rule (new_app (codes "serve")) one_worker_rule) cache_rule
 
--- `preview` with one of the five, or with `--version`
+-- `preview` with one of the six, or with `--version`
 abbrev pub preview_app : App
-preview_app = with_subcommand (with_subcommand (with_subcommand (with_subcommand (with_subcommand
+preview_app = with_subcommand (with_subcommand (with_subcommand (with_subcommand (with_subcommand (with_subcommand
     (on_top (λ s. record s { has_version = true; subcommand_required = true }) (new_app (codes "preview")))
-    plan_app.top) draw_app.top) run_app.top) audit_app.top) serve_app.top
+    plan_app.top) mend_app.top) draw_app.top) run_app.top) audit_app.top) serve_app.top
 
--- what is asked for: the plan of a file, as JSON or not; a drawing of so many units of it, from an
+-- what is asked for: the plan of a file, as JSON for a decoder of a mode, or in lines of text; a file
+-- mended; a drawing of so many units of it, from an
 -- id on; one after a script's edits, of so many units from an id or from the first on; a run of a
 -- script, in one thread or beside so many workers, with so much room, and with the hashes of
 -- pictures or without; its audit, beside so many workers and with so much room; or a server, in one
 -- thread or beside so many workers, and with so much room
 pub data Wanted : Type 0 where
-  plan : Text → Bool → Wanted
+  plan : Text → Option DecodeMode → Wanted
+  mend : Text → Wanted
   draw : Text → ℕ → ℕ → Wanted
   draw_edited : Text → Text → Option ℕ → ℕ → Wanted
   run : Text → Option ℕ → ℕ → Bool → Wanted
@@ -112,6 +121,7 @@ pub data Wanted : Type 0 where
 -- the same, of the program's own type
 abbrev pub wanted_of : Asked → Wanted
 wanted_of (Plan file json) = plan file.now json
+wanted_of (Mend file) = mend file.now
 wanted_of (Draw file choice) = draw file.now choice.from choice.units
 wanted_of (DrawEdited file script choice) = draw_edited file.now script.now choice.from choice.units
 wanted_of (Run options workers) =
@@ -162,9 +172,25 @@ is_true None = false
 abbrev pub has_flag : Text → List Row → Bool
 has_flag name rows = is_true (first_of name rows)
 
+-- how a plan is printed where `--json` is given and `--frames`: as JSON for a decoder of a mode, or in
+-- lines of text, which have no frame requests
+abbrev pub form_of : Bool → Bool → Option (Option DecodeMode)
+form_of false false = Some None
+form_of true false = Some (Some SliceBased)
+form_of true true = Some (Some FrameBased)
+form_of false true = None
+
+-- the same, by the words
+abbrev pub form_in : List Row → Option (Option DecodeMode)
+form_in rows = form_of (has_flag (codes "json") rows) (has_flag (codes "frames") rows)
+
 -- what the words after `plan` ask for
 abbrev pub plan_in : List Row → Option Wanted
-plan_in rows = option_map (λ file. plan file (has_flag (codes "json") rows)) (first_of (codes "FILE") rows)
+plan_in rows = option_and_then (λ file. option_map (plan file) (form_in rows)) (first_of (codes "FILE") rows)
+
+-- what the words after `mend` ask for
+abbrev pub mend_in : List Row → Option Wanted
+mend_in rows = option_map mend (first_of (codes "FILE") rows)
 
 -- a drawing of a file's stream, from the unit 1 on where no id is given, or after a script's edits
 abbrev pub drawing : Text → Option Text → Option ℕ → ℕ → Wanted
@@ -197,10 +223,11 @@ serve_in rows =
 -- what a subcommand and the words after it ask for
 abbrev pub wanted_by : Text × List Row → Option Wanted
 wanted_by met = if bytes_eq met.0 (codes "plan") then plan_in met.1
+    else (if bytes_eq met.0 (codes "mend") then mend_in met.1
     else (if bytes_eq met.0 (codes "draw") then draw_in met.1
     else (if bytes_eq met.0 (codes "run") then run_in met.1
     else (if bytes_eq met.0 (codes "audit") then audit_in met.1
-    else (if bytes_eq met.0 (codes "serve") then serve_in met.1 else None))))
+    else (if bytes_eq met.0 (codes "serve") then serve_in met.1 else None)))))
 
 -- what is asked for where a subcommand may have been met
 abbrev pub wanted_from : Option (Text × List Row) → Option Wanted
@@ -210,10 +237,10 @@ wanted_from met = option_and_then wanted_by met
 abbrev pub wanted_in : List Text → Option Wanted
 wanted_in words = wanted_from (subcommand_of preview_app words)
 
--- the kinds of error at the words: those of clap, or that no subcommand is there with what it needs
+-- the kinds of error at the words: those of clap, or that what they need isn't there
 abbrev pub faults_of : List Text → Kinds
 faults_of words = or_else (fault_of preview_app words)
-    (if is_some (wanted_in words) then [] else MissingSubcommand ∷ [])
+    (if is_some (wanted_in words) then [] else MissingRequiredArgument ∷ [])
 
 -- help or the version is asked for, which is no mistake
 abbrev pub IsRequest : ErrorKind → Type 0

@@ -1,6 +1,6 @@
 -- What the program does with the words of a command line, on files and a standard input
 -- (docs/OUTPUT.md).
-use Rattle.std.specs.Prelude.{◌≡◌, ◌⊎◌, ℕ, Bool, true, false, List, [], Option, None, Some, IfSome, Result, ⊤}
+use Rattle.std.specs.Prelude.{◌≡◌, ◌⊎◌, ℕ, Bool, List, [], Option, None, Some, IfSome, Result, ⊤}
 use Rattle.std.specs.Io.KnownBytes.{Appends, Keeps}
 use Rattle.clap.specs.Words.{Text}
 use Rattle.console_io.specs.Chunks.{AppendsFront}
@@ -11,10 +11,13 @@ use Rattle.console_io.specs.declared.input.InputFault.{InputFault}
 use Rattle.draw_run.specs.EditedDrawings.{EndsBy as EndsEdited, WritesEdited, edits_fault_text}
 use Rattle.draw_run.specs.declared.fault.EditsFault.{EditsFault}
 use Rattle.draw_run.specs.Drawings.{EndsBy as EndsDrawing, WritesDrawing}
-use Rattle.unit_json.specs.Ends.{FailsJson, WritesJson}
+use Rattle.unit_json.specs.Ends.{FailsJson, WritesJsonFor}
 use Rattle.plan_stream.specs.Faults.{plan_fault_text}
 use Rattle.plan_stream.specs.Plans.{EndsBy, WritesPlan}
 use Rattle.plan_stream.specs.declared.fault.PlanFault.{PlanFault}
+use Rattle.stream_mending.specs.Mended.{mended}
+use Rattle.stream_mending.specs.Runs.{EndsBy as EndsMending, mend_fault_text, mend_lines}
+use Rattle.stream_mending.specs.declared.running.MendFault.{MendFault}
 use Rattle.shared_run.specs.Audits.{FailsAudit, WritesAgreed}
 use Rattle.shared_run.specs.Running.{WritesScript as WritesSeatScript}
 use Rattle.shared_run.specs.Stops.{StopsBy as StopsSeatBy}
@@ -23,7 +26,7 @@ use Rattle.script_run.specs.Running.{WritesScript}
 use Rattle.script_run.specs.Stops.{StopsBy}
 use Rattle.script_run.specs.declared.run_fault.RunFault.{RunFault}
 use Rattle.unit_json.specs.declared.json_line.JsonLine.{JsonLine}
-use Rattle.cli.specs.CommandLine.{HasOne, IsRequest, Wanted, audit, draw, draw_edited, faults_of, plan, run, serve, wanted_in}
+use Rattle.cli.specs.CommandLine.{HasOne, IsRequest, Wanted, audit, draw, draw_edited, faults_of, mend, plan, run, serve, wanted_in}
 use Rattle.serve_run.specs.Ends.{end_text}
 use Rattle.serve_run.specs.declared.end.ServeEnd.{ServeEnd}
 
@@ -45,14 +48,17 @@ StopsScript (Some workers) files name text room hex fault refused old new =
     StopsSeatBy files name text hex fault refused old new
 
 -- what is asked for was done, of what its names stand for, and nothing was told; but of a drawing
--- after edits, what was refused of these. Of what a server writes nothing is said. Of the second
--- output it is said whether it refused, and what it had and has
+-- after edits, what was refused of these, and of a stream that is mended, what was left out. Of what a
+-- server writes nothing is said. Of the second output it is said whether it refused, and what it had
+-- and has
 abbrev pub IsDone : {T : Type 0} → Files → Option (List ℕ) → Wanted → Result T PrintFault → Option (List ℕ) → Option (List ℕ)
     → Type 0 → Option (List ℕ) → Option (List ℕ) → Type 0
-IsDone files standard (plan name false) told old new mute had has =
+IsDone files standard (plan name None) told old new mute had has =
     IfSome (text_named files standard name) (λ text. WritesPlan text old new) × Keeps had has
-IsDone files standard (plan name true) told old new mute had has =
-    IfSome (text_named files standard name) (λ text. WritesJson says_json text old new) × Keeps had has
+IsDone files standard (plan name (Some mode)) told old new mute had has =
+    IfSome (text_named files standard name) (λ text. WritesJsonFor says_json mode text old new) × Keeps had has
+IsDone files standard (mend name) told old new mute had has =
+    IfSome (text_named files standard name) (λ text. Appends old new (mended text) × Tells told mute had has (mend_lines text))
 IsDone files standard (draw name from units) told old new mute had has =
     IfSome (text_named files standard name) (λ text. WritesDrawing from units text old new) × Keeps had has
 IsDone files standard (draw_edited name script from units) told old new mute had has =
@@ -70,11 +76,14 @@ IsDone files standard (serve workers room) told old new mute had has = Keeps had
 -- it had and has
 abbrev pub FailsAt : {T : Type 0} → Files → Option (List ℕ) → Wanted → Result T PrintFault
     → Type 0 → Option (List ℕ) → Option (List ℕ) → Type 0 → Option (List ℕ) → Option (List ℕ) → Type 0
-FailsAt files standard (plan name true) told refused old new mute had has =
+FailsAt files standard (plan name (Some mode)) told refused old new mute had has =
     FailsJson says_json (text_named files standard name) name told refused old new mute had has
-FailsAt files standard (plan name false) told refused old new mute had has =
+FailsAt files standard (plan name None) told refused old new mute had has =
     (fault : PlanFault) × IfSome (text_named files standard name) (λ text. EndsBy text fault refused old new)
     × Tells told mute had has (plan_fault_text name fault)
+FailsAt files standard (mend name) told refused old new mute had has =
+    (fault : MendFault) × IfSome (text_named files standard name) (λ text. EndsMending text fault refused old new)
+    × Tells told mute had has (mend_fault_text name fault)
 FailsAt files standard (draw name from units) told refused old new mute had has =
     (fault : PlanFault) × IfSome (text_named files standard name) (λ text. EndsDrawing from units text fault refused old new)
     × Tells told mute had has (plan_fault_text name fault)

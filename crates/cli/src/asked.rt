@@ -6,6 +6,7 @@ ghost use Rattle.cli.specs.Bounds.{most_workers};
 
 use draw_run::{Choice, EditedChoice};
 use script_run::Options;
+use unit_json::DecodeMode;
 
 /// The most workers that may be asked for.
 pub const MOST_WORKERS: usize = 64;
@@ -13,11 +14,15 @@ pub const MOST_WORKERS: usize = 64;
 /// What the command line asks for.
 #[derive(Clone, Copy, Debug)]
 pub enum Asked<'a> {
-    /// The plan of the stream in this file, `-` being the standard input: in lines of text, or as
-    /// JSON.
+    /// The plan of the stream in this file, `-` being the standard input: as JSON with the requests
+    /// for a decoder of this mode, or in lines of text.
     Plan {
         file: &'a str,
-        json: bool,
+        json: Option<DecodeMode>,
+    },
+    /// The stream in this file, `-` being the standard input, without what no command reads.
+    Mend {
+        file: &'a str,
     },
     /// A drawing of the chosen units of the stream in this file, `-` being the standard input.
     Draw {

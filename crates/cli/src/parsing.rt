@@ -5,10 +5,11 @@ ghost use Rattle.clap.specs.Words.{FailsBy, app_of, found_of, rows_of, rule_of, 
 ghost use Rattle.picture_cache.specs.Bounded.{most_room};
 ghost use Rattle.cli.specs.Bounds.{most_id, most_workers};
 ghost use Rattle.cli.specs.CommandLine.{audit_app, audit_in, cache_in, cache_rule, draw_app, draw_in, drawing, edits_rule, faults_of, flag_rule, from_in, from_rule, has_flag, needed_rule};
-ghost use Rattle.cli.specs.CommandLine.{number_of, option_rule, plan_app, plan_in, preview_app, run_app, run_in, several};
+ghost use Rattle.cli.specs.CommandLine.{number_of, option_rule, preview_app, run_app, run_in, several};
 ghost use Rattle.cli.specs.CommandLine.{units_in, units_rule, wanted_from, wanted_in, wanted_of, workers_in};
 
 use crate::asked::{Asked, MOST_WORKERS, Workers};
+use crate::planning_args::{mend_command, plan_command, read_mend, read_plan};
 use crate::serving_args::{read_serve, serve_command};
 use clap::builder::ValueParser;
 use clap::error::ErrorKind;
@@ -24,6 +25,9 @@ const VERSION: &str = "0.1.0";
 
 /// The greatest id of a unit.
 const MOST_ID: i64 = 4_294_967_295;
+
+/// What is said of words that ask for nothing, though each of them is taken.
+const ALONE: &str = "--frames is for JSON, and --json isn't given";
 
 /// The process's words, the program's name first. Words that aren't UTF-8 are InvalidData.
 pub fn words(rt: &HostRuntime) -> io::Result<Vec<String>> {
@@ -41,7 +45,7 @@ pub fn parse<'a, S: AsStr>(alloc: Global, words: &'a [S]) -> Result<Asked<'a>, E
     let matches = preview.try_get_matches_from_mut(words)?;
     match read_matches(&matches) {
         Some(asked) => Ok(asked),
-        None => Err(preview.error(ErrorKind::MissingSubcommand, "a subcommand is required")?),
+        None => Err(preview.error(ErrorKind::MissingRequiredArgument, ALONE)?),
     }
 }
 
@@ -51,21 +55,13 @@ fn read_matches<'a>(matches: &ArgMatches<'a>) -> Option<Asked<'a>>
 {
     match matches.subcommand() {
         Some(("plan", plan)) => read_plan(plan),
+        Some(("mend", mend)) => read_mend(mend),
         Some(("draw", draw)) => read_draw(draw),
         Some(("run", run)) => read_run(run),
         Some(("audit", audit)) => read_audit(audit),
         Some(("serve", serve)) => read_serve(serve),
         _ => None,
     }
-}
-
-/// What the matches of `plan` ask for.
-fn read_plan<'a>(plan: &ArgMatches<'a>) -> Option<Asked<'a>>
-    ensures { option_map wanted_of result ≡ plan_in (rows_of (found_of plan.now)) }
-{
-    let file = plan.get_str("FILE")?;
-    let json = has_flag(plan, "json");
-    Some(Asked::Plan { file, json })
 }
 
 /// What the matches of `draw` ask for.
@@ -197,7 +193,7 @@ pub(crate) fn several(count: usize) -> Option<Workers>
 }
 
 /// Whether the flag of this name was given.
-fn has_flag(matches: &ArgMatches<'_>, name: &str) -> bool
+pub(crate) fn has_flag(matches: &ArgMatches<'_>, name: &str) -> bool
     ensures { result ≡ has_flag name.now (rows_of (found_of matches.now)) }
 {
     match matches.get_str(name) {
@@ -216,30 +212,11 @@ fn preview_command<'a>(alloc: Global) -> Result<Command<'a>, AllocError>
         .bin_name("preview")?
         .subcommand_required(true)
         .subcommand(plan_command(alloc)?)?
+        .subcommand(mend_command(alloc)?)?
         .subcommand(draw_command(alloc)?)?
         .subcommand(run_command(alloc)?)?
         .subcommand(audit_command(alloc)?)?
         .subcommand(serve_command(alloc)?)
-}
-
-/// The subcommand `plan`.
-fn plan_command<'a>(alloc: Global) -> Result<Command<'a>, AllocError>
-    ensures { IfOk result (λ command. app_of command ≡ plan_app) }
-{
-    let file = needed(
-        alloc,
-        "FILE",
-        "An H.264 byte stream; - is the standard input",
-    );
-    let json = flag(
-        alloc,
-        "json",
-        "Prints a JSON object a unit, with all controls",
-    );
-    Command::new(alloc, "plan")
-        .about("Prints what a stateless decoder is asked for, unit by unit")
-        .arg(file)?
-        .arg(json)
 }
 
 /// The subcommand `draw`.
@@ -349,7 +326,7 @@ pub(crate) fn cache_option<'a>(alloc: Global) -> Arg<'a>
 }
 
 /// An argument that has to be there.
-fn needed<'a>(alloc: Global, name: &'a str, help: &'a str) -> Arg<'a>
+pub(crate) fn needed<'a>(alloc: Global, name: &'a str, help: &'a str) -> Arg<'a>
     ensures rule { rule_of result ≡ needed_rule name.entry.now }
     ensures local { result.global ≡ false }
 {
@@ -357,7 +334,7 @@ fn needed<'a>(alloc: Global, name: &'a str, help: &'a str) -> Arg<'a>
 }
 
 /// A flag `--name`.
-fn flag<'a>(alloc: Global, name: &'a str, help: &'a str) -> Arg<'a>
+pub(crate) fn flag<'a>(alloc: Global, name: &'a str, help: &'a str) -> Arg<'a>
     ensures rule { rule_of result ≡ flag_rule name.entry.now }
     ensures local { result.global ≡ false }
 {

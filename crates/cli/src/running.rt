@@ -6,10 +6,11 @@ ghost use Rattle.std.specs.declared.io.ErrorKind.TheVariants.{OutOfMemory};
 ghost use Rattle.std.specs.Io.KnownBytes.{Appends, Keeps};
 ghost use Rattle.clap.specs.Words.{kind_of};
 ghost use Rattle.console_io.specs.Messages.{Tells, not_text};
-ghost use Rattle.cli.specs.CommandLine.{AreMistaken, IsMistake, IsRequest, audit, draw, draw_edited, plan, run as run_of};
+ghost use Rattle.cli.specs.CommandLine.{AreMistaken, IsMistake, IsRequest, audit, draw, draw_edited, run as run_of};
 ghost use Rattle.cli.specs.Programs.{FailsAt, Fails, IsDone, Succeeds, WantsMemory, WritesPart};
 
 use crate::named_texts::named_texts;
+use crate::planning::{mend_named, plan_as};
 use crate::serving::serve_on;
 use crate::{Asked, Workers, parse};
 use clap::Error;
@@ -19,7 +20,6 @@ use console_io::{
     say_out_of_memory, write_bytes,
 };
 use draw_run::{Choice, EditedChoice, draw_edited, draw_on};
-use plan_stream::plan_on;
 use script_run::{Options, script_on};
 use shared_run::{audit_with_workers, script_with_workers};
 use std::alloc::Global;
@@ -28,7 +28,7 @@ use std::io;
 use std::io::Read;
 use std::sync::Wait;
 use std::thread::Threads;
-use unit_json::{Json, plan_json_on};
+use unit_json::Json;
 
 /// Does what the process's words ask for; words that can't be read are a wrong command line.
 pub fn run<D: Directory, I: Read + Drop, W: Sink + Send, E: Sink>(
@@ -109,6 +109,7 @@ pub fn run_on<T: AsStr, D: Directory, I: Read + Drop, W: Sink + Send, E: Sink>(
         Ok(Asked::Plan { file, json }) => plan_as(
             threads, alloc, file, json, directory, standard, output, errors,
         ),
+        Ok(Asked::Mend { file }) => mend_named(alloc, file, directory, standard, output, errors),
         Ok(Asked::Draw { file, choice }) => draw_named(
             alloc, file, choice, directory, standard, output, errors,
         ),
@@ -131,88 +132,6 @@ pub fn run_on<T: AsStr, D: Directory, I: Read + Drop, W: Sink + Send, E: Sink>(
             serve_on(threads, alloc, serving, directory, standard, output, errors)
         }
         Err(error) => answer(alloc, &error, output, errors),
-    }
-}
-
-/// Prints the plan of the stream that the name stands for, as JSON or in lines of text.
-fn plan_as<D: Directory, I: Read + Drop, W: Sink, E: Sink>(
-    threads: &(impl Threads + Sync),
-    alloc: Global,
-    name: &str,
-    json: bool,
-    directory: &D,
-    standard: I,
-    output: &mut W,
-    errors: &mut E,
-) -> Ended
-    ensures right { result.status ≡ Status.Success
-        → IsDone (D.bytes directory.now) (I.remaining standard)
-        (plan name.now json) result.told (W.contents output.old) (W.contents output.new)
-        (E.refuses errors.new) (E.contents errors.old) (E.contents errors.new) }
-    ensures fails { result.status ≡ Status.Failure
-        → FailsAt (D.bytes directory.now) (I.remaining standard)
-        (plan name.now json) result.told (W.refuses output.new) (W.contents output.old)
-        (W.contents output.new)
-        (E.refuses errors.new) (E.contents errors.old) (E.contents errors.new) }
-    ensures usage { result.status ≢ Status.Usage }
-{
-    if json {
-        plan_json_named(threads, alloc, name, directory, standard, output, errors)
-    } else {
-        plan_named(alloc, name, directory, standard, output, errors)
-    }
-}
-
-/// Prints the plan of the stream that the name stands for, as JSON.
-fn plan_json_named<D: Directory, I: Read + Drop, W: Sink, E: Sink>(
-    threads: &(impl Threads + Sync),
-    alloc: Global,
-    name: &str,
-    directory: &D,
-    standard: I,
-    output: &mut W,
-    errors: &mut E,
-) -> Ended
-    ensures right { result.status ≡ Status.Success
-        → IsDone (D.bytes directory.now) (I.remaining standard)
-        (plan name.now true) result.told (W.contents output.old) (W.contents output.new)
-        (E.refuses errors.new) (E.contents errors.old) (E.contents errors.new) }
-    ensures fails { result.status ≡ Status.Failure
-        → FailsAt (D.bytes directory.now) (I.remaining standard)
-        (plan name.now true) result.told (W.refuses output.new) (W.contents output.old)
-        (W.contents output.new)
-        (E.refuses errors.new) (E.contents errors.old) (E.contents errors.new) }
-    ensures usage { result.status ≢ Status.Usage }
-{
-    match open_input(directory, standard, name) {
-        Ok(mut input) => plan_json_on(threads, alloc, &Json, name, &mut input, output, errors),
-        Err(fault) => Ended::failed(say_input_fault(fault, name, errors)),
-    }
-}
-
-/// Prints the plan of the stream that the name stands for, in lines of text.
-fn plan_named<D: Directory, I: Read + Drop, W: Sink, E: Sink>(
-    alloc: Global,
-    name: &str,
-    directory: &D,
-    standard: I,
-    output: &mut W,
-    errors: &mut E,
-) -> Ended
-    ensures right { result.status ≡ Status.Success
-        → IsDone (D.bytes directory.now) (I.remaining standard)
-        (plan name.now false) result.told (W.contents output.old) (W.contents output.new)
-        (E.refuses errors.new) (E.contents errors.old) (E.contents errors.new) }
-    ensures fails { result.status ≡ Status.Failure
-        → FailsAt (D.bytes directory.now) (I.remaining standard)
-        (plan name.now false) result.told (W.refuses output.new) (W.contents output.old)
-        (W.contents output.new)
-        (E.refuses errors.new) (E.contents errors.old) (E.contents errors.new) }
-    ensures usage { result.status ≢ Status.Usage }
-{
-    match open_input(directory, standard, name) {
-        Ok(mut input) => plan_on(alloc, name, &mut input, output, errors),
-        Err(fault) => Ended::failed(say_input_fault(fault, name, errors)),
     }
 }
 

@@ -9,6 +9,7 @@ mod groups;
 mod jobs;
 mod limits;
 mod loads;
+mod mending;
 mod needed;
 mod plans;
 mod refused;

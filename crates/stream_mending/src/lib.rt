@@ -3,7 +3,7 @@
 //! `mend` leaves out of a text what no command reads, puts an access unit delimiter where two
 //! pictures would be taken for one, and tells each place and why. `mend_on` does so with what a
 //! reader gives. What a NAL unit is and where access units end stands in annexb, what is refused in
-//! access_unit. The program has no command for it yet.
+//! access_unit. Above is cli.
 #![tactic(auto)]
 
 mod faults;

@@ -1,0 +1,84 @@
+//! `plan` and `mend`.
+
+ghost use Rattle.std.specs.Prelude.{◌≡◌, IfOk, codes, false, option_map};
+ghost use Rattle.clap.specs.Words.{app_of, found_of, rows_of, rule_of};
+ghost use Rattle.cli.specs.CommandLine.{form_in, mend_app, mend_in, needed_rule, plan_app, plan_in, wanted_of};
+
+use crate::asked::Asked;
+use crate::parsing::{flag, has_flag, needed};
+use clap::{Arg, ArgMatches, Command};
+use std::alloc::{AllocError, Global};
+use unit_json::DecodeMode;
+
+/// What the matches of `plan` ask for.
+pub(crate) fn read_plan<'a>(plan: &ArgMatches<'a>) -> Option<Asked<'a>>
+    ensures { option_map wanted_of result ≡ plan_in (rows_of (found_of plan.now)) }
+{
+    let file = plan.get_str("FILE")?;
+    let json = read_form(plan)?;
+    Some(Asked::Plan { file, json })
+}
+
+/// How a plan is printed: as JSON for a decoder of a mode, or in lines of text.
+fn read_form(plan: &ArgMatches<'_>) -> Option<Option<DecodeMode>>
+    ensures { result ≡ form_in (rows_of (found_of plan.now)) }
+{
+    match (has_flag(plan, "json"), has_flag(plan, "frames")) {
+        (false, false) => Some(None),
+        (true, false) => Some(Some(DecodeMode::SliceBased)),
+        (true, true) => Some(Some(DecodeMode::FrameBased)),
+        (false, true) => None,
+    }
+}
+
+/// What the matches of `mend` ask for.
+pub(crate) fn read_mend<'a>(mend: &ArgMatches<'a>) -> Option<Asked<'a>>
+    ensures { option_map wanted_of result ≡ mend_in (rows_of (found_of mend.now)) }
+{
+    let file = mend.get_str("FILE")?;
+    Some(Asked::Mend { file })
+}
+
+/// The subcommand `plan`.
+pub(crate) fn plan_command<'a>(alloc: Global) -> Result<Command<'a>, AllocError>
+    ensures { IfOk result (λ command. app_of command ≡ plan_app) }
+{
+    let file = stream(alloc);
+    let json = flag(
+        alloc,
+        "json",
+        "Prints a JSON object a unit, with all controls",
+    );
+    let frames = flag(
+        alloc,
+        "frames",
+        "With --json: one request a picture, for decoders that take whole pictures",
+    );
+    Command::new(alloc, "plan")
+        .about("Prints what a stateless decoder is asked for, unit by unit")
+        .arg(file)?
+        .arg(json)?
+        .arg(frames)
+}
+
+/// The subcommand `mend`.
+pub(crate) fn mend_command<'a>(alloc: Global) -> Result<Command<'a>, AllocError>
+    ensures { IfOk result (λ command. app_of command ≡ mend_app) }
+{
+    let file = stream(alloc);
+    Command::new(alloc, "mend")
+        .about("Writes a stream without what no command reads, and tells what was left out")
+        .arg(file)
+}
+
+/// `FILE`.
+fn stream<'a>(alloc: Global) -> Arg<'a>
+    ensures rule { rule_of result ≡ needed_rule (codes "FILE") }
+    ensures local { result.global ≡ false }
+{
+    needed(
+        alloc,
+        "FILE",
+        "An H.264 byte stream; - is the standard input",
+    )
+}

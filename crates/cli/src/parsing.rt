@@ -21,7 +21,7 @@ use std::convert::AsStr;
 use std::{env, io};
 
 /// What `--version` prints after the program's name.
-const VERSION: &str = "0.1.0";
+const VERSION: &str = "0.3.0";
 
 /// The greatest id of a unit.
 const MOST_ID: i64 = 4_294_967_295;

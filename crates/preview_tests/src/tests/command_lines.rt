@@ -178,8 +178,8 @@ const RUNS: [Ran; 40] = [
     (&["run", "-"], b"load -\n", Success, "refused 1 Split\n", ""),
     (&["run", "-"], SHOW_A, Success, SHOWN_A, ""),
     (&["run", "--hex", "-"], SHOW_A, Success, HASHED_A, ""),
-    (&["--version"], &A, Success, "preview 0.1.0\n", ""),
-    (&["-V"], &A, Success, "preview 0.1.0\n", ""),
+    (&["--version"], &A, Success, "preview 0.3.0\n", ""),
+    (&["-V"], &A, Success, "preview 0.3.0\n", ""),
     // Beside workers: the same, but of jobs and of a unit's lines nothing can be asked.
     (
         &["run", "repair", "--workers", "2"],

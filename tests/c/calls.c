@@ -311,6 +311,34 @@ static void frames_are_told(void)
     EXPECT(cupdaisy_close(&session) == CUPDAISY_DONE);
 }
 
+/* The same of a picture of 300 KB, half of it in each of its two slices. */
+static void large_frames_are_told(void)
+{
+    static uint8_t text[300064], bytes[300064];
+    const size_t half = 150000, sets_end = 17, second = sets_end + (sizeof T - sets_end) / 2;
+    EXPECT(memcmp(T + second, "\0\0\1", 3) == 0);
+    memset(text, 0xA5, sizeof text);
+    memcpy(text, T, second);
+    memcpy(text + second + half, T + second, sizeof T - second);
+    const size_t length = sizeof T + 2 * half, count = length - sets_end;
+    cupdaisy_session session = CUPDAISY_NONE;
+    cupdaisy_receipt receipt = {0, 0, 0, 0};
+    cupdaisy_job job = {0, 0};
+    size_t needed = 0;
+    EXPECT(cupdaisy_open(&session, 1) == CUPDAISY_DONE);
+    EXPECT(cupdaisy_insert_last(&session, text, length, &receipt) == CUPDAISY_DONE && receipt.hashed == count);
+    EXPECT(cupdaisy_unit_frame_bytes(&session, 1, true, bytes, count - 1, &needed) == CUPDAISY_TOO_SMALL && needed == count);
+    EXPECT(bytes[0] == 0 && bytes[count - 2] == 0);
+    EXPECT(cupdaisy_take(&session, &job) == CUPDAISY_DONE && job.unit == 1);
+    EXPECT(cupdaisy_job_frame_bytes(&session, job.number, true, bytes, sizeof bytes, &needed) == CUPDAISY_DONE && needed == count);
+    EXPECT(memcmp(bytes, text + sets_end, count) == 0);
+#ifdef __linux__
+    cupdaisy_frame frame;
+    EXPECT(cupdaisy_job_frame(&session, job.number, &frame) == CUPDAISY_DONE && frame.bytes == count && frame.slices == 2);
+#endif
+    EXPECT(cupdaisy_close(&session) == CUPDAISY_DONE);
+}
+
 /* The worked examples of taking for a unit and of dropping pictures. */
 static void pictures_are_dropped(void)
 {
@@ -708,6 +736,7 @@ int main(void)
     equal_units_have_one_picture();
     jobs_are_told();
     frames_are_told();
+    large_frames_are_told();
     pictures_are_dropped();
     pictures_are_released();
     journal_is_told();

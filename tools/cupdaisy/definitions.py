@@ -215,9 +215,10 @@ def cited(listed, is_direct):
 
 HEAD = """# Definitions
 
-Printed by tools/definitions from the comments of `specs/`. What a reader has to believe: each definition that a public contract
-cites, and those that these cite in turn. A module's heading names the section that it restates, of ITU-T H.264 (V14, 08/2021) where
-it says no other. Everything else in `specs/` is a law about these or a form of them that proofs use.
+Printed by tools/definitions from `specs/`. What a reader has to believe: each definition that a public contract cites, and those that
+these cite in turn, a line for each module. Its link leads to the definitions, each with a comment; `tools/definitions --comments`
+prints these too. The line names the section that the module restates, of ITU-T H.264 (V14, 08/2021) where it says no other.
+Everything else in `specs/` is a law about these or a form of them that proofs use.
 """
 
 
@@ -247,36 +248,46 @@ def heading(text):
     return " ".join(lines)
 
 
-def cell(text):
-    return text.replace("|", "\\|")
-
-
-def module_rows(names, text):
-    """A module's rows: its definitions among these with their comments, those without one beside the one before."""
-    rows = []
+def rows(names, text):
+    """A module's definitions among these, in the order of the text: the names of each with its comment; one without a comment stands
+    beside the one before."""
+    found = []
     for name, comment in comments(text).items():
         if name in names:
-            if comment or not rows:
-                rows.append([[name], comment or ""])
+            if comment or not found:
+                found.append([[name], comment or ""])
             else:
-                rows[-1][0].append(name)
-    return [f"| {', '.join(f'`{cell(name)}`' for name in listed)} | {cell(comment)} |" for listed, comment in rows]
+                found[-1][0].append(name)
+    return found
 
 
-def page(definitions, listed):
+def quoted(names):
+    return ", ".join(f"`{name}`" for name in names)
+
+
+def section(crate, module, names, has_comments):
+    """A module's lines: what it restates, and its definitions, by name alone or each with its comment."""
+    file = workspace.TOP / "crates" / crate / "specs" / (module.replace(".", "/") + ".antt")
+    text = file.read_text() if file.exists() else ""
+    found = rows(names, text)
+    if not found:
+        return []
+    line = f"- [`{module}`](../{file.relative_to(workspace.TOP)}): {heading(text)}"
+    if has_comments:
+        return [line, *(f"  - {quoted(listed)}" + (f": {comment}" if comment else "") for listed, comment in found)]
+    return [f"{line} {quoted(name for listed, _ in found for name in listed)}"]
+
+
+def page(definitions, listed, has_comments=False):
     """The page of these definitions."""
     lines = [HEAD]
     for crate in listed:
         of_crate = [it for it in definitions if it.crate == crate]
-        if not of_crate:
-            continue
-        lines.append(f"## {crate}\n")
-        for module in sorted({it.module for it in of_crate}):
-            file = workspace.TOP / "crates" / crate / "specs" / (module.replace(".", "/") + ".antt")
-            text = file.read_text() if file.exists() else ""
-            rows = module_rows({it.name for it in of_crate if it.module == module}, text)
-            if rows:
-                lines.append("\n".join([f"**{module}**: {heading(text)}", "", "| Definition | What it is |", "|---|---|", *rows, ""]))
+        if of_crate:
+            lines += [f"## {crate}", ""]
+            for module in sorted({it.module for it in of_crate}):
+                lines += section(crate, module, {it.name for it in of_crate if it.module == module}, has_comments)
+            lines.append("")
     return "\n".join(lines)
 
 
@@ -285,6 +296,7 @@ def main(doc):
     parser.add_argument("--write", action="store_true")
     parser.add_argument("--cited", action="store_true")
     parser.add_argument("--direct", action="store_true")
+    parser.add_argument("--comments", action="store_true")
     options = parser.parse_args()
     listed = workspace.crates()
     definitions = cited(listed, options.direct)
@@ -292,6 +304,9 @@ def main(doc):
         order = list(listed)
         for definition in sorted(definitions, key=lambda it: (order.index(it.crate), it)):
             print(f"{definition.crate} {definition.module}.{definition.name}: cited by {definitions[definition]}")
+        return 0
+    if options.comments:
+        print(page(definitions, listed, has_comments=True))
         return 0
     file, printed = workspace.TOP / "docs" / "DEFINITIONS.md", page(definitions, listed)
     if options.write:

@@ -1,43 +1,55 @@
 #!/usr/bin/env python3
-"""An editor of H.264 streams to try in a browser, over `preview serve` and `preview draw`.
+"""An editor of H.264 streams to try in a browser, over `preview serve`.
 
     examples/editor/editor.py [FILE] [--port N] [--workers N]
 
 It prints the address to open, http://127.0.0.1:8264/ by default, and listens on this machine alone. A page has one stream
-open; its edits are undone in turn, and the file stays as it is. What the server refuses is shown, and changes nothing.
+open. FILE is written when the page saves, and not before; a file that is dropped on the page stays as it is, and the page
+downloads what it saves. What the server refuses is shown, and changes nothing.
 """
 import argparse
 import http.server
 import json
 import pathlib
 import queue
+import subprocess
 import sys
 import tempfile
+import threading
 import urllib.parse
 
-from document import Document, Refused
+import thumbnails
+from document import Document
+from server import PREVIEW, Refused
 
 HERE = pathlib.Path(__file__).resolve().parent
-PAGES = {"/": ("index.html", "text/html"), "/editor.js": ("editor.js", "text/javascript"), "/editor.css": ("editor.css", "text/css")}
+KINDS = {".html": "text/html", ".js": "text/javascript", ".css": "text/css"}
 QUESTIONS = ("units", "show", "want", "find", "stats")
 MOST_BYTES = 1 << 30
 
 
 class Handler(http.server.BaseHTTPRequestHandler):
     protocol_version = "HTTP/1.1"
-    workers, port, document = 1, 0, None
+    workers, port, document, refused, edits = 1, 0, None, None, threading.Lock()
 
     def log_message(self, *_):
         pass
 
-    def answer(self, content, kind="application/json", status=200):
-        content = content if isinstance(content, bytes) else json.dumps(content).encode()
+    def answer(self, content, kind="application/json", status=200, **headers):
+        content = content if isinstance(content, bytes) else json.dumps(content, separators=(",", ":")).encode()
         self.send_response(status)
         self.send_header("Content-Type", kind)
         self.send_header("Content-Length", str(len(content)))
         self.send_header("Cache-Control", "no-store")
+        for name, value in headers.items():
+            self.send_header(name.replace("_", "-"), value)
         self.end_headers()
         self.wfile.write(content)
+
+    def answer_parts(self, told, parts):
+        """Answers with JSON of each part, and the parts: in front stands how long the JSON is."""
+        head = json.dumps(told).encode()
+        self.answer(b"".join([len(head).to_bytes(4, "big"), head, *parts]), "application/octet-stream")
 
     def is_ours(self):
         """Whether the request is of a page that came from here: another page in the same browser is no friend."""
@@ -51,8 +63,10 @@ class Handler(http.server.BaseHTTPRequestHandler):
         try:
             what()
         except Refused as refused:
-            self.answer({"error": str(refused)}, status=409)
-        except (KeyError, TypeError, ValueError, OSError) as error:
+            self.answer({"error": str(refused), "number": refused.number}, status=409)
+        except (BrokenPipeError, ConnectionResetError):
+            self.close_connection = True
+        except (KeyError, TypeError, ValueError, OSError, RuntimeError) as error:
             self.answer({"error": f"{type(error).__name__}: {error}"}, status=400)
 
     def do_GET(self):
@@ -62,18 +76,17 @@ class Handler(http.server.BaseHTTPRequestHandler):
         self.handle_call(self.post)
 
     def get(self):
-        path, _, words = self.path.partition("?")
-        asked = dict(urllib.parse.parse_qsl(words))
-        if path in PAGES:
-            name, kind = PAGES[path]
-            self.answer((HERE / name).read_bytes(), f"{kind}; charset=utf-8")
+        path = self.path.partition("?")[0]
+        name = path[1:] or "index.html"
+        if name in {file.name for file in HERE.iterdir()} and pathlib.Path(name).suffix in KINDS:
+            self.answer((HERE / name).read_bytes(), f"{KINDS[pathlib.Path(name).suffix]}; charset=utf-8")
         elif path == "/document":
-            document = Handler.document
-            self.answer(document and {"name": pathlib.Path(document.path).name, "order": document.order, "undo": len(document.undone_by)})
-        elif path == "/drawing":
-            self.answer(Handler.document.drawing(int(asked["from"]), int(asked["units"])), "image/svg+xml")
+            self.answer(Handler.document and Handler.document.told())
+        elif path == "/stream":
+            self.answer(Handler.document.text(), "video/h264",
+                        Content_Disposition=f"attachment; filename*=UTF-8''{urllib.parse.quote(Handler.document.path.name)}")
         elif path == "/events":
-            self.events(Handler.document.server)
+            self.events(Handler.document.shown.server)
         else:
             self.answer({"error": "there is no such page"}, status=404)
 
@@ -100,29 +113,87 @@ class Handler(http.server.BaseHTTPRequestHandler):
     def post(self):
         size = int(self.headers.get("Content-Length", 0))
         if size > MOST_BYTES:
-            raise Refused("the file is too large")
+            self.close_connection = True    # what isn't read would be taken for the next request
+            raise Refused("the file is too large: 1 GiB at most")
         body = self.rfile.read(size)
-        if self.path.startswith("/open?"):
-            name = pathlib.Path(dict(urllib.parse.parse_qsl(self.path.partition("?")[2]))["name"]).name
-            path = pathlib.Path(tempfile.mkdtemp(prefix="editor-"), name)
-            path.write_bytes(body)
-            return self.answer(self.open(path))
-        document, given = Handler.document, json.loads(body)
-        if self.path == "/ask" and given["method"] in QUESTIONS:
-            self.answer({"result": document.server.call(given["method"], **given["params"])})
-        elif self.path == "/undo":
-            self.answer(document.undo())
-        elif self.path == "/edit":
-            self.answer(document.change([tuple(edit) for edit in given]))
-        else:
-            self.answer({"error": "there is no such call"}, status=404)
+        path, _, words = self.path.partition("?")
+        if path == "/open":
+            name = pathlib.Path(dict(urllib.parse.parse_qsl(words))["name"]).name
+            file = pathlib.Path(tempfile.mkdtemp(prefix="editor-"), name)
+            file.write_bytes(body)
+            return self.answer(self.open(file))
+        call = {"/ask": self.ask, "/edit": self.edit, "/foresee": self.foresee, "/undo": self.undo, "/redo": self.redo,
+                "/save": self.save, "/mend": self.mend, "/decode": self.decode, "/pictures": self.pictures}.get(path)
+        if not call:
+            return self.answer({"error": "there is no such call"}, status=404)
+        with Handler.edits:
+            call(Handler.document, json.loads(body))
+
+    def ask(self, document, given):
+        if given["method"] not in QUESTIONS:
+            raise Refused("that is no question")
+        self.answer({"result": document.shown.server.call(given["method"], **given["params"])})
+
+    def splices(self, document, given):
+        return [(place, gone, document.units(ids)) for place, gone, ids in given]
+
+    def edit(self, document, given):
+        document.edit(self.splices(document, given))
+        self.answer(document.told())
+
+    def foresee(self, document, given):
+        self.answer(document.foreseen(self.splices(document, given)))
+
+    def undo(self, document, _):
+        document.undo()
+        self.answer(document.told())
+
+    def redo(self, document, _):
+        document.redo()
+        self.answer(document.told())
+
+    def save(self, document, _):
+        document.save()
+        self.answer(document.told())
+
+    def decode(self, document, given):
+        self.answer_parts(*document.to_decode(given["ids"], given["begin"]))
+
+    def pictures(self, document, given):
+        if not thumbnails.can_decode():
+            raise Refused("ffmpeg isn't there")
+        found = thumbnails.pictures_of(document.shown, set(given["ids"]), int(given["width"])) if document else {}
+        self.answer_parts([{"id": unit_id, "bytes": len(file)} for unit_id, file in found.items()], found.values())
 
     def open(self, path):
-        opened = Document(path, self.workers)
+        """Opens a copy of a file; of one that is refused the path is kept, so that it can be mended."""
+        try:
+            opened = Document(path, self.workers, True)
+        except Refused:
+            Handler.refused = path
+            raise
         before, Handler.document = Handler.document, opened
         if before:
             before.close()
-        return {"units": len(opened.order)}
+        return opened.told()
+
+    def mend(self, *_):
+        """Mends the file that was refused last, and opens what is left of it."""
+        mended = Handler.refused.with_name(f"{Handler.refused.stem}-mended.264")
+        with open(mended, "wb") as file:
+            ran = subprocess.run([PREVIEW, "mend", Handler.refused], stdout=file, stderr=subprocess.PIPE)
+        if ran.returncode:
+            raise Refused(ran.stderr.decode() or "the file can't be mended")
+        self.answer({**self.open(mended), "left_out": ran.stderr.decode().splitlines()})
+
+
+class Bridge(http.server.ThreadingHTTPServer):
+    daemon_threads = True
+
+    def handle_error(self, request, client_address):
+        """A browser may end a connection when it likes."""
+        if not isinstance(sys.exc_info()[1], ConnectionError):
+            super().handle_error(request, client_address)
 
 
 def main():
@@ -133,11 +204,14 @@ def main():
     options = parser.parse_args()
     Handler.workers = options.workers
     if options.file:
+        path = pathlib.Path(options.file).resolve()
         try:
-            Handler.document = Document(pathlib.Path(options.file).resolve(), options.workers)
-        except (Refused, OSError) as error:
+            Handler.document = Document(path, options.workers, False)
+        except Refused as refused:
+            sys.exit(f"editor: {options.file} is refused: {refused}. What `preview mend` makes of it can be opened.")
+        except OSError as error:
             sys.exit(f"editor: {error}")
-    with http.server.ThreadingHTTPServer(("127.0.0.1", options.port), Handler) as server:
+    with Bridge(("127.0.0.1", options.port), Handler) as server:
         Handler.port = server.server_address[1]
         print(f"http://127.0.0.1:{Handler.port}/", flush=True)
         try:

@@ -4,26 +4,76 @@ import json
 import pathlib
 import shutil
 import subprocess
+import tempfile
 import time
 import urllib.request
 
+from cupdaisy import processes
 from cupdaisy.command_line import NOT_INSTALLED, are_installed, parser_of
-from cupdaisy.workspace import SAMPLES, TOP
+from cupdaisy.program import program
+from cupdaisy.workspace import TOP
 
-SAMPLE = SAMPLES / "clock.264"
-UNITS, SECONDS = 12, 10
-OPTIONS = ["--headless=new", "--no-sandbox", "--disable-gpu", "--window-size=1280,760", "--hide-scrollbars"]
+SECONDS = 20
+OPTIONS = ["--headless=new", "--no-sandbox", "--disable-gpu", "--hide-scrollbars"]
+SIZES = {"1280": (1280, 880), "800": (800, 880)}
+# The film: four scenes, a period each 60 pictures, in which frame_num, of 4 bits, wraps. In each picture stands its number, from 0: eight squares in the lowest rows,
+# the lowest bit on the left, light where it is 1.
+PICTURES, PERIOD, WIDTH, HEIGHT, BITS, ROWS = 240, 60, 256, 144, 8, 16
+SCENES = (("mandelbrot=start_scale=2:end_scale=0.05:end_pts=90", 70),
+          ("gradients=speed=0.02:n=5:seed=7:c0=0x103070:c1=0xe07020:c2=0x20a090:c3=0xf0e0a0:c4=0x702080", 60),
+          ("mandelbrot=start_x=-0.7436:start_y=-0.1318:start_scale=0.03:end_scale=0.002:end_pts=60", 50), ("testsrc2=duration=60", 60))
+FILM = "--profile high --bframes 1 --b-adapt 0 --ref 2 --scenecut 0 --crf 22"
+LONG = "--profile main --preset ultrafast --bframes 2 --scenecut 0 --crf 38"
+MANY = 20_000
+# What docs/images has, by the state and the page's form.
+IMAGES = {("cut", "light-1280"): "editor.png", ("damage", "dark-1280"): "editor-damage.png"}
+
+
+def filters():
+    """ffmpeg's filters that join the scenes and write the numbers."""
+    cuts = "".join(f"[{index}]trim=end_frame={pictures},setpts=PTS-STARTPTS,format=yuv420p[s{index}];"
+                   for index, (_, pictures) in enumerate(SCENES))
+    joined = "".join(f"[s{index}]" for index in range(len(SCENES))) + f"concat=n={len(SCENES)}"
+    number = f"16+219*mod(floor(N/pow(2,floor(X*{BITS}/W))),2)"
+    planes = [f"{name}='if(lt(Y,H-{rows}),{sample}(X,Y),{squares})'"
+              for name, sample, rows, squares in (("lum", "lum", ROWS, number), ("cb", "cb", ROWS // 2, 128), ("cr", "cr", ROWS // 2, 128))]
+    return f"{cuts}{joined},geq={':'.join(planes)}"
+
+
+def encoded(file, sources, settings, period, pictures, joined=None):
+    """Encodes what these sources of ffmpeg's draw."""
+    drawn = ["ffmpeg", "-v", "error", *(word for source in sources for word in ("-f", "lavfi", "-i", source))]
+    drawn += ["-filter_complex", joined] if joined else []
+    drawn += ["-frames:v", str(pictures), "-pix_fmt", "yuv420p", "-f", "yuv4mpegpipe", "-"]
+    command = f"x264 --quiet --demuxer y4m {settings} --keyint {period} --min-keyint {period} --threads 1 -o {file} -".split()
+    if not processes.piped(drawn, command)[0]:
+        raise RuntimeError(f"{file} can't be encoded")
+
+
+def encode(folder):
+    """The film, one that is damaged, and a long stream."""
+    sources = [f"{name}{':' if '=' in name else '='}size={WIDTH}x{HEIGHT}:rate=25" for name, _ in SCENES]
+    encoded(folder / "film.264", sources, FILM, PERIOD, PICTURES, filters())
+    text = (folder / "film.264").read_bytes()
+    (folder / "damaged.264").write_bytes(text + b"\0\0\1\x0d\x80")    # a unit of a type that isn't read
+    encoded(folder / "long.264", ["testsrc2=size=64x48:rate=25"], LONG, 50, MANY)
+
+
+def reduced(picture, file):
+    """Writes a picture with 256 colours."""
+    colours = "split[a][b];[a]palettegen=stats_mode=full[c];[b][c]paletteuse=dither=none"
+    processes.run(["ffmpeg", "-v", "error", "-y", "-f", "png_pipe", "-i", "-", "-vf", colours, file], picture)
 
 
 class Browser:
     """A browser that a driver holds, by the WebDriver protocol."""
 
-    def __init__(self, is_dark):
+    def __init__(self, is_dark, size):
         self.driver = subprocess.Popen(["chromedriver", "--port=0"], stdout=subprocess.PIPE, text=True)
         line = next(line for line in self.driver.stdout if "started successfully on port" in line)
         self.at = f"http://127.0.0.1:{line.split()[-1].rstrip('.')}/session"
         dark = ["--force-dark-mode", "--blink-settings=preferredColorScheme=0"] if is_dark else []
-        options = {"args": OPTIONS + dark, "binary": shutil.which("chromium")}
+        options = {"args": [*OPTIONS, *dark, f"--window-size={size[0]},{size[1]}"], "binary": shutil.which("chromium")}
         made = self.call("", {"capabilities": {"alwaysMatch": {"goog:chromeOptions": options}}})
         self.at += "/" + made["sessionId"]
 
@@ -35,6 +85,9 @@ class Browser:
     def run(self, script, *args):
         return self.call("/execute/sync", {"script": script, "args": args})
 
+    def run_async(self, script, *args):
+        return self.call("/execute/async", {"script": script, "args": args})
+
     def wait(self, script, *args):
         """Waits until a script says so; whether it did in time."""
         end = time.monotonic() + SECONDS
@@ -44,6 +97,12 @@ class Browser:
             time.sleep(0.05)
         return False
 
+    def press(self, begin, *points):
+        """Presses the mouse at a point, draws it to others, and lets go."""
+        move = lambda point: {"type": "pointerMove", "duration": 30, "x": round(point[0]), "y": round(point[1])}
+        steps = [move(begin), {"type": "pointerDown", "button": 0}, *map(move, points), {"type": "pointerUp", "button": 0}]
+        self.call("/actions", {"actions": [{"type": "pointer", "id": "mouse", "parameters": {"pointerType": "mouse"}, "actions": steps}]})
+
     def close(self):
         try:
             urllib.request.urlopen(urllib.request.Request(self.at, method="DELETE"), timeout=SECONDS)
@@ -52,93 +111,284 @@ class Browser:
             self.driver.wait()
 
 
+# The number that stands in a picture, by the pixels of a canvas: of each square three, as a line may stand over one.
+NUMBER = """
+const number = (canvas, [x, y, width, height]) => {
+  const ratio = canvas.width / canvas.clientWidth, row = Math.round((y + height * %f) * ratio), pen = canvas.getContext('2d');
+  const isLight = (at) => { const [red, green, blue] = pen.getImageData(Math.round((x + width * at / %d) * ratio), row, 1, 1).data; return red + green + blue > 384; };
+  return Array.from({length: %d}, (_, bit) => [0.2, 0.5, 0.8].filter((at) => isLight(bit + at)).length > 1)
+    .reduce((sum, is, bit) => sum + (is ? 2 ** bit : 0), 0);
+};
+""" % ((HEIGHT - ROWS / 2) / HEIGHT, BITS, BITS)
+THUMBNAILS = NUMBER + """
+return editor.timeline.thumbnails().filter(({place, x, width}) => editor.stream.isValid(place) && x >= 0 && x + width < editor.view.width)
+  .map((box) => [editor.stream.ids[box.place], number(editor.timeline.canvas, [box.x, box.y, box.width, box.height])]);
+"""
+SETTLED = """return !editor.isDue && !editor.pictures.needed().length && !editor.pictures.making.size && editor.pictures.ids
+  .every((id) => editor.pictures.names.has(id))"""
+VIEWED = NUMBER + "return number(editor.viewer.canvas, editor.viewer.box)"
+PLAYED = NUMBER + """
+const done = arguments[1], seen = [];
+editor.player.toggle();
+const look = () => {
+  const found = editor.viewer.shown === null ? seen.at(-1) : number(editor.viewer.canvas, editor.viewer.box);
+  if (found !== seen.at(-1)) seen.push(found);
+  if (seen.length < arguments[0]) return requestAnimationFrame(look);
+  editor.player.toggle();
+  done(seen);
+};
+requestAnimationFrame(look);
+"""
+SCROLLED = """
+const done = arguments[0], frames = [];
+let before = null, left = 120;
+editor.slow = [];
+const look = (now) => {
+  if (before !== null) frames.push(now - before);
+  before = now;
+  editor.view.first += editor.view.count / 6;
+  editor.view.clamp(editor.stream.length);
+  editor.look();
+  if (left-- > 0) return requestAnimationFrame(look);
+  const sorted = (list) => [...list].sort((one, other) => one - other);
+  const told = (list) => [sorted(list)[list.length >> 1], Math.max(...list)];
+  done([told(frames), told(editor.slow)]);
+};
+requestAnimationFrame(look);
+"""
+COUNTS = {
+    "units": "editor.stream.length",
+    "faults": "editor.stream.faults.size",
+    "doubts": "[...editor.stream.follows.values()].filter(({doubt}) => doubt).length",
+    "cursor": "editor.stream.ids[editor.cursor]",
+    "chosen": "editor.chosen ? editor.chosen.to - editor.chosen.from : 0",
+    "undo": "editor.stream.undo",
+    "asked": "document.getElementById('question').open",
+    "wrong": "document.querySelector('#told.wrong')?.textContent ?? ''",
+}
+
+
 class Check:
     """The states of the page, each with what holds there."""
 
-    def __init__(self, browser, address, pictures, name):
-        self.browser, self.pictures, self.name, self.wrong = browser, pictures, name, []
-        browser.call("/url", {"url": address})
-        self.done = 0
+    def __init__(self, browser, options, name):
+        self.browser, self.pictures, self.is_written, self.name, self.wrong = browser, options.pictures, options.write, name, []
+
+    def expect(self, what, is_so):
+        if not is_so:
+            self.wrong.append(f"{self.name}: {what}")
 
     def state(self, name, **wanted):
-        """Waits until what was asked for is done and what is counted is as wanted."""
-        found = {}
-        for what, number in wanted.items():
+        """Waits until all pictures are there and what is counted is as wanted."""
+        for what, number in {"wrong": "", "asked": False, **wanted}.items():
             script = f"return ({COUNTS[what]})"
             if not self.browser.wait(f"{script} === arguments[0]", number):
-                self.wrong.append(f"{name}: {what} {self.browser.run(script)}, and not {number}")
-            found[what] = number
+                self.wrong.append(f"{self.name}: {name}: {what} {self.browser.run(script)}, and not {number}")
+        self.expect(f"{name}: pictures are waited for", self.browser.wait(SETTLED))
         if self.pictures:
+            time.sleep(0.3)
             shot = base64.b64decode(self.browser.call("/screenshot"))
             (self.pictures / f"{name.replace(' ', '-')}-{self.name}.png").write_bytes(shot)
+            if self.is_written and (name, self.name) in IMAGES:
+                reduced(shot, TOP / "docs/images" / IMAGES[name, self.name])
 
-    def click(self, selector):
-        self.browser.run("const at = document.querySelector(arguments[0]); at.dispatchEvent(new MouseEvent('click', {bubbles: true}))", selector)
+    def thumbnails(self, name, number_of):
+        """Holds the number that each thumbnail shows against that of its unit's picture."""
+        found = self.browser.run(THUMBNAILS)
+        differ = [(unit, shown) for unit, shown in found if number_of(unit) not in (shown, None)]
+        self.expect(f"{name}: no thumbnail is there", found)
+        self.expect(f"{name}: thumbnails show other pictures: {differ[:4]}", not differ)
 
     def key(self, name, **held):
-        self.browser.run("document.body.dispatchEvent(new KeyboardEvent('keydown', {key: arguments[0], bubbles: true, ...arguments[1]}))", name, held)
+        self.browser.run("document.body.dispatchEvent(new KeyboardEvent('keydown', {key: arguments[0], bubbles: true, cancelable: true,"
+                         " ...arguments[1]}))", name, held)
+
+    def click(self, selector):
+        self.browser.run("document.querySelector(arguments[0]).click()", selector)
+
+    def at(self, place, row="units"):
+        """Where a unit is on the screen, in the middle of its box or of its picture in output order."""
+        return self.browser.run("const box = editor.timeline.canvas.getBoundingClientRect(), {view, stream, timeline} = editor;"
+                                "return arguments[1] === 'units' ? [box.left + view.x(arguments[0] + 0.5), box.top + 125]"
+                                " : [box.left + (stream.positions[arguments[0]] + 0.5 - timeline.firstPosition) * view.unit, box.top + 40]",
+                                place, row)
 
 
-ROW = "new Set([...document.querySelectorAll('g.u')].filter(%s).map((it) => it.dataset.unit)).size"
-COUNTS = {
-    "units": ROW % "() => true",
-    "faults": ROW % "(it) => it.querySelector('.box.f')",
-    "ready": ROW % "(it) => it.classList.contains('ready')",
-    "pending": ROW % "(it) => it.classList.contains('pending')",
-    "anew": ROW % "(it) => it.classList.contains('anew')",
-    "unmarked": ROW % "(it) => it.querySelector('.box.i, .box.p, .box.b') && !it.matches('.ready, .pending')",
-    "cursor": "Number(document.querySelector('g.u.cursor')?.dataset.unit)",
-    "undo": "!document.getElementById('undo').disabled",
-    "error": "document.getElementById('error').hidden ? '' : document.getElementById('error').textContent",
-}
-REFUSED = """const done = arguments[0]; fetch('edit', {method: 'POST', body: '[["delete", 999]]'}).then((it) => it.json()).then(done)"""
+def order_of(file):
+    """The output order of the units, by plan: the id of each to the number of its picture."""
+    lines = processes.printed([program(), "plan", file]).splitlines()
+    return {int(words[1]): int(words[3]) for words in map(str.split, lines) if words[0] == "unit" and words[2] == "position"}
 
 
-def walk(check):
-    """What a user does. In the sample the pictures of units 2 to 5 each refer to the one before."""
-    check.state("opened", units=UNITS, faults=0, ready=UNITS, pending=0, cursor=1, undo=False)
-    check.click("g.u[data-unit='2']")
-    check.state("looked at", cursor=2)
-    check.click("[data-does=delete]")
-    check.state("deleted", units=UNITS - 1, faults=3, ready=UNITS - 4, anew=3, cursor=3, undo=True)
-    check.click("#undo")
-    check.state("undone", units=UNITS, faults=0, ready=UNITS, cursor=13, undo=False)
-    check.key("d")
-    check.state("duplicated", units=UNITS + 1, faults=1, ready=UNITS, anew=1, undo=True)
+def walk(check, file):
+    """What a user does with the film."""
+    browser, number_of = check.browser, order_of(file)
+    check.state("opened", units=PICTURES, faults=0, cursor=1)
+    check.thumbnails("opened", number_of.get)
+    check.expect("the cursor's picture is another", browser.run(VIEWED) == number_of[1])
+
+    # The mouse: a click moves the cursor, a drag chooses periods, and with Alt units.
+    browser.press(check.at(40))
+    check.state("clicked", cursor=41)
+    check.expect("the clicked unit's picture is another", browser.run(VIEWED) == number_of[41])
+    browser.press(check.at(33), check.at(40), check.at(44))
+    check.state("chosen", chosen=PERIOD)
+    check.expect("a period can't go", browser.wait("return /no other picture/.test(document.getElementById('foreseen').textContent)"))
+    browser.run(f"editor.view.count = 150; editor.go(164); editor.view.first = 40; editor.edits.choose({PERIOD + 20}, {PERIOD + 20}); editor.look()")
+    check.state("cut", chosen=PERIOD)
+    check.key("Escape")
+    browser.run("editor.view.count = 60; editor.go(0)")
+    browser.press(check.at(10, "output"), check.at(20, "output"))
+    check.state("scrubbed", cursor=21)
+
+    # Two reference pictures go: what it breaks is told first, and the pictures behind stay.
+    browser.run("editor.go(66), editor.edits.choose(63, 64, true)")
+    check.expect("what it breaks isn't told", browser.wait("return /decode errors/.test(document.getElementById('foreseen').textContent)"))
+    check.key("Delete")
+    check.state("asked", asked=True)
+    check.click("#question button[value=no]")
+    check.state("left", units=PICTURES)
+    check.key("Delete")
+    browser.wait("return document.getElementById('question').open")
+    decoded = browser.run("return editor.pictures.decoded")
+    check.click("#question button[value=yes]")
+    browser.wait(f"return editor.stream.length === {PICTURES - 2}")
+    faults, doubts = browser.run(f"return [{COUNTS['faults']}, {COUNTS['doubts']}]")
+    check.expect(f"{faults} faults and {doubts} in doubt", faults > 5 and doubts > 5)
+    check.expect("a fault is behind the next safe point", browser.run("return [...editor.stream.faults.keys()].every((place) => place < 118)"))
+    check.state("deleted", units=PICTURES - 2, faults=faults, undo=1)
+    sound = lambda unit: number_of[unit] if unit < 64 or unit > 2 * PERIOD else None
+    check.thumbnails("deleted", sound)
+    browser.run(f"editor.view.count = 110; editor.go({PERIOD + 50}); editor.view.first = {PERIOD - 18}; editor.look()")
+    check.state("damage")
+    check.thumbnails("damage", sound)
+    browser.run(f"editor.view.count = 60; editor.go({2 * PERIOD + 8})")
+    check.state("behind")
+    check.thumbnails("behind", sound)
+    again = browser.run("return editor.pictures.decoded") - decoded
+    check.expect(f"{again} pictures were decoded again", again < 60)
+
     check.key("z", ctrlKey=True)
-    check.state("undone again", units=UNITS, faults=0, ready=UNITS, undo=False)
-    check.key("ArrowRight")
-    check.key("ArrowRight", altKey=True)
-    check.state("moved", units=UNITS, undo=True, unmarked=0)
-    check.click("#undo")
-    check.state("moved back", units=UNITS, faults=0, ready=UNITS, undo=False)
-    answer = check.browser.call("/execute/async", {"script": REFUSED, "args": []})
-    if "NoSuchUnit" not in answer.get("error", ""):
-        check.wrong.append(f"an edit of a unit that isn't there: {answer}")
-    check.state("refused", units=UNITS, faults=0, error="")
+    check.state("undone", units=PICTURES, faults=0, doubts=0, undo=0)
+    back = browser.run("return editor.stream.ids")
+    check.thumbnails("undone", lambda unit: number_of[back.index(unit) + 1])
+
+    # Play, from the eighth picture on: no picture is left out.
+    browser.run("editor.go(editor.stream.atPosition[7])")
+    seen = browser.run_async(PLAYED, 10)
+    check.expect(f"played {seen}", seen[0] in (7, 8) and seen == list(range(seen[0], seen[0] + 10)))
+    check.key(".")
+    check.key(",")
+    check.key(",")
+    check.state("stepped")
+    check.expect("a step isn't one picture", browser.run(VIEWED) == browser.run("return editor.stream.positions[editor.cursor]"))
+
+    # A period is copied to the front, and the last one moved there: nothing breaks, and nothing is asked.
+    browser.run("editor.goTo('0:04:20')")
+    check.state("gone to a time", cursor=2 * PERIOD + 1)
+    browser.run(f"editor.edits.choose({2 * PERIOD}, {2 * PERIOD})")
+    check.key("c", ctrlKey=True)
+    browser.run("editor.edits.choose(null), editor.go(3)")
+    check.key("v", ctrlKey=True)
+    check.state("pasted", units=PICTURES + PERIOD, faults=0, doubts=0, chosen=PERIOD, undo=1)
+    first = browser.run("return editor.stream.ids.slice(0, 60)")
+    check.thumbnails("pasted", lambda unit: number_of[2 * PERIOD + 1 + first.index(unit)] if unit in first else number_of.get(unit))
+    check.key("ArrowRight", ctrlKey=True)
+    check.state("moved", units=PICTURES + PERIOD, faults=0, undo=2)
+    ids = browser.run("return editor.stream.ids")
+    browser.run("editor.view.count = 250, editor.view.first = 0, editor.go(61)")
+    check.state("before a drag")
+    browser.press(check.at(70), check.at(150), check.at(185))
+    check.state("dragged", units=PICTURES + PERIOD, faults=0, undo=3)
+    order = browser.run("return editor.stream.letters")
+    check.expect("what is dragged isn't snapped", browser.run("return editor.chosen.from") == 2 * PERIOD and len(order) == len(ids))
+    check.click("[data-does=farther]")
+    for _ in range(3):
+        check.key("-")
+    check.state("zoomed out", units=PICTURES + PERIOD)
+    check.click("#save")
+    check.state("saved", units=PICTURES + PERIOD)
+    texts = processes.printed([program(), "plan", file]).splitlines()
+    planned = [line for line in texts if line.startswith("unit")]
+    check.expect("the saved file plans otherwise", len(planned) == PICTURES + PERIOD and not any("fault" in line for line in planned))
+
+
+def open_damaged(check, file):
+    """A file that is refused is mended."""
+    text = base64.b64encode(file.read_bytes()).decode()
+    check.browser.run("const dropped = new DataTransfer();"
+                      "dropped.items.add(new File([Uint8Array.from(atob(arguments[0]), (it) => it.charCodeAt(0))], 'damaged.264'));"
+                      "document.dispatchEvent(new DragEvent('drop', {dataTransfer: dropped, cancelable: true}))", text)
+    check.state("refused", asked=True)
+    check.click("#question button[value=yes]")
+    check.browser.wait("return editor.stream?.name === 'damaged-mended.264'")
+    told = check.browser.run("return document.getElementById('told').textContent")
+    check.expect(f"mended: {told}", "type 13" in told)
+
+
+def scroll(check):
+    """A long stream, scrolled and zoomed: how long frames take, which is told and nothing is asked of."""
+    check.state("long", units=MANY, faults=0)
+    (frame, slowest), (drawn, slowest_drawn) = check.browser.run_async(SCROLLED)
+    print(f"check-editor: {check.name}: scrolling {MANY:,} units: a frame each {frame:.0f} ms, at most {slowest:.0f} ms;"
+          f" drawing takes {drawn:.1f} ms, at most {slowest_drawn:.1f} ms")
+    check.browser.run("editor.view.count = 2000; editor.go(10000)")
+    check.state("long and zoomed out", units=MANY, cursor=10001)
+
+
+def visit(options, name, file, walk_through, query="", is_dark=False, size=SIZES["1280"]):
+    """Opens an editor and a browser for a walk; what was wrong."""
+    command = [TOP / "examples/editor/editor.py", *([file] if file else []), "--port", "0"]
+    editor = subprocess.Popen(command, stdout=subprocess.PIPE, text=True)
+    address = editor.stdout.readline().strip()
+    browser = Browser(is_dark, size)
+    try:
+        browser.call("/url", {"url": address + query})
+        browser.wait("return globalThis.editor !== undefined && document.body.dataset.done !== undefined")
+        check = Check(browser, options, name)
+        walk_through(check)
+        return check.wrong
+    finally:
+        browser.close()
+        editor.terminate()
+        editor.wait()
+
+
+def by_decoder(file, word):
+    """A walk that looks at the first pictures by another decoder."""
+    def walk_through(check):
+        check.state("opened", units=PICTURES)
+        check.expect(f"decoded otherwise than by {word}", check.browser.run("return document.getElementById('decoder').textContent").startswith(word))
+        if "ffmpeg" in word:
+            check.thumbnails("opened", order_of(file).get)
+    return walk_through
 
 
 def main(doc):
     parser = parser_of(doc)
     parser.add_argument("--pictures", metavar="FOLDER", type=pathlib.Path)
+    parser.add_argument("--write", action="store_true")
     options = parser.parse_args()
-    if not are_installed("chromium", "chromedriver"):
-        print("check-editor: chromium or chromedriver isn't there, so nothing was looked at")
+    if not are_installed("chromium", "chromedriver", "ffmpeg", "x264"):
+        print("check-editor: chromium, chromedriver, ffmpeg or x264 isn't there, so nothing was looked at")
         return NOT_INSTALLED
-    if options.pictures:
-        options.pictures.mkdir(parents=True, exist_ok=True)
     wrong = []
-    for is_dark in (False, True):
-        command = [TOP / "examples/editor/editor.py", SAMPLE, "--port", "0"]
-        editor = subprocess.Popen(command, stdout=subprocess.PIPE, text=True)
-        address = editor.stdout.readline().strip()
-        browser = Browser(is_dark)
-        try:
-            check = Check(browser, address, options.pictures, "dark" if is_dark else "light")
-            walk(check)
-            wrong += check.wrong
-        finally:
-            browser.close()
-            editor.terminate()
+    with tempfile.TemporaryDirectory() as folder:
+        folder = pathlib.Path(folder)
+        if options.write:
+            options.pictures = options.pictures or folder / "pictures"
+        if options.pictures:
+            options.pictures.mkdir(parents=True, exist_ok=True)
+        encode(folder)
+        film = folder / "film.264"
+        for is_dark in (False, True):
+            for wide, size in SIZES.items():
+                name = f"{'dark' if is_dark else 'light'}-{wide}"
+                file = pathlib.Path(shutil.copy(film, folder / f"{name}.264"))
+                wrong += visit(options, name, file, lambda check: walk(check, file), "", is_dark, size)
+        wrong += visit(options, "ffmpeg", film, by_decoder(film, "decoded by ffmpeg"), "?decoder=ffmpeg")
+        wrong += visit(options, "digests", film, by_decoder(film, "digests"), "?decoder=none")
+        wrong += visit(options, "mend", None, lambda check: open_damaged(check, folder / "damaged.264"))
+        wrong += visit(options, "long", folder / "long.264", scroll)
     print(*[f"check-editor: {line}" for line in wrong] or ["check-editor: ok"], sep="\n")
     return 1 if wrong else 0

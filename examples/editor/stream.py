@@ -1,0 +1,161 @@
+"""The units of a stream in a server of their own: in order, with the text of each, and with what was planned of them."""
+import base64
+import re
+import subprocess
+import tempfile
+
+from server import PREVIEW, Refused, Server
+
+MOST_UNITS = 65_536
+# What a group may hold, and how much of a message its texts may be (docs/SERVER.md).
+MOST_EDITS, MOST_BYTES = 1_024, 32 << 20
+PAGE = 1_000
+# Up to how many units doubts are asked of `plan --json`, which prints all controls of each, where the server doesn't tell them.
+MOST_PLANNED = 1_500
+
+
+class Stream:
+    def __init__(self, path, units, workers):
+        self.server = Server(workers)
+        try:
+            loaded = self.server.call("load", path=str(path))
+            if len(units) != loaded["units"]:
+                raise Refused(f"{loaded['units']} units were loaded, and {len(units)} found")
+        except Refused:
+            self.server.close()
+            raise
+        self.units, self.ids = units, list(range(loaded["first"], loaded["last"] + 1))
+        self.next_id, self.outcomes = loaded["last"] + 1, self.asked(0, len(units))
+        self.texts = dict(zip(self.ids, units))    # of each id that there ever was: what is copied can be pasted when it is gone
+        self.doubts = self.told_doubts()
+
+    def asked(self, begin, end):
+        """The outcomes of the units at these places."""
+        found = []
+        for place in range(begin, end, PAGE):
+            found += self.server.call("units", **{"from": place, "count": min(PAGE, end - place)})
+        return found
+
+    def make(self, splices):
+        """Makes splices, each (place, how many units go, the units that come), as one step. The answer is what undoes them, and the
+        stretch of places whose units may have changed."""
+        if len(self.ids) + sum(len(come) - gone for _, gone, come in splices) > MOST_UNITS:
+            raise Refused(f"a stream has {MOST_UNITS:,} units at most", 17)
+        ids, units, outcomes = self.ids[:], self.units[:], self.outcomes[:]
+        group, back, marks = Group(self, ids), [], []
+        for place, gone, come in splices:
+            back.insert(0, (place, len(come), units[place:place + gone]))
+            group.add(place, gone, come)
+            units[place:place + gone] = come
+            outcomes[place:place + gone] = [None] * len(come)
+            marks = [mark + len(come) - gone if mark > place else mark for mark in marks] + [place, place + len(come)]
+        stretch = group.make()
+        self.ids, self.units, self.outcomes, self.next_id = ids, units, outcomes, group.next_id
+        self.texts.update(zip(ids, units))
+        if stretch is None:
+            return back, self.compared()
+        self.look_again(min([*marks, stretch[0]] if stretch[1] else marks), max([*marks, sum(stretch)] if stretch[1] else marks))
+        return back, stretch
+
+    def compared(self):
+        """Asks for all outcomes again: the least stretch of places whose outcome isn't what it was, but for its position."""
+        before, self.outcomes = self.outcomes, self.asked(0, len(self.ids))
+        differ = [place for place, (old, new) in enumerate(zip(before, self.outcomes))
+                  if old is None or {**old, "position": 0} != {**new, "position": 0}]
+        self.doubts = self.told_doubts()
+        return (differ[0], differ[-1] + 1 - differ[0]) if differ else (0, 0)
+
+    def look_again(self, low, high):
+        """Asks again for what an edit of these places may have moved or doubted: from where the period before begins up to the
+        next valid IDR picture. Behind that every position moves by one number."""
+        low -= low > 0
+        while low > 0 and not (self.outcomes[low] or {}).get("begins_period"):
+            low -= 1
+        while high < len(self.ids) and not (self.units[high].is_idr and "position" in self.outcomes[high]):
+            high += 1
+        self.outcomes[low:high] = self.asked(low, high)
+        shown = sum("position" in outcome for outcome in self.outcomes[:high])
+        behind = [outcome["position"] for outcome in self.outcomes[high:] if "position" in outcome]
+        moved = shown - min(behind) if behind else 0
+        if moved:
+            self.outcomes[high:] = [{**outcome, "position": outcome["position"] + moved} if "position" in outcome else outcome
+                                    for outcome in self.outcomes[high:]]
+        self.doubts = self.told_doubts()
+
+    def told_doubts(self):
+        """By place, which units are in doubt and which break each follows: told by the server, or else by `plan`."""
+        outcomes = self.outcomes
+        if all("fault" not in outcome or "follows" in outcome for outcome in outcomes):
+            known = outcomes
+        elif any("follows" in outcome for outcome in outcomes) or len(outcomes) > MOST_PLANNED:
+            known = outcomes
+        else:
+            known = self.planned()
+        return {place: (outcome.get("follows"), "in_doubt" in outcome) for place, outcome in enumerate(known) if "follows" in outcome}
+
+    def planned(self):
+        """What `plan --json` says of follows and doubt, a unit each; nothing where it cuts the units otherwise."""
+        with tempfile.NamedTemporaryFile(suffix=".264") as file:
+            file.write(b"".join(unit.text for unit in self.units))
+            file.flush()
+            lines = subprocess.run([PREVIEW, "plan", "--json", file.name], capture_output=True).stdout.splitlines()
+        found = []
+        for line in lines:
+            head = line[:300]    # both members stand before the requests
+            follows = re.search(rb'"follows":(\d+)', head)
+            found.append({**({"follows": self.id_at(int(follows[1]) - 1)} if follows else {}),
+                          **({"in_doubt": True} if b'"in_doubt":true' in head else {})})
+        return found if len(found) == len(self.ids) else []
+
+    def id_at(self, place):
+        return self.ids[place] if place < len(self.ids) else None
+
+    def states(self):
+        """By id, whether the unit is faulty and whether it is in doubt."""
+        return {unit_id: ("fault" in outcome, self.doubts.get(place, (None, False))[1])
+                for place, (unit_id, outcome) in enumerate(zip(self.ids, self.outcomes))}
+
+
+class Group:
+    """Edits that are made together, in as few groups as the server takes, and the stretch that its receipt tells of them."""
+
+    def __init__(self, stream, ids):
+        self.server, self.next_id, self.ids, self.edits = stream.server, stream.next_id, ids, []
+
+    def add(self, place, gone, come):
+        """Adds a splice. Each unit that comes gets the next id, and the one after it stands behind that id."""
+        self.edits += [{"delete": {"id": unit_id}} for unit_id in self.ids[place:place + gone]]
+        after = self.ids[place - 1] if place else None
+        given = range(self.next_id, self.next_id + len(come))
+        for unit, unit_id in zip(come, given):
+            self.edits.append({"insert": {"after": after, "bytes": base64.b64encode(unit.text).decode()}})
+            after = unit_id
+        self.ids[place:place + gone] = given
+        self.next_id += len(come)
+
+    def make(self):
+        """Makes what was added. The answer is the stretch that the receipt tells; of several groups none is known for all."""
+        receipts = []
+        for part in parts(self.edits):
+            try:
+                receipts.append(self.server.call("group", edits=part))
+            except Refused as refused:
+                if receipts:
+                    raise RuntimeError(f"made in part, and then refused: {refused}. Open the stream again.") from refused
+                raise
+        changed = receipts[0].get("changed") if len(receipts) == 1 else None
+        return changed and (changed["from"], changed["count"])
+
+
+def parts(edits):
+    """Edits in lists that the server takes as a group."""
+    part, size = [], 0
+    for edit in edits:
+        needs = len(edit.get("insert", {}).get("bytes", ""))
+        if part and (len(part) == MOST_EDITS or size + needs > MOST_BYTES):
+            yield part
+            part, size = [], 0
+        part.append(edit)
+        size += needs
+    if part:
+        yield part

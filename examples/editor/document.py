@@ -28,6 +28,8 @@ class Document:
 
     def edit(self, splices):
         """Makes an edit, which can be undone."""
+        if not any(gone or come for _, gone, come in splices):
+            raise Refused("there is nothing to edit")
         self.undone_by.append(self.made(splices))
         self.redone_by = []
 

@@ -39,8 +39,8 @@ export class Edits {
 
   /** What is edited: the range that is chosen, or the unit under the cursor. */
   get range() {
-    const { chosen, cursor } = this.editor;
-    return chosen ?? { from: cursor, to: cursor + 1 };
+    const { chosen, cursor, stream } = this.editor;
+    return chosen ?? { from: cursor, to: Math.min(cursor + 1, stream.length) };
   }
 
   get ids() { return this.editor.stream.ids.slice(this.range.from, this.range.to); }
@@ -57,15 +57,16 @@ export class Edits {
       const told = await ask("foresee", [[chosen.from, chosen.to - chosen.from, []]]).catch(() => null);
       if (!told || chosen !== this.editor.chosen || stream !== this.editor.stream) return;
       const what = broken(told);
-      output.textContent = `Without them ${what || "no other picture changes for the worse"}.`;
+      output.textContent = `Without them: ${what || "no decode errors"}.`;
       output.className = what ? "breaks" : "";
     }, 150);
   }
 
   /** Makes splices, after telling what they would break. What is broken already isn't told again. */
   async make(splices, doing, done, cursor, chosen = null) {
+    if (!splices.some(([, gone, come]) => gone || come.length)) return;
     const what = broken(await ask("foresee", splices));
-    if (what && !(await this.isMeant(`${doing}: ${what}.`, `${doing} all the same`))) return;
+    if (what && !(await this.isMeant(`${doing}? It would break others: ${what}.`, `${doing} all the same`))) return;
     this.editor.take(await ask("edit", splices), cursor, chosen);
     this.editor.say(`${done}${this.summary()}`);
   }

@@ -37,8 +37,8 @@ class Editor {
       try {
         await what();
       } catch (error) {
-        if (!(error instanceof Refused)) throw error;
         this.say(refused("That can't be done", error), true);
+        if (!(error instanceof Refused)) console.error(error);
       }
     }).finally(() => { document.body.dataset.done = Number(document.body.dataset.done ?? 0) + 1; });
     return this.acts;
@@ -103,7 +103,7 @@ class Editor {
       const shape = `${this.view.width} ${this.pictures.aspect}`;
       if (shape !== this.shape) [this.shape] = [shape, this.look()];
       this.minimap.draw();
-      if (this.stream.length) this.viewer.draw();
+      this.viewer.draw();
       this.tell();
       this.slow = [...this.slow.slice(-999), performance.now() - begin];
     });
@@ -118,7 +118,7 @@ class Editor {
     put("page", `${Math.round(view.count)} a page`);
     put("play", player.isPlaying ? "❚❚" : "▶");
     put("changed", this.changed.to > this.changed.from ? `: ${this.changed.to - this.changed.from}` : "");
-    const range = chosen ? `${counted(chosen.to - chosen.from, "access unit")} chosen: ${stream.ids[chosen.from]} to ${stream.ids[chosen.to - 1]}` : `access unit ${stream.ids[cursor] ?? "none"}`;
+    const range = chosen ? `${counted(chosen.to - chosen.from, "access unit")} chosen: ${stream.ids[chosen.from]} to ${stream.ids[chosen.to - 1]}` : stream.length ? `access unit ${stream.ids[cursor]}` : "no access unit is left";
     put("chosen", range);
     byId("zoom").value = 100 * Math.log(view.count / FEWEST) / Math.log(MOST / FEWEST);
     const can = { undo: stream.undo, redo: stream.redo, save: true, paste: this.edits.copied.length };
@@ -134,6 +134,8 @@ class Editor {
   }
 
   async openFile(file) {
+    const isLost = this.stream && !this.stream.is_saved;
+    if (isLost && !(await this.edits.isMeant(`${this.stream.name} has edits that aren't saved.`, "Open the other all the same"))) return;
     try {
       this.open(await ask(`open?name=${encodeURIComponent(file.name)}`, file));
     } catch (error) {
@@ -180,6 +182,10 @@ byId("goto").addEventListener("submit", (event) => {
   editor.goTo(byId("goto-what").value);
   byId("timeline").focus();
 });
+// Where what was copied would go is shown before it does.
+const paste = document.querySelector("[data-does=paste]");
+paste.addEventListener("pointerenter", (event) => { editor.edge = edits.pastePlace(event.altKey); editor.redraw(); });
+paste.addEventListener("pointerleave", () => { editor.edge = null; editor.redraw(); });
 addEventListener("resize", () => editor.look());
 matchMedia("(prefers-color-scheme: dark)").addEventListener("change", () => editor.redraw());
 document.addEventListener("dragover", (event) => { event.preventDefault(); document.body.classList.add("over"); });

@@ -39,7 +39,7 @@ export class Minimap {
     for (const place of stream.faults.keys()) mark(place, place + 1, TOP, BAND, fault);
     if (changed.to > changed.from) mark(changed.from, changed.to, TOP + BAND + 1, 3, shade.changed);
     if (chosen) mark(chosen.from, chosen.to, TOP, BAND, shade.chosen, 0.4);
-    mark(cursor, cursor + 1, 0, TOP + BAND + 4, shade.ink);
+    if (stream.length) mark(cursor, cursor + 1, 0, TOP + BAND + 4, shade.ink);
     Object.assign(draw, { strokeStyle: shade.ink, lineWidth: 1.5 });
     draw.strokeRect(x(view.first) + 1, TOP - 2.5, Math.max(4, x(Math.min(stream.length, view.first + view.count)) - x(view.first) - 2), BAND + 5);
   }

@@ -50,22 +50,19 @@ export class Pictures {
   begin() {
     this.names = new Map(); // by id: the name of the picture that the server has ready
     this.earlier = new Map(); // by id: the name that its unit had before the last edit
-    this.failed = new Set(); // names that the decoder doesn't bring
-    this.making = new Set();
+    [this.tried, this.failed] = [new Set(), new Set()]; // names that the decoder didn't bring once, and twice
+    [this.making, this.wanted, this.isAnswered] = [new Set(), [], false];
     [this.ids, this.large_ids, this.kept] = [[], new Set(), new Set()];
     [this.aspect, this.size, this.decoded] = [16 / 9, MEGABYTE, 0]; // of a picture, in bytes; how many were decoded
   }
 
-  /** Takes the stream after an edit. Which names changed only the server knows, so all are asked for again; until then each
-      unit has its old one, which is stale in the stretch that the edit changed. */
+  /** Takes the stream after an edit. Which names changed the server knows, so all are asked for again. */
   setStream(stream, isEdited) {
-    const [from, count] = stream.changed;
     if (isEdited) {
       for (const [id, name] of this.names) this.earlier.set(id, name);
-      const stays = (id) => stream.places.has(id) && (stream.places.get(id) < from || stream.places.get(id) >= from + count);
-      this.names = new Map([...this.names].filter(([id]) => stays(id)));
+      this.names = new Map();
     }
-    this.stream = stream;
+    [this.stream, this.isAnswered] = [stream, false];
     this.decoder?.setStream(stream, isEdited);
   }
 
@@ -87,14 +84,14 @@ export class Pictures {
       this.again = false;
       const stream = this.stream;
       const unknown = this.ids.filter((id) => !this.names.has(id));
-      const ids = [...unknown, ...this.ids.filter((id) => this.names.has(id))].slice(0, WANTED);
+      this.wanted = unknown.slice(0, WANTED);
       if (!unknown.length) break;
-      const told = await question("want", { ids, rest: true }).catch(() => ({ ready: [] }));
+      const told = await question("want", { ids: this.wanted, rest: true }).catch(() => ({ ready: [] }));
       if (stream !== this.stream) this.again = true;
       else told.ready.forEach(({ id, picture }) => this.names.set(id, picture));
-      this.again ||= told.ready.length === WANTED && unknown.length > WANTED;
+      this.again ||= told.ready.length === WANTED;
     } while (this.again);
-    this.asking = false;
+    [this.asking, this.isAnswered] = [false, true];
     this.changed();
     this.work();
   }
@@ -106,7 +103,8 @@ export class Pictures {
   heard({ method, params }) {
     if (method === "ready") this.names.set(params.id, params.picture);
     if (method === "changed") this.names.delete(params.id);
-    if (this.ids.some((id) => !this.names.has(id))) this.want();
+    // Those that are wanted are told when they are ready; after that come those for which there was no room.
+    if (method !== "ready" || this.wanted.every((id) => this.names.has(id))) this.want();
     this.changed();
     this.work();
   }
@@ -117,7 +115,15 @@ export class Pictures {
     const found = name && this.bitmap(name, isLarge);
     if (found) return { bitmap: found, name, isStale: false };
     const old = this.earlier.get(id);
-    return { bitmap: old && this.bitmap(old, isLarge), name, isStale: true, isFailed: this.failed.has(name) };
+    const isStale = this.isAnswered || this.isChanged(id);
+    return { bitmap: old && this.bitmap(old, isLarge), name, isStale, isFailed: this.failed.has(name) };
+  }
+
+  /** Whether a unit is of the stretch that the last edit changed. */
+  isChanged(id) {
+    const [from, count] = this.stream.changed;
+    const place = this.stream.places.get(id);
+    return place >= from && place < from + count;
   }
 
   bitmap(name, isLarge) {
@@ -139,11 +145,11 @@ export class Pictures {
     this.working = true;
     for (let next; (next = this.needed()[0]) !== undefined;) {
       const name = this.names.get(next);
-      const isDone = await this.decoder.bring(next);
-      await Promise.resolve();
-      // What didn't come although nothing else was more urgent won't come by trying again.
-      if (isDone && !this.making.has(name) && !this.small.has(name)) this.failed.add(name);
-      if (isDone && this.large_ids.has(next) && !this.making.has(name) && !this.large.has(name)) this.failed.add(name);
+      const { stream } = this;
+      // What is refused is of an edit that came between, or of a bridge that has ended.
+      const isDone = await this.decoder.bring(next).catch(() => stream === this.stream);
+      // What came while it wasn't looked at was let go: so it is tried again, once.
+      if (isDone && this.needed().includes(next)) (this.tried.has(name) ? this.failed : this.tried).add(name);
     }
     this.working = false;
     this.changed();
@@ -165,9 +171,10 @@ export class Pictures {
       try {
         if (isSmall) this.small.put(name, await createImageBitmap(frame, how));
         if (isLarge) this.large.put(name, await createImageBitmap(frame));
-      } finally {
-        this.making.delete(name);
+      } catch {
+        this.failed.add(name); // a form of pixels that the browser doesn't draw
       }
+      this.making.delete(name);
       this.changed();
     }
     frame.close();

@@ -211,6 +211,7 @@ export class Timeline {
 
   drawCursor() {
     const { stream, view, cursor } = this.editor;
+    if (!stream.length) return;
     const x = view.x(cursor);
     const width = Math.max(2, view.unit);
     this.frame(x + 0.5, ROWS.boxes - 1, width - 1, BOX + THUMB + 4, "ink", 2);

@@ -14,6 +14,10 @@ export class Viewer {
     const { stream, cursor, pictures } = this.editor;
     const { draw, width, height } = prepared(this.canvas);
     const shade = colours();
+    if (!stream.length) {
+      [this.shown, this.told] = [null, null];
+      return this.details.replaceChildren();
+    }
     const { bitmap, isStale, isFailed, name } = pictures.of(stream.ids[cursor], true);
     this.shown = bitmap && !isStale ? stream.ids[cursor] : null;
     const fault = stream.faults.get(cursor);
@@ -38,7 +42,7 @@ export class Viewer {
       draw.strokeRect(...box);
     }
     this.box = box;
-    this.tell(name);
+    return this.tell(name);
   }
 
   /** What is known of the unit under the cursor. */

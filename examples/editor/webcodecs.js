@@ -41,7 +41,8 @@ export class WebCodecs {
     const start = stream.lastStart(place);
     if (start === null || this.bad.has(id)) return true;
     // To go on from where the decoder is is less work, unless an IDR picture lies between.
-    if (!this.decoder || this.came.has(id) || place < this.next && !this.waits(id) || start > this.next) this.begin(start);
+    const isPassed = this.came.has(id) || (place < this.next && !this.waits(id));
+    if (!this.decoder || isPassed || start > this.next) this.begin(start);
     while (!this.came.has(id)) {
       if (this.next > place + SURPLUS || this.next >= stream.length) {
         await this.flush();
@@ -54,7 +55,8 @@ export class WebCodecs {
         this.suspect();
         return false;
       }
-      if (!this.came.has(id) && this.pictures.needed()[0] !== id && !this.isBefore(this.pictures.needed()[0], place)) return false;
+      const [urgent] = this.pictures.needed();
+      if (!this.came.has(id) && urgent !== id && !this.isBefore(urgent, place)) return false;
     }
     return true;
   }

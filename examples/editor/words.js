@@ -33,7 +33,6 @@ export const refused = (what, { message, number: code }) => (REFUSALS[code] ? `$
 
 /** What an edit would do to the units that stay: "" where it breaks nothing. */
 export function broken({ faulty, in_doubt: doubt }) {
-  const parts = [faulty && `${counted(faulty, "access unit")} would have decode errors`,
-    doubt && `${faulty ? "they" : "errors"} would propagate to ${counted(doubt, "picture")}`];
-  return parts.filter(Boolean).join(", and ");
+  if (faulty && doubt) return `decode errors in ${counted(faulty, "access unit")}, which propagate to ${counted(doubt, "picture")}`;
+  return faulty ? `decode errors in ${counted(faulty, "access unit")}` : doubt ? `errors propagate to ${counted(doubt, "picture")}` : "";
 }

@@ -24,6 +24,8 @@
     damage          damaged copies of streams
     mending         what `preview mend` writes of a text and tells
     doubts          which units of a plan are in doubt
+    film            films in whose pictures their numbers stand
+    browser         headless Chromium under a driver
 
 Python 3.10 with its standard library is all that they need; CONTRIBUTING.md names the programs that some commands run.
 """

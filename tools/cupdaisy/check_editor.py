@@ -1,114 +1,33 @@
 """Drives examples/editor in headless Chromium."""
 import base64
-import json
 import pathlib
+import random
 import shutil
 import subprocess
+import sys
 import tempfile
 import time
-import urllib.request
 
 from cupdaisy import processes
+from cupdaisy.browser import Browser
 from cupdaisy.command_line import NOT_INSTALLED, are_installed, parser_of
+from cupdaisy.film import BITS, HEIGHT, MANY, PERIOD, PICTURES, ROWS, encode
 from cupdaisy.program import program
-from cupdaisy.workspace import TOP
+from cupdaisy.workspace import SAMPLES, TOP
 
-SECONDS = 20
-OPTIONS = ["--headless=new", "--no-sandbox", "--disable-gpu", "--hide-scrollbars"]
+sys.path.insert(0, str(TOP / "examples/editor"))
+
+from document import Document
+
 SIZES = {"1280": (1280, 880), "800": (800, 880)}
-# The film: four scenes, a period each 60 pictures, in which frame_num, of 4 bits, wraps. In each picture stands its number, from 0: eight squares in the lowest rows,
-# the lowest bit on the left, light where it is 1.
-PICTURES, PERIOD, WIDTH, HEIGHT, BITS, ROWS = 240, 60, 256, 144, 8, 16
-SCENES = (("mandelbrot=start_scale=2:end_scale=0.05:end_pts=90", 70),
-          ("gradients=speed=0.02:n=5:seed=7:c0=0x103070:c1=0xe07020:c2=0x20a090:c3=0xf0e0a0:c4=0x702080", 60),
-          ("mandelbrot=start_x=-0.7436:start_y=-0.1318:start_scale=0.03:end_scale=0.002:end_pts=60", 50), ("testsrc2=duration=60", 60))
-FILM = "--profile high --bframes 1 --b-adapt 0 --ref 2 --scenecut 0 --crf 22"
-LONG = "--profile main --preset ultrafast --bframes 2 --scenecut 0 --crf 38"
-MANY = 20_000
 # What docs/images has, by the state and the page's form.
 IMAGES = {("cut", "light-1280"): "editor.png", ("damage", "dark-1280"): "editor-damage.png"}
-
-
-def filters():
-    """ffmpeg's filters that join the scenes and write the numbers."""
-    cuts = "".join(f"[{index}]trim=end_frame={pictures},setpts=PTS-STARTPTS,format=yuv420p[s{index}];"
-                   for index, (_, pictures) in enumerate(SCENES))
-    joined = "".join(f"[s{index}]" for index in range(len(SCENES))) + f"concat=n={len(SCENES)}"
-    number = f"16+219*mod(floor(N/pow(2,floor(X*{BITS}/W))),2)"
-    planes = [f"{name}='if(lt(Y,H-{rows}),{sample}(X,Y),{squares})'"
-              for name, sample, rows, squares in (("lum", "lum", ROWS, number), ("cb", "cb", ROWS // 2, 128), ("cr", "cr", ROWS // 2, 128))]
-    return f"{cuts}{joined},geq={':'.join(planes)}"
-
-
-def encoded(file, sources, settings, period, pictures, joined=None):
-    """Encodes what these sources of ffmpeg's draw."""
-    drawn = ["ffmpeg", "-v", "error", *(word for source in sources for word in ("-f", "lavfi", "-i", source))]
-    drawn += ["-filter_complex", joined] if joined else []
-    drawn += ["-frames:v", str(pictures), "-pix_fmt", "yuv420p", "-f", "yuv4mpegpipe", "-"]
-    command = f"x264 --quiet --demuxer y4m {settings} --keyint {period} --min-keyint {period} --threads 1 -o {file} -".split()
-    if not processes.piped(drawn, command)[0]:
-        raise RuntimeError(f"{file} can't be encoded")
-
-
-def encode(folder):
-    """The film, one that is damaged, and a long stream."""
-    sources = [f"{name}{':' if '=' in name else '='}size={WIDTH}x{HEIGHT}:rate=25" for name, _ in SCENES]
-    encoded(folder / "film.264", sources, FILM, PERIOD, PICTURES, filters())
-    text = (folder / "film.264").read_bytes()
-    (folder / "damaged.264").write_bytes(text + b"\0\0\1\x0d\x80")    # a unit of a type that isn't read
-    encoded(folder / "long.264", ["testsrc2=size=64x48:rate=25"], LONG, 50, MANY)
 
 
 def reduced(picture, file):
     """Writes a picture with 256 colours."""
     colours = "split[a][b];[a]palettegen=stats_mode=full[c];[b][c]paletteuse=dither=none"
     processes.run(["ffmpeg", "-v", "error", "-y", "-f", "png_pipe", "-i", "-", "-vf", colours, file], picture)
-
-
-class Browser:
-    """A browser that a driver holds, by the WebDriver protocol."""
-
-    def __init__(self, is_dark, size):
-        self.driver = subprocess.Popen(["chromedriver", "--port=0"], stdout=subprocess.PIPE, text=True)
-        line = next(line for line in self.driver.stdout if "started successfully on port" in line)
-        self.at = f"http://127.0.0.1:{line.split()[-1].rstrip('.')}/session"
-        dark = ["--force-dark-mode", "--blink-settings=preferredColorScheme=0"] if is_dark else []
-        options = {"args": [*OPTIONS, *dark, f"--window-size={size[0]},{size[1]}"], "binary": shutil.which("chromium")}
-        made = self.call("", {"capabilities": {"alwaysMatch": {"goog:chromeOptions": options}}})
-        self.at += "/" + made["sessionId"]
-
-    def call(self, path, given=None):
-        request = urllib.request.Request(self.at + path, data=None if given is None else json.dumps(given).encode())
-        with urllib.request.urlopen(request, timeout=SECONDS) as answer:
-            return json.load(answer)["value"]
-
-    def run(self, script, *args):
-        return self.call("/execute/sync", {"script": script, "args": args})
-
-    def run_async(self, script, *args):
-        return self.call("/execute/async", {"script": script, "args": args})
-
-    def wait(self, script, *args):
-        """Waits until a script says so; whether it did in time."""
-        end = time.monotonic() + SECONDS
-        while time.monotonic() < end:
-            if self.run(script, *args):
-                return True
-            time.sleep(0.05)
-        return False
-
-    def press(self, begin, *points):
-        """Presses the mouse at a point, draws it to others, and lets go."""
-        move = lambda point: {"type": "pointerMove", "duration": 30, "x": round(point[0]), "y": round(point[1])}
-        steps = [move(begin), {"type": "pointerDown", "button": 0}, *map(move, points), {"type": "pointerUp", "button": 0}]
-        self.call("/actions", {"actions": [{"type": "pointer", "id": "mouse", "parameters": {"pointerType": "mouse"}, "actions": steps}]})
-
-    def close(self):
-        try:
-            urllib.request.urlopen(urllib.request.Request(self.at, method="DELETE"), timeout=SECONDS)
-        finally:
-            self.driver.terminate()
-            self.driver.wait()
 
 
 # The number that stands in a picture, by the pixels of a canvas: of each square three, as a line may stand over one.
@@ -233,7 +152,7 @@ def walk(check, file):
     check.expect("the clicked unit's picture is another", browser.run(VIEWED) == number_of[41])
     browser.press(check.at(33), check.at(40), check.at(44))
     check.state("chosen", chosen=PERIOD)
-    check.expect("a period can't go", browser.wait("return /no other picture/.test(document.getElementById('foreseen').textContent)"))
+    check.expect("a period can't go", browser.wait("return /no decode errors/.test(document.getElementById('foreseen').textContent)"))
     browser.run(f"editor.view.count = 150; editor.go(164); editor.view.first = 40; editor.edits.choose({PERIOD + 20}, {PERIOD + 20}); editor.look()")
     check.state("cut", chosen=PERIOD)
     check.key("Escape")
@@ -243,7 +162,7 @@ def walk(check, file):
 
     # Two reference pictures go: what it breaks is told first, and the pictures behind stay.
     browser.run("editor.go(66), editor.edits.choose(63, 64, true)")
-    check.expect("what it breaks isn't told", browser.wait("return /decode errors/.test(document.getElementById('foreseen').textContent)"))
+    check.expect("what it breaks isn't told", browser.wait("return /decode errors in/.test(document.getElementById('foreseen').textContent)"))
     check.key("Delete")
     check.state("asked", asked=True)
     check.click("#question button[value=no]")
@@ -312,6 +231,13 @@ def walk(check, file):
     planned = [line for line in texts if line.startswith("unit")]
     check.expect("the saved file plans otherwise", len(planned) == PICTURES + PERIOD and not any("fault" in line for line in planned))
 
+    # All can go, and comes back.
+    check.key("a", ctrlKey=True)
+    check.key("Delete")
+    check.state("nothing left", units=0)
+    check.key("z", ctrlKey=True)
+    check.state("all back", units=PICTURES + PERIOD, faults=0)
+
 
 def open_damaged(check, file):
     """A file that is refused is mended."""
@@ -334,6 +260,35 @@ def scroll(check):
           f" drawing takes {drawn:.1f} ms, at most {slowest_drawn:.1f} ms")
     check.browser.run("editor.view.count = 2000; editor.go(10000)")
     check.state("long and zoomed out", units=MANY, cursor=10001)
+
+
+def drawn_splices(rng, units):
+    """A deletion, a copy, a move or a replacement of a few units."""
+    begin, count = rng.randrange(len(units) - 4), rng.randrange(1, 4)
+    place, some = rng.randrange(len(units) - count), units[begin:begin + count]
+    return rng.choice(([(begin, count, [])], [(place, 0, some)], [(begin, count, []), (place, 0, some)], [(place, 1, some)]))
+
+
+def edit_drawn(file, edits=30):
+    """Makes drawn edits of a document, without a browser: what it has of units has to be what the server and `plan` say anew."""
+    document, rng, wrong = Document(file, 1, True), random.Random(7), []
+    text, stream = document.text(), document.shown
+    for number in range(edits):
+        document.edit(drawn_splices(rng, stream.units))
+        planned = stream.planned()
+        doubts = {place: (line.get("follows"), "in_doubt" in line) for place, line in enumerate(planned) if "follows" in line}
+        if stream.outcomes != stream.asked(0, len(stream.ids)) or (planned and stream.doubts != doubts):
+            wrong.append(f"{file.name}: after drawn edit {number} it has other outcomes")
+        if len(stream.ids) < 12:
+            break
+    edited = document.text()
+    for undone, again in ((document.undo, text), (document.redo, edited), (document.undo, text)):
+        while document.undone_by if undone == document.undo else document.redone_by:
+            undone()
+        if document.text() != again:
+            wrong.append(f"{file.name}: undone and made again, it is another stream")
+    document.close()
+    return wrong
 
 
 def visit(options, name, file, walk_through, query="", is_dark=False, size=SIZES["1280"]):
@@ -386,6 +341,8 @@ def main(doc):
                 name = f"{'dark' if is_dark else 'light'}-{wide}"
                 file = pathlib.Path(shutil.copy(film, folder / f"{name}.264"))
                 wrong += visit(options, name, file, lambda check: walk(check, file), "", is_dark, size)
+        for file in (SAMPLES / "bframes.264", SAMPLES / "zoom.264"):
+            wrong += edit_drawn(file)
         wrong += visit(options, "ffmpeg", film, by_decoder(film, "decoded by ffmpeg"), "?decoder=ffmpeg")
         wrong += visit(options, "digests", film, by_decoder(film, "digests"), "?decoder=none")
         wrong += visit(options, "mend", None, lambda check: open_damaged(check, folder / "damaged.264"))

@@ -208,7 +208,7 @@ def main():
         try:
             Handler.document = Document(path, options.workers, False)
         except Refused as refused:
-            sys.exit(f"editor: {options.file} is refused: {refused}. What `preview mend` makes of it can be opened.")
+            sys.exit(f"editor: {options.file} is refused: {refused}. What `preview mend FILE >OUT` makes of it can be opened.")
         except OSError as error:
             sys.exit(f"editor: {error}")
     with Bridge(("127.0.0.1", options.port), Handler) as server:

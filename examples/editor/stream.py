@@ -4,14 +4,15 @@ import re
 import subprocess
 import tempfile
 
+from access_units import sets_before
 from server import PREVIEW, Refused, Server
 
 MOST_UNITS = 65_536
 # What a group may hold, and how much of a message its texts may be (docs/SERVER.md).
 MOST_EDITS, MOST_BYTES = 1_024, 32 << 20
 PAGE = 1_000
-# Up to how many units doubts are asked of `plan --json`, which prints all controls of each, where the server doesn't tell them.
-MOST_PLANNED = 1_500
+# Up to how many units a part may have that `plan --json` is asked of, which prints all controls of each.
+MOST_PLANNED = 1_000
 
 
 class Stream:
@@ -58,7 +59,8 @@ class Stream:
         return back, stretch
 
     def compared(self):
-        """Asks for all outcomes again: the least stretch of places whose outcome isn't what it was, but for its position."""
+        """Asks for all outcomes again, where no receipt tells what changed: the least stretch of places whose outcome isn't what it
+        was, but for its position. That a unit's requests are others isn't seen."""
         before, self.outcomes = self.outcomes, self.asked(0, len(self.ids))
         differ = [place for place, (old, new) in enumerate(zip(before, self.outcomes))
                   if old is None or {**old, "position": 0} != {**new, "position": 0}]
@@ -83,32 +85,34 @@ class Stream:
         self.doubts = self.told_doubts()
 
     def told_doubts(self):
-        """By place, which units are in doubt and which break each follows: told by the server, or else by `plan`."""
-        outcomes = self.outcomes
-        if all("fault" not in outcome or "follows" in outcome for outcome in outcomes):
-            known = outcomes
-        elif any("follows" in outcome for outcome in outcomes) or len(outcomes) > MOST_PLANNED:
-            known = outcomes
-        else:
-            known = self.planned()
-        return {place: (outcome.get("follows"), "in_doubt" in outcome) for place, outcome in enumerate(known) if "follows" in outcome}
+        """By place, which break a unit follows, and whether it is in doubt: told by the server, or else by `plan`."""
+        is_told = any("follows" in outcome for outcome in self.outcomes)
+        known = self.outcomes if is_told else self.planned()
+        return {place: (outcome["follows"], "in_doubt" in outcome) for place, outcome in enumerate(known) if "follows" in outcome}
 
     def planned(self):
-        """What `plan --json` says of follows and doubt, a unit each; nothing where it cuts the units otherwise."""
+        """What `plan --json` says of follows and doubt. Neither goes beyond a valid IDR picture, so parts with a fault are planned."""
+        found = [{}] * len(self.ids)
+        starts = [place for place, unit in enumerate(self.units) if unit.is_idr and "position" in self.outcomes[place]]
+        for begin, end in zip([0, *starts], [*starts, len(self.ids)]):
+            if end - begin <= MOST_PLANNED and any("fault" in outcome for outcome in self.outcomes[begin:end]):
+                found[begin:end] = self.planned_part(begin, end)
+        return found
+
+    def planned_part(self, begin, end):
+        """The same of some units; nothing where `plan` cuts them otherwise."""
         with tempfile.NamedTemporaryFile(suffix=".264") as file:
-            file.write(b"".join(unit.text for unit in self.units))
+            file.write(sets_before(self.units, begin) + b"".join(unit.text for unit in self.units[begin:end]))
             file.flush()
             lines = subprocess.run([PREVIEW, "plan", "--json", file.name], capture_output=True).stdout.splitlines()
+        if len(lines) != end - begin:
+            return [{}] * (end - begin)
         found = []
         for line in lines:
-            head = line[:300]    # both members stand before the requests
-            follows = re.search(rb'"follows":(\d+)', head)
-            found.append({**({"follows": self.id_at(int(follows[1]) - 1)} if follows else {}),
-                          **({"in_doubt": True} if b'"in_doubt":true' in head else {})})
-        return found if len(found) == len(self.ids) else []
-
-    def id_at(self, place):
-        return self.ids[place] if place < len(self.ids) else None
+            follows = re.match(rb'.{0,200}?"follows":(\d+)(,"in_doubt":true)?', line)    # they stand before the requests
+            told = {"follows": self.ids[begin + int(follows[1]) - 1]} if follows else {}
+            found.append({**told, "in_doubt": True} if follows and follows[2] else told)
+        return found
 
     def states(self):
         """By id, whether the unit is faulty and whether it is in doubt."""

@@ -58,6 +58,8 @@ const look = () => {
 };
 requestAnimationFrame(look);
 """
+WHEEL = """editor.timeline.canvas.dispatchEvent(new WheelEvent('wheel',
+  {deltaY: arguments[0], ctrlKey: arguments[1], clientX: 600, clientY: 500, bubbles: true, cancelable: true}))"""
 SCROLLED = """
 const done = arguments[0], frames = [];
 let before = null, left = 120;
@@ -159,6 +161,18 @@ def walk(check, file):
     browser.run("editor.view.count = 60; editor.go(0)")
     browser.press(check.at(10, "output"), check.at(20, "output"))
     check.state("scrubbed", cursor=21)
+
+    # The wheel scrolls and, with Ctrl, zooms; the strip of the whole stream moves the page.
+    page = browser.run("return [editor.view.first, editor.view.count]")
+    browser.run(WHEEL, 300, False)
+    browser.run(WHEEL, -400, True)
+    check.expect("the wheel doesn't scroll", browser.run("return editor.view.first") > page[0])
+    check.expect("the wheel doesn't zoom", browser.run("return editor.view.count") < page[1])
+    check.state("zoomed in")
+    check.thumbnails("zoomed in", number_of.get)
+    browser.press(browser.run("const box = editor.minimap.canvas.getBoundingClientRect(); return [box.left + box.width * 0.75, box.top + 12]"))
+    check.expect("the strip doesn't move the page", abs(browser.run("return editor.view.first + editor.view.count / 2") - 180) < 3)
+    browser.run("editor.view.count = 60; editor.go(0)")
 
     # Two reference pictures go: what it breaks is told first, and the pictures behind stay.
     browser.run("editor.go(66), editor.edits.choose(63, 64, true)")
@@ -277,7 +291,7 @@ def edit_drawn(file, edits=30):
         document.edit(drawn_splices(rng, stream.units))
         planned = stream.planned()
         doubts = {place: (line.get("follows"), "in_doubt" in line) for place, line in enumerate(planned) if "follows" in line}
-        if stream.outcomes != stream.asked(0, len(stream.ids)) or (planned and stream.doubts != doubts):
+        if stream.outcomes != stream.asked(0, len(stream.ids)) or stream.doubts != doubts:
             wrong.append(f"{file.name}: after drawn edit {number} it has other outcomes")
         if len(stream.ids) < 12:
             break

@@ -55,7 +55,7 @@ class Document:
         return [self.shown.texts[unit_id] for unit_id in ids]
 
     def foreseen(self, splices):
-        """How many units an edit would make faulty or put in doubt, and how many it would make whole again: it is made beside, and undone."""
+        """How many units an edit would make faulty or put in doubt, and how many whole again: it is made beside, and undone."""
         def tried():
             stream = self.beside.result()
             before = stream.states()
@@ -92,7 +92,7 @@ class Document:
                 "idr": [place for place, unit in enumerate(stream.units) if unit.is_idr],
                 "positions": [outcome.get("position", -1) for _, outcome in outcomes],
                 "begins": [place for place, outcome in outcomes if outcome.get("begins_period")],
-                "faults": [[place, outcome["fault"]["number"], outcome["fault"]["name"]] for place, outcome in outcomes if "fault" in outcome],
+                "faults": [[place, *outcome["fault"].values()] for place, outcome in outcomes if "fault" in outcome],
                 "follows": [[place, broken, doubt] for place, (broken, doubt) in stream.doubts.items()]}
 
     def to_decode(self, ids, begin):

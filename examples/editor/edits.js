@@ -95,7 +95,8 @@ export class Edits {
 
   delete() {
     const { from, to } = this.range;
-    return this.make([[from, to - from, []]], `Delete ${counted(to - from, "access unit")}`, `Deleted ${counted(to - from, "access unit")}`, from);
+    const what = counted(to - from, "access unit");
+    return this.make([[from, to - from, []]], `Delete ${what}`, `Deleted ${what}`, from);
   }
 
   copy() {
@@ -118,8 +119,8 @@ export class Edits {
   paste(isExact) {
     const { length } = this.copied;
     if (!length) return undefined;
-    const place = this.pastePlace(isExact);
-    return this.make([[place, 0, this.copied]], `Paste ${counted(length, "access unit")}`, `Pasted ${counted(length, "access unit")}`, place, { from: place, to: place + length });
+    const [place, what] = [this.pastePlace(isExact), counted(length, "access unit")];
+    return this.make([[place, 0, this.copied]], `Paste ${what}`, `Pasted ${what}`, place, { from: place, to: place + length });
   }
 
   /** Moves the range in front of the unit at a place of the stream as it is. */
@@ -127,7 +128,8 @@ export class Edits {
     const { from, to } = this.range;
     if (edge >= from && edge <= to) return undefined;
     const [count, place] = [to - from, edge > from ? edge - (to - from) : edge];
-    return this.make([[from, count, []], [place, 0, this.ids]], `Move ${counted(count, "access unit")}`, `Moved ${counted(count, "access unit")}`, place, { from: place, to: place + count });
+    const [splices, what] = [[[from, count, []], [place, 0, this.ids]], counted(count, "access unit")];
+    return this.make(splices, `Move ${what}`, `Moved ${what}`, place, { from: place, to: place + count });
   }
 
   earlier(isExact) {

@@ -79,15 +79,16 @@ class Editor {
 
   /** Says which pictures are looked at: what the cursor is on and what comes next, then the thumbnails, the nearest first. */
   look() {
-    const { stream, cursor, pictures, view } = this;
+    const { stream, cursor, pictures } = this;
     if (!stream) return;
     const ids = (positions) => positions.filter((at) => at >= 0 && at < stream.pictures).map((at) => stream.ids[stream.atPosition[at]]);
     const from = stream.positionOf(cursor);
     const ahead = Array.from({ length: pictures.room }, (_, index) => from + 1 + index);
     const near = this.player.isPlaying ? ahead.slice(0, pictures.room / 2) : [1, -1, 2, -2, 3, -3].map((by) => from + by);
     const large = [stream.ids[cursor], ...ids(near)];
-    const shown = this.timeline.thumbnails().map(({ place }) => place).sort((one, other) => Math.abs(one - cursor) - Math.abs(other - cursor));
-    pictures.look(large, view.width ? shown.map((place) => stream.ids[place]) : [], ids(this.player.isPlaying ? ahead : ahead.slice(0, 8)));
+    const far = ({ place }) => Math.abs(place - cursor);
+    const shown = this.timeline.thumbnails().sort((one, other) => far(one) - far(other)).map(({ place }) => stream.ids[place]);
+    pictures.look(large, shown, ids(this.player.isPlaying ? ahead : ahead.slice(0, 8)));
     this.redraw();
   }
 
@@ -118,8 +119,9 @@ class Editor {
     put("page", `${Math.round(view.count)} a page`);
     put("play", player.isPlaying ? "❚❚" : "▶");
     put("changed", this.changed.to > this.changed.from ? `: ${this.changed.to - this.changed.from}` : "");
-    const range = chosen ? `${counted(chosen.to - chosen.from, "access unit")} chosen: ${stream.ids[chosen.from]} to ${stream.ids[chosen.to - 1]}` : stream.length ? `access unit ${stream.ids[cursor]}` : "no access unit is left";
-    put("chosen", range);
+    if (!stream.length) put("chosen", "no access unit is left");
+    else if (!chosen) put("chosen", `access unit ${stream.ids[cursor]}`);
+    else put("chosen", `${counted(chosen.to - chosen.from, "access unit")} chosen: ${stream.ids[chosen.from]} to ${stream.ids[chosen.to - 1]}`);
     byId("zoom").value = 100 * Math.log(view.count / FEWEST) / Math.log(MOST / FEWEST);
     const can = { undo: stream.undo, redo: stream.redo, save: true, paste: this.edits.copied.length };
     for (const button of document.querySelectorAll("[data-does]")) button.disabled = !(can[button.dataset.does] ?? stream.length);
@@ -140,10 +142,12 @@ class Editor {
       this.open(await ask(`open?name=${encodeURIComponent(file.name)}`, file));
     } catch (error) {
       if (!(error instanceof Refused) || !error.number) throw error;
-      if (!(await this.edits.isMeant(`${refused(`${file.name} isn't read`, error)}\nWhat keeps it from being read can be left out of a copy.`, "Mend a copy"))) return;
+      const why = `${refused(`${file.name} isn't read`, error)}\nWhat keeps it from being read can be left out of a copy.`;
+      if (!(await this.edits.isMeant(why, "Mend a copy"))) return;
       const told = await ask("mend", {});
       this.open(told);
-      this.say(`${told.name} is open. ${told.left_out.length} left out:\n${told.left_out.slice(0, 6).join("\n")}${told.left_out.length > 6 ? "\n.." : ""}`, true);
+      const lines = [...told.left_out.slice(0, 6), ...(told.left_out.length > 6 ? [".."] : [])];
+      this.say([`${told.name} is open. Left out were ${told.left_out.length}:`, ...lines].join("\n"), true);
     }
   }
 
@@ -159,7 +163,12 @@ class Editor {
 
 const editor = globalThis.editor = new Editor(); // for the console, and for tools/check-editor
 const { edits, player, view } = editor;
-const zoom = (factor) => { view.zoom(factor, Math.max(0, Math.min(view.width, view.x(editor.cursor))), editor.stream.length); editor.look(); };
+
+/** Zooms about the cursor, or the page's edge beyond which that is. */
+function zoom(factor) {
+  view.zoom(factor, Math.max(0, Math.min(view.width, view.x(editor.cursor))), editor.stream.length);
+  editor.look();
+}
 
 const DOES = {
   play: () => player.toggle(), back: () => player.step(-1), forth: () => player.step(1),
@@ -197,9 +206,9 @@ document.addEventListener("drop", (event) => {
 });
 
 const KEYS = {
-  " ": "play", ",": "back", ".": "forth", Home: "start", End: "end", "+": "closer", "=": "closer", "-": "farther", Delete: "delete", Backspace: "delete",
-  "Control+x": "cut", "Control+c": "copy", "Control+v": "paste", "Control+z": "undo", "Control+y": "redo", "Control+Z": "redo", "Control+s": "save",
-  "Control+ArrowLeft": "earlier", "Control+ArrowRight": "later",
+  " ": "play", ",": "back", ".": "forth", Home: "start", End: "end", "+": "closer", "=": "closer", "-": "farther",
+  Delete: "delete", Backspace: "delete", "Control+x": "cut", "Control+c": "copy", "Control+v": "paste", "Control+s": "save",
+  "Control+z": "undo", "Control+y": "redo", "Control+Z": "redo", "Control+ArrowLeft": "earlier", "Control+ArrowRight": "later",
 };
 const MOVES = { ArrowLeft: -1, ArrowRight: 1 };
 document.addEventListener("keydown", (event) => {
@@ -220,8 +229,9 @@ document.addEventListener("keydown", (event) => {
 async function decoder() {
   const asked = new URLSearchParams(location.search).get("decoder");
   if (!asked && await WebCodecs.isThere()) return [new WebCodecs(editor.pictures), "decoded by the browser"];
-  if (asked !== "none" && await Ffmpeg.isThere()) return [new Ffmpeg(editor.pictures), "decoded by ffmpeg: this browser has no WebCodecs for H.264"];
-  return [null, "digests in place of pictures: this browser has no WebCodecs for H.264, and ffmpeg isn't installed"];
+  const why = "this browser has no WebCodecs for H.264";
+  if (asked !== "none" && await Ffmpeg.isThere()) return [new Ffmpeg(editor.pictures), `decoded by ffmpeg: ${why}`];
+  return [null, `digests in place of pictures: ${why}, and ffmpeg isn't installed`];
 }
 
 editor.act(async () => {

@@ -32,15 +32,16 @@ export class Minimap {
     };
     mark(0, stream.length, TOP, BAND, shade.soft);
     // Where periods are narrower than a line can show, every other one would be a grey band: they are left out.
-    const periods = [...stream.begins, stream.length];
-    const [line, doubt, fault] = [shade.p, shade.doubt, shade.fault];
-    if (periods.length * 3 < width) periods.slice(0, -1).forEach((begin, index) => mark(begin, periods[index + 1], TOP, BAND, line, index % 2 ? 0.25 : 0.5));
+    const periods = stream.begins.length * 3 < width ? stream.begins : [];
+    const [doubt, fault] = [shade.doubt, shade.fault];
+    periods.forEach((begin, index) => mark(begin, periods[index + 1] ?? stream.length, TOP, BAND, shade.p, index % 2 ? 0.25 : 0.5));
     for (const [place, { doubt: is }] of stream.follows) if (is) mark(place, place + 1, TOP, BAND, doubt);
     for (const place of stream.faults.keys()) mark(place, place + 1, TOP, BAND, fault);
     if (changed.to > changed.from) mark(changed.from, changed.to, TOP + BAND + 1, 3, shade.changed);
     if (chosen) mark(chosen.from, chosen.to, TOP, BAND, shade.chosen, 0.4);
     if (stream.length) mark(cursor, cursor + 1, 0, TOP + BAND + 4, shade.ink);
     Object.assign(draw, { strokeStyle: shade.ink, lineWidth: 1.5 });
-    draw.strokeRect(x(view.first) + 1, TOP - 2.5, Math.max(4, x(Math.min(stream.length, view.first + view.count)) - x(view.first) - 2), BAND + 5);
+    const [left, right] = [x(view.first), x(Math.min(stream.length, view.first + view.count))];
+    draw.strokeRect(left + 1, TOP - 2.5, Math.max(4, right - left - 2), BAND + 5);
   }
 }

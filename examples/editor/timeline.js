@@ -177,10 +177,11 @@ export class Timeline {
     this.fill(x, y, width, height, "soft");
     this.frame(x + 0.5, y + 0.5, width - 1, height - 1, "fault", 1);
     // A name as FrameNumGap, a word a line.
-    const words = this.editor.stream.faults.get(place).name.split(/(?=[A-Z])/);
+    const words = width >= 34 ? this.editor.stream.faults.get(place).name.split(/(?=[A-Z])/) : [];
+    const top = y + height / 2 - (words.length - 1) / 2 * 11;
     this.pen.save();
     this.pen.font = "10px system-ui, sans-serif";
-    if (width >= 34) words.forEach((word, index) => this.text(word, x + width / 2, y + height / 2 + (index - (words.length - 1) / 2) * 11, "fault"));
+    words.forEach((word, index) => this.text(word, x + width / 2, top + 11 * index, "fault"));
     this.pen.restore();
   }
 

@@ -32,10 +32,10 @@ export class Viewer {
       draw.drawImage(bitmap, ...box);
       draw.globalAlpha = 1;
     }
-    const words = fault ? fault.name : !stream.isValid(cursor) ? "no picture" : !pictures.decoder && name ? name.slice(0, 16)
-      : isFailed ? "the decoder brings no picture of it" : bitmap && !isStale ? "" : bitmap ? "stale: being decoded again" : "being decoded";
     const colour = fault ? shade.fault : stream.isInDoubt(cursor) ? shade.doubt : null;
-    Object.assign(draw, { textAlign: "center", textBaseline: "middle", font: "600 15px system-ui, sans-serif", fillStyle: colour ?? shade.quiet });
+    const words = this.words(fault, { bitmap, isStale, isFailed, name });
+    Object.assign(draw, { textAlign: "center", textBaseline: "middle", font: "600 15px system-ui, sans-serif" });
+    draw.fillStyle = colour ?? shade.quiet;
     if (words) draw.fillText(words, width / 2, height / 2, wide - 10);
     if (colour) {
       Object.assign(draw, { strokeStyle: colour, lineWidth: 3 });
@@ -43,6 +43,17 @@ export class Viewer {
     }
     this.box = box;
     return this.tell(name);
+  }
+
+  /** What stands in place of a picture, or over one that is stale. */
+  words(fault, { bitmap, isStale, isFailed, name }) {
+    const { stream, cursor, pictures } = this.editor;
+    if (fault) return fault.name;
+    if (!stream.isValid(cursor)) return "no picture";
+    if (!pictures.decoder && name) return name.slice(0, 16);
+    if (isFailed) return "the decoder brings no picture of it";
+    if (!bitmap) return "being decoded";
+    return isStale ? "stale: being decoded again" : "";
   }
 
   /** What is known of the unit under the cursor. */
@@ -61,7 +72,8 @@ export class Viewer {
     else this.ask(id);
     const notes = [];
     if (fault) notes.push(["fault", `${fault.name}: ${whyFaulty(fault)}.`]);
-    if (follows?.doubt) notes.push(["doubt", `Error propagation: of the references some may be lost, or other ones than were meant, since access unit ${follows.broken}.`]);
+    const doubt = "Error propagation: of the references some may be lost, or other ones than were meant, since access unit";
+    if (follows?.doubt) notes.push(["doubt", `${doubt} ${follows.broken}.`]);
     const text = JSON.stringify([id, rows, notes]);
     if (text === this.told) return;
     this.told = text;

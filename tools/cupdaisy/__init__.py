@@ -26,6 +26,7 @@
     doubts          which units of a plan are in doubt
     film            films in whose pictures their numbers stand
     browser         headless Chromium under a driver
+    editor_scripts  scripts that are run in the page of examples/editor
 
 Python 3.10 with its standard library is all that they need; CONTRIBUTING.md names the programs that some commands run.
 """

@@ -11,7 +11,8 @@ import time
 from cupdaisy import processes
 from cupdaisy.browser import Browser
 from cupdaisy.command_line import NOT_INSTALLED, are_installed, parser_of
-from cupdaisy.film import BITS, HEIGHT, MANY, PERIOD, PICTURES, ROWS, encode
+from cupdaisy.editor_scripts import COUNTS, FORESEEN, PLAYED, SCROLLED, SETTLED, THUMBNAILS, VIEWED, WHEEL
+from cupdaisy.film import MANY, PERIOD, PICTURES, encode
 from cupdaisy.program import program
 from cupdaisy.workspace import SAMPLES, TOP
 
@@ -28,65 +29,6 @@ def reduced(picture, file):
     """Writes a picture with 256 colours."""
     colours = "split[a][b];[a]palettegen=stats_mode=full[c];[b][c]paletteuse=dither=none"
     processes.run(["ffmpeg", "-v", "error", "-y", "-f", "png_pipe", "-i", "-", "-vf", colours, file], picture)
-
-
-# The number that stands in a picture, by the pixels of a canvas: of each square three, as a line may stand over one.
-NUMBER = """
-const number = (canvas, [x, y, width, height]) => {
-  const ratio = canvas.width / canvas.clientWidth, row = Math.round((y + height * %f) * ratio), pen = canvas.getContext('2d');
-  const isLight = (at) => { const [red, green, blue] = pen.getImageData(Math.round((x + width * at / %d) * ratio), row, 1, 1).data; return red + green + blue > 384; };
-  return Array.from({length: %d}, (_, bit) => [0.2, 0.5, 0.8].filter((at) => isLight(bit + at)).length > 1)
-    .reduce((sum, is, bit) => sum + (is ? 2 ** bit : 0), 0);
-};
-""" % ((HEIGHT - ROWS / 2) / HEIGHT, BITS, BITS)
-THUMBNAILS = NUMBER + """
-return editor.timeline.thumbnails().filter(({place, x, width}) => editor.stream.isValid(place) && x >= 0 && x + width < editor.view.width)
-  .map((box) => [editor.stream.ids[box.place], number(editor.timeline.canvas, [box.x, box.y, box.width, box.height])]);
-"""
-SETTLED = """return !editor.isDue && !editor.pictures.needed().length && !editor.pictures.making.size && editor.pictures.ids
-  .every((id) => editor.pictures.names.has(id))"""
-VIEWED = NUMBER + "return number(editor.viewer.canvas, editor.viewer.box)"
-PLAYED = NUMBER + """
-const done = arguments[1], seen = [];
-editor.player.toggle();
-const look = () => {
-  const found = editor.viewer.shown === null ? seen.at(-1) : number(editor.viewer.canvas, editor.viewer.box);
-  if (found !== seen.at(-1)) seen.push(found);
-  if (seen.length < arguments[0]) return requestAnimationFrame(look);
-  editor.player.toggle();
-  done(seen);
-};
-requestAnimationFrame(look);
-"""
-WHEEL = """editor.timeline.canvas.dispatchEvent(new WheelEvent('wheel',
-  {deltaY: arguments[0], ctrlKey: arguments[1], clientX: 600, clientY: 500, bubbles: true, cancelable: true}))"""
-SCROLLED = """
-const done = arguments[0], frames = [];
-let before = null, left = 120;
-editor.slow = [];
-const look = (now) => {
-  if (before !== null) frames.push(now - before);
-  before = now;
-  editor.view.first += editor.view.count / 6;
-  editor.view.clamp(editor.stream.length);
-  editor.look();
-  if (left-- > 0) return requestAnimationFrame(look);
-  const sorted = (list) => [...list].sort((one, other) => one - other);
-  const told = (list) => [sorted(list)[list.length >> 1], Math.max(...list)];
-  done([told(frames), told(editor.slow)]);
-};
-requestAnimationFrame(look);
-"""
-COUNTS = {
-    "units": "editor.stream.length",
-    "faults": "editor.stream.faults.size",
-    "doubts": "[...editor.stream.follows.values()].filter(({doubt}) => doubt).length",
-    "cursor": "editor.stream.ids[editor.cursor]",
-    "chosen": "editor.chosen ? editor.chosen.to - editor.chosen.from : 0",
-    "undo": "editor.stream.undo",
-    "asked": "document.getElementById('question').open",
-    "wrong": "document.querySelector('#told.wrong')?.textContent ?? ''",
-}
 
 
 class Check:
@@ -124,6 +66,11 @@ class Check:
         self.browser.run("document.body.dispatchEvent(new KeyboardEvent('keydown', {key: arguments[0], bubbles: true, cancelable: true,"
                          " ...arguments[1]}))", name, held)
 
+    def page(self, count, first, cursor):
+        """Shows so many units from a place on, with the cursor on another."""
+        self.browser.run("editor.view.count = arguments[0]; editor.go(arguments[2]); editor.view.first = arguments[1]; editor.look()",
+                         count, first, cursor)
+
     def click(self, selector):
         self.browser.run("document.querySelector(arguments[0]).click()", selector)
 
@@ -143,26 +90,40 @@ def order_of(file):
 
 def walk(check, file):
     """What a user does with the film."""
-    browser, number_of = check.browser, order_of(file)
+    number_of = order_of(file)
+    look_around(check, number_of)
+    turn_the_wheel(check, number_of)
+    break_and_undo(check, number_of)
+    play(check)
+    cut(check, number_of)
+    save(check, file)
+    empty(check)
+
+
+def look_around(check, number_of):
+    """A click moves the cursor, a drag chooses periods, and one in the upper row scrubs."""
+    browser = check.browser
     check.state("opened", units=PICTURES, faults=0, cursor=1)
     check.thumbnails("opened", number_of.get)
     check.expect("the cursor's picture is another", browser.run(VIEWED) == number_of[1])
-
-    # The mouse: a click moves the cursor, a drag chooses periods, and with Alt units.
     browser.press(check.at(40))
     check.state("clicked", cursor=41)
     check.expect("the clicked unit's picture is another", browser.run(VIEWED) == number_of[41])
     browser.press(check.at(33), check.at(40), check.at(44))
     check.state("chosen", chosen=PERIOD)
-    check.expect("a period can't go", browser.wait("return /no decode errors/.test(document.getElementById('foreseen').textContent)"))
-    browser.run(f"editor.view.count = 150; editor.go(164); editor.view.first = 40; editor.edits.choose({PERIOD + 20}, {PERIOD + 20}); editor.look()")
+    check.expect("a period can't go", browser.wait(FORESEEN, "no decode errors"))
+    check.page(150, 40, 164)
+    browser.run(f"editor.edits.choose({PERIOD + 20}, {PERIOD + 20})")
     check.state("cut", chosen=PERIOD)
     check.key("Escape")
-    browser.run("editor.view.count = 60; editor.go(0)")
+    check.page(60, 0, 0)
     browser.press(check.at(10, "output"), check.at(20, "output"))
     check.state("scrubbed", cursor=21)
 
-    # The wheel scrolls and, with Ctrl, zooms; the strip of the whole stream moves the page.
+
+def turn_the_wheel(check, number_of):
+    """The wheel scrolls and, with Ctrl, zooms; the strip of the whole stream moves the page."""
+    browser = check.browser
     page = browser.run("return [editor.view.first, editor.view.count]")
     browser.run(WHEEL, 300, False)
     browser.run(WHEEL, -400, True)
@@ -170,13 +131,18 @@ def walk(check, file):
     check.expect("the wheel doesn't zoom", browser.run("return editor.view.count") < page[1])
     check.state("zoomed in")
     check.thumbnails("zoomed in", number_of.get)
-    browser.press(browser.run("const box = editor.minimap.canvas.getBoundingClientRect(); return [box.left + box.width * 0.75, box.top + 12]"))
-    check.expect("the strip doesn't move the page", abs(browser.run("return editor.view.first + editor.view.count / 2") - 180) < 3)
-    browser.run("editor.view.count = 60; editor.go(0)")
+    browser.press(browser.run("const box = editor.minimap.canvas.getBoundingClientRect();"
+                              "return [box.left + box.width * 0.75, box.top + 12]"))
+    middle = browser.run("return editor.view.first + editor.view.count / 2")
+    check.expect("the strip doesn't move the page", abs(middle - 0.75 * PICTURES) < 3)
+    check.page(60, 0, 0)
 
-    # Two reference pictures go: what it breaks is told first, and the pictures behind stay.
+
+def break_and_undo(check, number_of):
+    """Two reference pictures go: what it breaks is told first, and the pictures behind stay. After an undo all is as before."""
+    browser = check.browser
     browser.run("editor.go(66), editor.edits.choose(63, 64, true)")
-    check.expect("what it breaks isn't told", browser.wait("return /decode errors in/.test(document.getElementById('foreseen').textContent)"))
+    check.expect("what it breaks isn't told", browser.wait(FORESEEN, "decode errors in"))
     check.key("Delete")
     check.state("asked", asked=True)
     check.click("#question button[value=no]")
@@ -188,25 +154,27 @@ def walk(check, file):
     browser.wait(f"return editor.stream.length === {PICTURES - 2}")
     faults, doubts = browser.run(f"return [{COUNTS['faults']}, {COUNTS['doubts']}]")
     check.expect(f"{faults} faults and {doubts} in doubt", faults > 5 and doubts > 5)
-    check.expect("a fault is behind the next safe point", browser.run("return [...editor.stream.faults.keys()].every((place) => place < 118)"))
+    check.expect("a fault is behind the next safe point", browser.run("return Math.max(...editor.stream.faults.keys())") < 2 * PERIOD - 2)
     check.state("deleted", units=PICTURES - 2, faults=faults, undo=1)
     sound = lambda unit: number_of[unit] if unit < 64 or unit > 2 * PERIOD else None
     check.thumbnails("deleted", sound)
-    browser.run(f"editor.view.count = 110; editor.go({PERIOD + 50}); editor.view.first = {PERIOD - 18}; editor.look()")
+    check.page(110, PERIOD - 18, PERIOD + 50)
     check.state("damage")
     check.thumbnails("damage", sound)
-    browser.run(f"editor.view.count = 60; editor.go({2 * PERIOD + 8})")
+    check.page(60, 2 * PERIOD - 10, 2 * PERIOD + 8)
     check.state("behind")
     check.thumbnails("behind", sound)
     again = browser.run("return editor.pictures.decoded") - decoded
     check.expect(f"{again} pictures were decoded again", again < 60)
-
     check.key("z", ctrlKey=True)
     check.state("undone", units=PICTURES, faults=0, doubts=0, undo=0)
     back = browser.run("return editor.stream.ids")
     check.thumbnails("undone", lambda unit: number_of[back.index(unit) + 1])
 
-    # Play, from the eighth picture on: no picture is left out.
+
+def play(check):
+    """From the eighth picture on: none is left out."""
+    browser = check.browser
     browser.run("editor.go(editor.stream.atPosition[7])")
     seen = browser.run_async(PLAYED, 10)
     check.expect(f"played {seen}", seen[0] in (7, 8) and seen == list(range(seen[0], seen[0] + 10)))
@@ -216,7 +184,10 @@ def walk(check, file):
     check.state("stepped")
     check.expect("a step isn't one picture", browser.run(VIEWED) == browser.run("return editor.stream.positions[editor.cursor]"))
 
-    # A period is copied to the front, and the last one moved there: nothing breaks, and nothing is asked.
+
+def cut(check, number_of):
+    """A period is copied to the front, and moved by a key and by the mouse: nothing breaks, and nothing is asked."""
+    browser = check.browser
     browser.run("editor.goTo('0:04:20')")
     check.state("gone to a time", cursor=2 * PERIOD + 1)
     browser.run(f"editor.edits.choose({2 * PERIOD}, {2 * PERIOD})")
@@ -228,24 +199,27 @@ def walk(check, file):
     check.thumbnails("pasted", lambda unit: number_of[2 * PERIOD + 1 + first.index(unit)] if unit in first else number_of.get(unit))
     check.key("ArrowRight", ctrlKey=True)
     check.state("moved", units=PICTURES + PERIOD, faults=0, undo=2)
-    ids = browser.run("return editor.stream.ids")
-    browser.run("editor.view.count = 250, editor.view.first = 0, editor.go(61)")
-    check.state("before a drag")
+    check.page(250, 0, 61)
     browser.press(check.at(70), check.at(150), check.at(185))
     check.state("dragged", units=PICTURES + PERIOD, faults=0, undo=3)
-    order = browser.run("return editor.stream.letters")
-    check.expect("what is dragged isn't snapped", browser.run("return editor.chosen.from") == 2 * PERIOD and len(order) == len(ids))
+    check.expect("what is dragged isn't snapped", browser.run("return editor.chosen.from") == 2 * PERIOD)
     check.click("[data-does=farther]")
     for _ in range(3):
         check.key("-")
     check.state("zoomed out", units=PICTURES + PERIOD)
+
+
+def save(check, file):
+    """What is saved plans without a fault."""
     check.click("#save")
     check.state("saved", units=PICTURES + PERIOD)
     texts = processes.printed([program(), "plan", file]).splitlines()
     planned = [line for line in texts if line.startswith("unit")]
     check.expect("the saved file plans otherwise", len(planned) == PICTURES + PERIOD and not any("fault" in line for line in planned))
 
-    # All can go, and comes back.
+
+def empty(check):
+    """All can go, and comes back."""
     check.key("a", ctrlKey=True)
     check.key("Delete")
     check.state("nothing left", units=0)
@@ -327,7 +301,8 @@ def by_decoder(file, word):
     """A walk that looks at the first pictures by another decoder."""
     def walk_through(check):
         check.state("opened", units=PICTURES)
-        check.expect(f"decoded otherwise than by {word}", check.browser.run("return document.getElementById('decoder').textContent").startswith(word))
+        told = check.browser.run("return document.getElementById('decoder').textContent")
+        check.expect(f"decoded otherwise than by {word}", told.startswith(word))
         if "ffmpeg" in word:
             check.thumbnails("opened", order_of(file).get)
     return walk_through

@@ -12,6 +12,7 @@ import http.server
 import json
 import pathlib
 import queue
+import signal
 import subprocess
 import sys
 import tempfile
@@ -30,7 +31,7 @@ MOST_BYTES = 1 << 30
 
 class Handler(http.server.BaseHTTPRequestHandler):
     protocol_version = "HTTP/1.1"
-    workers, port, document, refused, edits = 1, 0, None, None, threading.Lock()
+    workers, port, folder, document, refused, edits = 1, 0, None, None, None, threading.Lock()
 
     def log_message(self, *_):
         pass
@@ -119,7 +120,7 @@ class Handler(http.server.BaseHTTPRequestHandler):
         path, _, words = self.path.partition("?")
         if path == "/open":
             name = pathlib.Path(dict(urllib.parse.parse_qsl(words))["name"]).name
-            file = pathlib.Path(tempfile.mkdtemp(prefix="editor-"), name)
+            file = pathlib.Path(tempfile.mkdtemp(dir=Handler.folder), name)
             file.write_bytes(body)
             return self.answer(self.open(file))
         call = {"/ask": self.ask, "/edit": self.edit, "/foresee": self.foresee, "/undo": self.undo, "/redo": self.redo,
@@ -211,7 +212,8 @@ def main():
             sys.exit(f"editor: {options.file} is refused: {refused}. What `preview mend FILE >OUT` makes of it can be opened.")
         except OSError as error:
             sys.exit(f"editor: {error}")
-    with Bridge(("127.0.0.1", options.port), Handler) as server:
+    signal.signal(signal.SIGTERM, lambda *_: sys.exit())    # so that the folder of what was opened goes then too
+    with tempfile.TemporaryDirectory(prefix="editor-") as Handler.folder, Bridge(("127.0.0.1", options.port), Handler) as server:
         Handler.port = server.server_address[1]
         print(f"http://127.0.0.1:{Handler.port}/", flush=True)
         try:

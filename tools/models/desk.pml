@@ -2,7 +2,7 @@
  *
  * There is one lock, so a critical section is one step here, and so is a notification outside of one. A step names the
  * function that it stands for. `Condvar::wait` lets go of the lock and sleeps in one step; `notify_one` wakes one of those
- * who sleep, if any does; and a wait may end by itself too.
+ * who sleep, if any does; and a wait may end by itself too, as that of a worker does that gives late pictures back.
  *
  * Of a session stands here which pictures are pending, which of those are in a job that is out, and which wait for others
  * that they refer to. An edit may make any stretch of pictures pending or not, or change nothing, as a refused one; `take`

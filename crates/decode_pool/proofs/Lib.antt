@@ -6,3 +6,4 @@ pub mod Gathered
 pub mod Ended
 pub mod Noted
 pub mod Batched
+pub mod Pending

@@ -1,5 +1,5 @@
 -- What seats are answered and note.
-use Rattle.std.specs.Prelude.{◌≡◌, ◌⊎◌, ℕ, ◌+◌, ◌<◌, ◌≤◌, List, [], ◌∷◌, ◌++◌, length, slice_get, Option, None, Some, IfOk, Result, Ok, Err}
+use Rattle.std.specs.Prelude.{◌≡◌, ◌⊎◌, ℕ, ◌+◌, List, [], ◌∷◌, ◌++◌, length, slice_get, Some, IfOk, Result, Ok, Err}
 use Rattle.std.specs.declared.alloc.AllocError.{AllocError}
 use Rattle.stream_edits.specs.declared.edits.Edit.{Edit}
 use Rattle.stream_edits.specs.declared.group_refused.GroupRefused.{GroupRefused}
@@ -8,12 +8,10 @@ use Rattle.stream_edits.specs.declared.receipts.Receipt.{Receipt}
 use Rattle.stream_edits.specs.declared.receipts.Last.{Last}
 use Rattle.stream_edits.specs.declared.refusals.EditRefused.{EditRefused}
 use Rattle.stream_edits.specs.declared.refusals.EditRefused.TheVariants as refusals
+use Rattle.stand_in_device.specs.KeyPictures.{IsPicture}
+use Rattle.stand_in_device.specs.declared.picture.Picture.{Picture}
 use Rattle.edit_engine.specs.declared.dropping.Dropping.{Dropping}
 use Rattle.edit_engine.specs.Showing.{Shown, Shows}
-use Rattle.stream_session.specs.declared.showing.Shown.TheVariants as shown
-use Rattle.stream_edits.specs.Streams.{ids_of, last_of}
-use Rattle.stream_edits.specs.Edits.{no_units, Replays}
-use Rattle.stream_edits.specs.Journals.{edits_of}
 use Rattle.stream_session.specs.Grouping.{AnswersGroup}
 use Rattle.edit_engine.specs.Machines.{Machine}
 use Rattle.stream_session.specs.Machines.{AnswersEdit}
@@ -21,11 +19,8 @@ use Rattle.edit_engine.specs.Needing.{AnswersDrop}
 use Rattle.seat_books.specs.declared.receipts.SeatReceipt.{SeatReceipt}
 use Rattle.seat_books.specs.declared.receipts.SeatReceipt.TheVariants as receipts
 use Rattle.decode_pool.specs.declared.seat.Seat.{Seat}
-use Rattle.decode_pool.specs.declared.status.Status.{Status}
-use Rattle.worker_jobs.specs.Rests.{IsAtRest, IsSettled, MayNotRest}
-use Rattle.worker_jobs.specs.Wanted.{Wants}
+use Rattle.decode_pool.specs.Waits as waits
 use Rattle.decode_pool.specs.declared.state.settling.Settled.{Settled}
-use Rattle.decode_pool.specs.declared.state.settling.Settled.TheVariants as settled
 
 -- seats with the numbers from 1 on, so many, that have noted nothing
 abbrev pub AreNew : ℕ → List Seat → Type 0
@@ -81,7 +76,7 @@ NotesDrop old id (Err wanted) n new = NotesNothing old new
 
 -- the session's stream is what its journal leads to
 abbrev pub IsReached : Machine → Type 0
-IsReached machine = Replays no_units (edits_of machine.journal) machine.register
+IsReached machine = waits.IsReached machine
 
 -- a seat edits a session, which no clause can name
 abbrev pub EditsOne : Seat → Edit → Result Receipt EditRefused → Seat → Type 0
@@ -109,52 +104,13 @@ DropsOne old id answer new =
 
 -- the end of the stream of a session, which no clause can name
 abbrev pub IsLastOfOne : Last → Type 0
-IsLastOfOne last = (machine : Machine) × IsReached machine × (last ≡ last_of machine.register.stream)
-
--- no unit is pending from the place on
-abbrev pub AreSettledFrom : Machine → ℕ → Type 0
-AreSettledFrom machine from =
-    (at id : ℕ) → from ≤ at → slice_get (ids_of machine.register.stream) at ≡ Some id → IsSettled machine id
-
--- the unit at the place is pending
-abbrev pub IsPendingAt : Machine → ℕ → Type 0
-IsPendingAt machine at =
-    (id : ℕ) × (slice_get (ids_of machine.register.stream) at ≡ Some id) × Shows machine id shown.Pending
-
--- some unit is pending
-abbrev pub IsSomePending : Machine → Type 0
-IsSomePending machine = (at : ℕ) × IsPendingAt machine at
+IsLastOfOne last = waits.IsLastOfOne Picture last
 
 -- no unit is pending, or one is, or all that is wanted is done, of a session and of what is wanted
 -- of it, which no clause can name
 abbrev pub WaitsForOne : Settled → Type 0
-WaitsForOne settled.Done = (machine : Machine) × IsReached machine × AreSettledFrom machine 0
-WaitsForOne settled.Idle = (machine : Machine) × IsReached machine × IsSomePending machine
-WaitsForOne settled.Rested =
-    (machine : Machine) × IsReached machine × IsSomePending machine × ((wants : Wants) × IsAtRest machine wants)
-
--- how a wait for the pictures of a session ends, of which so much is wanted and so many workers of
--- so many have ended: no unit is pending; or one is, but all that is wanted is done; or that isn't
--- so and no worker is left. It goes on while a unit is pending, something that is wanted may not be
--- done, and a worker is left
-abbrev pub IsSettledBy : Machine → Status → ℕ → Result Settled ℕ → Type 0
-IsSettledBy machine status workers (Ok settled.Done) = AreSettledFrom machine 0
-IsSettledBy machine status workers (Ok settled.Rested) = IsSomePending machine × IsAtRest machine status.wanted
-IsSettledBy machine status workers (Ok settled.Idle) =
-    IsSomePending machine × MayNotRest machine status.wanted × (workers ≤ status.ended)
-IsSettledBy machine status workers (Err at) =
-    IsPendingAt machine at × MayNotRest machine status.wanted × (status.ended < workers)
+WaitsForOne answer = waits.WaitsForOne IsPicture answer
 
 -- the unit of the id isn't pending, or it is, of a session that no clause can name
 abbrev pub WaitsForUnit : ℕ → Settled → Type 0
-WaitsForUnit id settled.Done = (machine : Machine) × IsReached machine × IsSettled machine id
-WaitsForUnit id settled.Idle = (machine : Machine) × IsReached machine × Shows machine id shown.Pending
-WaitsForUnit id settled.Rested = ⊥
-
--- how a wait for the unit of an id ends, of which so many workers of so many have ended: it isn't
--- pending, or it is and no worker is left; it goes on while it is and one is left
-abbrev pub IsSettledForBy : Machine → ℕ → ℕ → ℕ → Option Settled → Type 0
-IsSettledForBy machine id ended workers (Some settled.Done) = IsSettled machine id
-IsSettledForBy machine id ended workers (Some settled.Idle) = Shows machine id shown.Pending × (workers ≤ ended)
-IsSettledForBy machine id ended workers (Some settled.Rested) = ⊥
-IsSettledForBy machine id ended workers None = Shows machine id shown.Pending × (ended < workers)
+WaitsForUnit id answer = waits.WaitsForUnit IsPicture id answer

@@ -2,8 +2,8 @@
 
 ghost use Rattle.decode_pool.specs.Appends.{AppendsSome};
 
-use crate::desk::Desk;
 use crate::seat::Seat;
+use crate::stand_in::Desk;
 use edit_engine::EditRefused;
 use picture_keys::HashedUnit;
 use std::sync::Wait;

@@ -2,21 +2,23 @@
 
 ghost use Rattle.std.specs.Prelude.{◌≡◌, ◌<◌, ◌≤◌, ◌↔◌, [], length, IfOk, IsErr};
 ghost use Rattle.decode_pool.specs.Batches.{LandsAll};
-ghost use Rattle.decode_pool.specs.Seats.{AreNew, WaitsForOne, WaitsForUnit};
+ghost use Rattle.decode_pool.specs.Jobs.{JobsDiffer};
+ghost use Rattle.decode_pool.specs.Waits.{WaitsForOne, WaitsForUnit};
 
-use crate::seat::Seat;
 use crate::state::{DeskState, Settled};
-use edit_engine::Config;
+use decode_jobs::Decoded;
 use pictures::AuId;
 use std::alloc::{AllocError, Global};
 use std::sync::{Condvar, Mutex, MutexGuard, Wait};
+use stream_session::{Config, Session};
 use worker_jobs::{Tally, TooManyWanted};
 
-/// A session that threads share: seats edit it and ask, workers decode. One lock is round all of
-/// it, which is held for a call of the session and no longer.
+/// A session that threads share, over the pictures of any decoder: some edit it and ask, workers
+/// decode. One lock is round all of it, which is held for a call of the session and no longer. At
+/// the stand-in it has seats.
 #[derive(Drop)]
-pub struct Desk {
-    pub(crate) state: Mutex<DeskState>,
+pub struct DeskOf<P: Decoded> {
+    pub(crate) state: Mutex<DeskState<P>>,
     /// Told where a job may be due, of which one worker is woken. A worker that takes one tells it
     /// on.
     pub(crate) job_due: Condvar,
@@ -30,32 +32,31 @@ pub struct Desk {
     pub(crate) seats: usize,
 }
 
-impl Desk {
-    /// A desk with an empty stream for so many workers, and its seats, of which there are so many.
-    pub fn open(
-        alloc: Global,
-        config: Config,
-        workers: usize,
-        seats: usize,
-    ) -> Result<(Desk, Vec<Seat>), AllocError>
+impl<P: Decoded> DeskOf<P> {
+    /// A desk with an empty stream for so many workers, and without seats.
+    pub fn new(alloc: Global, config: Config, workers: usize) -> Result<DeskOf<P>, AllocError>
         requires cache { (1 ≤ config.cache) × (config.cache ≤ 4096) }
         requires workers { (1 ≤ workers) × (workers ≤ 64) }
-        requires seats { (1 ≤ seats) × (seats ≤ 64) }
-        ensures room { IfOk result (λ opened. opened.0.room ≡ config.cache) }
-        ensures workers { IfOk result (λ opened. opened.0.workers ≡ workers) }
-        ensures seats { IfOk result (λ opened. opened.0.seats ≡ seats) }
-        ensures books { IfOk result (λ opened. AreNew seats opened.1.items) }
+        ensures room { IfOk result (λ desk. desk.room ≡ config.cache) }
+        ensures workers { IfOk result (λ desk. desk.workers ≡ workers) }
+        ensures seats { IfOk result (λ desk. desk.seats ≡ 0) }
     {
-        let desk = Desk {
+        Ok(DeskOf {
             state: Mutex::new(DeskState::open(alloc, config)?),
             job_due: Condvar::new(),
             settled: Condvar::new(),
             changed: Condvar::new(),
             room: config.cache,
             workers,
-            seats,
-        };
-        Ok((desk, new_seats(alloc, seats)?))
+            seats: 0,
+        })
+    }
+
+    /// The session, once no thread has it any more. Its pictures are still in it.
+    pub fn into_session(self) -> Session<P>
+        ensures { JobsDiffer result }
+    {
+        self.state.into_inner().into_session()
     }
 
     /// Closes the desk: each worker brings the jobs that it has, if it has some, and ends, and
@@ -77,8 +78,8 @@ impl Desk {
     /// Waits until no unit is pending; or all that is wanted is done, where the rest isn't wanted;
     /// or until no worker is left though one is pending. Units are looked at from the first one
     /// that was pending before, and from the first of all once none is left.
-    pub(crate) fn settle<R: Wait>(&self, rt: &R) -> Settled
-        ensures { WaitsForOne result }
+    pub fn settle<R: Wait>(&self, rt: &R) -> Settled
+        ensures { WaitsForOne P.IsOf result }
     {
         let mut from = 0;
         let mut state = self.state.lock(rt);
@@ -99,8 +100,8 @@ impl Desk {
     /// Waits until the unit of the id isn't pending, or until no worker is left though it is.
     /// Meanwhile the unit is wanted before all others, but for those that other threads have waited
     /// for longer. Where there is no room for one more that waits, it waits for room too.
-    pub(crate) fn settle_for<R: Wait>(&self, rt: &R, id: AuId) -> Settled
-        ensures { WaitsForUnit id result }
+    pub fn settle_for<R: Wait>(&self, rt: &R, id: AuId) -> Settled
+        ensures { WaitsForUnit P.IsOf id result }
     {
         let mut is_wanted = false;
         let mut state = self.state.lock(rt);
@@ -125,7 +126,7 @@ impl Desk {
     }
 
     /// A thread waits no more for the unit of the id. It wakes those for which there was no room.
-    fn want_no_more(&self, state: MutexGuard<'_, DeskState>, id: AuId) {
+    fn want_no_more(&self, state: MutexGuard<'_, DeskState<P>>, id: AuId) {
         let mut state = state;
         let wakes = state.status.wanted.is_full() && state.status.seats.tell_all();
         state.status.wanted.wait_no_more(id);
@@ -137,7 +138,7 @@ impl Desk {
 
     /// Makes these the ids that are wanted first, in order of urgency. Where they are too many,
     /// nothing changes.
-    pub(crate) fn want<R: Wait>(&self, rt: &R, ids: &[AuId]) -> Result<(), TooManyWanted>
+    pub fn want<R: Wait>(&self, rt: &R, ids: &[AuId]) -> Result<(), TooManyWanted>
         ensures { IsErr result ↔ (64 < length ids.now) }
     {
         let mut state = self.state.lock(rt);
@@ -147,7 +148,7 @@ impl Desk {
     }
 
     /// Makes the rest of the stream wanted or not.
-    pub(crate) fn rest<R: Wait>(&self, rt: &R, rest: bool) {
+    pub fn rest<R: Wait>(&self, rt: &R, rest: bool) {
         let mut state = self.state.lock(rt);
         state.status.wanted.set_rest(rest);
         self.tell(state);
@@ -156,7 +157,7 @@ impl Desk {
     /// Wakes whom a change of the stream or of what is wanted, or the end of a worker may concern:
     /// a worker that sleeps, as a job may be due; each seat that waits, as what it waits for may be
     /// there; and who waits for news. It lets the lock go first.
-    pub(crate) fn tell(&self, state: MutexGuard<'_, DeskState>) {
+    pub(crate) fn tell(&self, state: MutexGuard<'_, DeskState<P>>) {
         let mut state = state;
         let wakes_worker = state.status.workers.tell_one();
         let wakes_seats = state.status.seats.tell_all();
@@ -175,9 +176,10 @@ impl Desk {
 
     /// A worker comes back, and brings all results that it has in hand. It wakes the seats that
     /// wait for single units, of which one may be there, and who waits for news.
-    pub(crate) fn come_back(&self, state: &mut DeskState, tally: &mut Tally)
-        ensures landed { LandsAll state.old.session tally.old.results.items tally.old.counts
-            state.new.session tally.new.counts }
+    pub(crate) fn come_back(&self, state: &mut DeskState<P>, tally: &mut Tally<P>)
+        ensures landed { LandsAll P.IsDecoded state.old.session tally.old.results.items
+            tally.old.counts tally.old.late.items state.new.session tally.new.counts
+            tally.new.late.items }
         ensures results { tally.new.results.items ≡ [] }
         ensures jobs { tally.new.jobs.items ≡ tally.old.jobs.items }
     {
@@ -193,7 +195,7 @@ impl Desk {
 
     /// A worker ends: it brings the results that it has in hand, gives back the jobs, and is
     /// counted.
-    pub(crate) fn end_worker<R: Wait>(&self, rt: &R, tally: &mut Tally)
+    pub(crate) fn end_worker<R: Wait>(&self, rt: &R, tally: &mut Tally<P>)
         ensures jobs { tally.new.jobs.items ≡ [] }
         ensures results { tally.new.results.items ≡ [] }
     {
@@ -203,16 +205,4 @@ impl Desk {
         state.status.ended = state.status.ended.saturating_add(1);
         self.tell(state);
     }
-}
-
-/// So many seats, with the numbers from 1 on.
-fn new_seats(alloc: Global, seats: usize) -> Result<Vec<Seat>, AllocError>
-    requires { seats ≤ 64 }
-    ensures { IfOk result (λ made. AreNew seats made.items) }
-{
-    let mut made = Vec::with_capacity(alloc, seats)?;
-    for at in 0..seats {
-        made.push(Seat::new(alloc, at + 1))?;
-    }
-    Ok(made)
 }

@@ -4,8 +4,8 @@ ghost use Rattle.std.specs.Prelude.{◌≡◌};
 ghost use Rattle.decode_pool.specs.declared.faults.FinishFault.TheVariants.{Memory};
 ghost use Rattle.decode_pool.specs.Numbers.{number_of};
 
-use crate::desk::Desk;
 use crate::seat::Seat;
+use crate::stand_in::Desk;
 use edit_engine::JournalEntry;
 use std::alloc::AllocError;
 use thiserror::Error;

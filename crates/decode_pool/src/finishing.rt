@@ -5,11 +5,11 @@ ghost use Rattle.decode_pool.specs.Jobs.{JobsDiffer};
 ghost use Rattle.decode_pool.specs.Finishing.{IsFault, IsFinished, IsRefusal, Tells, TellsAudit, copied};
 ghost use Rattle.decode_pool.specs.declared.faults.FinishFault.TheVariants.{Memory};
 
-use crate::desk::Desk;
+use crate::desk::DeskOf;
 use crate::faults::{FinishFault, Unfinished};
 use crate::gathering::{are_all_noted, are_numbered, books_of};
 use crate::seat::Seat;
-use crate::state::DeskState;
+use crate::stand_in::Desk;
 use edit_engine::{JournalEntry, Session};
 use seat_books::{AuditFault, audit, copy_of_entry};
 use std::alloc::{AllocError, Global};
@@ -46,7 +46,7 @@ pub fn finish(alloc: Global, desk: Desk, seats: Vec<Seat>) -> Result<Session, Un
     ensures desk { IfErr result (λ unfinished. (unfinished.desk.seats ≡ desk.seats)
         × (unfinished.desk.workers ≡ desk.workers) × (unfinished.desk.room ≡ desk.room)) }
 {
-    let Desk {
+    let DeskOf {
         state,
         job_due,
         settled,
@@ -59,7 +59,7 @@ pub fn finish(alloc: Global, desk: Desk, seats: Vec<Seat>) -> Result<Session, Un
     match look_through(alloc, opened, &seats, state.session()) {
         Ok(()) => Ok(state.into_session()),
         Err(refusal) => Err(Unfinished {
-            desk: Desk {
+            desk: DeskOf {
                 state: Mutex::new(state),
                 job_due,
                 settled,

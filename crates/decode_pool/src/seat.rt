@@ -7,8 +7,8 @@ ghost use Rattle.stream_session.specs.Grouping.{AnswersGroup};
 ghost use Rattle.edit_engine.specs.Showing.{Shows};
 ghost use Rattle.decode_pool.specs.Seats.{AnswersDropIn, AnswersEditIn, DropsOne, EditsGroupOne, EditsOne, IsLastOfOne, NotesDrop, NotesEdit, NotesGroup, NotesShow, ShowsOne, WaitsForOne};
 
-use crate::desk::Desk;
 use crate::group_note::GroupNote;
+use crate::stand_in::Desk;
 use crate::state::Settled;
 use edit_engine::{
     Dropping, Edit, EditRefused, GroupReceipt, GroupRefused, Last, ReadEdit, ReadGroup, Receipt,

@@ -1,29 +1,19 @@
-//! One who edits a desk's session and asks it without a seat, and keeps no book.
+//! One who edits a desk and asks it without a seat, and keeps no book.
 
 ghost use Rattle.std.specs.Prelude.{◌≡◌, ◌≢◌, IfSome};
-ghost use Rattle.std.specs.Fn.{FnOnceReturnsAt};
-ghost use Rattle.decode_pool.specs.Visits.{AsksOne, DropsOne, EditsSome, EditsGroupSome};
+ghost use Rattle.decode_pool.specs.Visits.{DropsSome, EditsGroupSome, EditsSome, ReleasesSome, ShowsSome, UncachesSome};
 
-use crate::desk::Desk;
-use edit_engine::{
-    Dropping, EditRefused, GroupReceipt, GroupRefused, ReadEdit, ReadGroup, Receipt, Session,
-};
+use crate::desk::DeskOf;
+use decode_jobs::Decoded;
 use pictures::AuId;
 use std::sync::Wait;
+use stream_edits::{EditRefused, GroupReceipt, GroupRefused, ReadEdit, ReadGroup, Receipt};
+use stream_session::{Dropped, Shown};
 
-impl Desk {
-    /// Lends the session to one who asks it, while no one edits it.
-    pub fn look<R: Wait, T, F: FnOnce(&Session) -> T>(&self, rt: &R, ask: F) -> T
-        requires { F.IsAlwaysCallable ask }
-        ensures { AsksOne (λ session. FnOnceReturnsAt F.FnOnce ask session result) }
-    {
-        let state = self.state.lock(rt);
-        ask(state.visited())
-    }
-
+impl<P: Decoded> DeskOf<P> {
     /// Edits the session by an edit whose text is read, while no one else edits it or asks.
     pub fn edit_read<R: Wait>(&self, rt: &R, read: ReadEdit) -> Result<Receipt, EditRefused>
-        ensures { EditsSome read result }
+        ensures { EditsSome P P.GoesBack read result }
     {
         let mut state = self.state.lock(rt);
         let answer = state.visit_edit(read);
@@ -38,7 +28,7 @@ impl Desk {
         rt: &R,
         group: ReadGroup,
     ) -> Result<GroupReceipt, GroupRefused>
-        ensures { EditsGroupSome group result }
+        ensures { EditsGroupSome P P.GoesBack group result }
     {
         let mut state = self.state.lock(rt);
         let answer = state.visit_group(group);
@@ -46,9 +36,17 @@ impl Desk {
         answer
     }
 
-    /// Drops the picture of the unit that has the id. A worker may make it again.
-    pub fn drop_picture<R: Wait>(&self, rt: &R, id: AuId) -> Dropping
-        ensures { DropsOne id result }
+    /// What is shown of the unit that has the id.
+    pub fn show<R: Wait>(&self, rt: &R, id: AuId) -> Shown<P>
+        ensures { ShowsSome P.IsOf id result }
+    {
+        self.state.lock(rt).visit_show(id)
+    }
+
+    /// Gives back the picture of the unit that has the id, as `Session::drop_picture` does. A worker
+    /// may make it again.
+    pub fn drop_picture<R: Wait>(&self, rt: &R, id: AuId) -> Dropped<P>
+        ensures { DropsSome P.IsOf id result }
     {
         let mut state = self.state.lock(rt);
         let answer = state.visit_drop(id);
@@ -56,7 +54,22 @@ impl Desk {
         answer
     }
 
-    /// Drops the pictures that are cached.
+    /// Gives back the picture that was cached first, if one is cached.
+    pub fn uncache<R: Wait>(&self, rt: &R) -> Option<P>
+        ensures { UncachesSome P.IsOf result }
+    {
+        self.state.lock(rt).uncache()
+    }
+
+    /// Gives back one of the pictures that edits let go and to which no job that is out refers, if
+    /// there is one.
+    pub fn take_released<R: Wait>(&self, rt: &R) -> Option<P>
+        ensures { ReleasesSome result }
+    {
+        self.state.lock(rt).take_released()
+    }
+
+    /// Forgets the pictures that are cached, for a host that doesn't want them back.
     pub fn clear_cache<R: Wait>(&self, rt: &R) {
         self.state.lock(rt).clear_cache();
     }

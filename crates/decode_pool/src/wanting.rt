@@ -3,8 +3,8 @@
 ghost use Rattle.std.specs.Prelude.{◌<◌, ◌↔◌, length, IsErr};
 ghost use Rattle.decode_pool.specs.Seats.{WaitsForUnit};
 
-use crate::desk::Desk;
 use crate::seat::Seat;
+use crate::stand_in::Desk;
 use crate::state::Settled;
 use pictures::AuId;
 use std::sync::Wait;

@@ -1,40 +1,52 @@
 //! Workers.
 
 ghost use Rattle.std.specs.Prelude.{◌≡◌, ◌≢◌, ◌<◌, ◌≤◌, MatchBool, []};
+ghost use Rattle.worker_jobs.specs.Counts.{IsFaithful};
 
-use crate::desk::Desk;
-use crate::state::Next;
+use crate::desk::DeskOf;
+use crate::state::{DeskState, Next};
+use decode_jobs::Decoded;
 use std::alloc::Global;
-use std::sync::Wait;
-use worker_jobs::{Gate, Tally, Worked};
+use std::sync::{MutexGuard, Wait};
+use worker_jobs::{Decoder, Tally, Worked};
 
-/// How often a worker goes to the desk at most: each time it takes a job or more, and never more
+/// How often a worker goes to the session at most: each time it takes a job or more, and never more
 /// than 2^63 in all.
 const MOST_ROUNDS: u64 = 1 << 63;
 
 /// How many jobs a worker takes at once at most.
 const MOST_AT_ONCE: usize = 8;
 
-/// Takes jobs of a desk, decodes them by the gate and brings what comes of them, until the desk is
-/// closed. It ends too where the gate hands a job back, which it then gives back, where a job is
-/// due and none can be taken or memory runs out, and after 2^63 jobs. No one has the lock while it
-/// decodes.
+/// Takes jobs of a desk, decodes them by the decoder and brings what comes of them, until the desk
+/// is closed. It ends too where the decoder hands a job back, which it then gives back, where a job
+/// is due and none can be taken or memory runs out, and after 2^63 jobs. No one has the lock while it
+/// decodes. A picture that comes too late goes back to the decoder.
 ///
 /// It takes a job for the first wanted id for which one is due, alone. Where there is none such, it
 /// takes of the rest, if that is wanted: one job at a time while another worker has none, and else
 /// up to twice as many as the time before, at most eight. Where it ends with jobs that it hasn't
 /// decoded, it gives them back.
-pub fn worker<D: Gate + Drop, R: Wait>(rt: &R, alloc: Global, desk: &Desk, gate: D) -> Worked {
-    let mut gate = gate;
+pub fn work_with<P: Decoded, D: Decoder<P> + Drop, R: Wait>(
+    rt: &R,
+    alloc: Global,
+    desk: &DeskOf<P>,
+    decoder: D,
+) -> Worked
+    requires { IsFaithful P.IsDecoded D.Makes }
+{
+    let mut decoder = decoder;
     let mut tally = Tally::new(alloc);
     let mut most = 1;
     for _round in 0..MOST_ROUNDS {
-        if !exchange(rt, desk, &mut tally, most) || !tally.decode(alloc, &mut gate) {
+        let has_jobs = exchange(rt, desk, &mut tally, &mut decoder, most);
+        tally.give_back_late(&mut decoder);
+        if !has_jobs || !tally.decode(alloc, &mut decoder) {
             break;
         }
         most = (2 * most).min(MOST_AT_ONCE);
     }
     desk.end_worker(rt, &mut tally);
+    tally.give_back_late(&mut decoder);
     tally.worked()
 }
 
@@ -43,7 +55,13 @@ pub fn worker<D: Gate + Drop, R: Wait>(rt: &R, alloc: Global, desk: &Desk, gate:
 /// session, one after the other. One who may have left jobs that are due wakes another worker for
 /// them; one who finds none when it comes may have brought the last picture, which the seats that
 /// wait for it are told. Results are told to those who wait for news.
-fn exchange<R: Wait>(rt: &R, desk: &Desk, tally: &mut Tally, most: usize) -> bool
+fn exchange<P: Decoded, D: Decoder<P>, R: Wait>(
+    rt: &R,
+    desk: &DeskOf<P>,
+    tally: &mut Tally<P>,
+    decoder: &mut D,
+    most: usize,
+) -> bool
     requires none { tally.old.jobs.items ≡ [] }
     requires some { 0 < most }
     ensures results { tally.new.results.items ≡ [] }
@@ -61,7 +79,7 @@ fn exchange<R: Wait>(rt: &R, desk: &Desk, tally: &mut Tally, most: usize) -> boo
                 }
                 is_first_look = false;
                 state.status.workers.fall_asleep();
-                state = desk.job_due.wait(rt, state);
+                state = wait_for_job(rt, desk, state, tally, decoder);
                 state.status.workers.awake();
             }
             next => {
@@ -75,4 +93,25 @@ fn exchange<R: Wait>(rt: &R, desk: &Desk, tally: &mut Tally, most: usize) -> boo
         }
     }
     unreachable!()
+}
+
+/// Waits until a job may be due. The wait of a worker that has pictures which came too late ends by
+/// itself: it gives them back to its decoder, while no one has the lock.
+fn wait_for_job<'a, P: Decoded, D: Decoder<P>, R: Wait>(
+    rt: &R,
+    desk: &'a DeskOf<P>,
+    state: MutexGuard<'a, DeskState<P>>,
+    tally: &mut Tally<P>,
+    decoder: &mut D,
+) -> MutexGuard<'a, DeskState<P>>
+    ensures late { tally.new.late.items ≡ [] }
+    ensures jobs { tally.new.jobs.items ≡ tally.old.jobs.items }
+    ensures results { tally.new.results.items ≡ tally.old.results.items }
+{
+    if tally.late() == 0 {
+        return desk.job_due.wait(rt, state);
+    }
+    drop(state);
+    tally.give_back_late(decoder);
+    desk.state.lock(rt)
 }

@@ -7,6 +7,7 @@ mod drops;
 mod ends;
 mod gates;
 mod groups;
+mod handles;
 mod scripts;
 mod serve;
 mod three_seats;

@@ -4,7 +4,7 @@
 ghost use Rattle.std.specs.Prelude.{◌≤◌, false, length};
 
 use crate::pen::Pen;
-use decode_pool::{Desk, Seat, TooManyWanted};
+use decode_pool::{Desk, Seat, TooManyWanted, drop_picture};
 use edit_engine::{
     Config, Dropping, EditRefused, GroupReceipt, GroupRefused, ReadEdit, ReadGroup, Receipt,
     Session,
@@ -79,7 +79,7 @@ impl<'a, R: Wait> Backend for AtDesk<'a, R> {
     }
 
     fn drop_picture(&mut self, id: AuId) -> Dropping {
-        self.desk.drop_picture(self.rt, id)
+        drop_picture(self.rt, self.desk, id)
     }
 
     fn clear_cache(&mut self) {

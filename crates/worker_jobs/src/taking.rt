@@ -6,14 +6,19 @@ ghost use Rattle.worker_jobs.specs.Rests.{IsAnyPending, IsAtRest, AreSettled, Ma
 ghost use Rattle.worker_jobs.specs.Wanted.{urgent};
 
 use crate::wanted::Wanted;
-use edit_engine::{Job, Session, Shown, TakeRefused};
+use decode_jobs::{Decoded, Job};
+use picture_store::TakeRefused;
 use pictures::AuId;
+use stream_session::{Session, Shown};
 
 impl Wanted {
     /// Takes a job of a session for the first wanted id for which a needed unit is due. None where
     /// there is none such, whether the rest of the stream is wanted or not.
-    pub fn take_first(&self, session: &mut Session) -> Result<Option<Job>, TakeRefused>
-        ensures { AnswersTakeFirst session.old (urgent self.now) result session.new }
+    pub fn take_first<P: Decoded>(
+        &self,
+        session: &mut Session<P>,
+    ) -> Result<Option<Job<P>>, TakeRefused>
+        ensures { AnswersTakeFirst P.IsOf session.old (urgent self.now) result session.new }
     {
         let (waited, listed) = self.numbers();
         match take_first_of(waited, session) {
@@ -25,9 +30,9 @@ impl Wanted {
 
     /// Whether a session has nothing to do but the rest, which isn't wanted: no wanted unit is
     /// pending, and no job is out.
-    pub fn is_at_rest(&self, session: &Session) -> bool
-        ensures { MatchBool result (IsAtRest session.now self.now)
-            (MayNotRest session.now self.now) }
+    pub fn is_at_rest<P: Decoded>(&self, session: &Session<P>) -> bool
+        ensures { MatchBool result (IsAtRest P.IsOf session.now self.now)
+            (MayNotRest P.IsOf session.now self.now) }
     {
         if self.is_rest_wanted() || session.jobs_out() > 0 {
             return false;
@@ -38,8 +43,11 @@ impl Wanted {
 }
 
 /// Takes a job of a session for the first of the ids for which a needed unit is due.
-fn take_first_of(numbers: &[u32], session: &mut Session) -> Result<Option<Job>, TakeRefused>
-    ensures { AnswersTakeFirst session.old numbers.now result session.new }
+fn take_first_of<P: Decoded>(
+    numbers: &[u32],
+    session: &mut Session<P>,
+) -> Result<Option<Job<P>>, TakeRefused>
+    ensures { AnswersTakeFirst P.IsOf session.old numbers.now result session.new }
 {
     for number in numbers {
         match session.take_for(AuId::new(*number)) {
@@ -52,12 +60,12 @@ fn take_first_of(numbers: &[u32], session: &mut Session) -> Result<Option<Job>, 
 }
 
 /// Whether none of the units of the ids is pending.
-fn are_settled(numbers: &[u32], session: &Session) -> bool
-    ensures { MatchBool result (AreSettled session.now numbers.now)
-        (IsAnyPending session.now numbers.now) }
+fn are_settled<P: Decoded>(numbers: &[u32], session: &Session<P>) -> bool
+    ensures { MatchBool result (AreSettled P.IsOf session.now numbers.now)
+        (IsAnyPending P.IsOf session.now numbers.now) }
 {
     for number in numbers {
-        if session.show(AuId::new(*number)) == Shown::Pending {
+        if let Shown::Pending = session.show(AuId::new(*number)) {
             return false;
         }
     }

@@ -5,6 +5,7 @@ ghost use Rattle.decode_pool.specs.declared.state.bringing.Next.TheVariants.{Dec
 ghost use Rattle.decode_pool.specs.Batches.{GivesBackAll, LandsAll, TakesNext, TakesSome};
 
 use super::DeskState;
+use decode_jobs::Decoded;
 use worker_jobs::Tally;
 
 /// How many jobs a worker takes at most before it ends.
@@ -25,11 +26,12 @@ pub(crate) enum Next {
     Ends,
 }
 
-impl DeskState {
+impl<P: Decoded> DeskState<P> {
     /// A worker comes back, and brings all results that it has in hand.
-    pub(crate) fn come_back(&mut self, tally: &mut Tally)
-        ensures landed { LandsAll self.old.session tally.old.results.items tally.old.counts
-            self.new.session tally.new.counts }
+    pub(crate) fn come_back(&mut self, tally: &mut Tally<P>)
+        ensures landed { LandsAll P.IsDecoded self.old.session tally.old.results.items
+            tally.old.counts tally.old.late.items self.new.session tally.new.counts
+            tally.new.late.items }
         ensures results { tally.new.results.items ≡ [] }
         ensures jobs { tally.new.jobs.items ≡ tally.old.jobs.items }
     {
@@ -42,13 +44,14 @@ impl DeskState {
     /// A worker that has no job in hand takes its next one for what is wanted first. Where no job
     /// is due for that, it takes of the rest, if that is wanted: one, where others of so many
     /// workers have none, else up to so many.
-    pub(crate) fn take_next(&mut self, tally: &mut Tally, most: usize, workers: usize) -> Next
+    pub(crate) fn take_next(&mut self, tally: &mut Tally<P>, most: usize, workers: usize) -> Next
         requires none { tally.old.jobs.items ≡ [] }
         requires some { 0 < most }
-        ensures taken { TakesNext self.old.session self.old.status.wanted
+        ensures taken { TakesNext P.IsOf self.old.session self.old.status.wanted
             tally.new.jobs.items result self.new.session }
         ensures results { tally.new.results.items ≡ tally.old.results.items }
         ensures counts { tally.new.counts ≡ tally.old.counts }
+        ensures late { tally.new.late.items ≡ tally.old.late.items }
         ensures wanted { self.new.status.wanted ≡ self.old.status.wanted }
     {
         let are_busy = self.status.are_others_at_work(workers);
@@ -62,13 +65,14 @@ impl DeskState {
     /// A worker that has no job in hand takes one for the first wanted id for which a needed unit
     /// is due, by a step of the session. Where there is none such, it takes up to so many of the
     /// rest, if that is wanted.
-    fn take_urgent(&mut self, tally: &mut Tally, most: usize) -> Next
+    fn take_urgent(&mut self, tally: &mut Tally<P>, most: usize) -> Next
         requires none { tally.old.jobs.items ≡ [] }
         requires some { 0 < most }
-        ensures taken { TakesNext self.old.session self.old.status.wanted
+        ensures taken { TakesNext P.IsOf self.old.session self.old.status.wanted
             tally.new.jobs.items result self.new.session }
         ensures results { tally.new.results.items ≡ tally.old.results.items }
         ensures counts { tally.new.counts ≡ tally.old.counts }
+        ensures late { tally.new.late.items ≡ tally.old.late.items }
         ensures status { self.new.status ≡ self.old.status }
     {
         if self.status.closed || tally.count() >= MOST_JOBS {
@@ -84,12 +88,13 @@ impl DeskState {
 
     /// A worker that has no job in hand takes so many, or as many as are due, each by a step of the
     /// session.
-    pub(crate) fn take_some(&mut self, tally: &mut Tally, most: usize) -> Next
+    pub(crate) fn take_some(&mut self, tally: &mut Tally<P>, most: usize) -> Next
         requires none { tally.old.jobs.items ≡ [] }
         requires some { 0 < most }
-        ensures taken { TakesSome self.old.session tally.new.jobs.items result self.new.session }
+        ensures taken { TakesSome P.IsOf self.old.session tally.new.jobs.items result self.new.session }
         ensures results { tally.new.results.items ≡ tally.old.results.items }
         ensures counts { tally.new.counts ≡ tally.old.counts }
+        ensures late { tally.new.late.items ≡ tally.old.late.items }
         ensures status { self.new.status ≡ self.old.status }
     {
         for _at in 0..most {
@@ -107,9 +112,10 @@ impl DeskState {
 
     /// A worker brings all results that it has in hand, in the order in which it took their jobs,
     /// each by a step of the session.
-    pub(crate) fn land_all(&mut self, tally: &mut Tally)
-        ensures landed { LandsAll self.old.session tally.old.results.items tally.old.counts
-            self.new.session tally.new.counts }
+    pub(crate) fn land_all(&mut self, tally: &mut Tally<P>)
+        ensures landed { LandsAll P.IsDecoded self.old.session tally.old.results.items
+            tally.old.counts tally.old.late.items self.new.session tally.new.counts
+            tally.new.late.items }
         ensures results { tally.new.results.items ≡ [] }
         ensures jobs { tally.new.jobs.items ≡ tally.old.jobs.items }
         ensures status { self.new.status ≡ self.old.status }
@@ -121,11 +127,12 @@ impl DeskState {
 
     /// A worker gives all jobs back that it has in hand, in the order in which it took them, each
     /// by a step of the session.
-    pub(crate) fn give_back_all(&mut self, tally: &mut Tally)
+    pub(crate) fn give_back_all(&mut self, tally: &mut Tally<P>)
         ensures given { GivesBackAll self.old.session tally.old.jobs.items tally.old.counts
             self.new.session tally.new.counts }
         ensures jobs { tally.new.jobs.items ≡ [] }
         ensures results { tally.new.results.items ≡ tally.old.results.items }
+        ensures late { tally.new.late.items ≡ tally.old.late.items }
         ensures status { self.new.status ≡ self.old.status }
     {
         for _at in 0..tally.jobs() {
@@ -135,7 +142,7 @@ impl DeskState {
 }
 
 /// What a worker does next that took no more: this, or it decodes what it has in hand.
-fn unless_in_hand(tally: &Tally, next: Next) -> Next
+fn unless_in_hand<P: Decoded>(tally: &Tally<P>, next: Next) -> Next
     ensures none { tally.now.jobs.items ≡ [] → result ≡ next }
     ensures some { tally.now.jobs.items ≢ [] → result ≡ DecodesLast }
 {

@@ -1,11 +1,12 @@
 //! Whether units of a session are pending.
 
 ghost use Rattle.std.specs.Prelude.{◌≡◌, IfOk, MatchOption};
-ghost use Rattle.decode_pool.specs.Seats.{AreSettledFrom, IsPendingAt, IsReached, IsSettledBy, IsSettledForBy, WaitsForOne};
+ghost use Rattle.decode_pool.specs.Waits.{AreSettledFrom, IsPendingAt, IsReached, IsSettledBy, IsSettledForBy, WaitsForOne};
 
 use super::DeskState;
-use edit_engine::Shown;
+use decode_jobs::Decoded;
 use pictures::AuId;
+use stream_session::Shown;
 
 /// What a seat that waits for a desk's pictures is answered.
 #[derive(Clone, Copy, Debug, PartialEq, Eq)]
@@ -20,14 +21,14 @@ pub enum Settled {
     Rested,
 }
 
-impl DeskState {
+impl<P: Decoded> DeskState<P> {
     /// How a wait ends that began to look at the units from a place on, or found none pending
     /// there: no unit is pending; or one is, but all that is wanted is done; or as many workers
     /// have ended. Else the place of a pending unit, from which on is looked next.
     pub(crate) fn settled(&self, from: usize, workers: usize) -> Result<Settled, usize>
         ensures reached { IsReached self.now.session }
-        ensures settled { IsSettledBy self.now.session self.now.status workers result }
-        ensures told { IfOk result WaitsForOne }
+        ensures settled { IsSettledBy P.IsOf self.now.session self.now.status workers result }
+        ensures told { IfOk result (WaitsForOne P.IsOf) }
     {
         let pending = match self.first_pending(from) {
             None if from > 0 => self.first_pending(0),
@@ -45,26 +46,26 @@ impl DeskState {
     /// while it goes on.
     pub(crate) fn settled_for(&self, id: AuId, workers: usize) -> Option<Settled>
         ensures reached { IsReached self.now.session }
-        ensures settled { IsSettledForBy self.now.session id self.now.status.ended workers result }
+        ensures settled { IsSettledForBy P.IsOf self.now.session id self.now.status.ended workers result }
     {
         let _ = self.session.journal();
-        if self.session.show(id) != Shown::Pending {
-            return Some(Settled::Done);
+        match self.session.show(id) {
+            Shown::Pending => (self.status.ended >= workers).then_some(Settled::Idle),
+            _ => Some(Settled::Done),
         }
-        (self.status.ended >= workers).then_some(Settled::Idle)
     }
 
     /// The place of the first pending unit, from a place on.
     fn first_pending(&self, from: usize) -> Option<usize>
         ensures reached { IsReached self.now.session }
         ensures place { MatchOption result
-            (AreSettledFrom self.now.session from)
-            (λ at. IsPendingAt self.now.session at) }
+            (AreSettledFrom P.IsOf self.now.session from)
+            (λ at. IsPendingAt P.IsOf self.now.session at) }
     {
         let _ = self.session.journal();
         let units = self.session.ids().len();
         for at in from..units {
-            if self.session.show_at(at) == Shown::Pending {
+            if let Shown::Pending = self.session.show_at(at) {
                 return Some(at);
             }
         }

@@ -1,21 +1,21 @@
 //! What one who keeps no book does with a session.
 
-ghost use Rattle.std.specs.Prelude.{◌≡◌};
+ghost use Rattle.std.specs.Prelude.{◌≡◌, true};
 ghost use Rattle.stream_session.specs.Grouping.{AnswersGroup};
-ghost use Rattle.stream_session.specs.Machines.{AnswersEdit};
-ghost use Rattle.edit_engine.specs.Needing.{AnswersDrop};
-ghost use Rattle.decode_pool.specs.Seats.{IsReached};
+ghost use Rattle.stream_session.specs.Machines.{AnswersEdit, KeepsPictures};
+ghost use Rattle.stream_session.specs.Needing.{AnswersDrop};
+ghost use Rattle.stream_session.specs.Showing.{Shows};
+ghost use Rattle.decode_pool.specs.Waits.{IsReached};
 
 use super::DeskState;
-use edit_engine::{
-    Dropping, EditRefused, GroupReceipt, GroupRefused, ReadEdit, ReadGroup, Receipt, Session,
-    drop_picture,
-};
+use decode_jobs::Decoded;
 use pictures::AuId;
+use stream_edits::{EditRefused, GroupReceipt, GroupRefused, ReadEdit, ReadGroup, Receipt};
+use stream_session::{Dropped, Session, Shown};
 
-impl DeskState {
+impl<P: Decoded> DeskState<P> {
     /// The session, to be asked.
-    pub(crate) fn visited(&self) -> &Session
+    pub(crate) fn visited(&self) -> &Session<P>
         ensures reached { IsReached self.now.session }
         ensures session { result.now ≡ self.now.session }
     {
@@ -27,6 +27,7 @@ impl DeskState {
     pub(crate) fn visit_edit(&mut self, read: ReadEdit) -> Result<Receipt, EditRefused>
         ensures reached { IsReached self.old.session }
         ensures session { AnswersEdit self.old.session read result self.new.session }
+        ensures pictures { P.GoesBack ≡ true → KeepsPictures self.old.session self.new.session }
         ensures status { self.new.status ≡ self.old.status }
     {
         let _ = self.session.journal();
@@ -37,19 +38,29 @@ impl DeskState {
     pub(crate) fn visit_group(&mut self, group: ReadGroup) -> Result<GroupReceipt, GroupRefused>
         ensures reached { IsReached self.old.session }
         ensures session { AnswersGroup self.old.session group result self.new.session }
+        ensures pictures { P.GoesBack ≡ true → KeepsPictures self.old.session self.new.session }
         ensures status { self.new.status ≡ self.old.status }
     {
         let _ = self.session.journal();
         self.session.edit_group_read(group)
     }
 
-    /// Drops the picture of the unit that has the id.
-    pub(crate) fn visit_drop(&mut self, id: AuId) -> Dropping
+    /// What is shown of the unit that has the id.
+    pub(crate) fn visit_show(&self, id: AuId) -> Shown<P>
+        ensures reached { IsReached self.now.session }
+        ensures session { Shows P.IsOf self.now.session id result }
+    {
+        let _ = self.session.journal();
+        self.session.show(id)
+    }
+
+    /// Gives back the picture of the unit that has the id.
+    pub(crate) fn visit_drop(&mut self, id: AuId) -> Dropped<P>
         ensures reached { IsReached self.old.session }
-        ensures session { AnswersDrop self.old.session id result self.new.session }
+        ensures session { AnswersDrop P.IsOf self.old.session id result self.new.session }
         ensures status { self.new.status ≡ self.old.status }
     {
         let _ = self.session.journal();
-        drop_picture(&mut self.session, id)
+        self.session.drop_picture(id)
     }
 }

@@ -3,4 +3,4 @@ use Rattle.worker_jobs.specs.Taking.{NoneDueBefore}
 use Rattle.worker_jobs.proofs.taking.take_first_of.Given as goal
 
 abbrev pub invariant-loop-number : goal.invariant-loop-number
-invariant-loop-number l = NoneDueBefore l.initial.session l.numbers l.number-index × (l.session ≡ l.initial.session)
+invariant-loop-number g l = NoneDueBefore l.initial.session l.numbers l.number-index × (l.session ≡ l.initial.session)

@@ -3,7 +3,7 @@ use Rattle.decode_pool.proofs.Batched.{give_first, longer}
 use Rattle.decode_pool.proofs.state.DeskState.give_back_all.Goals as goal
 
 pub loop-at-preserved : goal.loop-at-preserved
-loop-at-preserved c =
+loop-at-preserved g c =
     let gives = c.give_back.ensures.session in
     let one : length c.loop-at.tally.jobs.items ≡ length c.give_back.new.tally.jobs.items + 1 =
     longer c.loop-at.tally.jobs.items c.give_back.new.tally.jobs.items gives.job gives.first in (
@@ -13,5 +13,6 @@ loop-at-preserved c =
           c.give_back.new.tally gives to final others),
       omega (arith, one, c.loop-at.invariant.1),
       gives.results ∙ c.loop-at.invariant.2,
-      c.give_back.ensures.status ∙ c.loop-at.invariant.3,
+      gives.late ∙ c.loop-at.invariant.3,
+      c.give_back.ensures.status ∙ c.loop-at.invariant.4,
     )

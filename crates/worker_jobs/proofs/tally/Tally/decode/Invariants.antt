@@ -6,3 +6,4 @@ invariant-loop-at g l =
     (length l.self.jobs.items + l._at ≡ length l.initial.self.jobs.items)
     × (l.self.results.items ++ l.self.jobs.items ≡ l.initial.self.results.items ++ l.initial.self.jobs.items)
     × (l.self.count ≡ l.initial.self.count)
+    × (l.self.late.items ≡ l.initial.self.late.items)

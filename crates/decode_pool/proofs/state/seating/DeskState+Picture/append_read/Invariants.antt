@@ -1,10 +1,10 @@
-use Rattle.std.proofs.Common.{◌≡◌, ℕ, ◌+◌, length}
+use Rattle.std.proofs.Common.{◌≡◌, ◌+◌, length}
 use Rattle.std.specs.Vec.Iter.{into_iter_items}
 use Rattle.edit_engine.specs.Machines.{Machine}
 use Rattle.decode_pool.specs.declared.appending.Appended.{Appended}
 use Rattle.decode_pool.specs.declared.seat.Seat.{Seat}
 use Rattle.decode_pool.specs.Appends.{AppendsOn}
-use Rattle.decode_pool.proofs.state.DeskState.append_read.Given as goal
+use Rattle.decode_pool.proofs.state.seating.DeskState+Picture.append_read.Given as goal
 
 abbrev pub invariant-loop-unit : goal.invariant-loop-unit
 invariant-loop-unit l =

@@ -1,6 +1,6 @@
-use Rattle.std.proofs.Common.{◌+◌, List, ℕ, length, ◌∙◌, sym, ap, subst, inl, arith}
+use Rattle.std.proofs.Common.{List, ℕ, length, ◌∙◌, sym, ap, subst, inl, arith}
 use Rattle.decode_pool.specs.Appends.{AppendsOn}
-use Rattle.decode_pool.proofs.state.DeskState.append_read.Goals as goal
+use Rattle.decode_pool.proofs.state.seating.DeskState+Picture.append_read.Goals as goal
 
 pub loop-unit-preserved : goal.loop-unit-preserved
 loop-unit-preserved c =

@@ -3,7 +3,7 @@ import os
 import re
 from typing import NamedTuple
 
-from cupdaisy import streams, syntax
+from cupdaisy import doubts, streams, syntax
 from cupdaisy.fold import Empty, Plan
 from cupdaisy.session import MOST_UNITS, GroupRefused, Session
 
@@ -216,11 +216,13 @@ def json_line(session, unit_id):
     if at is None:
         return f'{{"unit":{unit_id},"none":true}}\n'
     outcome, _, _ = session.rows[at]
+    follows = [*doubts.told_in(session)][at][0]
+    following = "" if follows is None else f',"follows":{follows}'
     if isinstance(outcome, Empty):
-        return f'{{"unit":{unit_id},"no_picture":true}}\n'
+        return f'{{"unit":{unit_id},"no_picture":true{following}}}\n'
     if isinstance(outcome, Plan):
         raise NotImplementedError(f"the JSON of a valid unit, {unit_id}")
-    return f'{{"unit":{unit_id},"fault":{{"number":{outcome.number},"name":"{outcome}"}}}}\n'
+    return f'{{"unit":{unit_id},"fault":{{"number":{outcome.number},"name":"{outcome}"}}{following}}}\n'
 
 
 def shown(session, with_hex, unit_id):

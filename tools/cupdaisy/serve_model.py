@@ -10,7 +10,7 @@ import re
 from typing import NamedTuple
 from unittest.mock import ANY
 
-from cupdaisy import session, streams, syntax
+from cupdaisy import doubts, session, streams, syntax
 from cupdaisy.fold import Empty, Plan
 
 MOST_LINE, MOST_TOLD, MOST_WANTED, MOST_NUMBER, MOST_DEPTH = 64 << 20, 1000, 64, 1 << 64, 127
@@ -236,17 +236,20 @@ class Server:
     def units(self, parameters):
         begin, count = parameters.number("from"), parameters.read("count", lambda value: is_number(value) and value <= MOST_TOLD)
         controls = parameters.flag("controls", False)
-        return [self.unit(at, controls) for at in range(len(self.session.stream))[begin:begin + count]]
+        told = [*doubts.told_in(self.session)]
+        return [self.unit(at, controls, *told[at]) for at in range(len(self.session.stream))[begin:begin + count]]
 
-    def unit(self, at, controls):
+    def unit(self, at, controls, follows, in_doubt):
         number, (outcome, position, _) = self.session.stream[at][0], self.session.rows[at]
+        following = {} if follows is None else {"follows": follows}
         if isinstance(outcome, Empty):
-            return {"unit": number, "no_picture": True}
+            return {"unit": number, "no_picture": True} | following
         if not isinstance(outcome, Plan):
-            return {"unit": number, "fault": {"number": outcome.number, "name": str(outcome)}}
+            return {"unit": number, "fault": {"number": outcome.number, "name": str(outcome)}} | following
         top, bottom = outcome.counts
         return {"unit": number, "position": position, "begins_period": outcome.begins_period,
-                "counts": {"top": top, "bottom": bottom}} | ({"requests": ANY} if controls else {})
+                "counts": {"top": top, "bottom": bottom}} | following | ({"in_doubt": True} if in_doubt else {}) \
+            | ({"requests": ANY} if controls else {})
 
     def find(self, parameters):
         position = parameters.number("position")

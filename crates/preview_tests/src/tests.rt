@@ -3,6 +3,7 @@
 
 mod command_lines;
 mod controls;
+mod doubts;
 mod drawn_edits;
 mod examples;
 mod groups;

@@ -8,8 +8,6 @@ use Rattle.edit_engine.specs.declared.replies.Reply.TheVariants as replies
 use Rattle.edit_engine.specs.declared.replies.UnitReport.{UnitReport}
 use Rattle.stream_edits.specs.Names.{name_of}
 use Rattle.stream_edits.specs.Numbers.{number_of}
-use Rattle.unit_json.specs.JsonLines.{unit_line, no_unit_line as no_unit_json}
-use Rattle.unit_json.specs.declared.json_line.JsonLine.{JsonLine}
 use Rattle.unit_lines.specs.UnitLines.{outcome_lines}
 use Rattle.edit_script.specs.Words.{id_of}
 use Rattle.script_run.specs.GroupLines.{group_answer_line}
@@ -43,11 +41,6 @@ no_unit_line number = codes "unit " ++ (decimal number ++ codes " none\n")
 abbrev pub report_lines : ℕ → Result UnitReport NoSuchUnit → List ℕ
 report_lines number (Ok report) = outcome_lines (id_of number) report.position report.outcome
 report_lines number (Err none) = no_unit_line number
-
--- the same as a line of JSON
-abbrev pub report_json : ℕ → Result UnitReport NoSuchUnit → JsonLine
-report_json number (Ok report) = unit_line (id_of number) report.position report.outcome
-report_json number (Err none) = no_unit_json number
 
 -- the lines of a session's reply, which name the number that was asked for; pictures have digits
 -- where they are asked for. That all numbers of jobs were given has no line: it ends the run

@@ -2,6 +2,7 @@ pub mod Answers
 pub mod JobLines
 pub mod GroupLines
 pub mod ShownLines
+pub mod ToldUnits
 pub mod Settling
 pub mod RunFaults
 pub mod Sequences

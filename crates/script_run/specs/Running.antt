@@ -15,10 +15,11 @@ use Rattle.stream_edits.specs.Streams.{end_of, Stream}
 use Rattle.edit_engine.specs.Machines.{Machine}
 use Rattle.stream_session.specs.Machines.{empty}
 use Rattle.edit_engine.specs.Runs.{Answers as Replies}
-use Rattle.script_run.specs.Answers.{refused_line, loaded_line, reply_lines, report_json}
+use Rattle.script_run.specs.Answers.{refused_line, loaded_line, reply_lines}
 use Rattle.script_run.specs.JobLines.{settled_line}
 use Rattle.script_run.specs.Sequences.{AreAnswered, AreWritten}
 use Rattle.script_run.specs.Settling.{Settles}
+use Rattle.script_run.specs.ToldUnits.{IsReportJson}
 use Rattle.console_io.specs.Inputs.{Files}
 use Rattle.access_unit.specs.Rooms.{IsStream, IsStreamRefused, most_units}
 use Rattle.unit_json.specs.declared.json_line.JsonLine.{JsonLine}
@@ -60,11 +61,12 @@ Follows hex old told number lines new =
     (reply : Reply) × Replies old told reply new × (reply_lines hex number reply ≡ Some lines)
 
 module _ (says : JsonLine → List ℕ → Type 0) where
-  -- the session reports the unit's outcome of a number, and a text says it as JSON
+  -- the session reports the unit's outcome of a number, and a text says it as JSON, with what is told
+  -- of its doubt
   abbrev pub SaysUnit : Machine → ℕ → List ℕ → Machine → Type 0
   SaysUnit old number text new =
       (report : Result UnitReport NoSuchUnit) × Replies old (told.Unit (id_of number)) (replies.Unit report) new
-      × says (report_json number report) text
+      × ((line : JsonLine) × IsReportJson old.register.stream number report line × says line text)
 
   -- a command is answered by the lines, and leads from one state of the session to the other
   abbrev pub Answers : Files → Bool → Machine → SessionCommand → List ℕ → Machine → Type 0

@@ -2,13 +2,14 @@
 
 ghost use Rattle.std.specs.Prelude.{◌≡◌, ◌≢◌, ℕ, List, IfErr, IfOk, IfSome, OnOk, Some, string_bytes};
 ghost use Rattle.std.specs.Io.KnownBytes.{Keeps};
-ghost use Rattle.script_run.specs.Answers.{reply_lines, report_json, report_lines};
+ghost use Rattle.script_run.specs.Answers.{reply_lines, report_lines};
 ghost use Rattle.console_io.specs.Messages.{Tells};
 ghost use Rattle.script_run.specs.Messages.{run_fault_text};
 ghost use Rattle.script_run.specs.RunFaults.{IsCommandFault};
 ghost use Rattle.script_run.specs.declared.run_fault.RunFault.{RunFault};
 ghost use Rattle.script_run.specs.Running.{Answers, Follows, SaysUnit, WritesRun, WritesScript};
 ghost use Rattle.script_run.specs.Stops.{StopsAt, StopsBy, StopsText};
+ghost use Rattle.script_run.specs.ToldUnits.{IsReportJson, IsToldOf};
 
 use crate::answers::{AcceptedLine, NoUnitLine, RefusedLine};
 use crate::group_lines::{GroupLine, GroupRefusedLine};
@@ -20,12 +21,13 @@ use crate::run_fault::RunFault;
 use crate::settling::settle;
 use crate::shown_lines::shown_line;
 use console_io::{Ended, Sink, Source, Status, whole_input, write_bytes};
-use edit_engine::{Command as Told, Config, NoSuchUnit, Reply, Runner, UnitReport};
+use edit_engine::{Command as Told, Config, Doubt, NoSuchUnit, Reply, Runner, Session, UnitReport};
 use edit_script::{SessionCommand as Command, id_of_number, read_session_script};
+use pictures::AuId;
 use std::alloc::{AllocError, Global};
 use std::io::Read;
 use std::thread::Threads;
-use unit_json::{Encoder, JsonLine};
+use unit_json::{DecodeMode, Encoder, JsonLine};
 use unit_lines::UnitLines;
 
 /// Runs the script that the reader gives, whose files the source gives, on a session of its own.
@@ -216,28 +218,44 @@ fn say_unit<J: Encoder>(
 {
     let reply = runner.step(Told::Unit(id_of_number(number)))?;
     match &reply {
-        Reply::Unit(report) => encoder.encode(alloc, &json_line(alloc, number, report)?),
+        Reply::Unit(report) => {
+            let line = json_line(alloc, runner.session(), number, report)?;
+            encoder.encode(alloc, &line)
+        }
         // A session that is asked for a unit replies with a report.
         _ => Err(AllocError),
     }
 }
 
-/// The line of JSON of what is reported of the unit of this number: its outcome, or that there is
-/// none.
+/// The line of JSON of what is reported of the unit of this number: its outcome with what is told of
+/// its doubt, or that there is none.
 fn json_line(
     alloc: Global,
+    session: &Session,
     number: u64,
     report: &Result<UnitReport, NoSuchUnit>,
 ) -> Result<JsonLine, AllocError>
-    ensures { IfOk result (λ line. line ≡ report_json number report.now) }
+    ensures { IfOk result (IsReportJson session.now.register.stream number report.now) }
 {
     match report {
         Ok(report) => {
-            let id = id_of_number(number);
-            JsonLine::of_unit(alloc, id, report.position, &report.outcome)
+            let (id, mode) = (id_of_number(number), DecodeMode::SliceBased);
+            let told = told_of(session, id)?;
+            JsonLine::of_told(alloc, mode, id, report.position, &report.outcome, told)
         }
         Err(NoSuchUnit) => Ok(JsonLine::of_no_unit(number)),
     }
+}
+
+/// What is told of the doubt of the unit of the id, which is there.
+fn told_of(session: &Session, id: AuId) -> Result<Doubt, AllocError>
+    ensures { IfOk result (IsToldOf session.now.register.stream id) }
+{
+    let Some(at) = session.place(id) else {
+        return Err(AllocError);
+    };
+    let told = session.doubts(at, 1)?;
+    Ok(told[0])
 }
 
 /// The lines of a reply to what asks for this number.

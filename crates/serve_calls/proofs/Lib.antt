@@ -1,3 +1,4 @@
 mod Listing
 mod Numbered
+mod Pages
 mod Told

@@ -1,9 +1,13 @@
 -- What a session is asked, and the results.
-use Rattle.std.specs.Prelude.{◌≡◌, ℕ, ◌<◌, ◌≤◌, Bool, List, length, take, drop, slice_get, filter_map, option_and_then, option_map, Option, Some, None, Result, Ok}
+use Rattle.std.specs.Prelude.{◌≡◌, ◌⊎◌, ℕ, ◌<◌, ◌≤◌, Bool, List, length, take, drop, slice_get, filter_map, option_and_then, option_map, Option, Some, None, Result, Ok, Err}
+use Rattle.std.specs.List.{zip}
+use Rattle.doubts.specs.InDoubt.{AreDoubts}
+use Rattle.doubts.specs.declared.doubt.Doubt.{Doubt}
 use Rattle.stream_edits.specs.Streams.{Stream, ids_of}
 use Rattle.edit_script.specs.Words.{id_of}
 use Rattle.edit_engine.specs.Showing.{Shown, Shows}
 use Rattle.edit_engine.specs.Machines.{Machine}
+use Rattle.stream_session.specs.Doubting.{seen_in}
 use Rattle.stream_session.specs.Streams.{outcome_in, position_in}
 use Rattle.serve_messages.specs.declared.failure.Failure.{Failure}
 use Rattle.serve_messages.specs.declared.answer.Answer.{Answer}
@@ -14,19 +18,26 @@ use Rattle.serve_messages.specs.declared.unit_answers.UnitAnswer.{UnitAnswer}
 use Rattle.serve_messages.specs.Replies.{show_answer}
 use Rattle.serve_messages.specs.UnitAnswers.{unit_answer}
 use Rattle.serve_calls.specs.declared.sums.Sums.{Sums}
-use Rattle.serve_calls.specs.Failing.{IsUnlessMemory}
+use Rattle.serve_calls.specs.Failing.{IsUnlessMemory, out_of_memory}
 use Rattle.serve_calls.specs.Sessions.{Asks}
 
--- the outcome of the unit of the id as a result, with its controls or without, if there is such a
--- unit
-abbrev pub unit_in : Stream → Bool → ℕ → Option UnitAnswer
-unit_in stream controls id =
-    option_and_then (λ outcome. option_map (λ position. unit_answer id position outcome controls) (position_in stream id))
-    (outcome_in stream id)
+-- the ids of so many units from a place on
+abbrev pub ids_in : Stream → ℕ → ℕ → List ℕ
+ids_in stream from count = take count (drop from (ids_of stream))
 
--- the outcomes of so many units from a place on
-abbrev pub units_in : Stream → ℕ → ℕ → Bool → List UnitAnswer
-units_in stream from count controls = filter_map (unit_in stream controls) (take count (drop from (ids_of stream)))
+-- the outcome of the unit of the id as a result, with what is told of it, and with its controls or
+-- without, if there is such a unit
+abbrev pub unit_in : Stream → Bool → ℕ × Doubt → Option UnitAnswer
+unit_in stream controls it =
+    option_and_then (λ outcome. option_map (λ position. unit_answer it.0 position outcome it.1 controls) (position_in stream it.0))
+    (outcome_in stream it.0)
+
+-- the outcomes of so many units from a place on, each with the break that it follows and whether it is
+-- in doubt
+pub record AreUnitsIn (stream : Stream) (from count : ℕ) (controls : Bool) (answers : List UnitAnswer) : Type 0 where
+  pub told : List Doubt
+  pub are_told : AreDoubts (seen_in stream) from (length (ids_in stream from count)) told
+  pub are : answers ≡ filter_map (unit_in stream controls) (zip (ids_in stream from count) told)
 
 -- the unit of the id has the position
 abbrev pub HasPosition : Stream → ℕ → ℕ → Type 0
@@ -59,10 +70,15 @@ stats_of machine sums = record {
   bytes = sums.bytes;
 }
 
--- the result of a question for so many units from a place on
+-- the result of a question for so many units from a place on: their outcomes, or that memory ran out
+abbrev pub IsUnitsAnswer : Stream → ℕ → ℕ → Bool → Result Answer Failure → Type 0
+IsUnitsAnswer stream from count controls result =
+    ((answers : List UnitAnswer) × AreUnitsIn stream from count controls answers × (result ≡ Ok (answer.Units answers)))
+    ⊎ (result ≡ Err out_of_memory)
+
 abbrev pub TellsUnits : (Machine → Type 0) → ℕ → ℕ → Bool → Result Answer Failure → Type 0
 TellsUnits is_session from count controls result =
-    Asks is_session (λ machine. IsUnlessMemory (Ok (answer.Units (units_in machine.register.stream from count controls))) result)
+    Asks is_session (λ machine. IsUnitsAnswer machine.register.stream from count controls result)
 
 -- the result of a question for the unit at a position
 abbrev pub TellsFound : (Machine → Type 0) → ℕ → Result Answer Failure → Type 0

@@ -1,14 +1,15 @@
 //! Questions to a session, and their answers.
 
-ghost use Rattle.std.specs.Prelude.{◌≡◌, ◌≤◌, ◌↔◌, IfOk, IsTrue, MatchOption, filter_map, length};
-ghost use Rattle.serve_calls.specs.Answering.{HasPosition, IsAt, IsFound, IsNoneAmong, TellsFound, TellsShown, TellsStats, TellsUnits, stats_of, unit_in, units_in};
+ghost use Rattle.std.specs.Prelude.{◌≡◌, ◌+◌, ◌≤◌, ◌↔◌, IfOk, IsTrue, MatchOption, drop, filter_map, length, take};
+ghost use Rattle.std.specs.List.{zip};
+ghost use Rattle.serve_calls.specs.Answering.{AreUnitsIn, HasPosition, IsAt, IsFound, IsNoneAmong, TellsFound, TellsShown, TellsStats, TellsUnits, stats_of, unit_in};
 
 use crate::backend::Backend;
 use crate::failing::OUT_OF_MEMORY;
 use crate::lists::push_some;
 use crate::server::Server;
 use crate::sums::Sums;
-use edit_engine::{NoSuchUnit, Session};
+use edit_engine::{Doubt, NoSuchUnit, Session};
 use edit_script::id_of_number;
 use pictures::AuId;
 use serve_messages::{Answer, Failure, Found, Listed, Stats, UnitAnswer, of_show};
@@ -63,7 +64,8 @@ impl<B: Backend, S> Server<B, S> {
     }
 }
 
-/// What becomes of so many units from a place on, with their controls or without.
+/// What becomes of so many units from a place on, with their controls or without. What is told of
+/// their doubt takes one walk over the units from the last valid IDR picture before them on.
 fn units(
     alloc: Global,
     session: &Session,
@@ -71,46 +73,61 @@ fn units(
     count: u64,
     controls: bool,
 ) -> Result<Listed<UnitAnswer>, AllocError>
-    ensures { IfOk result (λ answers. answers
-        ≡ units_in session.now.register.stream from count controls) }
+    ensures { IfOk result (AreUnitsIn session.now.register.stream from count controls) }
 {
-    let ids = session.ids();
+    let (first, ids) = page(session.ids(), from, count);
+    let doubts = session.doubts(first, ids.len())?;
+    Ok(Listed::new(told(alloc, session, ids, &doubts, controls)?))
+}
+
+/// The ids of so many units from a place on, and the place of the first of them.
+fn page(ids: &[AuId], from: u64, count: u64) -> (usize, &[AuId])
+    ensures page { result.1.now ≡ take count (drop from ids.now) }
+    ensures within { result.0 + length result.1.now ≤ length ids.now }
+    ensures first { from ≤ length ids.now → result.0 ≡ from }
+{
     let from = (from as usize).min(ids.len());
     let (_, rest) = ids.split_at(from);
     let count = (count as usize).min(rest.len());
-    let (ids, _) = rest.split_at(count);
-    Ok(Listed::new(told(alloc, session, ids, controls)?))
+    let (page, _) = rest.split_at(count);
+    (from, page)
 }
 
-/// The outcomes of the units of these ids.
+/// The outcomes of the units of these ids, of which this is told.
 fn told(
     alloc: Global,
     session: &Session,
     ids: &[AuId],
+    doubts: &[Doubt],
     controls: bool,
 ) -> Result<Vec<UnitAnswer>, AllocError>
+    requires { length doubts.now ≡ length ids.now }
     ensures { IfOk result (λ answers. answers.items
-        ≡ filter_map (unit_in session.now.register.stream controls) ids.now) }
+        ≡ filter_map (unit_in session.now.register.stream controls) (zip ids.now doubts.now)) }
 {
     let mut answers = Vec::with_capacity(alloc, ids.len())?;
-    for id in ids {
-        push_some(&mut answers, told_of(alloc, session, *id, controls)?)?;
+    for at in 0..ids.len() {
+        let answer = told_of(alloc, session, ids[at], doubts[at], controls)?;
+        push_some(&mut answers, answer)?;
     }
     Ok(answers)
 }
 
-/// The outcome of the unit of the id.
+/// The outcome of the unit of the id, of which this is told.
 fn told_of(
     alloc: Global,
     session: &Session,
     id: AuId,
+    doubt: Doubt,
     controls: bool,
 ) -> Result<Option<UnitAnswer>, AllocError>
-    ensures { IfOk result (λ answer. answer ≡ unit_in session.now.register.stream controls id) }
+    ensures { IfOk result (λ answer. answer
+        ≡ unit_in session.now.register.stream controls (id, doubt)) }
 {
     match (session.outcome(id), session.position(id)) {
         (Ok(outcome), Ok(position)) => {
-            Ok(Some(UnitAnswer::of(alloc, id, position, outcome, controls)?))
+            let told = UnitAnswer::of(alloc, id, position, outcome, doubt, controls)?;
+            Ok(Some(told))
         }
         _ => Ok(None),
     }

@@ -35,5 +35,5 @@ pub use method::Method;
 pub use parameter::Parameter;
 pub use replies::{of_drop, of_edit, of_give_back, of_group, of_land, of_show};
 pub use reply::{failure_line, notification_line, result_line};
-pub use unit_answers::{BriefPlan, UnitAnswer};
+pub use unit_answers::UnitAnswer;
 pub use words::{Digits, Word};

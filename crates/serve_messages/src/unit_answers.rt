@@ -3,10 +3,11 @@
 ghost use Rattle.std.specs.Prelude.{◌≡◌, IfOk};
 ghost use Rattle.serve_messages.specs.UnitAnswers.{unit_answer};
 
+use edit_engine::Doubt;
 use pictures::AuId;
 use serde::Serialize;
 use std::alloc::{AllocError, Global};
-use unit_json::{CountsJson, JsonLine};
+use unit_json::{DecodeMode, HeadJson, JsonLine};
 use unit_outcomes::Outcome;
 
 /// A unit's outcome.
@@ -16,40 +17,33 @@ pub enum UnitAnswer {
     /// As `plan --json` prints it.
     Line(JsonLine),
     /// A plan without its requests.
-    Brief(BriefPlan),
-}
-
-/// The plan of a valid unit without its requests.
-#[derive(Clone, Copy, Debug, PartialEq, Eq, Serialize)]
-pub struct BriefPlan {
-    pub unit: u32,
-    pub position: usize,
-    pub begins_period: bool,
-    pub counts: CountsJson,
+    Brief(HeadJson),
 }
 
 impl UnitAnswer {
-    /// A unit's outcome, which has a position where it is valid, with its controls or without.
+    /// A unit's outcome, which has a position where it is valid, with what is told of its doubt, and
+    /// with its controls or without.
     pub fn of(
         alloc: Global,
         id: AuId,
         position: Option<usize>,
         outcome: &Outcome,
+        told: Doubt,
         controls: bool,
     ) -> Result<UnitAnswer, AllocError>
-        ensures { IfOk result (λ answer. answer ≡ unit_answer id position outcome.now controls) }
+        ensures { IfOk result (λ answer. answer
+            ≡ unit_answer id position outcome.now told controls) }
     {
         match outcome {
-            Outcome::Plan(plan) if !controls => Ok(UnitAnswer::Brief(BriefPlan {
-                unit: id.number(),
-                position: position.unwrap_or_default(),
-                begins_period: plan.begins_period,
-                counts: CountsJson {
-                    top: plan.counts.top,
-                    bottom: plan.counts.bottom,
-                },
-            })),
-            _ => Ok(UnitAnswer::Line(JsonLine::of_unit(alloc, id, position, outcome)?)),
+            Outcome::Plan(plan) if !controls => {
+                let position = position.unwrap_or_default();
+                Ok(UnitAnswer::Brief(HeadJson::of(id, position, plan, told)))
+            }
+            _ => {
+                let mode = DecodeMode::SliceBased;
+                let line = JsonLine::of_told(alloc, mode, id, position, outcome, told)?;
+                Ok(UnitAnswer::Line(line))
+            }
         }
     }
 }

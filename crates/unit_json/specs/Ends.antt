@@ -11,7 +11,6 @@ use Rattle.unit_json.specs.JsonLines.{refused_line}
 use Rattle.unit_json.specs.declared.json_line.JsonLine.{JsonLine}
 use Rattle.unit_json.specs.Said.{Said, SaysStream}
 use Rattle.unit_json.specs.declared.decode_mode.DecodeMode.{DecodeMode}
-use Rattle.unit_json.specs.declared.decode_mode.DecodeMode.TheVariants.{SliceBased}
 
 -- the text is a stream, and the lines of its units were written for a decoder of this mode
 pub record WritesJsonFor (says : JsonLine → List ℕ → Type 0) (mode : DecodeMode) (text : List ℕ) (old new : Option (List ℕ)) : Type 0 where
@@ -19,10 +18,6 @@ pub record WritesJsonFor (says : JsonLine → List ℕ → Type 0) (mode : Decod
   pub stream : IsStream text parts
   pub bounded : length parts ≤ most_units
   pub said : SaysStream says mode parts old new
-
--- the same for a decoder of slices
-abbrev pub WritesJson : (JsonLine → List ℕ → Type 0) → List ℕ → Option (List ℕ) → Option (List ℕ) → Type 0
-WritesJson says text old new = WritesJsonFor says SliceBased text old new
 
 -- why not all is printed: the input wasn't read, the stream is refused, or a line wasn't printed
 pub data JsonEnd : Type 0 where

@@ -1,5 +1,5 @@
 -- The JSON object of a line (docs/OUTPUT.md).
-use Rattle.std.specs.Prelude.{ℕ, true, false, Option, None, map, option_map}
+use Rattle.std.specs.Prelude.{ℕ, true, Option, map, option_map}
 use Rattle.std.specs.Option.{unwrap_or}
 use Rattle.access_unit.specs.declared.room.Refusal.{Refusal}
 use Rattle.doubts.specs.declared.doubt.Doubt.{Doubt}
@@ -45,14 +45,6 @@ told_line mode id position (outcomes.Plan plan) told =
     plan_line mode (head_json id (unwrap_or position 0) plan told) plan
 told_line mode id position (outcomes.Fault fault) told = Fault id fault told.follows
 told_line mode id position outcomes.Empty told = NoPicture id true told.follows
-
--- nothing is told
-abbrev pub untold : Doubt
-untold = record { follows = None; in_doubt = false }
-
--- the line of a unit's outcome, of which nothing is told
-abbrev pub unit_line : ℕ → Option ℕ → Outcome → JsonLine
-unit_line id position outcome = told_line SliceBased id position outcome untold
 
 -- the line of a unit that isn't there
 abbrev pub no_unit_line : ℕ → JsonLine

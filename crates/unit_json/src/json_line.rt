@@ -1,7 +1,7 @@
 //! A line of JSON.
 
 ghost use Rattle.std.specs.Prelude.{◌≡◌, IfOk};
-ghost use Rattle.unit_json.specs.JsonLines.{counts_json, head_json, no_unit_line, plan_line, refused_line, told_line, unit_line};
+ghost use Rattle.unit_json.specs.JsonLines.{counts_json, head_json, no_unit_line, plan_line, refused_line, told_line};
 
 use crate::decode_mode::DecodeMode;
 use crate::frame_json::FrameJson;
@@ -94,28 +94,9 @@ pub struct CountsJson {
     pub bottom: i32,
 }
 
-/// What is said of a unit of which nothing is told.
-const UNTOLD: Doubt = Doubt {
-    follows: None,
-    in_doubt: false,
-};
-
 impl JsonLine {
-    /// The line of a unit, with the requests of its slices, by its outcome and its place in output
-    /// order, which each plan has.
-    pub fn of_unit(
-        alloc: Global,
-        id: AuId,
-        position: Option<usize>,
-        outcome: &Outcome,
-    ) -> Result<JsonLine, AllocError>
-        ensures { IfOk result (λ line. line ≡ unit_line id position outcome.now) }
-    {
-        JsonLine::of_told(alloc, DecodeMode::SliceBased, id, position, outcome, UNTOLD)
-    }
-
-    /// The same with what is told of the unit, and with the requests that a decoder of this mode
-    /// takes.
+    /// The line of a unit, with the requests that a decoder of this mode takes, by its outcome, its
+    /// place in output order, which each plan has, and what is told of its doubt.
     pub fn of_told(
         alloc: Global,
         mode: DecodeMode,

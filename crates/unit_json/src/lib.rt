@@ -24,5 +24,5 @@ pub use decode_mode::DecodeMode;
 pub use encoding::{Encoder, Json};
 pub use frame_json::FrameJson;
 pub use json_line::{CountsJson, FramePlanJson, HeadJson, JsonLine, PlanJson};
-pub use plan_json::{plan_json_for, plan_json_on};
+pub use plan_json::plan_json_for;
 pub use request_json::{RequestJson, RequestsJson};

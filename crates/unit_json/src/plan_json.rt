@@ -3,7 +3,7 @@
 ghost use Rattle.std.specs.Prelude.{◌≡◌, ◌≢◌, [], IfSome};
 ghost use Rattle.std.specs.Io.KnownBytes.{Keeps};
 ghost use Rattle.console_io.specs.Messages.{Tells};
-ghost use Rattle.unit_json.specs.Ends.{FailsJson, FailsText, WritesJson, WritesJsonFor};
+ghost use Rattle.unit_json.specs.Ends.{FailsJson, FailsText, WritesJsonFor};
 
 use crate::printing::{print_line, print_stream};
 use crate::{DecodeMode, Encoder, JsonLine};
@@ -17,8 +17,8 @@ use std::io::Read;
 use std::thread::Threads;
 
 /// Prints the units of the stream that the reader gives, a line each by this encoder with the
-/// requests for a decoder of this mode, or the line of its refusal. Where the reader fails or memory runs out, `errors` is told; the reader has this
-/// name there.
+/// requests for a decoder of this mode, or the line of its refusal. Where the reader fails or memory
+/// runs out, `errors` is told; the reader has this name there.
 pub fn plan_json_for<J: Encoder, R: Read, W: Sink, E: Sink>(
     threads: &(impl Threads + Sync),
     alloc: Global,
@@ -44,30 +44,6 @@ pub fn plan_json_for<J: Encoder, R: Read, W: Sink, E: Sink>(
         Ok(text) => plan_text(threads, alloc, encoder, mode, text, writer, errors),
         Err(fault) => Ended::failed(say_input_fault(fault, name, errors)),
     }
-}
-
-/// The same for a decoder of slices.
-pub fn plan_json_on<J: Encoder, R: Read, W: Sink, E: Sink>(
-    threads: &(impl Threads + Sync),
-    alloc: Global,
-    encoder: &J,
-    name: &str,
-    reader: &mut R,
-    writer: &mut W,
-    errors: &mut E,
-) -> Ended
-    ensures done { result.status ≡ Status.Success
-        → Keeps (E.contents errors.old) (E.contents errors.new) }
-    ensures planned { result.status ≡ Status.Success → IfSome (R.remaining reader.old) (λ text.
-        WritesJson J.says text (W.contents writer.old) (W.contents writer.new)) }
-    ensures ends { result.status ≡ Status.Failure
-        → FailsJson J.says (R.remaining reader.old) name.now result.told (W.refuses writer.new)
-        (W.contents writer.old) (W.contents writer.new)
-        (E.refuses errors.new) (E.contents errors.old) (E.contents errors.new) }
-    ensures usage { result.status ≢ Status.Usage }
-{
-    let mode = DecodeMode::SliceBased;
-    plan_json_for(threads, alloc, encoder, mode, name, reader, writer, errors)
 }
 
 /// Prints the units of the stream of this text, or the line of its refusal.

@@ -1,13 +1,19 @@
 use access_unit::{Refusal, Refused};
+use doubts::Doubt;
 use pictures::AuId;
 use std::alloc::{AllocError, Global};
 use std::test::Fail;
-use unit_json::{Encoder, Json, JsonLine};
+use unit_json::{DecodeMode, Encoder, Json, JsonLine};
 use unit_outcomes::{Outcome, ValidityFault};
 
 /// The text of the line of a unit.
 fn unit_text(alloc: Global, id: u32, outcome: &Outcome) -> Result<String, AllocError> {
-    let line = JsonLine::of_unit(alloc, AuId::new(id), None, outcome)?;
+    let untold = Doubt {
+        follows: None,
+        in_doubt: false,
+    };
+    let mode = DecodeMode::SliceBased;
+    let line = JsonLine::of_told(alloc, mode, AuId::new(id), None, outcome, untold)?;
     Json.encode(alloc, &line)
 }
 

@@ -50,6 +50,31 @@ const EDITS: [Row; 11] = [
     },
 ];
 
+/// A stream of A, a picture of frame_num 2, one of frame_num 1 and sets: a gap, a picture that fits A,
+/// and an IDR picture behind them.
+const DOUBTS: [Row; 5] = [
+    Row {
+        message: "{\"jsonrpc\":\"2.0\",\"id\":1,\"method\":\"load\",\"params\":{\"bytes\":\"AAABZ0IACtp5AAABaM44gAAAAWWIhIAAAAFBmkMAAAFBmiMAAAFnQgAK2nkAAAFozjiA\"}}",
+        lines: "{\"jsonrpc\":\"2.0\",\"id\":1,\"result\":{\"units\":4,\"first\":1,\"last\":4}}\n",
+    },
+    Row {
+        message: "{\"jsonrpc\":\"2.0\",\"id\":2,\"method\":\"units\",\"params\":{\"from\":0,\"count\":9}}",
+        lines: "{\"jsonrpc\":\"2.0\",\"id\":2,\"result\":[{\"unit\":1,\"position\":0,\"begins_period\":true,\"counts\":{\"top\":0,\"bottom\":0}},{\"unit\":2,\"fault\":{\"number\":11,\"name\":\"FrameNumGap\"}},{\"unit\":3,\"position\":1,\"begins_period\":false,\"counts\":{\"top\":2,\"bottom\":2},\"follows\":2,\"in_doubt\":true},{\"unit\":4,\"no_picture\":true,\"follows\":2}]}\n",
+    },
+    Row {
+        message: "{\"jsonrpc\":\"2.0\",\"id\":3,\"method\":\"units\",\"params\":{\"from\":2,\"count\":1}}",
+        lines: "{\"jsonrpc\":\"2.0\",\"id\":3,\"result\":[{\"unit\":3,\"position\":1,\"begins_period\":false,\"counts\":{\"top\":2,\"bottom\":2},\"follows\":2,\"in_doubt\":true}]}\n",
+    },
+    Row {
+        message: "{\"jsonrpc\":\"2.0\",\"method\":\"insert\",\"params\":{\"after\":4,\"bytes\":\"AAABZ0IACtp5AAABaM44gAAAAWWIhIA=\"}}",
+        lines: "",
+    },
+    Row {
+        message: "{\"jsonrpc\":\"2.0\",\"id\":5,\"method\":\"units\",\"params\":{\"from\":3,\"count\":1000}}",
+        lines: "{\"jsonrpc\":\"2.0\",\"id\":5,\"result\":[{\"unit\":4,\"no_picture\":true,\"follows\":2},{\"unit\":5,\"position\":2,\"begins_period\":true,\"counts\":{\"top\":0,\"bottom\":0}}]}\n",
+    },
+];
+
 /// Pictures that are taken, told, dropped and made again.
 const PICTURES: [Row; 18] = [
     Row {
@@ -134,4 +159,9 @@ fn edits_and_questions_are_answered(rt: HostRuntime) {
 #[test]
 fn pictures_are_told_of(rt: HostRuntime) {
     assert!(rt; answers_so(&rt, &PICTURES));
+}
+
+#[test]
+fn units_behind_a_damage_are_told_of(rt: HostRuntime) {
+    assert!(rt; answers_so(&rt, &DOUBTS));
 }

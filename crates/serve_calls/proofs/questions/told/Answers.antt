@@ -1,7 +1,29 @@
+use Rattle.std.proofs.Common.{◌∙◌, ◌<◌, ◌≤◌, length, filter_map, ap, arith}
+use Rattle.std.proofs.lemmas.List.{take_all}
+use Rattle.std.specs.List.{zip}
 use Rattle.serve_calls.specs.Answering.{unit_in}
-use Rattle.serve_calls.proofs.Listing.{filter_map-more}
+use Rattle.serve_calls.proofs.Listing.{filter_map-more, length-zip, pair_at}
 use Rattle.serve_calls.proofs.questions.told.Goals as goal
 
-pub loop-id-preserved : goal.loop-id-preserved
-loop-id-preserved c = filter_map-more (unit_in c.args.session.now.register.stream c.args.controls) c.args.ids.now c.loop-id.id-index
-    c.id-item.result _ _ _ c.loop-id-test.true c.id-item.is c.loop-id.invariant c.in_ok-told_of.ensures c.in_ok-push_some.ensures
+pub loop-at-preserved : goal.loop-at-preserved
+loop-at-preserved c =
+    let ids = c.args.ids.now in
+    let doubts = c.args.doubts.now in
+    let at = c.loop-at.at in
+    let here : at < length ids = c.loop-at-test.true in
+    let there : at < length doubts = omega (arith, here, c.requires) in
+    let long = length-zip ids doubts c.requires in
+    let within : at < length (zip ids doubts) = omega (arith, here, long) in
+    filter_map-more (unit_in c.args.session.now.register.stream c.args.controls) (zip ids doubts) at
+    (c.index-ids-at.result, c.index-doubts-at.result) _ _ _ within
+    (pair_at ids doubts at _ _ here there c.index-ids-at.is c.index-doubts-at.is) c.loop-at.invariant
+    c.in_ok-answer.ensures c.in_ok-push_some.ensures
+
+pub returns : goal.returns
+returns c =
+    let ids = c.args.ids.now in
+    let doubts = c.args.doubts.now in
+    let at = c.loop-at.at in
+    let long = length-zip ids doubts c.requires in
+    let whole : length (zip ids doubts) ≤ at = omega (arith, c.loop-at-test.false, long) in
+    c.loop-at.invariant ∙ ap (filter_map (unit_in c.args.session.now.register.stream c.args.controls)) (take_all at (zip ids doubts) whole)

@@ -104,6 +104,15 @@ public:
         return is_found(cupdaisy_unit_at(&handle, position, &id), CUPDAISY_NO_SUCH_PLACE);
     }
 
+    /* Which of so many units from a place on follow a damage, and which of them are in doubt. */
+    std::vector<cupdaisy_doubt> doubts(std::size_t from, std::size_t count)
+    {
+        std::vector<cupdaisy_doubt> told(count + 1);
+        expect(cupdaisy_doubts(&handle, from, told.data(), count, &count));
+        told.resize(count);
+        return told;
+    }
+
     /* CUPDAISY_DONE with the picture's surface, or CUPDAISY_PENDING, _HAS_FAULT, _NO_PICTURE or _NO_SUCH_UNIT. */
     std::uint32_t show(std::uint32_t id, Surface &surface) { return cupdaisy_show(&handle, id, &surface); }
 

@@ -102,6 +102,15 @@ typedef struct cupdaisy_outcome {
     uint64_t slices;        /* how many slices it has, each with its request */
 } cupdaisy_outcome;
 
+/*
+ * What is told of a unit behind a damage. A fault is local: a picture behind it may be valid by its numbers and yet be made of other
+ * frames than its encoder meant. docs/C.md says which pictures are in doubt, and which wrong ones aren't found.
+ */
+typedef struct cupdaisy_doubt {
+    uint32_t follows;  /* the unit that shows the damage, where no valid IDR picture stands behind it up to this one; else 0 */
+    uint32_t in_doubt; /* 1 where this unit is valid and its picture may be made of other frames than were meant; else 0 */
+} cupdaisy_doubt;
+
 /* A job that was taken: a picture to decode. */
 typedef struct cupdaisy_job {
     uint64_t number; /* jobs are 1, 2, 3 and so on */
@@ -273,6 +282,13 @@ uint32_t cupdaisy_unit_at(cupdaisy_session *session, size_t position, uint32_t *
 
 /* The outcome of the unit of the id. NO_SUCH_UNIT. */
 uint32_t cupdaisy_outcome_of(cupdaisy_session *session, uint32_t id, cupdaisy_outcome *outcome);
+
+/*
+ * Which units follow a damage, and which of them are in doubt: of those from the place `from` on, as many as `doubts` has room for,
+ * or up to the last one. `count` of them are written, none where `from` is past the end, and the rest of the room stays as it was.
+ * It takes a time that grows with the units from the last valid IDR picture before `from` on. Takes memory. MEMORY.
+ */
+uint32_t cupdaisy_doubts(cupdaisy_session *session, size_t from, cupdaisy_doubt *doubts, size_t doubts_length, size_t *count);
 
 /*
  * The number of the key of the unit of the id: of all that its picture is made of. Units have equal numbers exactly where

@@ -17,9 +17,9 @@ CUPDAISY_LIBRARY in the environment names a library in the place of the one that
 from . import kernel
 from .library import (DELETE, EMPTY, FAULT, INSERT_AFTER, INSERT_FIRST, PLAN, REPLACE, Refused, fault_name, status_name,
                       version)
-from .records import Frame, GroupReceipt, Job, JobInput, LoadReceipt, Outcome, Receipt, Request
+from .records import Doubt, Frame, GroupReceipt, Job, JobInput, LoadReceipt, Outcome, Receipt, Request
 from .session import Reference, Session
 
-__all__ = ["DELETE", "EMPTY", "FAULT", "INSERT_AFTER", "INSERT_FIRST", "PLAN", "REPLACE", "Frame", "GroupReceipt", "Job", "JobInput",
-           "LoadReceipt", "Outcome", "Receipt", "Reference", "Refused", "Request", "Session", "fault_name", "kernel", "status_name",
-           "version"]
+__all__ = ["DELETE", "EMPTY", "FAULT", "INSERT_AFTER", "INSERT_FIRST", "PLAN", "REPLACE", "Doubt", "Frame", "GroupReceipt", "Job",
+           "JobInput", "LoadReceipt", "Outcome", "Receipt", "Reference", "Refused", "Request", "Session", "fault_name", "kernel",
+           "status_name", "version"]

@@ -6,8 +6,8 @@ from ctypes import POINTER, byref, c_bool, c_size_t, c_ubyte, c_uint16, c_uint32
 from typing import Any, Optional
 
 from .kernel import PredWeights
-from .records import (Edit, Frame, GroupReceipt, Handle, Job, JobInput, JobReference, JournalEdit, LoadReceipt, Outcome, Receipt,
-                      Request)
+from .records import (Doubt, Edit, Frame, GroupReceipt, Handle, Job, JobInput, JobReference, JournalEdit, LoadReceipt, Outcome,
+                      Receipt, Request)
 
 DONE, NO_SESSION, TOO_SMALL, NO_SUCH_PLACE, NO_SUCH_SLICE = 0, 100, 103, 104, 106
 NOTHING_DUE, STALE, NOT_HELD, PENDING, HAS_FAULT, NO_PICTURE, NO_WEIGHTS = 108, 110, 111, 112, 113, 114, 116
@@ -28,7 +28,8 @@ CALLS: dict[str, tuple[Any, ...]] = {
     "replace": (c_uint32, *TEXT, POINTER(Receipt)),
     "group": (POINTER(Edit), SIZE, *TEXT, OUT_ID, SIZE, POINTER(GroupReceipt)), "load": (*TEXT, POINTER(LoadReceipt)),
     "units": (OUT_SIZE,), "id_at": (SIZE, OUT_ID), "place": (c_uint32, OUT_SIZE), "position": (c_uint32, OUT_SIZE),
-    "unit_at": (SIZE, OUT_ID), "outcome_of": (c_uint32, POINTER(Outcome)), "key": (c_uint32, OUT_NUMBER),
+    "unit_at": (SIZE, OUT_ID), "outcome_of": (c_uint32, POINTER(Outcome)),
+    "doubts": (SIZE, POINTER(Doubt), SIZE, OUT_SIZE), "key": (c_uint32, OUT_NUMBER),
     "in_use": (c_uint64, OUT_ID),
     "show": (c_uint32, OUT_NUMBER), "take": (POINTER(Job),), "take_for": (c_uint32, POINTER(Job)),
     "land": (c_uint64, c_uint64), "give_back": (c_uint64,), "drop_picture": (c_uint32, OUT_NUMBER), "uncache": (OUT_NUMBER,),

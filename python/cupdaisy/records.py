@@ -53,6 +53,14 @@ class Outcome(Record):
                 ("begins_period", c_uint32), ("slices", c_uint64)]
 
 
+class Doubt(Record):
+    """What is told of a unit behind a damage: the unit that shows the damage, 0 where there is none, and 1 where this one's picture may be
+    made of other frames than were meant."""
+    follows: int
+    in_doubt: int
+    _fields_ = [("follows", c_uint32), ("in_doubt", c_uint32)]
+
+
 class Job(Record):
     """A job that was taken: a picture to decode, by its number, and a unit that has it."""
     number: int

@@ -7,8 +7,8 @@ from typing import Any, Generic, Iterator, NamedTuple, Optional, Sequence, TypeV
 from .kernel import PredWeights
 from .library import (DONE, HAS_FAULT, NO_PICTURE, NO_SUCH_PLACE, NO_WEIGHTS, NOT_HELD, NOTHING_DUE, PENDING, STALE, Refused,
                       called, filled, text_of)
-from .records import (Edit, Frame, GroupReceipt, Handle, Job, JobInput, JobReference, JournalEdit, LoadReceipt, Outcome, Receipt,
-                      Request)
+from .records import (Doubt, Edit, Frame, GroupReceipt, Handle, Job, JobInput, JobReference, JournalEdit, LoadReceipt, Outcome,
+                      Receipt, Request)
 
 T = TypeVar("T")
 Out = TypeVar("Out", bound=Any)
@@ -164,6 +164,13 @@ class Session(Generic[T]):
 
     def outcome(self, unit: int) -> Outcome:
         return self.told(Outcome(), "outcome_of", unit)
+
+    def doubts(self, place: int, count: int) -> list[Doubt]:
+        """Which of so many units from a place on follow a damage, and which of them are in doubt; fewer where the stream ends before."""
+        told, room = c_size_t(), min(count, len(self))
+        doubts = (Doubt * max(room, 1))()
+        self.done("doubts", place, doubts, room, byref(told))
+        return list(doubts[:told.value])
 
     def key(self, unit: int) -> int:
         """The number of a valid unit's key: of all that its picture is made of."""

@@ -11,6 +11,8 @@ import cupdaisy
 # An IDR picture with its parameter sets, and parameter sets alone.
 SETS = bytes.fromhex("000001674200 0ADA79 00000168CE3880")
 PICTURE = SETS + bytes.fromhex("00000165888480")
+# P pictures by their frame_num.
+LATER = {1: bytes.fromhex("000001419A23"), 2: bytes.fromhex("000001419A43")}
 SAMPLES = pathlib.Path(os.environ.get("CUPDAISY_SAMPLES") or pathlib.Path(__file__).resolve().parents[2] / "samples")
 SURFACES = 24
 
@@ -68,6 +70,15 @@ class Calls(unittest.TestCase):
             receipt, ids = session.group(edits)
             self.assertEqual((receipt.number, ids, session.ids(), list(session)), (1, [1, 2, 2, 1], [2], [2]))
             self.assertEqual(session.journal(), [edits])
+
+    def test_units_behind_a_damage(self):
+        with cupdaisy.Session() as session:
+            for text in (PICTURE, LATER[2], LATER[1], SETS):
+                session.insert_last(text)
+            told = [(doubt.follows, doubt.in_doubt) for doubt in session.doubts(0, 9)]
+            self.assertEqual(told, [(0, 0), (0, 0), (2, 1), (2, 0)])
+            self.assertEqual([doubt.in_doubt for doubt in session.doubts(2, 1)], [1])
+            self.assertEqual((session.doubts(4, 9), session.doubts(1, 0)), ([], []))
 
     def test_outcomes_and_requests(self):
         with cupdaisy.Session() as session:

@@ -103,6 +103,41 @@ static void faults_are_told(void)
     EXPECT(cupdaisy_close(&session) == CUPDAISY_DONE);
 }
 
+static bool is_doubt(cupdaisy_doubt doubt, uint32_t follows, uint32_t in_doubt)
+{
+    return doubt.follows == follows && doubt.in_doubt == in_doubt;
+}
+
+/* A gap, a picture that fits again, and sets alone; an IDR picture behind them, or the lost picture, ends what follows. */
+static void units_behind_a_damage_are_told(void)
+{
+    cupdaisy_session session = CUPDAISY_NONE;
+    EXPECT(cupdaisy_open(&session, 16) == CUPDAISY_DONE);
+    cupdaisy_receipt receipt = {0, 0, 0, 0};
+    EXPECT(cupdaisy_insert_last(&session, A, sizeof A, &receipt) == CUPDAISY_DONE);
+    EXPECT(cupdaisy_insert_last(&session, P2, sizeof P2, &receipt) == CUPDAISY_DONE);
+    EXPECT(cupdaisy_insert_last(&session, P1, sizeof P1, &receipt) == CUPDAISY_DONE);
+    EXPECT(cupdaisy_insert_last(&session, sets, sizeof sets, &receipt) == CUPDAISY_DONE);
+    cupdaisy_doubt doubts[6];
+    memset(doubts, 0x77, sizeof doubts);
+    size_t count = 9;
+    EXPECT(cupdaisy_doubts(&session, 0, doubts, 6, &count) == CUPDAISY_DONE && count == 4);
+    EXPECT(is_doubt(doubts[0], 0, 0) && is_doubt(doubts[1], 0, 0) && is_doubt(doubts[2], 2, 1) && is_doubt(doubts[3], 2, 0));
+    EXPECT(is_doubt(doubts[4], 0x77777777, 0x77777777));
+    EXPECT(cupdaisy_doubts(&session, 2, doubts, 1, &count) == CUPDAISY_DONE && count == 1);
+    EXPECT(is_doubt(doubts[0], 2, 1) && is_doubt(doubts[1], 0, 0));
+    EXPECT(cupdaisy_doubts(&session, 4, doubts, 6, &count) == CUPDAISY_DONE && count == 0);
+    EXPECT(cupdaisy_doubts(&session, (size_t)-1, doubts, 6, &count) == CUPDAISY_DONE && count == 0);
+    EXPECT(cupdaisy_doubts(&session, 0, doubts, 0, &count) == CUPDAISY_DONE && count == 0 && is_doubt(doubts[0], 2, 1));
+    EXPECT(cupdaisy_insert_last(&session, A, sizeof A, &receipt) == CUPDAISY_DONE && receipt.id == 5);
+    EXPECT(cupdaisy_doubts(&session, 3, doubts, 6, &count) == CUPDAISY_DONE && count == 2);
+    EXPECT(is_doubt(doubts[0], 2, 0) && is_doubt(doubts[1], 0, 0));
+    EXPECT(cupdaisy_insert_after(&session, 1, P1, sizeof P1, &receipt) == CUPDAISY_DONE && receipt.id == 6);
+    EXPECT(cupdaisy_doubts(&session, 2, doubts, 2, &count) == CUPDAISY_DONE && count == 2);
+    EXPECT(is_doubt(doubts[0], 0, 0));
+    EXPECT(cupdaisy_close(&session) == CUPDAISY_DONE);
+}
+
 static void edits_are_refused(void)
 {
     cupdaisy_session session = CUPDAISY_NONE;
@@ -554,6 +589,8 @@ static void expect_no_more(cupdaisy_session *session)
     EXPECT(cupdaisy_unit_at(session, 0, &id) == CUPDAISY_NO_SESSION && id == 7);
     EXPECT(cupdaisy_key(session, 1, &key) == CUPDAISY_NO_SESSION && key == 7);
     EXPECT(cupdaisy_in_use(session, 1, &id) == CUPDAISY_NO_SESSION && id == 7);
+    cupdaisy_doubt doubt = {7, 7};
+    EXPECT(cupdaisy_doubts(session, 0, &doubt, 1, &number) == CUPDAISY_NO_SESSION && number == 7 && doubt.follows == 7);
     cupdaisy_job job = {7, 7};
     EXPECT(cupdaisy_take_for(session, 1, &job) == CUPDAISY_NO_SESSION && job.number == 7);
     uint64_t surface = 7;
@@ -730,6 +767,7 @@ int main(void)
 {
     stream_is_told();
     faults_are_told();
+    units_behind_a_damage_are_told();
     edits_are_refused();
     deleted_unit_is_repaired();
     stale_and_late();

@@ -48,6 +48,17 @@ static void edits_are_made()
     EXPECT(cupdaisy::Refused(16).what() == std::string("NoSuchUnit"));
 }
 
+static void units_behind_a_damage_are_told()
+{
+    cupdaisy::Session session;
+    session.load(A);
+    session.insert_after(1, P2);
+    session.insert_after(2, P1);
+    const std::vector<cupdaisy_doubt> doubts = session.doubts(1, 9);
+    EXPECT(doubts.size() == 2 && doubts[0].follows == 0 && doubts[1].follows == 2 && doubts[1].in_doubt == 1);
+    EXPECT(session.doubts(3, 9).empty() && session.doubts(0, 0).empty());
+}
+
 static void jobs_are_told()
 {
     cupdaisy::Session session(16);
@@ -96,6 +107,7 @@ static void surfaces_go_back()
 int main()
 {
     edits_are_made();
+    units_behind_a_damage_are_told();
     jobs_are_told();
     surfaces_go_back();
     return failures != 0;

@@ -7,8 +7,8 @@ Each of N sessions (10 by default), by a seed of its own from --seed on, makes s
 are the files' units, whole or damaged, groups of edits, loads, and jobs that are taken, landed and given back in any order.
 The host decodes by the structs that it is told: a surface holds the digest of a job's requests, of their bytes and of what the
 surfaces hold that the job refers to. Each answer is compared, and after each step the whole stream: ids, outcomes, positions,
-keys, what the surfaces hold that are shown, the requests of one unit and of one job with all their bytes, and which surfaces the
-session has. At the end the journal is that of the accepted edits.
+keys, what is told of doubts, what the surfaces hold that are shown, the requests of one unit and of one job with all their bytes,
+and which surfaces the session has. At the end the journal is that of the accepted edits.
 
 Exit status: 0 if nothing differs, else 1.
 """
@@ -22,7 +22,7 @@ import tempfile
 
 sys.path.append(str(pathlib.Path(__file__).resolve().parent.parent.parent / "tools"))
 
-from cupdaisy import fold, kernel_structs, scripts, session as model    # noqa: E402
+from cupdaisy import doubts, fold, kernel_structs, scripts, session as model    # noqa: E402
 from cupdaisy.command_line import NOT_INSTALLED, parser_of    # noqa: E402
 from cupdaisy.streams import START, Refused, texts_of    # noqa: E402
 from cupdaisy.workspace import TOP    # noqa: E402
@@ -400,6 +400,13 @@ class Drawn:
                 same(f"show {unit}", self.session.show(unit), None)
                 same(f"key of {unit}", answered(self.session.key, unit), ("refused", 107, None))
 
+    def doubts(self):
+        """Which units follow a damage, and which of them are in doubt: of a stretch, and past the end."""
+        told = [(follows or 0, int(in_doubt)) for follows, in_doubt in doubts.told_in(self.model)]
+        begin, count = self.rng.randint(0, len(told) + 1), self.rng.choice((0, 1, 3, len(told), 1000))
+        found = [(doubt.follows, doubt.in_doubt) for doubt in self.session.doubts(begin, count)]
+        same(f"doubts of {count} units from {begin} on", found, told[begin:begin + count])
+
     def keys_in_use(self):
         """Which numbers of keys are in use, also of some that were."""
         now = {self.keys[row.key] for row in self.model.rows if row.key is not None}
@@ -434,6 +441,7 @@ class Drawn:
         self.stream()
         same("surfaces that the session has", len(self.has), len(self.model.held) + sum(map(len, self.model.cached)))
         self.keys_in_use()
+        self.doubts()
         self.unit_requests()
         self.job_requests()
 

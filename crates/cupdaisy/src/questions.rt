@@ -1,16 +1,17 @@
 //! Questions about the stream.
 
 ghost use Rattle.std.specs.Prelude.{◌≡◌, ℕ, length, Result};
+ghost use Rattle.session_calls.specs.Doubting.{TellsDoubts};
 ghost use Rattle.session_calls.specs.Finding.{IsAtPosition};
 ghost use Rattle.session_calls.specs.Keys.{IsKeyOf, TellsUse};
 ghost use Rattle.session_calls.specs.Showing.{ShowsTo};
 ghost use Rattle.session_calls.specs.Asking.{id_at, outcome_told, place_told, position_told};
 ghost use Rattle.session_calls.specs.Statuses.{done};
 ghost use Rattle.session_calls.specs.Telling.{Tells};
-ghost use Rattle.cupdaisy.specs.Calls.{Asks};
+ghost use Rattle.cupdaisy.specs.Calls.{Asks, AsksTwo};
 
 use crate::Handle;
-use session_calls::{NO_SESSION, UnitOutcome};
+use session_calls::{DoubtTold, NO_SESSION, UnitOutcome};
 use std::alloc::Global;
 
 /// How many units the stream has.
@@ -121,6 +122,28 @@ pub extern "C" fn cupdaisy_outcome_of(
         return NO_SESSION;
     };
     let status = session_calls::outcome(&inner, id, outcome);
+    session.put(inner);
+    status
+}
+
+/// Which units from a place on follow a damage, and which of them are in doubt.
+#[unsafe(no_mangle)]
+pub extern "C" fn cupdaisy_doubts(
+    alloc: Global,
+    session: &mut Handle,
+    from: usize,
+    doubts: &mut [DoubtTold],
+    count: &mut usize,
+) -> u32
+    ensures { AsksTwo session.old.held.state result doubts.old doubts.new count.old count.new
+        session.new.held.state
+        (λ machine. TellsDoubts machine.register.stream from result doubts.old doubts.new
+        count.old count.new) }
+{
+    let Some(inner) = session.take(alloc) else {
+        return NO_SESSION;
+    };
+    let status = session_calls::doubts(&inner, from, doubts, count);
     session.put(inner);
     status
 }

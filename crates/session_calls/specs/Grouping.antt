@@ -46,9 +46,9 @@ IsNoEdit texts asked index =
     ((edits : List Edit) × AreAsked texts (take index asked) edits)
     × (option_map (asked_edit texts) (slice_get asked index) ≡ Some None)
 
--- the ids, and behind them what was there
-abbrev pub filled : List ℕ → List ℕ → List ℕ
-filled ids was = ids ++ drop (length ids) was
+-- what is told, and behind it what was there
+abbrev pub filled : {T : Type 0} → List T → List T → List T
+filled told was = told ++ drop (length told) was
 
 -- what is told of a group that was made
 abbrev pub told_group : GroupReceipt → GroupTold

@@ -2,6 +2,7 @@ pub mod Statuses
 pub mod Telling
 pub mod Machines
 pub mod Filling
+pub mod Doubting
 pub mod Editing
 pub mod Grouping
 pub mod AskedFaults

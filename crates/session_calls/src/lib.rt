@@ -7,6 +7,7 @@
 #![tactic(auto)]
 
 mod asking;
+mod doubting;
 mod editing;
 mod filling;
 mod finding;
@@ -28,6 +29,7 @@ mod telling;
 pub use asking::{
     KIND_EMPTY, KIND_FAULT, KIND_PLAN, UnitOutcome, id_at, outcome, place, position, units,
 };
+pub use doubting::{DoubtTold, doubts};
 pub use editing::{EditReceipt, delete, edit, insert, insert_last, replace};
 pub use finding::unit_at;
 pub use frames::{FrameTold, job_frame, job_frame_bytes, unit_frame, unit_frame_bytes};

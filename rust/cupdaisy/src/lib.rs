@@ -52,7 +52,7 @@ pub use error::{Error, Fault, GroupError, LoadError, NotLanded};
 pub use session::Session;
 pub use sys::v4l2::v4l2_ctrl_h264_pred_weights as PredWeights;
 pub use sys::{cupdaisy_frame as Frame, cupdaisy_job_input as JobInput, cupdaisy_request as Request};
-pub use values::{Edit, Group, Job, JournalEdit, Loaded, Outcome, Plan, Receipt, Reference, Shown, UnitId};
+pub use values::{Doubt, Edit, Group, Job, JournalEdit, Loaded, Outcome, Plan, Receipt, Reference, Shown, UnitId};
 
 /// The version of the library.
 pub fn version() -> String {

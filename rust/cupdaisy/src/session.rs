@@ -8,7 +8,7 @@ use crate::error::{Error, GroupError, LoadError, NotLanded};
 use crate::slots::Slots;
 use crate::sys::handle::Raw;
 use crate::sys::{self, cupdaisy_edit, cupdaisy_group_receipt, cupdaisy_receipt};
-use crate::values::{Edit, Group, Job, JournalEdit, Loaded, Outcome, Receipt, Reference, Shown, UnitId};
+use crate::values::{Doubt, Edit, Group, Job, JournalEdit, Loaded, Outcome, Receipt, Reference, Shown, UnitId};
 use crate::{Frame, JobInput, PredWeights, Request};
 
 /// A session over a stream, which owns the surfaces `T` that were landed and not given back. It is closed where it is dropped,
@@ -172,6 +172,13 @@ impl<T> Session<T> {
     /// Whether a unit can be decoded.
     pub fn outcome(&self, unit: UnitId) -> Result<Outcome, Error> {
         self.raw.outcome_of(unit.0).map(Outcome::of).map_err(Error::of)
+    }
+
+    /// Which of so many units from a place in decoding order on follow a damage, and which of them are in doubt; fewer where the
+    /// stream ends before.
+    pub fn doubts(&self, from: usize, count: usize) -> Result<Vec<Doubt>, Error> {
+        let told = self.raw.doubts(from, count).map_err(Error::of)?;
+        Ok(told.into_iter().map(Doubt::of).collect())
     }
 
     /// The number of a valid unit's key: of all that its picture is made of. Units have equal numbers exactly where their

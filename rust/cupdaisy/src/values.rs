@@ -104,6 +104,22 @@ pub enum Outcome {
     Empty,
 }
 
+/// What is told of a unit behind a damage.
+#[derive(Clone, Copy, Debug, PartialEq, Eq)]
+pub struct Doubt {
+    /// The unit that shows the damage, where no valid IDR picture stands behind it up to this one.
+    pub follows: Option<UnitId>,
+    /// Whether the unit is valid and its picture may be made of other frames than were meant.
+    pub in_doubt: bool,
+}
+
+impl Doubt {
+    pub(crate) fn of(told: sys::cupdaisy_doubt) -> Self {
+        let follows = (told.follows != 0).then_some(UnitId(told.follows));
+        Doubt { follows, in_doubt: told.in_doubt == 1 }
+    }
+}
+
 /// What is said of a valid unit.
 #[derive(Clone, Copy, Debug, PartialEq, Eq)]
 pub struct Plan {

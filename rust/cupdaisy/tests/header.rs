@@ -44,6 +44,7 @@ fn structs() -> String {
     same!(to, "cupdaisy_session" cupdaisy_session: at full);
     same!(to, "cupdaisy_receipt" cupdaisy_receipt: number steps hashed id);
     same!(to, "cupdaisy_outcome" cupdaisy_outcome: kind fault top bottom order begins_period slices);
+    same!(to, "cupdaisy_doubt" cupdaisy_doubt: follows in_doubt);
     same!(to, "cupdaisy_job" cupdaisy_job: number unit);
     same!(to, "cupdaisy_job_input" cupdaisy_job_input: unit slices references);
     same!(to, "cupdaisy_reference" cupdaisy_reference: timestamp surface);

@@ -13,7 +13,7 @@ use std::rc::Rc;
 
 use common::stand_in::{picture, Digest};
 use common::{repository, units_of, Drawn};
-use cupdaisy::{Edit, Error, Job, Outcome, Plan, Request, Session, Shown, UnitId};
+use cupdaisy::{Doubt, Edit, Error, Job, Outcome, Plan, Request, Session, Shown, UnitId};
 
 const SAMPLES: [&str; 4] = ["samples/clock.264", "samples/bframes.264", "samples/cuts.264", "samples/zoom.264"];
 
@@ -423,4 +423,19 @@ fn a_whole_stream_is_shown_as_the_program_shows_it() {
         }
         assert_eq!(printed(&script, &sample.replace('/', "-")), shown, "{sample}");
     }
+}
+
+#[test]
+fn units_behind_a_damage_are_told() {
+    const PICTURE: &[u8] =
+        &[0, 0, 1, 0x67, 0x42, 0, 10, 0xDA, 0x79, 0, 0, 1, 0x68, 0xCE, 0x38, 0x80, 0, 0, 1, 0x65, 0x88, 0x84, 0x80];
+    let mut session = Session::<()>::open(16).unwrap();
+    session.insert_last(PICTURE).unwrap();
+    let gap = session.insert_last(&[0, 0, 1, 0x41, 0x9A, 0x43]).unwrap().unit;
+    session.insert_last(&[0, 0, 1, 0x41, 0x9A, 0x23]).unwrap();
+    let none = Doubt { follows: None, in_doubt: false };
+    let fits = Doubt { follows: Some(gap), in_doubt: true };
+    assert_eq!(session.doubts(0, 9).unwrap(), [none, none, fits]);
+    assert_eq!(session.doubts(2, 1).unwrap(), [fits]);
+    assert_eq!(session.doubts(3, 9).unwrap(), []);
 }

@@ -37,6 +37,7 @@ plain!(
     usize,
     cupdaisy_receipt,
     cupdaisy_outcome,
+    cupdaisy_doubt,
     cupdaisy_job,
     cupdaisy_job_input,
     cupdaisy_reference,
@@ -195,6 +196,15 @@ impl Raw {
         let mut receipt = zeros();
         let status = unsafe { cupdaisy_load(self.at(), text.as_ptr(), text.len(), &mut receipt) };
         (done(status), receipt)
+    }
+
+    /// What is told of so many units from a place on, or of those up to the last one.
+    pub(crate) fn doubts(&self, from: usize, count: usize) -> Result<Vec<cupdaisy_doubt>, Status> {
+        let mut doubts = vec![zeros(); count.min(self.units()?)];
+        let mut told = 0;
+        done(unsafe { cupdaisy_doubts(self.at(), from, doubts.as_mut_ptr(), doubts.len(), &mut told) })?;
+        doubts.truncate(told);
+        Ok(doubts)
     }
 
     pub(crate) fn land(&self, job: u64, surface: u64) -> Result<(), Status> {

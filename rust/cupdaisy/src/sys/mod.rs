@@ -72,6 +72,13 @@ pub struct cupdaisy_outcome {
 
 #[repr(C)]
 #[derive(Clone, Copy, Debug, PartialEq, Eq)]
+pub struct cupdaisy_doubt {
+    pub follows: u32,
+    pub in_doubt: u32,
+}
+
+#[repr(C)]
+#[derive(Clone, Copy, Debug, PartialEq, Eq)]
 pub struct cupdaisy_job {
     pub number: u64,
     pub unit: u32,
@@ -221,6 +228,13 @@ extern "C" {
     pub fn cupdaisy_position(session: Handle, id: u32, position: *mut usize) -> Status;
     pub fn cupdaisy_unit_at(session: Handle, position: usize, id: *mut u32) -> Status;
     pub fn cupdaisy_outcome_of(session: Handle, id: u32, outcome: *mut cupdaisy_outcome) -> Status;
+    pub fn cupdaisy_doubts(
+        session: Handle,
+        from: usize,
+        doubts: *mut cupdaisy_doubt,
+        doubts_length: usize,
+        count: *mut usize,
+    ) -> Status;
     pub fn cupdaisy_key(session: Handle, id: u32, key: *mut u64) -> Status;
     pub fn cupdaisy_in_use(session: Handle, key: u64, in_use: *mut u32) -> Status;
     pub fn cupdaisy_show(session: Handle, id: u32, surface: *mut u64) -> Status;

@@ -1,0 +1,4 @@
+pub mod Carried
+pub mod Led
+pub mod Changed
+pub mod Errors

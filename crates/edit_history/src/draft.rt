@@ -1,0 +1,125 @@
+//! The ids of a stream under the edits of a group.
+
+ghost use Rattle.std.specs.Prelude.{◌≡◌, ℕ, List, ◌<◌, ◌≤◌, ◌+◌, Some, length, IfErr, IfOk, OnOk};
+ghost use Rattle.edit_history.specs.Changes.{Changes, IsWithin, IsMore};
+ghost use Rattle.edit_history.specs.declared.refusals.NotUndone.TheVariants.{Unfit};
+ghost use Rattle.edit_history.specs.Groups.{Leads};
+ghost use Rattle.edit_history.specs.Refusals.{IsRefusedFor};
+ghost use Rattle.edit_history.specs.Texts.{IsStream, Texts};
+ghost use Rattle.stream_edits.specs.Edits.{Register};
+ghost use Rattle.stream_edits.specs.Ids.{AreDifferent};
+ghost use Rattle.stream_edits.specs.Streams.{start_among};
+
+use crate::changes::Change;
+use crate::refusals::NotUndone;
+use bytes::Bytes;
+use pictures::AuId;
+use std::alloc::{AllocError, Global};
+use stream_edits::{Edit, Place};
+
+/// The ids of a stream beside the one that is kept, on which the edits of a group are made one after
+/// the other, and how many ids were given.
+#[derive(Debug, Drop)]
+pub(crate) struct Draft {
+    pub(crate) ids: Vec<AuId>,
+    pub(crate) ids_given: u32,
+}
+
+impl Draft {
+    /// The ids as they are, before any edit.
+    pub(crate) fn new(alloc: Global, ids: &[AuId], ids_given: u32) -> Result<Draft, AllocError>
+        ensures ids { IfOk result (λ draft. draft.ids.items ≡ ids.now) }
+        ensures given { IfOk result (λ draft. draft.ids_given ≡ ids_given) }
+    {
+        Ok(Draft {
+            ids: ids.to_vec(alloc)?,
+            ids_given,
+        })
+    }
+
+    /// The edit that makes the change, made on the draft.
+    pub(crate) fn make(&mut self, change: &Change) -> Result<Edit, NotUndone>
+        ensures makes { IfOk result (λ edit. (old : Register) (before : Texts) (after : Texts)
+            → IsStream old before self.old.ids.items self.old.ids_given
+            → Changes before change.now after
+            → Leads old edit after self.new.ids.items self.new.ids_given) }
+        ensures given { OnOk result (self.new.ids_given ≤ self.old.ids_given + 1) }
+        ensures err { IfErr result (IsRefusedFor (self.old.ids_given + 1)) }
+        ensures fit { IfErr result (λ refused. refused ≡ Unfit
+            → IsWithin (length self.old.ids.items) change.now → ⊥) }
+    {
+        match change {
+            Change::Inserted(at, text) => self.insert(*at, text),
+            Change::Deleted(at, _) => self.delete(*at),
+            Change::Replaced(at, _, text) => self.replace(*at, text),
+        }
+    }
+
+    /// Inserts a unit at the place, under the next id.
+    fn insert(&mut self, at: usize, text: &Bytes) -> Result<Edit, NotUndone>
+        ensures makes { IfOk result (λ edit. (old : Register) (before : Texts) (after : Texts)
+            → IsStream old before self.old.ids.items self.old.ids_given
+            → IsMore before at text.now after
+            → Leads old edit after self.new.ids.items self.new.ids_given) }
+        ensures given { OnOk result (self.new.ids_given ≡ self.old.ids_given + 1) }
+        ensures err { IfErr result (IsRefusedFor (self.old.ids_given + 1)) }
+        ensures fit { IfErr result (λ refused. refused ≡ Unfit
+            → length self.old.ids.items < at) }
+    {
+        if at > self.ids.len() {
+            return Err(NotUndone::Unfit);
+        }
+        let Some(number) = self.ids_given.checked_add(1) else {
+            return Err(NotUndone::IdsSpent);
+        };
+        let edit = Edit::Insert(place_at(&self.ids, at), text.clone()?);
+        self.ids.insert(at, AuId::new(number))?;
+        self.ids_given = number;
+        Ok(edit)
+    }
+
+    /// Deletes the unit at the place.
+    fn delete(&mut self, at: usize) -> Result<Edit, NotUndone>
+        ensures makes { IfOk result (λ edit. (old : Register) (before : Texts) (after : Texts)
+            (text : List ℕ) → IsStream old before self.old.ids.items self.old.ids_given
+            → IsMore after at text before
+            → Leads old edit after self.new.ids.items self.new.ids_given) }
+        ensures given { OnOk result (self.new.ids_given ≡ self.old.ids_given) }
+        ensures err { IfErr result (λ refused. refused ≡ Unfit) }
+        ensures fit { IfErr result (λ _. length self.old.ids.items ≤ at) }
+    {
+        if at >= self.ids.len() {
+            return Err(NotUndone::Unfit);
+        }
+        Ok(Edit::Delete(self.ids.remove(at)))
+    }
+
+    /// Replaces the unit at the place.
+    fn replace(&self, at: usize, text: &Bytes) -> Result<Edit, NotUndone>
+        ensures makes { IfOk result (λ edit. (old : Register) (before : Texts) (after : Texts)
+            (others : Texts) (former : List ℕ)
+            → IsStream old before self.now.ids.items self.now.ids_given
+            → IsMore others at former before → IsMore others at text.now after
+            → Leads old edit after self.now.ids.items self.now.ids_given) }
+        ensures err { IfErr result (IsRefusedFor 0) }
+        ensures fit { IfErr result (λ refused. refused ≡ Unfit
+            → length self.now.ids.items ≤ at) }
+    {
+        if at >= self.ids.len() {
+            return Err(NotUndone::Unfit);
+        }
+        Ok(Edit::Replace(self.ids[at], text.clone()?))
+    }
+}
+
+/// The place before which so many units of these ids stand.
+fn place_at(ids: &[AuId], at: usize) -> Place
+    requires { at ≤ length ids.now }
+    ensures { AreDifferent ids.now → start_among ids.now result ≡ Some at }
+{
+    if at == 0 {
+        Place::First
+    } else {
+        Place::After(ids[at - 1])
+    }
+}

@@ -1,4 +1,5 @@
 mod cached;
+mod changes;
 mod drawing;
 mod edits;
 mod groups;

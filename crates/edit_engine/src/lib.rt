@@ -23,7 +23,7 @@ pub use runner::{Runner, run};
 pub use session::{Session, Shown};
 pub use stand_in_device::{Finished, Job, Picture};
 pub use stream_edits::{
-    Edit, EditRefused, GroupReceipt, GroupRefused, JournalEntry, Last, Place, ReadEdit, ReadGroup,
-    Receipt, ids_differ,
+    Changed, Edit, EditRefused, GroupReceipt, GroupRefused, JournalEntry, Last, Place, ReadEdit,
+    ReadGroup, Receipt, ids_differ,
 };
 pub use stream_session::{Config, ConfigFault, Doubt, NoSuchUnit};

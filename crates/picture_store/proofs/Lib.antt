@@ -36,3 +36,6 @@ pub mod Looked
 pub mod Lowered
 pub mod TakenFor
 pub mod Same
+pub mod Parts
+pub mod Lifted
+pub mod WithStretch

@@ -6,6 +6,7 @@ use Rattle.dep_keys.specs.Trees.Tree.{Bare, Gap, With}
 use Rattle.decode_jobs.specs.Inputs.{InputValue}
 use Rattle.decode_jobs.specs.Keys.{Key}
 use Rattle.picture_keys.specs.Known.{keys_of}
+use Rattle.changed_units.specs.Units.{ComparedUnit, compared_units}
 use Rattle.picture_store.specs.Pictures.{Pictures, no_pictures}
 
 -- a job that is out: its number, the key of its picture, and what it was given to decode
@@ -50,6 +51,10 @@ module _ {P : Type 0} where
   -- the key of each unit's picture, nothing for a unit that isn't valid
   abbrev pub unit_keys : StoreValue P → List (Option Key)
   unit_keys store = keys_of (units_of store)
+
+  -- the units as they are compared
+  abbrev pub compared_in : StoreValue P → List (ComparedUnit Key)
+  compared_in store = compared_units store.ids store.outcomes (unit_keys store)
 
   -- the key is in use: a valid unit has it
   abbrev pub IsInUse : StoreValue P → Key → Type 0

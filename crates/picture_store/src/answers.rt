@@ -1,6 +1,14 @@
 //! What a store answers about jobs.
 
+use changed_units::Changed;
 use decode_jobs::{Decoded, Job};
+
+/// What taking a stretch of units came to: how many pictures are lost, and which units changed.
+#[derive(Clone, Copy, Debug, PartialEq, Eq)]
+pub struct StretchTaken {
+    pub lost: usize,
+    pub changed: Changed,
+}
 
 /// A job that is taken, and the place of its unit: the first of the stream that has its key.
 #[derive(Debug)]

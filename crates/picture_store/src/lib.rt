@@ -12,6 +12,7 @@
 #![tactic(auto)]
 
 mod answers;
+mod changing;
 mod due;
 mod filling;
 mod inputs;
@@ -27,7 +28,7 @@ mod store;
 mod stretch;
 mod unreferred;
 
-pub use answers::{JobAt, Landing, Returning};
+pub use answers::{JobAt, Landing, Returning, StretchTaken};
 pub use laws::something_is_due;
 pub use picture_cache::MOST_ROOM;
 pub use refitting::numbers_of;

@@ -3,9 +3,11 @@
 ghost use Rattle.std.specs.Prelude.{◌≡◌, ℕ, ◌≤◌, ◌<◌, ◌↔◌, true, false, [], length, Contains, IsPermutation, None, Some, IsTrue, IfOk, OnOk, OnErr, slice_get};
 ghost use Rattle.std.specs.List.{zip};
 ghost use Rattle.picture_cache.specs.Bounded.{most_room};
+ghost use Rattle.changed_units.specs.Stretches.{IsLeast};
+ghost use Rattle.changed_units.specs.Units.{AreDifferent};
 ghost use Rattle.picture_keys.specs.Decodable.{AllCanDecode};
 ghost use Rattle.picture_store.specs.Pictures.{all_of};
-ghost use Rattle.picture_store.specs.Stores.{empty, AreNumbered, AreOneToOne, IsNumberInUse};
+ghost use Rattle.picture_store.specs.Stores.{compared_in, empty, AreNumbered, AreOneToOne, IsNumberInUse};
 ghost use Rattle.picture_store.specs.Changes.{RefitsLosing};
 ghost use Rattle.picture_store.specs.Jobs.{TellsTake};
 ghost use Rattle.picture_store.specs.Showing.{IsNumberAt, IsPictureAt};
@@ -20,7 +22,8 @@ mod landing;
 mod releasing;
 mod returning;
 
-use crate::answers::JobAt;
+use crate::answers::{JobAt, StretchTaken};
+use crate::changing::changed_by;
 use crate::due::{first_due, first_to_do};
 use crate::inputs::input_of;
 use crate::job_out::{JobOut, lower_all};
@@ -163,7 +166,8 @@ impl<P: Decoded> PictureStore<P> {
     /// held, and one that is cached is held again where its key comes into use. Where memory runs
     /// out, nothing changes; but a picture whose key goes out of use is cached only where memory is
     /// found for it, and `refit` answers how many were lost so. Those, and what goes out of the
-    /// cache, are released, or forgotten where the host has no picture back.
+    /// cache, are released, or forgotten where the host has no picture back. It answers too which
+    /// units changed.
     ///
     /// The keys of the units in front of the stretch stay as they are; those of its units and of
     /// the units after it are found anew, as pictures refer to earlier ones, up to the first place
@@ -173,13 +177,18 @@ impl<P: Decoded> PictureStore<P> {
         &mut self,
         stretch: Stretch,
         states: &Checkpoints<State>,
-    ) -> Result<usize, AllocError>
+    ) -> Result<StretchTaken, AllocError>
         requires stretch { IsStretch stretch self.old.ids }
+        requires different { AreDifferent self.old.ids }
+        requires apart { AreDifferent (ids_with stretch self.old.ids) }
         requires decodable { AllCanDecode []
             (zip (ids_with stretch self.old.ids) (outcomes_with stretch self.old.outcomes)) }
         requires told { TellNeeds states.now.states self.old.ids self.old.outcomes }
-        ensures ok { IfOk result (λ lost. RefitsLosing self.old (ids_with stretch self.old.ids)
-            (outcomes_with stretch self.old.outcomes) lost self.new) }
+        ensures ok { IfOk result (λ taken. RefitsLosing self.old
+            (ids_with stretch self.old.ids) (outcomes_with stretch self.old.outcomes)
+            taken.lost self.new) }
+        ensures changed { IfOk result (λ taken. IsLeast (compared_in self.old)
+            (compared_in self.new) taken.changed) }
         ensures err { OnErr result (self.new ≡ self.old) }
         ensures pictures { IfOk result (λ _. P.GoesBack ≡ true
             → IsPermutation (all_of self.old.pictures) (all_of self.new.pictures)) }
@@ -215,13 +224,21 @@ impl<P: Decoded> PictureStore<P> {
             &mut self.released,
         );
         forget_released(&mut self.released);
+        let changed = changed_by(
+            &self.ids,
+            &self.outcomes,
+            &self.numbers,
+            &stretch,
+            past,
+            &later,
+        );
         let from = stretch.from;
         put_stretch(&mut self.ids, &mut self.outcomes, stretch);
         replace_range(&mut self.numbers, from, past, later);
         self.units_settled = self.units_settled.min(from);
         self.units_not_due = self.units_not_due.min(from);
         lower_all(&mut self.jobs_out, from);
-        Ok(lost)
+        Ok(StretchTaken { lost, changed })
     }
 
     /// Forgets the keys that are neither stored nor below one that is, where there may be as many

@@ -61,6 +61,7 @@ fn make_several(
         steps: _,
         hashed: _,
         lost_pictures: _,
+        changed: _,
     } = receipt;
     Ok(ids)
 }

@@ -1,5 +1,5 @@
 -- The ids of a stream.
-use Rattle.std.specs.Prelude.{ℕ, ◌==◌, ◌<◌, ◌≤◌, List, count_by}
+use Rattle.std.specs.Prelude.{ℕ, ◌<◌, ◌≤◌, count_by}
 use Rattle.stream_edits.specs.Streams.{Stream, has_id}
 use Rattle.stream_edits.specs.Edits.{Register}
 
@@ -12,7 +12,3 @@ units_with stream id = count_by (has_id id) stream
 pub record HasIds (register : Register) : Type 0 where
   pub once : (id : ℕ) → units_with register.stream id ≤ 1
   pub given : (id : ℕ) → 0 < units_with register.stream id → (0 < id) × (id ≤ register.ids_given)
-
--- no id is there twice
-abbrev pub AreDifferent : List ℕ → Type 0
-AreDifferent ids = (id : ℕ) → count_by (λ other. other == id) ids ≤ 1

@@ -4,7 +4,7 @@ ghost use Rattle.std.specs.Prelude.{◌≡◌, ℕ, List, [], ◌∷◌, IfOk, I
 ghost use Rattle.access_unit.specs.Answers.{IsAccepted};
 ghost use Rattle.stream_edits.specs.declared.edits.Edit.TheVariants.{Insert, Delete, Replace};
 ghost use Rattle.stream_edits.specs.Changes.{IsFor};
-ghost use Rattle.stream_edits.specs.Ids.{AreDifferent};
+ghost use Rattle.changed_units.specs.Units.{AreDifferent};
 ghost use Rattle.stream_edits.specs.Refusals.{IsRefused};
 ghost use Rattle.stream_edits.specs.Streams.{ids_of};
 

@@ -7,7 +7,7 @@ ghost use Rattle.stream_edits.specs.Common.{IsFront, IsRest};
 ghost use Rattle.stream_edits.specs.Drafts.{IsDraft, IsMade, register_of};
 ghost use Rattle.stream_edits.specs.Edits.{Register};
 ghost use Rattle.stream_edits.specs.Groups.{IsForAll, IsSized};
-ghost use Rattle.stream_edits.specs.Ids.{AreDifferent};
+ghost use Rattle.changed_units.specs.Units.{AreDifferent};
 ghost use Rattle.stream_edits.specs.Refusals.{IsRefused};
 ghost use Rattle.stream_edits.specs.Streams.{ids_of};
 

@@ -26,6 +26,7 @@ mod refusals;
 
 pub use acceptance::{AcceptedEdit, AcceptedGroup};
 pub use accepting::change_of;
+pub use changed_units::Changed;
 pub use changes::Change;
 pub use edits::{Edit, Place};
 pub use group_refused::GroupRefused;

@@ -1,7 +1,7 @@
 //! Places of units in a stream.
 
 ghost use Rattle.std.specs.Prelude.{◌≡◌, ◌<◌, ◌≤◌, length, IfSome, Some};
-ghost use Rattle.stream_edits.specs.Ids.{AreDifferent};
+ghost use Rattle.changed_units.specs.Units.{AreDifferent};
 ghost use Rattle.stream_edits.specs.Streams.{place_among, start_among};
 
 use crate::edits::Place;

@@ -4,6 +4,7 @@ ghost use Rattle.std.specs.Prelude.{◌≡◌};
 ghost use Rattle.stream_edits.specs.Streams.{place_after};
 
 use crate::edits::Place;
+use changed_units::Changed;
 use pictures::AuId;
 
 /// What an accepted edit answers.
@@ -20,6 +21,9 @@ pub struct Receipt {
     /// How many pictures are lost: their keys went out of use, and no memory was found to cache
     /// them.
     pub lost_pictures: u64,
+    /// The least stretch of places of the stream after the edit that has every unit that is new, or
+    /// whose outcome is of another kind, another fault or another key than before.
+    pub changed: Changed,
 }
 
 /// What an accepted group of edits answers.
@@ -35,6 +39,9 @@ pub struct GroupReceipt {
     pub hashed: u64,
     /// How many pictures are lost, as of an edit.
     pub lost_pictures: u64,
+    /// The least stretch of places of the stream after the group that has every unit that is new,
+    /// or whose outcome is another one, as of an edit, than before its first edit.
+    pub changed: Changed,
 }
 
 /// The end of a stream.

@@ -3,7 +3,8 @@
 //! in session_tests.
 
 ghost use Rattle.std.specs.Prelude.{◌≡◌, ◌+◌, ◌<◌, ◌^◌, IfOk, OnOk};
-ghost use Rattle.stream_edits.specs.Ids.{AreDifferent, HasIds};
+ghost use Rattle.changed_units.specs.Units.{AreDifferent};
+ghost use Rattle.stream_edits.specs.Ids.{HasIds};
 ghost use Rattle.stream_edits.specs.Streams.{ids_of};
 
 use crate::{Edit, EditRefused, Place, change_of};

@@ -9,7 +9,8 @@ use Rattle.output_order.specs.OutputOrder.{positions_of}
 use Rattle.picture_store.specs.Stores.{StoreValue}
 use Rattle.stream_edits.specs.declared.edits.Edit.{Edit}
 use Rattle.stream_edits.specs.Edits.{Register}
-use Rattle.stream_edits.specs.Ids.{AreDifferent, HasIds}
+use Rattle.changed_units.specs.Units.{AreDifferent}
+use Rattle.stream_edits.specs.Ids.{HasIds}
 use Rattle.stream_edits.specs.Journals.{edits_of}
 use Rattle.stream_edits.specs.Streams.{Stream, ids_of, place_of}
 use Rattle.stream_edits.proofs.GivenIds.{AreDifferent-ids, HasIds-journal}

@@ -1,5 +1,6 @@
 -- What is made by one change is an edit, or a group of them.
 use Rattle.std.proofs.Common.{◌≡◌, ℕ, List, [], ◌∷◌, length, sym, subst, arith}
+use Rattle.changed_units.specs.declared.changed.Changed.{Changed}
 use Rattle.stream_edits.specs.declared.acceptance.AcceptedEdit.{AcceptedEdit}
 use Rattle.stream_edits.specs.declared.acceptance.AcceptedGroup.{AcceptedGroup}
 use Rattle.stream_edits.specs.declared.edits.Edit.{Edit}
@@ -17,11 +18,12 @@ use Rattle.stream_session.proofs.Meetings.{counted_among, few_everywhere}
 
 module _ {P : Type 0} where
   -- an edit by itself
-  pub Edits-moved : (old : Machine P) (edit : Edit) (accepted : AcceptedEdit) (steps lost hashed number : ℕ) (new : Machine P)
-      → IsFor old.register edit accepted → Moves old (edit ∷ []) accepted.change accepted.ids_given steps lost new → number ≡ length new.journal
+  pub Edits-moved : (old : Machine P) (edit : Edit) (accepted : AcceptedEdit) (steps lost hashed number : ℕ) (changed : Changed)
+      (new : Machine P)
+      → IsFor old.register edit accepted → Moves old (edit ∷ []) accepted.change accepted.ids_given steps lost changed new → number ≡ length new.journal
       → IsHashedFor edit hashed
-      → Edits old edit (record { number = number; id = accepted.id; steps = steps; hashed = hashed; lost_pictures = lost }) new
-  Edits-moved old edit accepted steps lost hashed number new for moves number_is hashes = record {
+      → Edits old edit (record { number = number; id = accepted.id; steps = steps; hashed = hashed; lost_pictures = lost; changed = changed }) new
+  Edits-moved old edit accepted steps lost hashed number changed new for moves number_is hashes = record {
     made = subst (λ register. Makes old.register edit accepted.id register) (sym moves.register_is) for.makes;
     journaled = moves.journaled;
     refits = moves.refits;
@@ -35,11 +37,12 @@ module _ {P : Type 0} where
       counted = moves.counted;
     };
     hashes = hashes;
+    changes = moves.changes;
   }
 
   -- a group of edits
   pub EditsAll-moved : (old : Machine P) (edits : List Edit) (accepted : AcceptedGroup) (receipt : GroupReceipt) (new : Machine P)
-      → HasIds old.register → IsForAll old.register edits accepted → Moves old edits accepted.change accepted.ids_given receipt.steps receipt.lost_pictures new
+      → HasIds old.register → IsForAll old.register edits accepted → Moves old edits accepted.change accepted.ids_given receipt.steps receipt.lost_pictures receipt.changed new
       → receipt.number ≡ length new.journal → receipt.ids.items ≡ accepted.ids.items → AreHashedFor edits receipt.hashed
       → EditsAll old edits receipt new
   EditsAll-moved old edits accepted receipt new ids for moves number_is ids_are hashes = record {
@@ -59,4 +62,5 @@ module _ {P : Type 0} where
         subst (λ (register : Register). AreCounted old.register.stream register.stream receipt.steps) (sym moves.register_is)
         (counted_among accepted.change old.register.stream receipt.steps for.inside moves.few for.front for.rest moves.counted);
     hashes = hashes;
+    changes = moves.changes;
   }

@@ -3,11 +3,18 @@ use Rattle.std.proofs.Common.{◌≡◌, ℕ, ◌+◌, ◌^◌, ◌<◌, List, [
 use Rattle.std.specs.List.{zip}
 use Rattle.request_core.specs.States.{FoldState, marked_ids}
 use Rattle.request_core.specs.Fold.{outcomes_of}
+use Rattle.unit_outcomes.specs.declared.outcome.Outcome.{Outcome}
+use Rattle.decode_jobs.specs.Keys.{Key}
+use Rattle.picture_keys.specs.Known.{keys_of}
+use Rattle.changed_units.specs.declared.changed.Changed.{Changed}
+use Rattle.changed_units.specs.Units.{AreDifferent, ComparedUnit, compared_units}
+use Rattle.changed_units.specs.Stretches.{IsLeast}
 use Rattle.picture_keys.specs.Decodable.{AllCanDecode}
 use Rattle.picture_keys.specs.Depending.{DependOn}
 use Rattle.stream_fold.specs.Agreement.{becoming}
 use Rattle.stream_fold.proofs.LaterUnits.{depend_on_marked}
 use Rattle.picture_store.specs.Needs.{TellNeeds}
+use Rattle.picture_store.specs.Stores as stores
 use Rattle.picture_store.specs.Stores.{StoreValue}
 use Rattle.picture_store.specs.Changes.{Refits, RefitsLosing}
 use Rattle.picture_store.specs.Stretches.{IsStretch, ids_with, outcomes_with}
@@ -16,7 +23,8 @@ use Rattle.stream_edits.specs.declared.edits.Edit.{Edit}
 use Rattle.stream_edits.specs.Edits.{Register, no_units}
 use Rattle.stream_edits.specs.Changes.{after, at_of, rest_from, units_of}
 use Rattle.stream_edits.specs.Streams.{Stream, ids_of}
-use Rattle.stream_edits.proofs.Grouped.{Replays-entry, length-all}
+use Rattle.stream_edits.proofs.GivenIds.{AreDifferent-ids}
+use Rattle.stream_edits.proofs.Grouped.{HasIds-all, Replays-entry, length-all}
 use Rattle.stream_fold.specs.Kept.{ArePast}
 use Rattle.stream_fold.specs.Meeting.{IsCounted}
 use Rattle.stream_fold.specs.OrderedChange as ordering
@@ -29,6 +37,8 @@ use Rattle.stream_session.specs.Machines.{RefitsTo, store_of}
 use Rattle.stream_session.specs.Moves.{ComeTo, MakesFew, Moves}
 use Rattle.stream_session.specs.Stretches.{IsStretchOf}
 use Rattle.stream_session.proofs.Accepted.{decodable-after}
+use Rattle.stream_session.specs.Changing.{ChangesUnits, compared_in}
+use Rattle.stream_session.proofs.Looked.{ids_apart, ids_kept}
 use Rattle.stream_session.proofs.Pictured.{IsStoreOf-kept, RefitsTo-stored}
 
 module _ {P : Type 0} where
@@ -94,8 +104,18 @@ module _ {P : Type 0} where
         decodable-after journal old edits come.0 new (ids_with stretch store.ids)
         (outcomes_with stretch store.outcomes) kept.replayed come.1 ids-prepared outcomes-prepared
 
-    module _ (refit : StoreValue P) (lost : ℕ)
-        (losing : RefitsLosing store (ids_with stretch store.ids) (outcomes_with stretch store.outcomes) lost refit) where
+    -- its ids differ, and so did those before
+    pub different-prepared : AreDifferent store.ids
+    different-prepared = ids_apart journal old store kept
+
+    pub apart-prepared : AreDifferent (ids_with stretch store.ids)
+    apart-prepared =
+        subst AreDifferent (sym ids-prepared)
+        (AreDifferent-ids new (HasIds-all old edits come.0 new (ids_kept journal old store kept) come.1))
+
+    module _ (refit : StoreValue P) (lost : ℕ) (changed : Changed)
+        (losing : RefitsLosing store (ids_with stretch store.ids) (outcomes_with stretch store.outcomes) lost refit)
+        (least : IsLeast (stores.compared_in store) (stores.compared_in refit) changed) where
       refits : Refits store (ids_with stretch store.ids) (outcomes_with stretch store.outcomes) refit
       refits = losing.0
 
@@ -115,9 +135,21 @@ module _ {P : Type 0} where
           (outcomes_with stretch store.outcomes) refit lost (IsStoreOf-kept journal old store kept) ids-prepared outcomes-prepared
           losing
 
+      same_units : (ids : List ℕ) (outcomes : List Outcome) (stream : Stream) → ids ≡ ids_of stream → outcomes ≡ outcomes_of stream
+          → compared_units ids outcomes (keys_of (zip ids outcomes)) ≡ compared_in stream
+      same_units ids outcomes stream identified folded = rw (identified, folded) refl
+
+      changes-after : ChangesUnits old.stream new.stream changed
+      changes-after =
+          subst (λ before. IsLeast before (compared_in new.stream) changed)
+          (same_units store.ids store.outcomes old.stream kept.identified kept.folded)
+          (subst (λ after. IsLeast (stores.compared_in store) after changed)
+          (same_units refit.ids refit.outcomes new.stream (refits.ids_are ∙ ids-prepared) (refits.outcomes_are ∙ outcomes-prepared))
+          least)
+
       -- and is what the edits leave
       pub Moves-after : Moves (machine_of journal old store) edits change given (steps_in prepared.refolded)
-          lost (machine_of (journal ++ edits ∷ []) new refit)
+          lost changed (machine_of (journal ++ edits ∷ []) new refit)
       Moves-after = record {
         register_is = refl;
         journaled = refl;
@@ -125,4 +157,5 @@ module _ {P : Type 0} where
         loses = seen.1;
         few = is.few;
         counted = is.counted;
+        changes = changes-after;
       }

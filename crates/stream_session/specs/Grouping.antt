@@ -8,6 +8,7 @@ use Rattle.stream_edits.specs.GroupRefusals.{IsGroupRefused}
 use Rattle.stream_edits.specs.Groups.{IsSized, MakesAll}
 use Rattle.stream_edits.specs.Reading.{AreHashedFor}
 use Rattle.stream_edits.specs.Streams.{Stream}
+use Rattle.stream_session.specs.Changing.{ChangesUnits}
 use Rattle.stream_session.specs.Machines.{Machine, RefitsTo, store_of}
 use Rattle.stream_fold.specs.Kept.{spacing}
 use Rattle.stream_session.specs.MeetingPoints.{IsMeetingPoint}
@@ -47,6 +48,7 @@ module _ {P : Type 0} where
     pub few : AreFewForAll old.register.stream new.register.stream receipt.steps
     pub counted : AreCounted old.register.stream new.register.stream receipt.steps
     pub hashes : AreHashedFor edits receipt.hashed
+    pub changes : ChangesUnits old.register.stream new.register.stream receipt.changed
 
   -- an answer to a group: its receipt, or why it is refused and changes nothing
   abbrev pub AnswersGroup : Machine P → List Edit → Result GroupReceipt GroupRefused → Machine P → Type 0

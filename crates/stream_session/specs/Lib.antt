@@ -1,4 +1,5 @@
 pub mod Streams
+pub mod Changing
 pub mod Machines
 pub mod MeetingPoints
 pub mod Grouping

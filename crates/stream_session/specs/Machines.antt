@@ -16,6 +16,7 @@ use Rattle.stream_edits.specs.Changes.{IsFor, after}
 use Rattle.stream_fold.specs.Meeting.{IsCounted, IsMeeting}
 use Rattle.stream_edits.specs.Reading.{IsHashedFor}
 use Rattle.stream_edits.specs.Refusals.{IsRefused}
+use Rattle.stream_session.specs.Changing.{ChangesUnits}
 
 -- the room of the cache; the accepted edits in order, those of a group as one entry, and what they
 -- leave; the number of each unit's key, nothing for a unit that isn't valid; the keys whose
@@ -97,6 +98,7 @@ module _ {P : Type 0} where
     pub number_is : receipt.number ≡ length new.journal
     pub refolds : Refolds old.register edit receipt.steps new.register
     pub hashes : IsHashedFor edit receipt.hashed
+    pub changes : ChangesUnits old.register.stream new.register.stream receipt.changed
 
   -- an answer to an edit: its receipt, or why it is refused and changes nothing
   abbrev pub AnswersEdit : Machine P → Edit → Result Receipt EditRefused → Machine P → Type 0

@@ -1,5 +1,6 @@
 -- Edits that are made by one change.
 use Rattle.std.specs.Prelude.{◌≡◌, ℕ, ◌+◌, ◌≤◌, List, [], ◌∷◌, ◌++◌, length}
+use Rattle.changed_units.specs.declared.changed.Changed.{Changed}
 use Rattle.stream_edits.specs.declared.changes.Change.{Change}
 use Rattle.stream_edits.specs.declared.edits.Edit.{Edit}
 use Rattle.stream_edits.specs.Changes.{after, units_of}
@@ -7,6 +8,7 @@ use Rattle.stream_edits.specs.Edits.{Register}
 use Rattle.stream_edits.specs.Groups.{MakesAll}
 use Rattle.stream_edits.specs.Streams.{Stream}
 use Rattle.stream_fold.specs.Meeting.{IsCounted, IsMeeting}
+use Rattle.stream_session.specs.Changing.{ChangesUnits}
 use Rattle.stream_session.specs.Machines.{Machine, RefitsTo, store_of}
 
 -- the edits come to the change, with so many ids given then
@@ -18,11 +20,14 @@ abbrev pub MakesFew : Change → Stream → ℕ → Type 0
 MakesFew change stream steps = (count : ℕ) → IsMeeting change stream count → steps ≤ length (units_of change) + count + 63
 
 module _ {P : Type 0} where
-  -- the edits are made by the change, in so many steps, and so many pictures are lost
-  pub record Moves (old : Machine P) (edits : List Edit) (change : Change) (given steps lost : ℕ) (new : Machine P) : Type 0 where
+  -- the edits are made by the change, in so many steps; so many pictures are lost, and these units
+  -- changed
+  pub record Moves (old : Machine P) (edits : List Edit) (change : Change) (given steps lost : ℕ) (changed : Changed) (new : Machine P)
+      : Type 0 where
     pub register_is : new.register ≡ after change given old.register.stream
     pub journaled : new.journal ≡ old.journal ++ edits ∷ []
     pub refits : RefitsTo (store_of old) new.register.stream (store_of new)
     pub loses : refits.lost ≡ lost
     pub few : MakesFew change old.register.stream steps
     pub counted : IsCounted change old.register.stream steps
+    pub changes : ChangesUnits old.register.stream new.register.stream changed

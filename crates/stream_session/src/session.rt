@@ -138,6 +138,7 @@ impl<P: Decoded> Session<P> {
             steps: costs.steps,
             hashed: hashed as u64,
             lost_pictures: costs.lost_pictures,
+            changed: costs.changed,
         })
     }
 
@@ -178,6 +179,7 @@ impl<P: Decoded> Session<P> {
             steps: costs.steps,
             hashed: hashed as u64,
             lost_pictures: costs.lost_pictures,
+            changed: costs.changed,
         })
     }
 
@@ -191,7 +193,7 @@ impl<P: Decoded> Session<P> {
         requires inside { IsInside change self.old.register.stream }
         requires come { ComeTo self.old.register edits change ids_given }
         ensures ok { IfOk result (λ costs. Moves self.old edits change ids_given costs.steps
-            costs.lost_pictures self.new) }
+            costs.lost_pictures costs.changed self.new) }
         ensures err { OnErr result (self.new ≡ self.old) }
         ensures pictures { P.GoesBack ≡ true → KeepsPictures self.old self.new }
     {
@@ -200,13 +202,14 @@ impl<P: Decoded> Session<P> {
         let stretch = stretch_of(self.alloc, &self.ordered, &prepared)?;
         let steps = prepared.refolded().steps();
         self.journal.reserve(1)?;
-        let lost = self.store.refit(stretch, self.ordered.states())?;
+        let taken = self.store.refit(stretch, self.ordered.states())?;
         self.ordered.commit(prepared);
         self.journal.push_reserved(edits);
         self.ids_given = ids_given;
         Ok(ChangeCosts {
             steps,
-            lost_pictures: lost as u64,
+            lost_pictures: taken.lost as u64,
+            changed: taken.changed,
         })
     }
 

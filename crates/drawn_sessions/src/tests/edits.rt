@@ -1,5 +1,6 @@
 //! Edits of the plain model.
 
+use super::changes::{changed, rows_of};
 use super::plain::Plain;
 use super::pool::text_at;
 use super::told::{Answer, Change};
@@ -27,7 +28,7 @@ impl Plain {
             Ok(id) => {
                 self.journaled = self.journaled.saturating_add(1);
                 self.fold(alloc, session)?;
-                Ok(Answer::Accepted(self.journaled, AuId::new(id)))
+                Ok(Answer::Accepted(self.journaled, AuId::new(id), self.changed))
             }
             Err(number) => Ok(Answer::Refused(number)),
         }
@@ -125,6 +126,9 @@ impl Plain {
         self.outcomes = scratch(alloc, &self.units)?;
         self.positions = positions(alloc, &self.outcomes)?;
         self.keys = self.seen.keys_of(alloc, &self.units, &self.outcomes)?;
+        let rows = rows_of(alloc, &self.units, &self.outcomes, &self.keys)?;
+        self.changed = changed(&self.rows, &rows);
+        self.rows = rows;
         let mut gone = Vec::new(alloc);
         for tree in mem::replace(&mut self.held, Vec::new(alloc)) {
             match key_with(&self.keys, tree) {

@@ -30,7 +30,7 @@ impl Plain {
             Ok(ids) => {
                 self.journaled = self.journaled.saturating_add(1);
                 self.fold(alloc, session)?;
-                Ok(Answer::Grouped(self.journaled, ids))
+                Ok(Answer::Grouped(self.journaled, ids, self.changed))
             }
             Err((index, number)) => {
                 self.go_back(alloc, before)?;

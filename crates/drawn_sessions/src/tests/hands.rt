@@ -105,7 +105,7 @@ impl Hands {
 fn answer_of(edited: Result<Receipt, EditRefused>, units: usize) -> Answer {
     match edited {
         Ok(receipt) if receipt.steps <= units as u64 => {
-            Answer::Accepted(receipt.number, receipt.id)
+            Answer::Accepted(receipt.number, receipt.id, receipt.changed)
         }
         Ok(_) => Answer::Wrong,
         Err(refused) => Answer::Refused(refused.number()),
@@ -116,7 +116,7 @@ fn answer_of(edited: Result<Receipt, EditRefused>, units: usize) -> Answer {
 fn answer_of_group(edited: Result<GroupReceipt, GroupRefused>, units: usize) -> Answer {
     match edited {
         Ok(receipt) if receipt.steps <= units as u64 => {
-            Answer::Grouped(receipt.number, numbers_of(&receipt.ids))
+            Answer::Grouped(receipt.number, numbers_of(&receipt.ids), receipt.changed)
         }
         Err(GroupRefused::Edit { index, refused }) => Answer::GroupRefused(index, refused.number()),
         _ => Answer::Wrong,

@@ -1,11 +1,12 @@
 //! The plain model of a session: lists, and whole trees.
 
 use super::cached::Cached;
+use super::changes::Row;
 use super::jobs::Given;
 use super::told::{Answer, Change, Told};
 use super::trees::{Key, Seen, Tree, key_at};
 use access_unit::Unit;
-use edit_engine::{Session, Shown};
+use edit_engine::{Changed, Session, Shown};
 use pictures::AuId;
 use std::alloc::{AllocError, Global};
 use unit_outcomes::Outcome;
@@ -32,6 +33,9 @@ pub(super) struct Plain {
     pub(super) undoing: Vec<Change>,
     /// How many entries the journal has: an accepted group is one.
     pub(super) journaled: u64,
+    /// The units as they are compared, and those that the last accepted edit or group changed.
+    pub(super) rows: Vec<Row>,
+    pub(super) changed: Changed,
 }
 
 impl Plain {
@@ -54,6 +58,8 @@ impl Plain {
             texts: Vec::new(alloc),
             undoing: Vec::new(alloc),
             journaled: 0,
+            rows: Vec::new(alloc),
+            changed: Changed { from: 0, count: 0 },
         }
     }
 

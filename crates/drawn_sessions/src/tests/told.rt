@@ -1,7 +1,7 @@
 //! What a session is told, and what it answers.
 
 use super::pool::text_at;
-use edit_engine::{Dropping, Edit, Landing, Place, Returning};
+use edit_engine::{Changed, Dropping, Edit, Landing, Place, Returning};
 use pictures::AuId;
 use std::alloc::{AllocError, Global};
 
@@ -84,12 +84,13 @@ pub(super) enum Told {
 /// What a command is answered.
 #[derive(Clone, Copy, PartialEq, Eq)]
 pub(super) enum Answer {
-    /// The receipt's number and id, where it has no more steps than the stream has units.
-    Accepted(u64, AuId),
+    /// The receipt's number and id and the units that changed, where it has no more steps than the
+    /// stream has units.
+    Accepted(u64, AuId, Changed),
     Refused(u8),
-    /// The number of a group's receipt and the ids of its edits, with zeros after them, where it
-    /// has no more steps than the stream has units.
-    Grouped(u64, [u32; MOST_TOGETHER]),
+    /// The number of a group's receipt, the ids of its edits, with zeros after them, and the units
+    /// that changed, where it has no more steps than the stream has units.
+    Grouped(u64, [u32; MOST_TOGETHER], Changed),
     /// The index of the edit that a group is refused for, and the refusal's number.
     GroupRefused(usize, u8),
     /// A job's number, and the timestamp of its unit.

@@ -1,5 +1,5 @@
 use Rattle.std.proofs.Common.{sym, subst}
-use Rattle.stream_edits.specs.Ids.{AreDifferent}
+use Rattle.changed_units.specs.Units.{AreDifferent}
 use Rattle.stream_edits.proofs.GivenIds.{AreDifferent-ids}
 use Rattle.stream_edits.proofs.tests.equal_units.Goals as goal
 

@@ -21,7 +21,8 @@ use Rattle.picture_store.specs.Stretches.{IsStretch, ids_with, outcomes_with}
 use Rattle.picture_store.proofs.Viewed.{viewed, on_any_err}
 use Rattle.picture_store.proofs.Landed.{found_length}
 use Rattle.picture_store.proofs.Stays.{kept_stays, viewed_stays}
-use Rattle.picture_store.proofs.Stretched.{same_with, stand_with}
+use Rattle.picture_store.proofs.Lifted.{least_by_keys}
+use Rattle.picture_store.proofs.Stretched.{later_long, same_with, stand_with}
 use Rattle.picture_store.proofs.Refitted.{kept_after, refitted}
 use Rattle.picture_store.proofs.Looked.{looked_stays}
 use Rattle.picture_store.proofs.Lowered.{behind_lowered, jobs_lowered, kept_lowered, looked_front, looked_lowered, settled_lowered}
@@ -139,6 +140,59 @@ recount-lost-requires-clause-spare g c = rw (c.deref-6.ensures.value) c.in_ok-le
 pub recount-lost-requires-clause-apart : goal.recount-lost-requires-clause-apart
 recount-lost-requires-clause-apart g c = λ number used.
     c.self.invariant.apart number (subst (λ n. 0 < n) (ap (λ slot. slot.uses) (c.make_ready.ensures.same.slots number)) used)
+
+pub changed_by-changed-requires-clause-stretch : goal.changed_by-changed-requires-clause-stretch
+changed_by-changed-requires-clause-stretch g c =
+    let stretch = rw (← c.sweep.ensures, ← c.self.view_is) at c.requires.stretch in
+    rw (c.deref-7.ensures.value, c.make_room.ensures.ids) stretch
+
+pub changed_by-changed-requires-clause-outcomes : goal.changed_by-changed-requires-clause-outcomes
+changed_by-changed-requires-clause-outcomes g c =
+    rw (c.deref-7.ensures.value, c.deref-8.ensures.value, c.make_room.ensures.ids, c.make_room.ensures.outcomes)
+    (sym c.self.invariant.kept.same)
+
+pub changed_by-changed-requires-clause-numbers : goal.changed_by-changed-requires-clause-numbers
+changed_by-changed-requires-clause-numbers g c =
+    let s = c.self.inside in
+    rw (c.deref-7.ensures.value, c.deref-9.ensures.value, c.make_room.ensures.ids, c.make_ready.ensures.numbers)
+    (found_length s.keys s.ids.items s.outcomes.items s.numbers.items s.places s.cache.pairs s.cache.capacity s.jobs_out.items s.jobs_given s.released.items
+    c.self.invariant.kept)
+
+pub changed_by-changed-requires-clause-within : goal.changed_by-changed-requires-clause-within
+changed_by-changed-requires-clause-within g c =
+    let behind = rw (c.deref.ensures.value, c.make_room.ensures.ids) at c.in_ok-past.ensures.behind in
+    rw (c.deref-7.ensures.value, c.make_room.ensures.ids) behind.1
+
+pub changed_by-changed-requires-clause-later : goal.changed_by-changed-requires-clause-later
+changed_by-changed-requires-clause-later g c =
+    let s = c.self.inside in
+    let ids = s.ids.items in
+    let stretch : IsStretch c.args.stretch ids = rw (← c.sweep.ensures, ← c.self.view_is) at c.requires.stretch in
+    let behind = rw (c.deref.ensures.value, c.make_room.ensures.ids) at c.in_ok-past.ensures.behind in
+    let anew =
+    rw (
+      c.deref.ensures.value,
+      c.deref-2.ensures.value,
+      c.deref-3.ensures.value,
+      c.make_room.ensures.ids,
+      c.make_room.ensures.outcomes,
+    ) at c.in_ok-past.ensures.stand in
+    rw (c.deref-10.ensures.value)
+    (later_long ids s.outcomes.items c.self.invariant.kept.same c.args.stretch stretch c.keys_from.new.keys _ c.in_ok-past.past
+    s.numbers.items c.in_ok-past.later.items
+    (found_length s.keys s.ids.items s.outcomes.items s.numbers.items s.places s.cache.pairs s.cache.capacity s.jobs_out.items s.jobs_given s.released.items
+    c.self.invariant.kept)
+    behind.0 behind.1 anew)
+
+pub changed_by-changed-requires-clause-different : goal.changed_by-changed-requires-clause-different
+changed_by-changed-requires-clause-different g c =
+    let different = rw (← c.sweep.ensures, ← c.self.view_is) at c.requires.different in
+    rw (c.deref-7.ensures.value, c.make_room.ensures.ids) different
+
+pub changed_by-changed-requires-clause-apart : goal.changed_by-changed-requires-clause-apart
+changed_by-changed-requires-clause-apart g c =
+    let apart = rw (← c.sweep.ensures, ← c.self.view_is) at c.requires.apart in
+    rw (c.deref-7.ensures.value, c.make_room.ensures.ids) apart
 
 pub put_stretch-requires-clause-stretch : goal.put_stretch-requires-clause-stretch
 put_stretch-requires-clause-stretch g c =
@@ -331,6 +385,52 @@ returns-clause-ok g c =
     (ids_with c.args.stretch ids) (outcomes_with c.args.stretch outcomes) numbers c.recount-lost.new.places stand
     recounted.placed recounted.left c.recount-lost.new.cache.pairs recounted.leaves recounted.left_pairs s.cache.capacity
     recounted.gone recounted.go c.recount-lost.result recounted.puts recounted.put_pairs s.jobs_given s.released.items c.forget_released.new.released.items))
+
+pub returns-clause-changed : goal.returns-clause-changed
+returns-clause-changed g c =
+    let s = c.self.inside in
+    let ids = s.ids.items in
+    let outcomes = s.outcomes.items in
+    let stretch : IsStretch c.args.stretch ids = rw (← c.sweep.ensures, ← c.self.view_is) at c.requires.stretch in
+    let kept =
+    kept_stays s.keys c.keys_from.new.keys s.ids.items s.outcomes.items s.numbers.items s.places s.cache.pairs s.jobs_out.items
+    c.self.invariant.kept (λ n k stored is. c.keys_from.ensures.stay n k is)
+    (c.keys_from.ensures.one c.self.invariant.kept.right.one) in
+    let later = c.in_ok-past.later in
+    let past = c.in_ok-past.past in
+    let anew =
+    rw (
+      c.deref.ensures.value,
+      c.deref-2.ensures.value,
+      c.deref-3.ensures.value,
+      c.make_room.ensures.ids,
+      c.make_room.ensures.outcomes,
+    ) at c.in_ok-past.ensures.stand in
+    let numbers : List (Option ℕ) = take c.args.stretch.from s.numbers.items ++ later.items ++ drop past s.numbers.items in
+    let stand : AllStandFor c.keys_from.new.keys numbers (keys_of (zip (ids_with c.args.stretch ids) (outcomes_with c.args.stretch outcomes))) =
+    subst (λ all. AllStandFor c.keys_from.new.keys all (keys_of (zip (ids_with c.args.stretch ids) (outcomes_with c.args.stretch outcomes))))
+    (sym (append_assoc (take c.args.stretch.from s.numbers.items) later.items (drop past s.numbers.items)))
+    (stand_with ids outcomes kept.same c.args.stretch stretch c.keys_from.new.keys s.numbers.items
+    (later.items ++ drop past s.numbers.items) kept.stand anew) in
+    let ids_are : c.put_stretch.new.ids.items ≡ ids_with c.args.stretch ids =
+    rw (c.make_room.ensures.ids) at c.put_stretch.ensures.ids in
+    let outcomes_are : c.put_stretch.new.outcomes.items ≡ outcomes_with c.args.stretch outcomes =
+    rw (c.make_room.ensures.outcomes) at c.put_stretch.ensures.outcomes in
+    let least =
+    rw (
+      c.deref-7.ensures.value,
+      c.deref-8.ensures.value,
+      c.deref-9.ensures.value,
+      c.deref-10.ensures.value,
+      c.make_room.ensures.ids,
+      c.make_room.ensures.outcomes,
+      c.make_ready.ensures.numbers,
+    ) at c.changed_by-changed.ensures in
+    rw (← c.sweep.ensures, ← c.self.view_is, ids_are, outcomes_are)
+    (least_by_keys c.keys_from.new.keys kept.right.one ids (ids_with c.args.stretch ids) outcomes (outcomes_with c.args.stretch outcomes)
+    s.numbers.items numbers (keys_of (zip ids outcomes))
+    (keys_of (zip (ids_with c.args.stretch ids) (outcomes_with c.args.stretch outcomes))) kept.stand stand c.changed_by-changed.result
+    least)
 
 pub returns-clause-pictures : goal.returns-clause-pictures
 returns-clause-pictures g c = λ back.

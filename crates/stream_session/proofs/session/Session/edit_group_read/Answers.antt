@@ -20,5 +20,5 @@ returns-clause-answers g c =
     let number : c.len.result ≡ length c.make.new.self.journal =
     rw (← c.self-2.view_is) (omega (arith, c.len.ensures, c.self-2.inside.journal.ok.0)) in
     rw (← c.self.view_is)
-    (EditsAll-moved _ c.args.group accepted (record { number = c.len.result; ids = accepted.ids; steps = c.in_ok-costs.costs.steps; hashed = accepted.hashed; lost_pictures = c.in_ok-costs.costs.lost_pictures })
+    (EditsAll-moved _ c.args.group accepted (record { number = c.len.result; ids = accepted.ids; steps = c.in_ok-costs.costs.steps; hashed = accepted.hashed; lost_pictures = c.in_ok-costs.costs.lost_pictures; changed = c.in_ok-costs.costs.changed })
     c.make.new.self different for moves number refl c.in_ok-accepted.ensures.hashed)

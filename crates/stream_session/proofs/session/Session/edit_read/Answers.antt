@@ -30,4 +30,4 @@ returns-clause-answers g c =
     let moves = rw (c.of_edit-entry.ensures, c.into_edit.ensures, ← c.self.view_is) at c.in_ok-costs.ensures.ok in
     let number : c.len.result ≡ length c.make.new.self.journal =
     rw (← c.self-2.view_is) (omega (arith, c.len.ensures, c.self-2.inside.journal.ok.0)) in
-    rw (← c.self.view_is) (Edits-moved _ c.args.read accepted c.in_ok-costs.costs.steps c.in_ok-costs.costs.lost_pictures c.hashed-hashed.result c.len.result c.make.new.self for moves number c.hashed-hashed.ensures)
+    rw (← c.self.view_is) (Edits-moved _ c.args.read accepted c.in_ok-costs.costs.steps c.in_ok-costs.costs.lost_pictures c.hashed-hashed.result c.len.result c.in_ok-costs.costs.changed c.make.new.self for moves number c.hashed-hashed.ensures)

@@ -1,5 +1,6 @@
 use Rattle.std.proofs.Common.{◌∙◌}
-use Rattle.stream_session.proofs.Stored.{short-prepared, needs-told, prepared-with, stretch-prepared, decodable-prepared, IsKept-after, Moves-after}
+use Rattle.stream_session.proofs.Looked.{ids_apart}
+use Rattle.stream_session.proofs.Stored.{short-prepared, needs-told, prepared-with, stretch-prepared, apart-prepared, decodable-prepared, IsKept-after, Moves-after}
 use Rattle.stream_session.proofs.session.Session.make.Goals as goal
 
 pub prepare-requires-clause-inside : goal.prepare-requires-clause-inside
@@ -27,6 +28,22 @@ refit-requires-clause-stretch g c =
     c.prepare.ensures.kept c.in_ok-prepared.ensures.ready c.in_ok-prepared.ensures.change c.in_ok-stretch.ensures
     c.in_ok-prepared.ensures.few c.in_ok-prepared.ensures.counted in
     stretch-prepared s.journal.items (record { ids_given = s.ids_given; stream = s.ordered.folded.stream }) s.store c.args.edits c.args.change c.args.ids_given
+    c.prepare.new.self c.in_ok-prepared.prepared c.in_ok-stretch.stretch c.self.invariant come is
+
+pub refit-requires-clause-different : goal.refit-requires-clause-different
+refit-requires-clause-different g c =
+    let s = c.self.inside in
+    ids_apart s.journal.items (record { ids_given = s.ids_given; stream = s.ordered.folded.stream }) s.store c.self.invariant
+
+pub refit-requires-clause-apart : goal.refit-requires-clause-apart
+refit-requires-clause-apart g c =
+    let s = c.self.inside in
+    let come = rw (← c.self.view_is) at c.requires.come in
+    let is =
+    prepared-with c.args.change s.ordered.folded.stream c.prepare.new.self c.in_ok-prepared.prepared c.in_ok-stretch.stretch
+    c.prepare.ensures.kept c.in_ok-prepared.ensures.ready c.in_ok-prepared.ensures.change c.in_ok-stretch.ensures
+    c.in_ok-prepared.ensures.few c.in_ok-prepared.ensures.counted in
+    apart-prepared s.journal.items (record { ids_given = s.ids_given; stream = s.ordered.folded.stream }) s.store c.args.edits c.args.change c.args.ids_given
     c.prepare.new.self c.in_ok-prepared.prepared c.in_ok-stretch.stretch c.self.invariant come is
 
 pub refit-requires-clause-decodable : goal.refit-requires-clause-decodable
@@ -58,7 +75,7 @@ invariant_of-self-2 g c =
     rw (c.push_reserved.ensures.items, c.reserve.ensures.items, c.commit.ensures, c.prepare.ensures.kept, is.change_is)
     (IsKept-after s.journal.items (record { ids_given = s.ids_given; stream = s.ordered.folded.stream }) s.store c.args.edits c.args.change c.args.ids_given
     c.prepare.new.self c.in_ok-prepared.prepared c.in_ok-stretch.stretch c.self.invariant come is
-    c.refit.new.self c.in_ok-lost.lost c.in_ok-lost.ensures.ok)
+    c.refit.new.self c.in_ok-taken.taken.lost c.in_ok-taken.taken.changed c.in_ok-taken.ensures.ok c.in_ok-taken.ensures.changed)
 
 pub returns-clause-ok : goal.returns-clause-ok
 returns-clause-ok g c =
@@ -80,4 +97,4 @@ returns-clause-ok g c =
     )
     (Moves-after s.journal.items (record { ids_given = s.ids_given; stream = s.ordered.folded.stream }) s.store c.args.edits c.args.change c.args.ids_given
     c.prepare.new.self c.in_ok-prepared.prepared c.in_ok-stretch.stretch c.self.invariant come is
-    c.refit.new.self c.in_ok-lost.lost c.in_ok-lost.ensures.ok)
+    c.refit.new.self c.in_ok-taken.taken.lost c.in_ok-taken.taken.changed c.in_ok-taken.ensures.ok c.in_ok-taken.ensures.changed)

@@ -1,0 +1,204 @@
+-- The units of a stream and of the one with a stretch in the place of another, in parts.
+use Rattle.std.proofs.Common.{◌≡◌, refl, ap, sym, ◌∙◌, subst, ℕ, ◌+◌, ◌-◌, ◌<◌, ◌≤◌, ◌↔◌, List, [], ◌∷◌, ◌++◌, length, take, drop, Option, Some, arith, append_assoc}
+use Rattle.std.specs.Prelude.{Contains, slice_get}
+use Rattle.std.proofs.lemmas.List.{drop-drop, length-append, length-drop, length-take-le, take-append-drop, take_rest}
+use Rattle.std.proofs.lemmas.List.Elements.{Contains-append_left, Contains-append_right}
+use Rattle.unit_outcomes.specs.declared.outcome.Outcome.{Outcome}
+use Rattle.changed_units.specs.declared.changed.Changed.{Changed}
+use Rattle.changed_units.specs.Units.{AreDifferent, ComparedUnit, compared_units}
+use Rattle.changed_units.specs.Stretches.{IsLeast, no_units}
+use Rattle.changed_units.proofs.Lists.{placed_once}
+use Rattle.changed_units.proofs.Rows.{compared_append, id_at, length-compared}
+use Rattle.changed_units.proofs.Least.{least_all_same, least_none}
+use Rattle.picture_store.specs.declared.stretch.Stretch.{Stretch}
+use Rattle.picture_store.specs.Stretches.{IsStretch, ids_with, outcomes_with, replaced}
+use Rattle.picture_store.proofs.Parts.{IsOnce, behind_was, made_was}
+
+-- a stretch that is the least one for units in front is widened to the one for these and more
+abbrev pub IsWidened : Changed → List (ComparedUnit ℕ) → List (ComparedUnit ℕ) → ℕ → Changed → Type 0
+IsWidened start units old at result =
+    (all before : List (ComparedUnit ℕ)) → length before ≡ at
+    → ((unit : ComparedUnit ℕ) → Contains units unit → Contains all unit ↔ Contains old unit)
+    → IsLeast all before start → IsLeast all (before ++ units) result
+
+-- the items between two places
+abbrev pub between : {X : Type 0} → ℕ → ℕ → List X → List X
+between from to xs = take (to - from) (drop from xs)
+
+module _ {X : Type 0} where
+  behind_parts : (to past : ℕ) (xs : List X) → to ≤ past → drop to xs ≡ between to past xs ++ drop past xs
+  behind_parts to past xs ordered =
+      let sum : to + (past - to) ≡ past = omega (arith, ordered) in
+      sym (take-append-drop (past - to) (drop to xs))
+      ∙ ap (λ rest. between to past xs ++ rest) (drop-drop (past - to) to xs ∙ ap (λ n. drop n xs) sum)
+
+  all_parts : (from past : ℕ) (xs : List X) → from ≤ past → xs ≡ take from xs ++ (between from past xs ++ drop past xs)
+  all_parts from past xs ordered =
+      sym (take-append-drop from xs) ∙ ap (λ rest. take from xs ++ rest) (behind_parts from past xs ordered)
+
+  with_parts : (from to past : ℕ) (made xs : List X) → to ≤ past
+      → replaced from to made xs ≡ take from xs ++ (made ++ (between to past xs ++ drop past xs))
+  with_parts from to past made xs ordered =
+      append_assoc (take from xs) made (drop to xs)
+      ∙ ap (λ rest. take from xs ++ (made ++ rest)) (behind_parts to past xs ordered)
+
+  past_parts : (from past count : ℕ) (later xs : List X)
+      → replaced from past later xs ≡ take from xs ++ (take count later ++ (drop count later ++ drop past xs))
+  past_parts from past count later xs =
+      append_assoc (take from xs) later (drop past xs)
+      ∙ ap (λ rest. take from xs ++ rest)
+      (ap (λ all. all ++ drop past xs) (sym (take-append-drop count later)) ∙ append_assoc (take count later) (drop count later) (drop past xs))
+
+  length-between : (from to : ℕ) (xs : List X) → to ≤ length xs → length (between from to xs) ≡ to - from
+  length-between from to xs within =
+      let left = length-drop from xs in length-take-le (to - from) (drop from xs) (omega (arith, left, within))
+
+module _ (ids : List ℕ) (outcomes : List Outcome) (numbers : List (Option ℕ)) (stretch : Stretch) (is : IsStretch stretch ids)
+    (outcomes_same : length outcomes ≡ length ids) (numbers_same : length numbers ≡ length ids) (past : ℕ)
+    (behind : stretch.to ≤ past) (within : past ≤ length ids) (later : List (Option ℕ))
+    (long : length later + stretch.to ≡ length stretch.ids.items + past) (different : AreDifferent (ids_with stretch ids)) where
+  abbrev count : ℕ
+  count = length stretch.ids.items
+
+  ordered : stretch.from ≤ past
+  ordered = omega (arith, is.ordered, behind)
+
+  -- the units in front, those that go, those that come, those behind them that are found anew, and the others
+  abbrev pub front : List (ComparedUnit ℕ)
+  front = compared_units (take stretch.from ids) (take stretch.from outcomes) (take stretch.from numbers)
+
+  abbrev pub old : List (ComparedUnit ℕ)
+  old = compared_units (between stretch.from past ids) (between stretch.from past outcomes) (between stretch.from past numbers)
+
+  abbrev pub made : List (ComparedUnit ℕ)
+  made = compared_units stretch.ids.items stretch.outcomes.items (take count later)
+
+  abbrev pub anew : List (ComparedUnit ℕ)
+  anew = compared_units (between stretch.to past ids) (between stretch.to past outcomes) (drop count later)
+
+  abbrev back : List (ComparedUnit ℕ)
+  back = compared_units (drop past ids) (drop past outcomes) (drop past numbers)
+
+  length-made : length (take count later) ≡ count
+  length-made = length-take-le count later (omega (arith, long, behind))
+
+  length-anew : length (drop count later) ≡ past - stretch.to
+  length-anew = length-drop count later ∙ omega (arith, long, behind)
+
+  front_outcomes : length (take stretch.from outcomes) ≡ length (take stretch.from ids)
+  front_outcomes =
+      length-take-le stretch.from outcomes (omega (arith, ordered, within, outcomes_same))
+      ∙ sym (length-take-le stretch.from ids (omega (arith, ordered, within)))
+
+  front_numbers : length (take stretch.from numbers) ≡ length (take stretch.from ids)
+  front_numbers =
+      length-take-le stretch.from numbers (omega (arith, ordered, within, numbers_same))
+      ∙ sym (length-take-le stretch.from ids (omega (arith, ordered, within)))
+
+  old_outcomes : length (between stretch.from past outcomes) ≡ length (between stretch.from past ids)
+  old_outcomes =
+      length-between stretch.from past outcomes (omega (arith, within, outcomes_same))
+      ∙ sym (length-between stretch.from past ids within)
+
+  old_numbers : length (between stretch.from past numbers) ≡ length (between stretch.from past ids)
+  old_numbers =
+      length-between stretch.from past numbers (omega (arith, within, numbers_same))
+      ∙ sym (length-between stretch.from past ids within)
+
+  anew_outcomes : length (between stretch.to past outcomes) ≡ length (between stretch.to past ids)
+  anew_outcomes =
+      length-between stretch.to past outcomes (omega (arith, within, outcomes_same))
+      ∙ sym (length-between stretch.to past ids within)
+
+  anew_numbers : length (drop count later) ≡ length (between stretch.to past ids)
+  anew_numbers = length-anew ∙ sym (length-between stretch.to past ids within)
+
+  -- columns in three parts, and in four
+  three : (a b c : List ℕ) (k l m : List Outcome) (x y z : List (Option ℕ)) → length k ≡ length a → length x ≡ length a
+      → length l ≡ length b → length y ≡ length b
+      → compared_units (a ++ (b ++ c)) (k ++ (l ++ m)) (x ++ (y ++ z))
+      ≡ compared_units a k x ++ (compared_units b l y ++ compared_units c m z)
+  three a b c k l m x y z first second third fourth =
+      compared_append a (b ++ c) k (l ++ m) x (y ++ z) first second
+      ∙ ap (λ rest. compared_units a k x ++ rest) (compared_append b c l m y z third fourth)
+
+  same_columns : (a b : List ℕ) (k l : List Outcome) (x y : List (Option ℕ)) → a ≡ b → k ≡ l → x ≡ y
+      → compared_units a k x ≡ compared_units b l y
+  same_columns a b k l x y first second third = rw (first, second, third) refl
+
+  pub before_parts : compared_units ids outcomes numbers ≡ front ++ (old ++ back)
+  before_parts =
+      same_columns _ _ _ _ _ _ (all_parts stretch.from past ids ordered) (all_parts stretch.from past outcomes ordered)
+      (all_parts stretch.from past numbers ordered)
+      ∙ three (take stretch.from ids) (between stretch.from past ids) (drop past ids) (take stretch.from outcomes)
+      (between stretch.from past outcomes) (drop past outcomes) (take stretch.from numbers) (between stretch.from past numbers)
+      (drop past numbers) front_outcomes front_numbers old_outcomes old_numbers
+
+  pub after_parts : compared_units (ids_with stretch ids) (outcomes_with stretch outcomes) (replaced stretch.from past later numbers)
+      ≡ front ++ (made ++ (anew ++ back))
+  after_parts =
+      same_columns _ _ _ _ _ _ (with_parts stretch.from stretch.to past stretch.ids.items ids behind)
+      (with_parts stretch.from stretch.to past stretch.outcomes.items outcomes behind) (past_parts stretch.from past count later numbers)
+      ∙ (three (take stretch.from ids) stretch.ids.items (between stretch.to past ids ++ drop past ids) (take stretch.from outcomes)
+      stretch.outcomes.items (between stretch.to past outcomes ++ drop past outcomes) (take stretch.from numbers) (take count later)
+      (drop count later ++ drop past numbers) front_outcomes front_numbers (sym is.same) length-made
+      ∙ ap (λ rest. front ++ (made ++ rest))
+      (compared_append (between stretch.to past ids) (drop past ids) (between stretch.to past outcomes) (drop past outcomes)
+      (drop count later) (drop past numbers) anew_outcomes anew_numbers))
+
+  pub once : IsOnce (front ++ (made ++ (anew ++ back)))
+  once =
+      subst IsOnce after_parts
+      (λ unit at other first second.
+      placed_once (ids_with stretch ids) different unit.id at other
+      (id_at (ids_with stretch ids) (outcomes_with stretch outcomes) (replaced stretch.from past later numbers) at unit first)
+      (id_at (ids_with stretch ids) (outcomes_with stretch outcomes) (replaced stretch.from past later numbers) other unit second))
+
+  pub length-front : length front ≡ stretch.from
+  length-front =
+      length-compared (take stretch.from ids) (take stretch.from outcomes) (take stretch.from numbers) front_outcomes front_numbers
+      ∙ length-take-le stretch.from ids (omega (arith, ordered, within))
+
+  pub length-front_made : length (front ++ made) ≡ stretch.from + count
+  length-front_made =
+      length-append front made
+      ∙ omega (
+        arith,
+        length-front,
+        length-compared stretch.ids.items stretch.outcomes.items (take count later) (sym is.same) length-made,
+      )
+
+  -- the stretch that is found by going over those that come and those that are found anew is the least one
+  pub least_found : (made_ids : List ℕ) (made_outcomes : List Outcome) (n : ℕ) (start first second : Changed)
+      → made_ids ≡ stretch.ids.items → made_outcomes ≡ stretch.outcomes.items → n ≡ count → start ≡ no_units
+      → IsWidened start (compared_units made_ids made_outcomes (take n later)) old stretch.from first
+      → IsWidened first
+      (compared_units (between stretch.to past ids) (between stretch.to past outcomes) (take (length later - n) (drop n later))) old
+      (stretch.from + n) second
+      → IsLeast (compared_units ids outcomes numbers)
+      (compared_units (ids_with stretch ids) (outcomes_with stretch outcomes) (replaced stretch.from past later numbers)) second
+  least_found made_ids made_outcomes n start first second ids_are outcomes_are n_is start_is over_made over_anew =
+      let all : List (ComparedUnit ℕ) = front ++ (old ++ back) in
+      let begun : IsLeast all front no_units =
+      least_all_same all [] front no_units (λ unit is. Contains-append_left front (old ++ back) unit is) (least_none all) in
+      let made_are : compared_units made_ids made_outcomes (take n later) ≡ made =
+      same_columns made_ids stretch.ids.items made_outcomes stretch.outcomes.items (take n later) (take count later) ids_are outcomes_are
+      (ap (λ k. take k later) n_is) in
+      let over_all : IsWidened no_units made old stretch.from first =
+      subst (λ s. IsWidened s made old stretch.from first) start_is
+      (subst (λ units. IsWidened start units old stretch.from first) made_are over_made) in
+      let over_rest : IsWidened first anew old (stretch.from + count) second =
+      subst (λ k. IsWidened first
+      (compared_units (between stretch.to past ids) (between stretch.to past outcomes) (drop k later)) old (stretch.from + k) second)
+      n_is
+      (subst (λ rest. IsWidened first (compared_units (between stretch.to past ids) (between stretch.to past outcomes) rest) old
+      (stretch.from + n) second) (take_rest later n) over_anew) in
+      let one : IsLeast all (front ++ made) first = over_all all front length-front (made_was front old made anew back once) begun in
+      let two : IsLeast all ((front ++ made) ++ anew) second =
+      over_rest all (front ++ made) length-front_made (behind_was front old made anew back once) one in
+      let three_parts : IsLeast all (((front ++ made) ++ anew) ++ back) second =
+      least_all_same all ((front ++ made) ++ anew) back second
+      (λ unit is. Contains-append_right front (old ++ back) unit (Contains-append_right old back unit is)) two in
+      let parts : ((front ++ made) ++ anew) ++ back ≡ front ++ (made ++ (anew ++ back)) =
+      append_assoc (front ++ made) anew back ∙ append_assoc front made (anew ++ back) in
+      rw (before_parts, after_parts) (subst (λ after. IsLeast all after second) parts three_parts)

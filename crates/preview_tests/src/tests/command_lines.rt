@@ -400,7 +400,7 @@ fn does_what_the_words_name(rt: HostRuntime) -> Result<(), Fail> {
 
 /// The words after the program's name, the status, and a part of the text: at success that of the
 /// output, else of standard error, where the other one is empty.
-type Answer = (&'static [&'static str], Status, &'static str);
+pub(super) type Answer = (&'static [&'static str], Status, &'static str);
 
 const ANSWERS: [Answer; 38] = [
     (&[], Usage, "Usage: preview <COMMAND>"),
@@ -505,7 +505,7 @@ const ANSWERS: [Answer; 38] = [
 ];
 
 /// Whether the row's words are answered so, on one stream alone.
-fn answer_holds(
+pub(super) fn answer_holds(
     rt: &(impl Abort + AllocGlobal + Threads + Wait + Sync),
     row: &Answer,
 ) -> Result<bool, Fail> {

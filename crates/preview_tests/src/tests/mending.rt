@@ -1,6 +1,6 @@
 //! `mend`, and `plan --json --frames`, by the words of a command line.
 
-use super::command_lines::run_with;
+use super::command_lines::{Answer, answer_holds, run_with};
 use super::{A, P1, joined, row_holds};
 use Status::{Failure, Success, Usage};
 use console_io::Status;
@@ -62,10 +62,6 @@ fn mends_what_is_named(rt: HostRuntime) -> Result<(), Fail> {
     Ok(())
 }
 
-/// The words after the program's name, the status, and what the one stream of the two that isn't
-/// empty has.
-type Answer = (&'static [&'static str], Status, &'static str);
-
 const ANSWERS: [Answer; 6] = [
     (&["plan", "--frames", "a.264"], Usage, "--frames"),
     (
@@ -86,20 +82,6 @@ const ANSWERS: [Answer; 6] = [
     (&["mend"], Usage, "<FILE>"),
     (&["mend", "--help"], Success, "Usage: preview mend <FILE>"),
 ];
-
-/// Whether the row's words are answered so.
-fn answer_holds(
-    rt: &(impl Abort + AllocGlobal + Threads + Wait + Sync),
-    row: &Answer,
-) -> Result<bool, Fail> {
-    let got = run_with(rt, row.0, &[])?;
-    let (said, other) = match row.1 {
-        Success => (&got.output, &got.errors),
-        Failure | Usage => (&got.errors, &got.output),
-    };
-    let text = std::str::from_utf8(said.as_slice())?;
-    Ok(got.ended.status == row.1 && other.is_empty() && text.contains(row.2))
-}
 
 #[test]
 fn answers_words_of_frames_and_mend(rt: HostRuntime) -> Result<(), Fail> {

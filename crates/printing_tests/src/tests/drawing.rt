@@ -2,6 +2,7 @@
 //! The farthest arc of list 1 is a stub over two places, which goes 14 + 2 * 5 pixels and takes
 //! three quarters of them; faults make the band below 128.
 
+use super::row_holds;
 use pictures::AuId;
 use std::alloc::{AllocError, Global};
 use std::process::Abort;
@@ -158,11 +159,6 @@ fn five_drawn_again(alloc: Global) -> Result<Vec<u8>, AllocError> {
 fn has(text: &[u8], part: &str) -> bool {
     text.windows(part.len().max(1))
         .any(|window| window == part.as_bytes())
-}
-
-/// Asserts what a row of a table says.
-fn row_holds(rt: &impl Abort, row: usize, holds: bool) {
-    assert!(rt; holds, "row {row}");
 }
 
 #[test]

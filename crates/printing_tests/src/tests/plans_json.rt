@@ -2,6 +2,7 @@
 //! by hand from docs/OUTPUT.md and the standard; the controls of a picture are those of its first
 //! slice.
 
+use super::joined;
 use Status::Success;
 use console_io::Status;
 use std::alloc::{AllocError, Global};
@@ -67,15 +68,6 @@ fn planned(
     );
     assert!(rt; ended.status == Success && errors.is_empty());
     Ok(output)
-}
-
-/// The parts, one after the other.
-fn joined(alloc: Global, parts: &[&[u8]]) -> Result<Vec<u8>, AllocError> {
-    let mut text = Vec::new(alloc);
-    for part in parts {
-        text.extend_from_slice(*part)?;
-    }
-    Ok(text)
 }
 
 /// Asserts that there are just these lines, each of which begins so.

@@ -1,5 +1,6 @@
 //! Each table's rows were worked out by hand from docs/OUTPUT.md and the standard.
 
+use super::{joined, row_holds};
 use Status::{Failure, Success};
 use console_io::Status;
 use plan_stream::plan_on;
@@ -71,11 +72,6 @@ impl<'a> Read for Pieces<'a> {
     }
 }
 
-/// Asserts what a row of a table says.
-fn row_holds(rt: &impl Abort, row: usize, holds: bool) {
-    assert!(rt; holds, "row {row}");
-}
-
 /// Whether what the reader gives is planned with this status, just these lines are printed, and
 /// just this is told.
 fn is_planned(
@@ -106,15 +102,6 @@ fn is_planned_by(
         end: None,
     };
     is_planned(alloc, reader, status, lines, "")
-}
-
-/// The parts, one after the other.
-fn joined(alloc: Global, parts: &[&[u8]]) -> Result<Vec<u8>, AllocError> {
-    let mut text = Vec::new(alloc);
-    for part in parts {
-        text.extend_from_slice(*part)?;
-    }
-    Ok(text)
 }
 
 /// The parts of a stream, how its plan ends, and the lines that are printed.

@@ -1,0 +1,324 @@
+//! What is found of a file, as text.
+
+use access_unit::Refusal;
+use file_kinds::FileKind;
+use std::fmt;
+use std::fmt::{Display, Formatter, Write};
+use stream_check::{
+    CheckedStream, Counts, Found, Problem, RefusedStream, Stretch, Unread, longest,
+};
+use stream_reasons::Reason;
+use unit_outcomes::ValidityFault;
+
+/// How many lines of one kind are printed.
+const MOST_LINES: usize = 20;
+
+/// The kinds of faults, in the order of their numbers.
+const FAULTS: [ValidityFault; 18] = [
+    ValidityFault::MissingPps,
+    ValidityFault::MissingSps,
+    ValidityFault::HeaderCut,
+    ValidityFault::HeaderValue,
+    ValidityFault::Redundant,
+    ValidityFault::SliceOrder,
+    ValidityFault::SliceMismatch,
+    ValidityFault::NoIdr,
+    ValidityFault::SpsChange,
+    ValidityFault::IdrFrameNum,
+    ValidityFault::FrameNumGap,
+    ValidityFault::FrameNumRepeat,
+    ValidityFault::OrderRange,
+    ValidityFault::OrderTie,
+    ValidityFault::NoReference,
+    ValidityFault::BadModification,
+    ValidityFault::BadMarking,
+    ValidityFault::TooManyReferences,
+];
+
+/// What was found of the file of this name, as lines of text.
+#[derive(Drop)]
+pub struct Report<'a> {
+    pub name: &'a str,
+    pub found: &'a Found,
+}
+
+impl<'a> Display for Report<'a> {
+    fn fmt<W: Write>(&self, f: &mut Formatter<W>) -> fmt::Result {
+        f.write_str(self.name)?;
+        f.write_str(": ")?;
+        match self.found {
+            Found::Other(kind) => write!(f, "{}", OtherLines(*kind)),
+            Found::Refused(refused) => write!(f, "{}", RefusedLines(refused)),
+            Found::Stream(stream) => write!(f, "{}", StreamLines(stream)),
+        }
+    }
+}
+
+/// What is said of a file that is no byte stream of H.264.
+#[derive(Drop)]
+struct OtherLines(FileKind);
+
+impl Display for OtherLines {
+    fn fmt<W: Write>(&self, f: &mut Formatter<W>) -> fmt::Result {
+        let sentence = self.0.sentence();
+        writeln!(f, "{sentence}, not a byte stream of H.264 (Annex B)")?;
+        match self.0.command() {
+            Some(command) => writeln!(f, "{command} makes one of it"),
+            None => Ok(()),
+        }
+    }
+}
+
+/// What is said of a stream that is refused.
+#[derive(Drop)]
+struct RefusedLines<'a>(&'a RefusedStream);
+
+impl<'a> Display for RefusedLines<'a> {
+    fn fmt<W: Write>(&self, f: &mut Formatter<W>) -> fmt::Result {
+        let why = Refused(self.0.refusal);
+        let unread = self.0.unread.as_slice();
+        writeln!(f, "a byte stream of H.264 (Annex B) that can't be planned")?;
+        writeln!(f, "{why}")?;
+        writeln!(f, "{}", MendLine(unread.len()))?;
+        for line in unread.iter().take(MOST_LINES) {
+            writeln!(f, "{}", UnreadLine(line))?;
+        }
+        let rest = unread.len().saturating_sub(MOST_LINES);
+        write!(
+            f,
+            "{}",
+            RestLine {
+                rest,
+                of: "what is left out"
+            }
+        )
+    }
+}
+
+/// What `mend` does.
+#[derive(Drop)]
+struct MendLine(usize);
+
+impl Display for MendLine {
+    fn fmt<W: Write>(&self, f: &mut Formatter<W>) -> fmt::Result {
+        if self.0 == 0 {
+            write!(
+                f,
+                "preview mend puts access unit delimiters between its pictures"
+            )
+        } else {
+            write!(
+                f,
+                "preview mend writes a stream of what can be read, and leaves out:"
+            )
+        }
+    }
+}
+
+/// Why a stream is refused.
+#[derive(Drop)]
+struct Refused(Refusal);
+
+impl Display for Refused {
+    fn fmt<W: Write>(&self, f: &mut Formatter<W>) -> fmt::Result {
+        match self.0 {
+            Refusal::Split => write!(f, "{}", Reason::Refused(access_unit::Refused::Split)),
+            Refusal::Unit { index, refused } => {
+                let reason = Reason::Refused(refused);
+                write!(f, "access unit at index {index}: {reason}")
+            }
+            Refusal::StreamFull => write!(f, "{}", Reason::StreamFull),
+        }
+    }
+}
+
+/// What is left out of a stream, and why.
+#[derive(Drop)]
+struct UnreadLine<'a>(&'a Unread);
+
+impl<'a> Display for UnreadLine<'a> {
+    fn fmt<W: Write>(&self, f: &mut Formatter<W>) -> fmt::Result {
+        let left_out = self.0.left_out;
+        match self.0.reason {
+            Some(reason) => write!(f, "  {left_out}: {reason}"),
+            None => write!(f, "  {left_out}"),
+        }
+    }
+}
+
+/// How many lines of one kind aren't printed, if there are any.
+#[derive(Drop)]
+struct RestLine<'a> {
+    rest: usize,
+    of: &'a str,
+}
+
+impl<'a> Display for RestLine<'a> {
+    fn fmt<W: Write>(&self, f: &mut Formatter<W>) -> fmt::Result {
+        let (rest, of) = (self.rest, self.of);
+        if rest == 0 {
+            Ok(())
+        } else {
+            writeln!(f, "  and {rest} more of {of}")
+        }
+    }
+}
+
+/// What is said of a stream.
+#[derive(Drop)]
+struct StreamLines<'a>(&'a CheckedStream);
+
+impl<'a> Display for StreamLines<'a> {
+    fn fmt<W: Write>(&self, f: &mut Formatter<W>) -> fmt::Result {
+        f.write_str("a byte stream of H.264 (Annex B)\n")?;
+        for words in self.0.sets.as_slice() {
+            writeln!(f, "{words}")?;
+        }
+        write!(f, "{}", CountLines(&self.0.counts))?;
+        let (surfaces, longest) = (self.0.surfaces, longest(self.0.places.as_slice()));
+        writeln!(
+            f,
+            "surfaces for output order: {surfaces}; bytes of the longest access unit: {longest}"
+        )?;
+        write!(f, "{}", ProblemLines(self.0))?;
+        write!(f, "{}", DoubtLines(self.0))
+    }
+}
+
+/// What is counted.
+#[derive(Drop)]
+struct CountLines<'a>(&'a Counts);
+
+impl<'a> Display for CountLines<'a> {
+    fn fmt<W: Write>(&self, f: &mut Formatter<W>) -> fmt::Result {
+        let counts = *self.0;
+        let (units, without) = (counts.units, counts.without_picture);
+        writeln!(
+            f,
+            "access units: {units}, {without} of them without a picture"
+        )?;
+        let (i, p, b) = (counts.intra, counts.predicted, counts.bipredicted);
+        let (idr, slices) = (counts.idr, counts.slices);
+        writeln!(
+            f,
+            "pictures: I {i}, P {p}, B {b}; {idr} IDR; slices: {slices}"
+        )?;
+        let (periods, longest, frames) = (
+            counts.periods,
+            counts.longest_period,
+            counts.most_frames,
+        );
+        writeln!(
+            f,
+            "periods of output order: {periods}, of {longest} pictures at most"
+        )?;
+        writeln!(f, "reference frames held: {frames} at most")
+    }
+}
+
+/// The units with a fault.
+#[derive(Drop)]
+struct ProblemLines<'a>(&'a CheckedStream);
+
+impl<'a> Display for ProblemLines<'a> {
+    fn fmt<W: Write>(&self, f: &mut Formatter<W>) -> fmt::Result {
+        let faults = self.0.counts.faults;
+        writeln!(f, "problems: {faults}")?;
+        for fault in &FAULTS {
+            write!(
+                f,
+                "{}",
+                FaultLines {
+                    fault: *fault,
+                    stream: self.0
+                }
+            )?;
+        }
+        Ok(())
+    }
+}
+
+/// The units with a fault of one kind.
+#[derive(Drop)]
+struct FaultLines<'a> {
+    fault: ValidityFault,
+    stream: &'a CheckedStream,
+}
+
+impl<'a> Display for FaultLines<'a> {
+    fn fmt<W: Write>(&self, f: &mut Formatter<W>) -> fmt::Result {
+        let mut count: usize = 0;
+        for problem in self.stream.problems.as_slice() {
+            if problem.fault.number() == self.fault.number() {
+                if count < MOST_LINES {
+                    let place = problem.place_in(self.stream.places.as_slice()).byte;
+                    writeln!(f, "{}", ProblemLine { problem, place })?;
+                }
+                count = count.saturating_add(1);
+            }
+        }
+        let rest = count.saturating_sub(MOST_LINES);
+        write!(
+            f,
+            "{}",
+            RestLine {
+                rest,
+                of: self.fault.name()
+            }
+        )
+    }
+}
+
+/// A unit with a fault, and the place of its first byte.
+#[derive(Drop)]
+struct ProblemLine<'a> {
+    problem: &'a Problem,
+    place: usize,
+}
+
+impl<'a> Display for ProblemLine<'a> {
+    fn fmt<W: Write>(&self, f: &mut Formatter<W>) -> fmt::Result {
+        let (unit, place) = (self.problem.unit.number(), self.place);
+        let fault = self.problem.fault;
+        let (number, name, reason) = (fault.number(), fault.name(), self.problem.reason);
+        write!(f, "  unit {unit}, byte {place}: {number} {name}: {reason}")
+    }
+}
+
+/// The stretches in doubt.
+#[derive(Drop)]
+struct DoubtLines<'a>(&'a CheckedStream);
+
+impl<'a> Display for DoubtLines<'a> {
+    fn fmt<W: Write>(&self, f: &mut Formatter<W>) -> fmt::Result {
+        let count = self.0.counts.in_doubt;
+        writeln!(f, "pictures in doubt: {count}")?;
+        for stretch in self.0.stretches.iter().take(MOST_LINES) {
+            writeln!(f, "{}", StretchLine(stretch))?;
+        }
+        let rest = self.0.stretches.len().saturating_sub(MOST_LINES);
+        write!(
+            f,
+            "{}",
+            RestLine {
+                rest,
+                of: "such stretches"
+            }
+        )
+    }
+}
+
+/// A stretch in doubt.
+#[derive(Drop)]
+struct StretchLine<'a>(&'a Stretch);
+
+impl<'a> Display for StretchLine<'a> {
+    fn fmt<W: Write>(&self, f: &mut Formatter<W>) -> fmt::Result {
+        let (first, last) = (self.0.first.number(), self.0.last.number());
+        let (count, follows) = (self.0.in_doubt, self.0.follows.number());
+        write!(
+            f,
+            "  units {first} to {last}: {count}, which follow the fault of unit {follows}"
+        )
+    }
+}

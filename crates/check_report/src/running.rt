@@ -1,0 +1,97 @@
+//! `preview check`: a file read, checked, and told of.
+
+ghost use Rattle.std.specs.Prelude.{◌≡◌, ◌≢◌, ℕ, List, IfSome};
+ghost use Rattle.std.specs.Io.KnownBytes.{Keeps};
+ghost use Rattle.console_io.specs.Messages.{Tells};
+ghost use Rattle.stream_check.specs.Found.{IsFine};
+
+use crate::json::json_of;
+use crate::report::Report;
+use bytes::Bytes;
+use console_io::{
+    Ended, PrintFault, Sink, Status, say_input_fault, say_print_fault, whole_input, write_bytes,
+};
+use std::alloc::Global;
+use std::io::Read;
+use std::thread::Threads;
+use stream_check::{Found, check};
+
+/// How a check is printed.
+#[derive(Clone, Copy)]
+pub enum Form {
+    /// In lines of text.
+    Text,
+    /// As one object.
+    Json,
+}
+
+/// Prints what is found of the file that the reader gives; or tells `errors` why it isn't checked.
+/// It succeeds where there is nothing to complain of.
+pub fn check_on<R: Read, W: Sink, E: Sink>(
+    threads: &(impl Threads + Sync),
+    alloc: Global,
+    form: Form,
+    name: &str,
+    reader: &mut R,
+    writer: &mut W,
+    errors: &mut E,
+) -> Ended
+    ensures fine { result.status ≡ Status.Success → IfSome (R.remaining reader.old) IsFine }
+    ensures quiet { result.status ≡ Status.Success
+        → Keeps (E.contents errors.old) (E.contents errors.new) }
+    ensures told { result.status ≡ Status.Failure → (message : List ℕ)
+        × Tells result.told (E.refuses errors.new) (E.contents errors.old)
+        (E.contents errors.new) message }
+    ensures usage { result.status ≢ Status.Usage }
+{
+    match whole_input(alloc, reader) {
+        Ok(text) => match Bytes::from_vec(text) {
+            Ok(text) => check_text(threads, alloc, form, name, &text, writer, errors),
+            Err(_) => Ended::failed(say_print_fault(PrintFault::Memory, errors)),
+        },
+        Err(fault) => Ended::failed(say_input_fault(fault, name, errors)),
+    }
+}
+
+/// The same of the text of a file.
+fn check_text<W: Sink, E: Sink>(
+    threads: &(impl Threads + Sync),
+    alloc: Global,
+    form: Form,
+    name: &str,
+    text: &Bytes,
+    writer: &mut W,
+    errors: &mut E,
+) -> Ended
+    ensures fine { result.status ≡ Status.Success → IsFine text.now }
+    ensures quiet { result.status ≡ Status.Success
+        → Keeps (E.contents errors.old) (E.contents errors.new) }
+    ensures told { result.status ≡ Status.Failure → (message : List ℕ)
+        × Tells result.told (E.refuses errors.new) (E.contents errors.old)
+        (E.contents errors.new) message }
+    ensures usage { result.status ≢ Status.Usage }
+{
+    match check(threads, alloc, text) {
+        Ok(found) => match print(alloc, form, name, &found, writer) {
+            Ok(()) if found.is_fine() => Ended::done(),
+            Ok(()) => Ended::failed(write_bytes(errors, b"")),
+            Err(fault) => Ended::failed(say_print_fault(fault, errors)),
+        },
+        Err(_) => Ended::failed(say_print_fault(PrintFault::Memory, errors)),
+    }
+}
+
+/// Prints what was found of the file of this name.
+fn print<W: Sink>(
+    alloc: Global,
+    form: Form,
+    name: &str,
+    found: &Found,
+    writer: &mut W,
+) -> Result<(), PrintFault> {
+    let text = match form {
+        Form::Text => Report { name, found }.to_string(alloc)?,
+        Form::Json => json_of(alloc, found)?,
+    };
+    write_bytes(writer, text.as_bytes())
+}

@@ -1,0 +1,154 @@
+//! What `check` says of files. Lines were worked out by hand from docs/OUTPUT.md and the standard.
+
+use super::{joined, row_holds};
+use Status::{Failure, Success};
+use check_report::{Form, check_on};
+use console_io::Status;
+use std::alloc::AllocError;
+use std::process::Abort;
+use std::test::Fail;
+use std::thread::Threads;
+
+/// A sequence parameter set of one macroblock with frame_num of four bits, a picture parameter set
+/// and an IDR picture.
+const A: &[u8] = &[
+    0, 0, 1, 0x67, 0x42, 0x00, 0x0A, 0xDA, 0x79, 0, 0, 1, 0x68, 0xCE, 0x38, 0x80, 0, 0, 1, 0x65,
+    0x88, 0x84, 0x80,
+];
+
+/// P pictures of frame_num 1 and 2.
+const P1: &[u8] = &[0, 0, 1, 0x41, 0x9A, 0x23];
+
+const P2: &[u8] = &[0, 0, 1, 0x41, 0x9A, 0x43];
+
+/// The parts of a file, how its check ends, and the lines that are printed.
+type Check = (&'static [&'static [u8]], Status, &'static str);
+
+const CHECKS: [Check; 6] = [
+    (
+        &[A, P1],
+        Success,
+        "-: a byte stream of H.264 (Annex B)\n\
+sequence parameter set 0: Baseline profile, level 1.0, 16x16 before cropping, 4:2:0, \
+8 bits of luma and 8 of chroma, frame_num of 4 bits, pic_order_cnt_type 2, max_num_ref_frames 1\n\
+access units: 2, 0 of them without a picture\n\
+pictures: I 1, P 1, B 0; 1 IDR; slices: 2\n\
+periods of output order: 1, of 2 pictures at most\n\
+reference frames held: 1 at most\n\
+surfaces for output order: 2; bytes of the longest access unit: 23\n\
+problems: 0\n\
+pictures in doubt: 0\n",
+    ),
+    (
+        &[A, P2, P1],
+        Failure,
+        "-: a byte stream of H.264 (Annex B)\n\
+sequence parameter set 0: Baseline profile, level 1.0, 16x16 before cropping, 4:2:0, \
+8 bits of luma and 8 of chroma, frame_num of 4 bits, pic_order_cnt_type 2, max_num_ref_frames 1\n\
+access units: 3, 0 of them without a picture\n\
+pictures: I 1, P 1, B 0; 1 IDR; slices: 2\n\
+periods of output order: 1, of 2 pictures at most\n\
+reference frames held: 1 at most\n\
+surfaces for output order: 2; bytes of the longest access unit: 23\n\
+problems: 1\n  \
+unit 2, byte 23: 11 FrameNumGap: frame_num is neither 0 nor the next number: pictures are missing \
+(7.4.3)\n\
+pictures in doubt: 1\n  \
+units 3 to 3: 1, which follow the fault of unit 2\n",
+    ),
+    (
+        &[b"load a.264\n"],
+        Failure,
+        "-: text, not a byte stream of H.264 (Annex B)\n",
+    ),
+    (
+        &[b"\x1A\x45\xDF\xA3\xA3\x42\x86\x81\x01\x42\xF7\x81\x01\x42\x82\x88matroska"],
+        Failure,
+        "-: a Matroska or WebM file, a container, not a byte stream of H.264 (Annex B)\n\
+ffmpeg -i FILE -map 0:v:0 -c copy -f h264 OUT.264 makes one of it\n",
+    ),
+    // The same stream with frame_mbs_only_flag 0.
+    (
+        &[b"\x00\x00\x01\x67\x42\x00\x0A\xDA\x69", P1],
+        Failure,
+        "-: a byte stream of H.264 (Annex B) that can't be planned\n\
+access unit at index 0: a sequence parameter set can't be read (7.3.2.1.1)\n\
+preview mend writes a stream of what can be read, and leaves out:\n  \
+byte 0: left out 9 bytes: unread SPS: frame_mbs_only_flag is 0: interlaced coding (7.4.2.1.1)\n",
+    ),
+    // A slice behind a slice of an IDR picture that isn't of it.
+    (
+        &[A, &[0, 0, 1, 0x41, 0x5A]],
+        Failure,
+        "-: a byte stream of H.264 (Annex B) that can't be planned\n\
+access unit at index 0: slices of an IDR picture and of another one stand in one access unit \
+(7.4.1.2.4)\n\
+preview mend puts access unit delimiters between its pictures\n",
+    ),
+];
+
+/// Whether a file of these parts is checked so.
+fn is_checked(
+    rt: &(impl Abort + AllocGlobal + Threads + Sync),
+    form: Form,
+    row: &Check,
+) -> Result<bool, AllocError> {
+    let text = joined(rt.alloc(), row.0)?;
+    let (mut output, mut errors) = (Vec::new(rt.alloc()), Vec::new(rt.alloc()));
+    let mut reader = text.as_slice();
+    let ended = check_on(
+        rt,
+        rt.alloc(),
+        form,
+        "-",
+        &mut reader,
+        &mut output,
+        &mut errors,
+    );
+    Ok(ended.status == row.1 && output.as_slice() == row.2.as_bytes() && errors.is_empty())
+}
+
+#[test]
+fn checks_say_what_is_the_matter(rt: HostRuntime) -> Result<(), Fail> {
+    for (row, check) in CHECKS.iter().enumerate() {
+        row_holds(&rt, row, is_checked(&rt, Form::Text, check)?);
+    }
+    Ok(())
+}
+
+const OBJECTS: [Check; 3] = [
+    (
+        &[A, P2, P1],
+        Failure,
+        "{\"kind\":\"H264AnnexB\",\"sets\":[{\"seq_parameter_set_id\":0,\"profile\":\"Baseline\",\
+\"level\":\"1.0\",\"width\":16,\"height\":16,\"chroma\":\"4:2:0\",\"luma_bits\":8,\"chroma_bits\":8,\
+\"frame_num_bits\":4,\"pic_order_cnt_type\":2,\"max_num_ref_frames\":1}],\
+\"counts\":{\"units\":3,\"intra\":1,\"predicted\":1,\"bipredicted\":0,\"idr\":1,\"slices\":2,\
+\"faults\":1,\"without_picture\":0,\"periods\":1,\"longest_period\":2,\"most_frames\":1,\
+\"in_doubt\":1},\"surfaces\":2,\"longest_unit\":23,\"problems\":[{\"unit\":2,\"byte\":23,\"bytes\":6,\"number\":11,\
+\"name\":\"FrameNumGap\",\"reason\":\"frame_num is neither 0 nor the next number: pictures are \
+missing (7.4.3)\"}],\"doubts\":[{\"first\":3,\"last\":3,\"follows\":2,\"in_doubt\":1}],\
+\"units\":[{\"byte\":0,\"bytes\":23},{\"byte\":23,\"bytes\":6},{\"byte\":29,\"bytes\":6}]}\n",
+    ),
+    (
+        &[b"load a.264\n"],
+        Failure,
+        "{\"kind\":\"Text\",\"sentence\":\"text\"}\n",
+    ),
+    (
+        &[b"\x00\x00\x01\x67\x42\x00\x0A\xDA\x69", P1],
+        Failure,
+        "{\"kind\":\"H264AnnexB\",\"index\":0,\"number\":4,\"name\":\"Sps\",\
+\"reason\":\"a sequence parameter set can't be read (7.3.2.1.1)\",\
+\"left_out\":[{\"byte\":0,\"bytes\":9,\"why\":\"unread SPS\",\
+\"reason\":\"frame_mbs_only_flag is 0: interlaced coding (7.4.2.1.1)\"}]}\n",
+    ),
+];
+
+#[test]
+fn checks_are_objects(rt: HostRuntime) -> Result<(), Fail> {
+    for (row, object) in OBJECTS.iter().enumerate() {
+        row_holds(&rt, row, is_checked(&rt, Form::Json, object)?);
+    }
+    Ok(())
+}

@@ -1,0 +1,2 @@
+mod FoldSteps
+mod SeenIds

@@ -1,0 +1,40 @@
+-- What is found of a file.
+use Rattle.std.specs.Prelude.{◌≡◌, ℕ, ◌==◌, Bool, false, List, length, map, None, vec_len}
+use Rattle.access_unit.specs.Rooms.{IsStream}
+use Rattle.doubts.specs.InDoubt.{AreDoubts}
+use Rattle.doubts.specs.declared.doubt.Doubt.{Doubt}
+use Rattle.file_kinds.specs.Kinds.{kind_of}
+use Rattle.stream_mending.specs.Mended.{told}
+use Rattle.unit_json.specs.Seen.{stream_seen}
+use Rattle.unit_json.specs.StreamLines.{stream_outcomes}
+use Rattle.stream_check.specs.Counts.{counted, counts_of}
+use Rattle.stream_check.specs.Problems.{problems_from}
+use Rattle.stream_check.specs.Unread.{left_out_of}
+use Rattle.stream_check.specs.declared.counts.Which.TheVariants.{Fault}
+use Rattle.stream_check.specs.declared.found.Found.{Found}
+use Rattle.stream_check.specs.declared.found.Found.TheVariants.{Other, Refused, Stream}
+use Rattle.stream_check.specs.declared.found.CheckedStream.{CheckedStream}
+
+-- whether there is nothing to complain of
+abbrev pub is_fine : Found → Bool
+is_fine (Other _) = false
+is_fine (Refused _) = false
+is_fine (Stream stream) = stream.counts.faults == 0
+
+-- what is found of the access units of a stream, by the outcomes of its plain fold and what is told of doubt
+pub record IsCheckOf (units : List (List (List ℕ))) (stream : CheckedStream) : Type 0 where
+  pub told : List Doubt
+  pub are_told : AreDoubts (stream_seen units (stream_outcomes units)) 0 (length units) told
+  pub counts : stream.counts ≡ counts_of (stream_outcomes units) told
+  pub problems : stream.problems.items ≡ problems_from 1 None (stream_outcomes units)
+  pub places : vec_len stream.places ≡ length units
+
+-- what is found of a text: the kind that its first bytes tell, what `mend` leaves out, or what its access units show
+abbrev pub IsFound : List ℕ → Found → Type 0
+IsFound text (Other kind) = kind ≡ kind_of text
+IsFound text (Refused refused) = map left_out_of refused.unread.items ≡ told text
+IsFound text (Stream stream) = (units : List (List (List ℕ))) × IsStream text units × IsCheckOf units stream
+
+-- there is nothing to complain of: it is a stream, and no unit of its plain fold has a fault
+abbrev pub IsFine : List ℕ → Type 0
+IsFine text = (units : List (List (List ℕ))) × IsStream text units × (counted Fault 0 (stream_outcomes units) ≡ 0)

@@ -1,0 +1,5 @@
+pub mod Counts
+pub mod Found
+pub mod Problems
+pub mod SetWords
+pub mod Unread

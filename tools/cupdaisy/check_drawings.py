@@ -7,7 +7,7 @@ import re
 import tempfile
 import xml.etree.ElementTree as tree
 
-from cupdaisy import fold, processes, scripts, session, syntax
+from cupdaisy import doubts, fold, processes, scripts, session, syntax
 from cupdaisy.command_line import parser_of
 from cupdaisy.damage import damaged
 from cupdaisy.program import program
@@ -33,11 +33,23 @@ def blocks(plan):
     return re.findall(r"^unit .*\n(?:request .*\n)*", plan, re.MULTILINE)
 
 
-def chosen(plan, words):
-    """The blocks of the units that are drawn."""
+def doubt_line(told):
+    """The line that is said of a unit in doubt, by what is told of it."""
+    follows, in_doubt = told
+    return f"in doubt: follows the fault of unit {follows}\n" if in_doubt else ""
+
+
+def chosen(plan, told, words):
+    """What is said of the units that are drawn: their blocks, and that they are in doubt."""
     options = dict(zip(words[::2], words[1::2]))
     first, count = int(options.get("--from", 1)), int(options.get("--units", 60))
-    return blocks(plan)[first - 1:first - 1 + count]
+    return [block + doubt_line(each) for block, each in zip(blocks(plan), told)][first - 1:first - 1 + count]
+
+
+def plain_told(text):
+    """What is told of each unit of a stream, by the plain fold."""
+    stream, folded = [(number, syntax.Unit(nals)) for number, nals in enumerate(cut(split(text)), 1)], fold.Fold()
+    return list(doubts.walked([doubts.seen(*unit, folded.step(*unit)) for unit in stream]))
 
 
 def sides(rect):
@@ -106,10 +118,24 @@ def drawing_wrong(document, wanted):
     shown = sorted(int(lines.split()[3]) for lines in wanted if " position " in lines)
     if [int(title.split()[3]) for title in titles[len(wanted):]] != shown:
         return "a second row that isn't in output order"
+    if doubts_wrong(groups, wanted):
+        return "other marks of doubt than the model's"
     boxes = boxes_of(groups)
     if any(overlap(one, other) for one, other in itertools.combinations(boxes, 2)):
         return "boxes that overlap"
     return arcs_wrong(groups[:len(wanted)], boxes[:len(wanted)])
+
+
+def doubts_wrong(groups, wanted):
+    """Whether other units are marked than those of which it is said that they are in doubt."""
+    doubted = {lines.split()[1] for lines in wanted if "\nin doubt: " in lines}
+    for group in groups:
+        outlines = [sides(rect) for rect in group.iter(f"{SVG}rect") if rect.get("class") == "doubt"]
+        asks = [text.text for text in group.iter(f"{SVG}text") if (text.get("class") or "").split()[-1] == "ask"]
+        is_doubted = group.find(f"{SVG}title").text.split()[1] in doubted
+        if (outlines, asks) != ((boxes_of([group]), ["?"]) if is_doubted else ([], [])):
+            return True
+    return False
 
 
 def wrong(program, text, words=()):
@@ -120,7 +146,7 @@ def wrong(program, text, words=()):
         return f"status {drawn.status}, where plan's is {plan.status}"
     if plan.status != 0:
         return "" if plan.output == drawn.output else "another refusal than plan's"
-    return drawing_wrong(drawn.output, chosen(plan.output.decode(), list(words)))
+    return drawing_wrong(drawn.output, chosen(plan.output.decode(), plain_told(text), list(words)))
 
 
 def same_outcome(one, other):
@@ -144,6 +170,10 @@ class Edited:
 
     def ids(self):
         return [unit_id for unit_id, _ in self.session.stream]
+
+    def told(self):
+        """By the id of a unit, what is told of its doubt."""
+        return dict(zip(self.ids(), doubts.told_in(self.session)))
 
     def make(self, number, command):
         """Makes a command of a script; what is told of it where it is refused."""
@@ -263,7 +293,8 @@ def edits_run(program, text, lines, words, wanted, edited):
     if edited is None:
         return ""
     ids = edited_ids(edited, dict(zip(words[::2], words[1::2])))
-    blocks_of = ["".join(scripts.unit_lines(edited.session, unit_id)) for unit_id in ids]
+    told = edited.told()
+    blocks_of = ["".join(scripts.unit_lines(edited.session, unit_id)) + doubt_line(told[unit_id]) for unit_id in ids]
     return drawing_wrong(drawn.output, blocks_of) or marks_wrong(drawn.output, edited, ids)
 
 

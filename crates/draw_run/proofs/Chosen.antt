@@ -63,3 +63,9 @@ chosen-more (suc before) units all unit some late few =
     ap (λ l. l ++ unit ∷ []) (take_all units shown (omega (arith, room)))
     ∙ sym (take_all units (shown ++ unit ∷ []) (omega (arith, room, length-append shown (unit ∷ []))))
     ∙ ap (take units) (sym (drop-append-le before all (unit ∷ []) (omega (arith, late))))
+
+-- of no unit none is shown
+pub chosen-nothing : (from units : ℕ) → [] ≡ chosen from units []
+chosen-nothing zero units = refl
+chosen-nothing (suc before) units =
+    sym (ap (take units) (drop_of_length-le [] (omega arith)) ∙ take_all units [] (omega arith))

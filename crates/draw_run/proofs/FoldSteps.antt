@@ -14,7 +14,9 @@ use Rattle.draw_run.specs.Chosen.{kept_from}
 use Rattle.draw_run.specs.declared.drawn_fold.DrawnFold.{DrawnFold}
 use Rattle.draw_run.specs.declared.drawn_fold.KeptUnit.{KeptUnit}
 use Rattle.draw_run.specs.Folds.{IsFoldOf}
+use Rattle.stream_session.specs.Doubting.{seen_in, seen_with}
 use Rattle.draw_run.proofs.Chosen.{kept_from-push, length-kept_from}
+use Rattle.draw_run.proofs.Seen.{seen-push, seen_of}
 
 module _ (first : DrawnFold) (done : List (List (List ℕ))) (fold : DrawnFold) (is : IsFoldOf first done fold) where
   abbrev stream : List (ℕ × List (List ℕ))
@@ -63,3 +65,12 @@ module _ (first : DrawnFold) (done : List (List (List ℕ))) (fold : DrawnFold) 
         let place : 1 + length (outcomes_of stream) ≡ id = omega (arith, length-outcomes_of stream, length-numbered_from 1 done, id_is) in
         ap (λ (n : ℕ). kept_so_far ++ record { id = n; outcome = after.1 } ∷ []) (sym place)
         ∙ sym (kept_from-push 1 (outcomes_of stream) after.1) ∙ ap (kept_from 1) (sym outcomes_next)
+
+    -- and so do the units as doubts see them
+    pub seen_more : seen_in (numbered_from 1 done) ++ seen_of id unit (fold_step fold.state id unit).1 ∷ []
+        ≡ seen_in (numbered_from 1 (done ++ unit ∷ []))
+    seen_more =
+        let long : length stream ≡ length (outcomes_of stream) = sym (length-outcomes_of stream) in
+        sym (seen-push stream (outcomes_of stream) id unit after.1 long)
+        ∙ ap (seen_with (stream ++ (id, unit) ∷ [])) (sym outcomes_next)
+        ∙ ap (λ (s : List (ℕ × List (List ℕ))). seen_with s (outcomes_of (numbered_from 1 (done ++ unit ∷ [])))) (sym stream_more)

@@ -1,6 +1,7 @@
 -- A unit more at the end of a stream.
-use Rattle.std.proofs.Common.{◌≡◌, ◌∙◌, ℕ, ◌+◌, List, [], ◌∷◌, ◌++◌, length, Option, Some, ap, sym, refl, arith, length-append}
-use Rattle.std.specs.Prelude.{insert}
+use Rattle.std.proofs.Common.{◌≡◌, ◌∙◌, ◌⊎◌, ⊎_elim, ℕ, zero, suc, ◌+◌, ◌<◌, List, [], ◌∷◌, ◌++◌, length, Option, Some, ap, subst, sym, refl, arith, length-append}
+use Rattle.std.specs.Prelude.{Contains, insert}
+use Rattle.std.specs.List.{zip}
 use Rattle.std.proofs.lemmas.List.Edits.{insert_end}
 use Rattle.annexb.specs.ByteStream.{joined}
 use Rattle.annexb.proofs.Readings.{same_reading}
@@ -12,12 +13,37 @@ use Rattle.stream_edits.specs.declared.edits.Edit.TheVariants.{Insert}
 use Rattle.stream_edits.specs.declared.edits.Place.{Place}
 use Rattle.stream_edits.specs.declared.receipts.Receipt.{Receipt}
 use Rattle.stream_edits.specs.Edits.{Register}
-use Rattle.stream_edits.specs.Streams.{Stream, start_of}
-use Rattle.stream_session.specs.Machines.{Edits}
-use Rattle.draw_run.specs.Loading.{HasLoaded, IsLoaded}
+use Rattle.stream_edits.specs.Streams.{Stream, ids_of, start_of}
+use Rattle.stream_session.specs.Machines.{Edits, store_of}
+use Rattle.key_slots.specs.Left.{ArePut, IsLeft}
+use Rattle.decode_jobs.specs.Keys.{Key}
+use Rattle.picture_keys.specs.Known.{keys_of}
+use Rattle.picture_store.specs.Stores.{IsInUse}
+use Rattle.request_core.specs.Fold.{outcomes_of}
+use Rattle.draw_run.specs.Loading.{HasLoaded, IsHeld, IsLoaded, KeepsRest}
+use Rattle.draw_run.specs.Marks.{HoldsAll}
 
 one_value : (o : Option ℕ) (a b : ℕ) → o ≡ Some a → o ≡ Some b → a ≡ b
 one_value o a b first second = cc
+
+no_item : (key : Key) → Contains [] key → ⊥
+no_item key (zero, below, is) = absurd (omega arith)
+no_item key (suc k, below, is) = absurd (omega arith)
+
+no_items : (keys : List Key) → ((key : Key) → Contains keys key → ⊥) → keys ≡ []
+no_items [] none = refl
+no_items (key ∷ keys) none = absurd (none key (0, omega arith, refl))
+
+none_kept : (old : Machine) → {parts : List (List (List ℕ))} → HasLoaded parts old → (key : Key)
+    → Contains old.held key ⊎ Contains old.cached key → ⊥
+none_kept old loaded key has = ⊎_elim
+    (λ held. no_item key (subst (λ (l : List Key). Contains l key) loaded.none_held held))
+    (λ cached. no_item key (subst (λ (l : List Key). Contains l key) loaded.none_cached cached)) has
+
+-- nothing is put into a cache where nothing was held
+none_put : (room : ℕ) (gone stay cached : List Key) (lost : ℕ) → gone ≡ [] → stay ≡ [] → ArePut room gone stay cached lost → cached ≡ []
+none_put room gone stay cached lost none left put =
+    (subst (λ (l : List Key). ArePut room l stay cached lost) none put).0 ∙ left
 
 pub loaded-more : (parts : List (List (List ℕ))) (old new : Machine) (unit : List (List ℕ)) (place : Place) (receipt : Receipt)
     → HasLoaded parts old → start_of old.register.stream place ≡ Some (length old.register.stream)
@@ -40,17 +66,26 @@ loaded-more parts old new unit place receipt loaded stands accepted edits =
           ∙ sym (numbered_from-push 1 parts unit);
       given_is = made.given_is ∙ (id ∙ omega (arith, length-append parts (unit ∷ [])));
       none_out = edits.refits.out_stays ∙ loaded.none_out;
+      none_held = no_items new.held (λ key has. none_kept old loaded key ((edits.refits.held_are key).0 has).1);
+      none_cached = none_put old.room edits.refits.gone edits.refits.stay new.cached edits.refits.lost
+          (subst (λ (l : List Key). IsLeft (IsInUse (store_of new)) l edits.refits.gone) loaded.none_held edits.refits.go)
+          (subst (λ (l : List Key). IsLeft (IsInUse (store_of new)) l edits.refits.stay) loaded.none_cached edits.refits.leave)
+          edits.refits.cached_are;
+      room_is = edits.refits.room_stays ∙ loaded.room_is;
     }
 
--- the stream stays that of the text where only pictures change
-pub loaded-kept : (text : List ℕ) (old new : Machine) → IsLoaded text old → new.register ≡ old.register → new.jobs_out ≡ [] → IsLoaded text new
-loaded-kept text old new is same none = record {
+-- the stream stays that of the text where only pictures come
+pub held-of : (text : List ℕ) (old new : Machine) → IsLoaded text old → KeepsRest old new → HoldsAll new → IsHeld text new
+held-of text old new is keeps holds = record {
   parts = is.parts;
   stream = is.stream;
   bounded = is.bounded;
-  loaded = record {
-    stream_is = ap (λ (r : Register). r.stream) same ∙ is.loaded.stream_is;
-    given_is = ap (λ (r : Register). r.ids_given) same ∙ is.loaded.given_is;
-    none_out = none;
-  };
+  stream_is = ap (λ (r : Register). r.stream) keeps.register_stays ∙ is.loaded.stream_is;
+  holds = holds;
+  only = λ key has. ⊎_elim
+      (λ there. absurd (no_item key (subst (λ (l : List Key). Contains l key) is.loaded.none_held there)))
+      (λ used. subst (λ (r : Register). Contains (keys_of (zip (ids_of r.stream) (outcomes_of r.stream))) (Some key)) (sym keeps.register_stays) used)
+      (keeps.held key has);
+  none_cached = keeps.cached_stay ∙ is.loaded.none_cached;
+  room_is = keeps.room_stays ∙ is.loaded.room_is;
 }

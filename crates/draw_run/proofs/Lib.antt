@@ -1,7 +1,9 @@
 pub mod Chosen
-pub mod DrawnTitles
 pub mod FoldSteps
+mod Documents
+mod OneByOne
 mod Inserted
 mod Landed
-mod Opened
+mod Pointwise
 mod Rows
+mod Seen

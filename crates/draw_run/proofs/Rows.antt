@@ -90,7 +90,7 @@ stand-long keys [] (tree ∷ trees) all = absurd all
 stand-long keys (number ∷ numbers) [] all = absurd all
 stand-long keys (number ∷ numbers) (tree ∷ trees) all = ap (λ n. suc n) (stand-long keys numbers trees all.1)
 
-length-ids : (stream : Stream) → length (ids_of stream) ≡ length stream
+pub length-ids : (stream : Stream) → length (ids_of stream) ≡ length stream
 length-ids [] = refl
 length-ids (unit ∷ stream) = ap (λ n. suc n) (length-ids stream)
 

@@ -1,5 +1,5 @@
 -- What `draw --edits` writes of a text and a script (docs/OUTPUT.md).
-use Rattle.std.specs.Prelude.{◌≡◌, ℕ, List, [], Option, ◌⊎◌}
+use Rattle.std.specs.Prelude.{◌≡◌, ℕ, true, List, [], length, Option, ◌⊎◌}
 use Rattle.std.specs.Io.KnownBytes.{Appends, Keeps}
 use Rattle.access_unit.specs.Rooms.{IsStreamRefused, most_units}
 use Rattle.access_unit.specs.declared.room.Refusal.{Refusal}
@@ -12,22 +12,34 @@ use Rattle.edit_script.specs.declared.script.ScriptFault.{ScriptFault}
 use Rattle.edit_script.specs.declared.script.ScriptFault.TheVariants as scripts
 use Rattle.script_run.specs.Messages.{script_fault_text}
 use Rattle.stream_edits.specs.Streams.{ids_of}
-use Rattle.stream_svg.specs.Documents.{HasParts}
+use Rattle.doubts.specs.InDoubt.{AreDoubts}
+use Rattle.doubts.specs.declared.doubt.Doubt.{Doubt}
+use Rattle.stream_session.specs.Doubting.{seen_in}
+use Rattle.stream_svg.specs.Pages.{document_text}
+use Rattle.stream_svg.specs.declared.caption.Caption.{Caption}
+use Rattle.stream_svg.specs.declared.layout.Layout.{Layout}
+use Rattle.stream_svg.specs.declared.unit.DrawnUnit.{DrawnUnit}
 use Rattle.unit_lines.specs.Refusals.{refusal_text}
-use Rattle.draw_run.specs.Choosing.{chosen_ids}
+use Rattle.draw_run.specs.Layouts.{IsLaidOut}
+use Rattle.draw_run.specs.Choosing.{chosen_ids, start_among}
 use Rattle.draw_run.specs.Loading.{IsHeld}
 use Rattle.draw_run.specs.Making.{AreMade}
-use Rattle.draw_run.specs.Marks.{AreOpenedAs}
+use Rattle.draw_run.specs.Marks.{AreShownAs}
 use Rattle.draw_run.specs.declared.fault.EditsFault.{EditsFault}
 use Rattle.draw_run.specs.declared.fault.EditsFault.TheVariants.{Script, Refused, Memory, Unwritten}
 
--- so many units of a session's stream, from the first or from an id on, are in the document, in
--- stream order: their shapes are opened with their marks, by a stream before, and with their lines
-abbrev pub IsDrawnOf : Option ℕ → ℕ → Machine → Machine → List ℕ → Type 0
-IsDrawnOf from units before after document =
-    (openings : List (List ℕ))
-    × AreOpenedAs before.register.stream after (chosen_ids from units (ids_of after.register.stream)) openings
-    × HasParts openings document
+-- the document is that of so many units of a session's stream, from the first or from an id on, in
+-- stream order: each is drawn by the stream as it is, with its mark by a stream before
+pub record IsDrawnOf (from : Option ℕ) (units : ℕ) (before after : Machine) (document : List ℕ) : Type 0 where
+  pub doubts : List Doubt
+  pub doubts_are : AreDoubts (seen_in after.register.stream) (start_among from (ids_of after.register.stream))
+      (length (chosen_ids from units (ids_of after.register.stream))) doubts
+  pub drawn : List DrawnUnit
+  pub captions : List Caption
+  pub shown : AreShownAs before.register.stream after (chosen_ids from units (ids_of after.register.stream)) doubts drawn captions
+  pub layout : Layout
+  pub laid_out : IsLaidOut drawn layout
+  pub document_is : document ≡ document_text layout drawn captions (length (ids_of after.register.stream)) true
 
 -- the document shows the text's stream after the script's edits, which were made when all its
 -- pictures were held, and this is told of the edits that are refused

@@ -1,4 +1,7 @@
 pub mod Chosen
+pub mod Doubts
+pub mod Shown
+pub mod Layouts
 pub mod Folds
 pub mod Drawings
 pub mod Choosing

@@ -1,16 +1,19 @@
 -- What edits did to the units of a stream.
-use Rattle.std.specs.Prelude.{◌≡◌, ◌↔◌, ℕ, IsTrue, List, [], ◌∷◌, Option, None, Some, Contains, slice_get, option_and_then, ⊤}
+use Rattle.std.specs.Prelude.{◌≡◌, ◌↔◌, ℕ, IsTrue, List, length, Option, None, Some, Contains, slice_get, option_and_then}
 use Rattle.decode_jobs.specs.Keys.{Key}
 use Rattle.stream_edits.specs.Streams.{Stream, place_of}
 use Rattle.edit_engine.specs.Machines.{Machine}
 use Rattle.stream_session.specs.Needing.{IsPendingIn}
 use Rattle.stream_session.specs.Showing.{HasKey, keys_in}
-use Rattle.stream_session.specs.Streams.{outcome_in}
+use Rattle.stream_session.specs.Streams.{outcome_in, position_in}
 use Rattle.stream_svg.specs.declared.unit.EditMark.{EditMark}
 use Rattle.stream_svg.specs.declared.unit.PictureState.{PictureState}
 use Rattle.stream_svg.specs.declared.unit.PictureState.TheVariants.{Stayed, Pending}
-use Rattle.stream_svg.specs.Documents.{opening_of}
-use Rattle.draw_run.specs.Choosing.{HasLines}
+use Rattle.stream_svg.specs.declared.caption.Caption.{Caption}
+use Rattle.stream_svg.specs.declared.unit.DrawnUnit.{DrawnUnit}
+use Rattle.unit_outcomes.specs.declared.outcome.Outcome.{Outcome}
+use Rattle.doubts.specs.declared.doubt.Doubt.{Doubt}
+use Rattle.draw_run.specs.Shown.{IsShownBy}
 
 -- all pictures are held: no unit is pending
 abbrev pub HoldsAll : Machine → Type 0
@@ -37,16 +40,23 @@ pub record IsMarkOf (before : Stream) (after : Machine) (id : ℕ) (mark : EditM
   pub changed : IsTrue mark.changed ↔ (IsAsBefore before after.register.stream id → ⊥)
   pub picture : IsStateOf after id mark.picture
 
--- the shapes of the unit that has the id are opened so: with its mark and its lines
-abbrev pub IsOpenedAs : Stream → Machine → ℕ → List ℕ → Type 0
-IsOpenedAs before after id opening =
-    (mark : EditMark) × (lines : List ℕ) × IsMarkOf before after id mark × HasLines after.register.stream id lines
-    × (opening ≡ opening_of (Some mark) lines)
+-- the unit that has the id is drawn so, and this is said of it: by its outcome, its position in output
+-- order and its mark, and by what is told of doubt
+pub record IsShownAs (before : Stream) (after : Machine) (id : ℕ) (doubt : Doubt) (unit : DrawnUnit)
+    (caption : Caption) : Type 0 where
+  pub outcome : Outcome
+  pub position : Option ℕ
+  pub outcome_is : outcome_in after.register.stream id ≡ Some outcome
+  pub position_is : position_in after.register.stream id ≡ Some position
+  pub mark : EditMark
+  pub marked : IsMarkOf before after id mark
+  pub shown : IsShownBy id outcome position doubt (Some mark) unit caption
 
--- those of units are, one by one
-abbrev pub AreOpenedAs : Stream → Machine → List ℕ → List (List ℕ) → Type 0
-AreOpenedAs before after [] [] = ⊤
-AreOpenedAs before after [] (opening ∷ openings) = ⊥
-AreOpenedAs before after (id ∷ ids) [] = ⊥
-AreOpenedAs before after (id ∷ ids) (opening ∷ openings) =
-    IsOpenedAs before after id opening × AreOpenedAs before after ids openings
+-- units that have these ids are, one by one, of which this is told of doubt
+pub record AreShownAs (before : Stream) (after : Machine) (ids : List ℕ) (doubts : List Doubt) (units : List DrawnUnit)
+    (captions : List Caption) : Type 0 where
+  pub units_long : length units ≡ length ids
+  pub captions_long : length captions ≡ length ids
+  pub each : (place id : ℕ) (doubt : Doubt) (unit : DrawnUnit) (caption : Caption) → slice_get ids place ≡ Some id
+      → slice_get doubts place ≡ Some doubt → slice_get units place ≡ Some unit → slice_get captions place ≡ Some caption
+      → IsShownAs before after id doubt unit caption

@@ -1,14 +1,11 @@
 //! The document of a stream after edits.
 
-ghost use Rattle.std.specs.Prelude.{◌≡◌, ◌≤◌, List, ℕ, IfOk, length, string_bytes};
+ghost use Rattle.std.specs.Prelude.{◌≡◌, ◌≤◌, ◌+◌, IfOk, length, string_bytes, take, drop};
 ghost use Rattle.edit_engine.specs.Machines.{Machine};
-ghost use Rattle.stream_edits.specs.Streams.{Stream, ids_of};
-ghost use Rattle.stream_svg.specs.Documents.{HasParts};
-ghost use Rattle.draw_run.specs.Choosing.{chosen_ids};
+ghost use Rattle.draw_run.specs.Choosing.{start_among};
 ghost use Rattle.draw_run.specs.Columns.{AreOfBoth, IsOf};
 ghost use Rattle.draw_run.specs.EditedDrawings.{IsDrawnOf};
 ghost use Rattle.draw_run.specs.Making.{AreMade};
-ghost use Rattle.draw_run.specs.Marks.{AreOpenedAs};
 
 use crate::comparison::{keys_of_both, place_of};
 use crate::edited_choice::EditedChoice;
@@ -57,17 +54,17 @@ fn document_of(
     choice: EditedChoice,
     edited: Edited<'_>,
 ) -> Result<Vec<u8>, AllocError>
-    ensures { (stream : Stream) → IsOf stream edited.entry.before.now
-        → AreOfBoth stream edited.entry.after.now.register.stream
+    ensures { (before : Machine) → IsOf before.register.stream edited.entry.before.now
+        → AreOfBoth before.register.stream edited.entry.after.now.register.stream
         edited.entry.keys.now.before.items edited.entry.keys.now.after.items
-        → IfOk result (λ document. (openings : List (List ℕ))
-        × AreOpenedAs stream edited.entry.after.now
-        (chosen_ids choice.from choice.units
-        (ids_of edited.entry.after.now.register.stream)) openings
-        × HasParts openings document.items) }
+        → IfOk result (λ document.
+        IsDrawnOf choice.from choice.units before edited.entry.after.now document.items) }
 {
     let ids = edited.after.ids();
-    let shown = shown_units(alloc, edited, chosen_among(ids, choice))?;
+    let start = start_among(ids, choice.from);
+    let chosen = chosen_from(ids, start, choice);
+    let doubts = edited.after.doubts(start, chosen.len())?;
+    let shown = shown_units(alloc, edited, chosen, &doubts)?;
     let layout = lay_out(alloc, &shown.units)?;
     document(
         alloc,
@@ -79,18 +76,27 @@ fn document_of(
     )
 }
 
-/// The ids of the chosen units.
-fn chosen_among(ids: &[AuId], choice: EditedChoice) -> &[AuId]
-    ensures value { result.now ≡ chosen_ids choice.from choice.units ids.now }
-    ensures few { length result.now ≤ 1000 }
+/// The place of the first of the chosen units; past all where none is chosen.
+fn start_among(ids: &[AuId], from: Option<u32>) -> usize
+    ensures value { result ≡ start_among from ids.now }
+    ensures within { result ≤ length ids.now }
 {
-    let from = match choice.from {
+    match from {
         Some(number) => match place_of(ids, AuId::new(number)) {
             Some(place) => place,
             None => ids.len(),
         },
         None => 0,
-    };
-    let ids = &ids[from..];
+    }
+}
+
+/// The ids of the chosen units, of which this is the place of the first.
+fn chosen_from(ids: &[AuId], start: usize, choice: EditedChoice) -> &[AuId]
+    requires { start ≤ length ids.now }
+    ensures value { result.now ≡ take choice.units (drop start ids.now) }
+    ensures few { length result.now ≤ 1000 }
+    ensures within { start + length result.now ≤ length ids.now }
+{
+    let ids = &ids[start..];
     &ids[..choice.units.min(ids.len())]
 }

@@ -10,7 +10,7 @@ ghost use Rattle.draw_run.specs.Drawings.{EndsBy, IsDrawn, WritesDrawing};
 ghost use Rattle.draw_run.specs.Folds.{IsFoldOf};
 
 use crate::choice::Choice;
-use crate::drawn::{captions_of, drawn_units};
+use crate::drawn::kept_units;
 use crate::drawn_fold::DrawnFold;
 use console_io::{Ended, Sink, Status, write_bytes};
 use plan_stream::{PlanFault, StreamGathering, gather, print_refusal, say_plan_fault};
@@ -103,14 +103,13 @@ fn document_of(alloc: Global, fold: &DrawnFold) -> Result<Vec<u8>, AllocError>
         IsDrawn first.choice.from first.choice.units text document.items) }
 {
     let positions = output_order::positions(alloc, &fold.outcomes)?;
-    let units = drawn_units(alloc, &fold.kept, &positions)?;
-    let captions = captions_of(alloc, &fold.kept, &positions)?;
-    let layout = lay_out(alloc, &units)?;
+    let shown = kept_units(alloc, &fold.kept, &positions, &fold.doubts)?;
+    let layout = lay_out(alloc, &shown.units)?;
     document(
         alloc,
         &layout,
-        &units,
-        &captions,
+        &shown.units,
+        &shown.captions,
         fold.outcomes.len(),
         false,
     )

@@ -1,16 +1,21 @@
 //! The fold over the units of a stream, with what is kept of those that are drawn.
 
 ghost use Rattle.std.specs.Prelude.{◌≡◌, ◌≢◌, ◌⊎◌, ◌+◌, ◌<◌, ◌≤◌, ◌++◌, [], ◌∷◌, List, length, IfOk, OnOk, true, false, vec_len};
+ghost use Rattle.std.specs.List.{filter};
 ghost use Rattle.access_unit.specs.Rooms.{most_units};
+ghost use Rattle.annexb.specs.NalUnit.{is_slice};
+ghost use Rattle.stream_session.specs.Doubting.{is_reference};
 ghost use Rattle.draw_run.specs.Chosen.{chosen};
 ghost use Rattle.draw_run.specs.declared.drawn_fold.KeptUnit.{KeptUnit as KeptUnitValue};
 
 use crate::choice::Choice;
 use access_unit::Unit;
+use doubts::{Doubt, Walk};
 use pictures::AuId;
 use plan_stream::{UnitFold, shown_of};
 use request_core::{State, Steps, step};
 use std::alloc::{AllocError, Global};
+use std::mem::replace;
 use unit_outcomes::Outcome;
 
 /// The fold over the units so far, with what is kept of those that are drawn.
@@ -19,6 +24,10 @@ pub(crate) struct DrawnFold {
     pub(crate) state: State,
     /// Each unit's outcome, without its requests.
     pub(crate) outcomes: Vec<Outcome>,
+    /// What was found of breaks so far.
+    pub(crate) walk: Walk,
+    /// What is told of each unit's doubt.
+    pub(crate) doubts: Vec<Doubt>,
     pub(crate) choice: Choice,
     /// The units that are drawn.
     pub(crate) kept: Vec<KeptUnit>,
@@ -41,9 +50,13 @@ impl DrawnFold {
         ensures folded { IfOk result (λ fold. IsFoldOf fold [] fold) }
         ensures choice { IfOk result (λ fold. fold.choice ≡ choice) }
     {
+        let walk = Walk::new(alloc);
+        let doubts = Vec::new(alloc);
         Ok(DrawnFold {
             state: State::new(alloc)?,
             outcomes: Vec::new(alloc),
+            walk,
+            doubts,
             choice,
             kept: Vec::new(alloc),
         })
@@ -65,10 +78,24 @@ impl UnitFold for DrawnFold {
         let id = AuId::new(self.outcomes.len() as u32 + 1);
         let mut steps = Steps::new();
         let (state, outcome) = step(alloc, &self.state, id, unit, &mut steps)?;
+        let walk = replace(&mut self.walk, Walk::new(alloc));
+        let (walk, doubt) = walk.pass(alloc, id, is_reference(unit), &outcome)?;
+        self.walk = walk;
+        self.doubts.push(doubt)?;
         self.outcomes.push(shown_of(alloc, &outcome))?;
         self.state = state;
         keep(&mut self.kept, self.choice, KeptUnit { id, outcome })?;
         Ok(())
+    }
+}
+
+/// Whether nal_ref_idc of a unit's first slice isn't 0.
+fn is_reference(unit: &Unit) -> bool
+    ensures { result ≡ is_reference (filter is_slice unit.now) }
+{
+    match unit.slices() {
+        [] => false,
+        [slice, ..] => slice.nal().nal_ref_idc() != 0,
     }
 }
 

@@ -1,6 +1,7 @@
 //! All pictures of a stream, decoded one after the other.
 
 ghost use Rattle.std.specs.Prelude.{◌≡◌, [], IfOk, OnOk, false, true};
+ghost use Rattle.draw_run.specs.Loading.{KeepsRest};
 ghost use Rattle.draw_run.specs.Marks.{HoldsAll};
 
 use edit_engine::{Job, Session};
@@ -11,8 +12,7 @@ use std::alloc::{AllocError, Global};
 pub(crate) fn settle(alloc: Global, session: &mut Session) -> Result<(), AllocError>
     requires { session.old.jobs_out ≡ [] }
     ensures held { OnOk result (HoldsAll session.new) }
-    ensures out { OnOk result (session.new.jobs_out ≡ []) }
-    ensures stream { OnOk result (session.new.register ≡ session.old.register) }
+    ensures keeps { OnOk result (KeepsRest session.old session.new) }
 {
     let mut device = Device::new(alloc);
     for _ in 0..u64::MAX {
@@ -27,8 +27,7 @@ pub(crate) fn settle(alloc: Global, session: &mut Session) -> Result<(), AllocEr
 /// Takes the job of the picture that is due, if one is, and lands its result. Whether one was due.
 fn land_next(alloc: Global, session: &mut Session, device: &mut Device) -> Result<bool, AllocError>
     requires { session.old.jobs_out ≡ [] }
-    ensures out { OnOk result (session.new.jobs_out ≡ []) }
-    ensures stream { OnOk result (session.new.register ≡ session.old.register) }
+    ensures keeps { OnOk result (KeepsRest session.old session.new) }
     ensures held { IfOk result (λ was_due. was_due ≡ false → HoldsAll session.new) }
 {
     match session.take() {

@@ -1,4 +1,5 @@
 pub mod Products
 pub mod ShownUnits
 pub mod Marks
-pub mod Titles
+pub mod Growing
+pub mod Zipped

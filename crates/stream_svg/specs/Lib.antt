@@ -1,6 +1,12 @@
+pub mod Texts
 pub mod Boxes
+pub mod Letters
+pub mod Shapes
 pub mod Arcs
 pub mod OutputRow
+pub mod Lines
 pub mod Escapes
 pub mod Captions
 pub mod Documents
+pub mod Rows
+pub mod Pages

@@ -1,7 +1,7 @@
 //! The arcs from units to the frames that their lists name.
 
 ghost use Rattle.std.specs.Prelude.{◌≡◌, ◌<◌, ◌≤◌, ℕ, IfSome, length};
-ghost use Rattle.stream_svg.specs.Arcs.{EndsAt, IsAtEdge, edge_of, place_of};
+ghost use Rattle.stream_svg.specs.Arcs.{EndsAt, IsAtEdge, aim_of, arc_of, begin_of, depth_of, edge_of, end_of, place_of, reach_of, span_of};
 ghost use Rattle.stream_svg.specs.Boxes.{IsSmall, stream_box};
 
 use crate::geometry::{Point, Rect};
@@ -38,13 +38,15 @@ pub struct Arc {
 pub fn arc_of(grid: Grid, units: &[DrawnUnit], place: usize, reference: Reference) -> Arc
     requires units { grid.units ≡ length units.now }
     requires within { place < length units.now }
+    ensures value { result ≡ arc_of grid units.now place reference }
     ensures reference { result.reference ≡ reference }
     ensures from { IsAtEdge reference.list (stream_box grid place) result.from }
     ensures to { EndsAt grid reference.list (place_of units.now reference.frame) result.to }
     ensures depth { result.depth ≤ MOST_DEPTH }
+    ensures small { result.from.y < 100000 }
 {
     let target = place_of(units, reference.frame);
-    let depth = depth_of(place, target);
+    let depth = depth_of(span_of(place, target));
     let from = left_of_middle(reference.list, grid.stream_box(place));
     Arc {
         reference,
@@ -72,7 +74,9 @@ fn place_of(units: &[DrawnUnit], id: AuId) -> Option<usize>
 /// middle.
 fn left_of_middle(list: RefList, area: Rect) -> Point
     requires { IsSmall area }
-    ensures { IsAtEdge list area result }
+    ensures value { result ≡ begin_of list area }
+    ensures at { IsAtEdge list area result }
+    ensures small { result.y < 100000 }
 {
     Point {
         x: area.x + area.width / 2 - area.width / 5,
@@ -83,7 +87,8 @@ fn left_of_middle(list: RefList, area: Rect) -> Point
 /// Where they end at the unit that is referred to: right of the middle.
 fn right_of_middle(list: RefList, area: Rect) -> Point
     requires { IsSmall area }
-    ensures { IsAtEdge list area result }
+    ensures value { result ≡ aim_of list area }
+    ensures at { IsAtEdge list area result }
 {
     Point {
         x: area.x + area.width / 2 + area.width / 5,
@@ -94,7 +99,8 @@ fn right_of_middle(list: RefList, area: Rect) -> Point
 /// The edge of a box at which the arcs of a list end.
 fn edge_of(list: RefList, area: Rect) -> usize
     requires { IsSmall area }
-    ensures { result ≡ edge_of list area }
+    ensures value { result ≡ edge_of list area }
+    ensures small { result < 100000 }
 {
     match list {
         RefList::Zero => area.y + area.height,
@@ -106,7 +112,8 @@ fn edge_of(list: RefList, area: Rect) -> usize
 /// at this height.
 fn end_of(grid: Grid, list: RefList, target: Option<usize>, height: usize) -> Point
     requires { IfSome target (λ place. place < grid.units) }
-    ensures { EndsAt grid list target result }
+    ensures value { result ≡ end_of grid list target height }
+    ensures at { EndsAt grid list target result }
 {
     match target {
         Some(target) => right_of_middle(list, grid.stream_box(target)),
@@ -118,6 +125,7 @@ fn end_of(grid: Grid, list: RefList, target: Option<usize>, height: usize) -> Po
 fn reach(list: RefList, from: Point, depth: usize) -> usize
     requires small { from.y < 100000 }
     requires depth { depth ≤ MOST_DEPTH }
+    ensures { result ≡ reach_of list from.y depth }
 {
     match list {
         RefList::Zero => from.y + depth * 3 / 4,
@@ -125,14 +133,22 @@ fn reach(list: RefList, from: Point, depth: usize) -> usize
     }
 }
 
-/// How far the control points of an arc lie from its row.
-fn depth_of(place: usize, target: Option<usize>) -> usize
-    ensures { result ≤ MOST_DEPTH }
+/// How many places lie between two, with one of them: the place of the unit that refers, and that
+/// of the frame's unit; or before the first one where that isn't drawn.
+fn span_of(place: usize, target: Option<usize>) -> usize
+    ensures { result ≡ span_of place target }
 {
-    let span = match target {
+    match target {
         Some(target) => place.abs_diff(target),
         None => place,
-    };
+    }
+}
+
+/// How far the control points of an arc lie from its row, which spans so many places.
+fn depth_of(span: usize) -> usize
+    ensures value { result ≡ depth_of span }
+    ensures bound { result ≤ MOST_DEPTH }
+{
     if span < (MOST_DEPTH - LEAST_DEPTH) / DEPTH {
         LEAST_DEPTH + DEPTH * span
     } else {
@@ -159,7 +175,8 @@ fn deepest(units: &[DrawnUnit], place: usize, list: RefList) -> usize
     let mut depth = 0;
     for reference in units[place].references.as_slice() {
         if reference.list == list {
-            depth = depth.max(depth_of(place, place_of(units, reference.frame)));
+            let span = span_of(place, place_of(units, reference.frame));
+            depth = depth.max(depth_of(span));
         }
     }
     depth

@@ -15,3 +15,17 @@ pub struct Rect {
     pub width: usize,
     pub height: usize,
 }
+
+impl Rect {
+    ghost use Rattle.std.specs.Prelude.{◌≡◌};
+    ghost use Rattle.stream_svg.specs.Boxes.{IsSmall};
+    ghost use Rattle.stream_svg.specs.Shapes.{middle_of};
+
+    /// Its middle, from left to right.
+    pub(crate) fn middle(self) -> usize
+        requires { IsSmall self }
+        ensures { result ≡ middle_of self }
+    {
+        self.x + self.width / 2
+    }
+}

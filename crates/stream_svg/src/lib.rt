@@ -4,15 +4,17 @@
 //! the arcs to the frames that their lists name end, in whole numbers of pixels. No two boxes share
 //! a point, each arc ends at the edges of its boxes, and the second row is in output order:
 //! contracts and laws say so. `document` writes it, with letters, ids, positions, names of faults,
-//! a legend and each unit's lines as its title. The document needs no script, no font and no other
-//! file, and has a light and a dark form. Texts go into it through `push_escaped` alone. draw_run
-//! makes what is drawn.
+//! a legend and each unit's lines as its title: its contract is the whole text. The document needs
+//! no script, no font and no other file, and has a light and a dark form. Texts go into it through
+//! `push_escaped` alone. unit_drawing makes a unit as it is drawn, and draw_run draws streams.
 #![tactic(auto)]
 
 mod arc;
+mod beginning;
 mod boxes;
 mod caption;
 mod edit_marks;
+mod end;
 mod escape;
 mod geometry;
 mod grid;
@@ -22,6 +24,7 @@ mod letters;
 mod lines;
 mod output_row;
 mod page;
+mod stream_row;
 mod style;
 mod unit;
 mod writing;

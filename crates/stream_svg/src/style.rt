@@ -65,5 +65,11 @@ pub(crate) const EDITS_LEGEND: &str =
 <g class=\"pending\"><rect class=\"p\" x=\"998\" width=\"16\" height=\"16\" rx=\"3\"/><path class=\"diamond\" d=\"M1006 4l4 4l-4 4l-4 -4z\"/><text class=\"note\" x=\"1020\" y=\"12\">pending</text></g>
 ";
 
+/// What the legend has more where a unit is in doubt, with the style of its outline.
+pub(crate) const DOUBT_LEGEND: &str =
+    "<style>.doubt{fill:none;stroke:#c7361b;stroke-width:1.5;stroke-dasharray:4 2;pointer-events:none}.ask{fill:#c7361b;pointer-events:none}@media (prefers-color-scheme:dark){.doubt{stroke:#ff8f75}.ask{fill:#ff8f75}}</style>
+<rect class=\"p\" y=\"22\" width=\"16\" height=\"16\" rx=\"3\"/><rect class=\"doubt\" y=\"22\" width=\"16\" height=\"16\" rx=\"3\"/><text class=\"m t ask\" x=\"8\" y=\"34\">?</text><text class=\"note\" x=\"22\" y=\"34\">in doubt: may be made of other frames than were meant</text>
+";
+
 /// The end of the legend.
 pub(crate) const LEGEND_END: &str = "</g>\n";

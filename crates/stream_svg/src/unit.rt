@@ -10,6 +10,8 @@ pub struct DrawnUnit {
     pub kind: Kind,
     /// The frames that its lists name, each once for each list.
     pub references: Vec<Reference>,
+    /// Whether its picture may be made of other frames than were meant.
+    pub in_doubt: bool,
     /// What edits did to it, where some were made.
     pub mark: Option<EditMark>,
 }

@@ -88,7 +88,7 @@ const REFERENCES: [(usize, RefList, u32, bool); 4] = [
     (2, RefList::One, 9, false),
 ];
 
-/// The five units.
+/// The five units, of which the third is in doubt.
 fn units(alloc: Global) -> Result<Vec<DrawnUnit>, AllocError> {
     let mut units = Vec::new(alloc);
     for (place, kind) in KINDS.iter().enumerate() {
@@ -96,6 +96,7 @@ fn units(alloc: Global) -> Result<Vec<DrawnUnit>, AllocError> {
             id: AuId::new(place as u32 + 1),
             kind: *kind,
             references: references(alloc, place)?,
+            in_doubt: place == 2,
             mark: Some(MARKS[place]),
         })?;
     }
@@ -251,7 +252,7 @@ fn arcs(rt: HostRuntime) -> Result<(), Fail> {
 }
 
 /// What the document of the five units has.
-const PARTS: [&str; 14] = [
+const PARTS: [&str; 16] = [
     "<svg xmlns=\"http://www.w3.org/2000/svg\" width=\"1100\" height=\"368\"",
     "aria-label=\"H.264 stream of 7 units: 5 from unit 1 on\"",
     "<title>&lt;3&gt;</title>",
@@ -266,6 +267,8 @@ const PARTS: [&str; 14] = [
     "<rect class=\"hatch\" x=\"116\" y=\"82\" width=\"52\" height=\"44\" rx=\"3\"/>",
     "<circle class=\"disc\" cx=\"142\" cy=\"119\" r=\"3\"/>",
     "<g class=\"u pending\"><title>unit 3 position 1</title>",
+    "<rect class=\"doubt\" x=\"172\" y=\"82\" width=\"52\" height=\"44\" rx=\"3\"/><text class=\"m t ask\" x=\"176\" y=\"79\">?</text>",
+    ">in doubt: may be made of other frames than were meant</text>",
 ];
 
 #[test]
@@ -285,6 +288,7 @@ fn no_units(rt: HostRuntime) -> Result<(), Fail> {
     assert!(rt; layout.grid.units == 0);
     let text = document(rt.alloc(), &layout, &units, &[], 7, false)?;
     assert!(rt; has(text.as_slice(), "H.264 stream of 7 units: none is shown"));
+    assert!(rt; !has(text.as_slice(), "doubt"));
     Ok(())
 }
 

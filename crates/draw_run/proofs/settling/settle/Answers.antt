@@ -1,4 +1,16 @@
+use Rattle.draw_run.proofs.Landed.{keeps-nothing, keeps-then}
 use Rattle.draw_run.proofs.settling.settle.Goals as goal
+
+pub loop-init : goal.loop-init
+loop-init c = keeps-nothing c.args.session.now c.requires
+
+pub loop-preserved : goal.loop-preserved
+loop-preserved c =
+    keeps-then c.args.session.now c.loop.session c.land_next.new.session c.loop.invariant c.in_ok-land_next.ensures.keeps
+
+pub returns-then-not-branch-clause-keeps : goal.returns-then-not-branch-clause-keeps
+returns-then-not-branch-clause-keeps c =
+    keeps-then c.args.session.now c.loop.session c.land_next.new.session c.loop.invariant c.in_ok-land_next.ensures.keeps
 
 pub returns-then-not-branch-clause-held : goal.returns-then-not-branch-clause-held
 returns-then-not-branch-clause-held c = c.in_ok-land_next.ensures.held c.if-not-branch.true

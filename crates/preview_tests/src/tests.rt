@@ -3,7 +3,7 @@
 
 mod command_lines;
 mod controls;
-mod doubts;
+mod doubt_lines;
 mod drawn_edits;
 mod examples;
 mod groups;

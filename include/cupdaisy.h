@@ -85,6 +85,8 @@ typedef struct cupdaisy_receipt {
     uint64_t number; /* how many edits and groups were accepted, with this one */
     uint64_t steps;  /* how many steps of the fold over the stream it made */
     uint64_t hashed; /* how many bytes were hashed for it: those of the slices that it brings, once */
+    uint64_t changed_from;  /* the least stretch of places, of the stream after it, that has every unit which wasn't there before or */
+    uint64_t changed_count; /* has another outcome or key: its first place, and how many units it has; 0 and 0 where there is none */
     uint32_t id;     /* the unit that was inserted, deleted or replaced; ids are 1, 2, 3 and so on, and never given twice */
 } cupdaisy_receipt;
 
@@ -149,6 +151,8 @@ typedef struct cupdaisy_group_receipt {
     uint64_t number; /* how many edits and groups were accepted, with this one */
     uint64_t steps;  /* how many steps of the fold over the stream it made */
     uint64_t hashed; /* how many bytes were hashed for its edits */
+    uint64_t changed_from;  /* as of an edit's receipt: what wasn't so before the group */
+    uint64_t changed_count;
     uint64_t index;  /* which edit is why the group isn't made, from 0 on; else 0 */
 } cupdaisy_group_receipt;
 
@@ -158,6 +162,8 @@ typedef struct cupdaisy_load_receipt {
     uint64_t steps;  /* how many steps of the fold over the stream they made */
     uint64_t hashed; /* how many bytes were hashed for them */
     uint64_t units;  /* how many units were inserted */
+    uint64_t changed_from;  /* the place of the first of them */
+    uint64_t changed_count; /* how many they are */
     uint64_t index;  /* which access unit the stream is refused for, from 0 on; else 0 */
     uint32_t first;  /* the id of the first unit; 0 where none was inserted */
 } cupdaisy_load_receipt;

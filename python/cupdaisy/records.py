@@ -11,12 +11,16 @@ class Handle(Record):
 
 class Receipt(Record):
     """What an accepted edit is told: how many edits and groups were accepted, with this one; how many steps of the fold it made; how
-    many bytes were hashed for it; and which unit was inserted, deleted or replaced."""
+    many bytes were hashed for it; the least stretch of places that has each unit which it changed; and which unit was inserted, deleted
+    or replaced."""
     number: int
     steps: int
     hashed: int
+    changed_from: int
+    changed_count: int
     id: int
-    _fields_ = [("number", c_uint64), ("steps", c_uint64), ("hashed", c_uint64), ("id", c_uint32)]
+    _fields_ = [("number", c_uint64), ("steps", c_uint64), ("hashed", c_uint64), ("changed_from", c_uint64),
+                ("changed_count", c_uint64), ("id", c_uint32)]
 
 
 class GroupReceipt(Record):
@@ -24,8 +28,11 @@ class GroupReceipt(Record):
     number: int
     steps: int
     hashed: int
+    changed_from: int
+    changed_count: int
     index: int
-    _fields_ = [("number", c_uint64), ("steps", c_uint64), ("hashed", c_uint64), ("index", c_uint64)]
+    _fields_ = [("number", c_uint64), ("steps", c_uint64), ("hashed", c_uint64), ("changed_from", c_uint64),
+                ("changed_count", c_uint64), ("index", c_uint64)]
 
 
 class LoadReceipt(Record):
@@ -34,10 +41,12 @@ class LoadReceipt(Record):
     steps: int
     hashed: int
     units: int
+    changed_from: int
+    changed_count: int
     index: int
     first: int
-    _fields_ = [("number", c_uint64), ("steps", c_uint64), ("hashed", c_uint64), ("units", c_uint64), ("index", c_uint64),
-                ("first", c_uint32)]
+    _fields_ = [("number", c_uint64), ("steps", c_uint64), ("hashed", c_uint64), ("units", c_uint64), ("changed_from", c_uint64),
+                ("changed_count", c_uint64), ("index", c_uint64), ("first", c_uint32)]
 
 
 class Outcome(Record):

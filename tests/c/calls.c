@@ -39,7 +39,7 @@ static bool is_receipt(cupdaisy_receipt receipt, uint64_t number, uint32_t id)
 /* A, P1 and P2 under the ids 1, 2 and 3. */
 static void fill(cupdaisy_session *session)
 {
-    cupdaisy_receipt receipt = {0, 0, 0, 0};
+    cupdaisy_receipt receipt = {0, 0, 0, 0, 0, 0};
     EXPECT(cupdaisy_insert_first(session, A, sizeof A, &receipt) == CUPDAISY_DONE && is_receipt(receipt, 1, 1));
     EXPECT(cupdaisy_insert_after(session, 1, P1, sizeof P1, &receipt) == CUPDAISY_DONE && is_receipt(receipt, 2, 2));
     EXPECT(cupdaisy_insert_last(session, P2, sizeof P2, &receipt) == CUPDAISY_DONE && is_receipt(receipt, 3, 3));
@@ -86,7 +86,7 @@ static void faults_are_told(void)
 {
     cupdaisy_session session = CUPDAISY_NONE;
     EXPECT(cupdaisy_open(&session, 16) == CUPDAISY_DONE);
-    cupdaisy_receipt receipt = {0, 0, 0, 0};
+    cupdaisy_receipt receipt = {0, 0, 0, 0, 0, 0};
     EXPECT(cupdaisy_insert_last(&session, P1, sizeof P1, &receipt) == CUPDAISY_DONE);
     EXPECT(cupdaisy_insert_last(&session, sets, sizeof sets, &receipt) == CUPDAISY_DONE);
     cupdaisy_outcome outcome = {0, 0, 0, 0, 0, 0, 0};
@@ -113,7 +113,7 @@ static void units_behind_a_damage_are_told(void)
 {
     cupdaisy_session session = CUPDAISY_NONE;
     EXPECT(cupdaisy_open(&session, 16) == CUPDAISY_DONE);
-    cupdaisy_receipt receipt = {0, 0, 0, 0};
+    cupdaisy_receipt receipt = {0, 0, 0, 0, 0, 0};
     EXPECT(cupdaisy_insert_last(&session, A, sizeof A, &receipt) == CUPDAISY_DONE);
     EXPECT(cupdaisy_insert_last(&session, P2, sizeof P2, &receipt) == CUPDAISY_DONE);
     EXPECT(cupdaisy_insert_last(&session, P1, sizeof P1, &receipt) == CUPDAISY_DONE);
@@ -138,12 +138,39 @@ static void units_behind_a_damage_are_told(void)
     EXPECT(cupdaisy_close(&session) == CUPDAISY_DONE);
 }
 
+static bool has_changed(uint64_t from, uint64_t count, cupdaisy_receipt receipt)
+{
+    return receipt.changed_from == from && receipt.changed_count == count;
+}
+
+/* Which places an edit, a group and a load changed. */
+static void receipts_tell_what_changed(void)
+{
+    cupdaisy_session session = CUPDAISY_NONE;
+    EXPECT(cupdaisy_open(&session, 16) == CUPDAISY_DONE);
+    fill(&session);
+    cupdaisy_receipt receipt = {7, 7, 7, 7, 7, 7};
+    EXPECT(cupdaisy_delete(&session, 2, &receipt) == CUPDAISY_DONE && has_changed(1, 1, receipt));
+    EXPECT(cupdaisy_insert_after(&session, 1, P1, sizeof P1, &receipt) == CUPDAISY_DONE && has_changed(1, 2, receipt));
+    EXPECT(cupdaisy_replace(&session, 4, P1, sizeof P1, &receipt) == CUPDAISY_DONE && has_changed(0, 0, receipt));
+    EXPECT(cupdaisy_delete(&session, 3, &receipt) == CUPDAISY_DONE && has_changed(0, 0, receipt));
+    static const cupdaisy_edit edits[] = {{CUPDAISY_DELETE, 4, 0, 0}, {CUPDAISY_INSERT_AFTER, 1, 0, sizeof P2}};
+    uint32_t ids[2] = {0, 0};
+    cupdaisy_group_receipt group = {7, 7, 7, 7, 7, 7};
+    EXPECT(cupdaisy_group(&session, edits, 2, P2, sizeof P2, ids, 2, &group) == CUPDAISY_DONE && ids[1] == 5);
+    EXPECT(group.changed_from == 1 && group.changed_count == 1);
+    cupdaisy_load_receipt load = {7, 7, 7, 7, 7, 7, 7, 7};
+    EXPECT(cupdaisy_load(&session, A, sizeof A, &load) == CUPDAISY_DONE && load.changed_from == 2 && load.changed_count == 1);
+    EXPECT(cupdaisy_load(&session, A, 0, &load) == 1 && load.changed_from == 0 && load.changed_count == 0);
+    EXPECT(cupdaisy_close(&session) == CUPDAISY_DONE);
+}
+
 static void edits_are_refused(void)
 {
     cupdaisy_session session = CUPDAISY_NONE;
     EXPECT(cupdaisy_open(&session, 16) == CUPDAISY_DONE);
     fill(&session);
-    cupdaisy_receipt receipt = {7, 7, 7, 7};
+    cupdaisy_receipt receipt = {7, 7, 7, 7, 7, 7};
     static const uint8_t type14[] = {0, 0, 1, 0x6E, 0x40, 0x80};
     EXPECT(cupdaisy_insert_first(&session, A, 0, &receipt) == 1);
     EXPECT(cupdaisy_insert_after(&session, 1, type14, sizeof type14, &receipt) == 2);
@@ -164,7 +191,7 @@ static void deleted_unit_is_repaired(void)
     EXPECT(cupdaisy_open(&session, 16) == CUPDAISY_DONE);
     fill(&session);
     EXPECT(settle(&session) == 3);
-    cupdaisy_receipt receipt = {0, 0, 0, 0};
+    cupdaisy_receipt receipt = {0, 0, 0, 0, 0, 0};
     EXPECT(cupdaisy_delete(&session, 2, &receipt) == CUPDAISY_DONE && is_receipt(receipt, 4, 2));
     cupdaisy_outcome outcome = {0, 0, 0, 0, 0, 0, 0};
     EXPECT(cupdaisy_outcome_of(&session, 3, &outcome) == CUPDAISY_DONE && outcome.fault == 11);
@@ -179,7 +206,7 @@ static void stale_and_late(void)
 {
     cupdaisy_session session = CUPDAISY_NONE;
     EXPECT(cupdaisy_open(&session, 16) == CUPDAISY_DONE);
-    cupdaisy_receipt receipt = {0, 0, 0, 0};
+    cupdaisy_receipt receipt = {0, 0, 0, 0, 0, 0};
     cupdaisy_job job = {7, 7};
     uint64_t surface = 7;
     EXPECT(cupdaisy_take(&session, &job) == CUPDAISY_NOTHING_DUE && job.number == 7 && job.unit == 7);
@@ -207,7 +234,7 @@ static void equal_units_have_one_picture(void)
 {
     cupdaisy_session session = CUPDAISY_NONE;
     EXPECT(cupdaisy_open(&session, 1) == CUPDAISY_DONE);
-    cupdaisy_receipt receipt = {0, 0, 0, 0};
+    cupdaisy_receipt receipt = {0, 0, 0, 0, 0, 0};
     cupdaisy_job job = {0, 0};
     EXPECT(cupdaisy_insert_first(&session, A, sizeof A, &receipt) == CUPDAISY_DONE);
     EXPECT(cupdaisy_insert_after(&session, 1, I, sizeof I, &receipt) == CUPDAISY_DONE);
@@ -238,7 +265,7 @@ static void jobs_are_told(void)
     EXPECT(cupdaisy_land(&session, job.number, 5) == CUPDAISY_DONE);
     EXPECT(cupdaisy_take(&session, &job) == CUPDAISY_DONE && job.number == 2 && job.unit == 2);
     /* The unit is replaced: the job stays as it was taken. */
-    cupdaisy_receipt receipt = {0, 0, 0, 0};
+    cupdaisy_receipt receipt = {0, 0, 0, 0, 0, 0};
     EXPECT(cupdaisy_replace(&session, 2, P1x, sizeof P1x, &receipt) == CUPDAISY_DONE);
     cupdaisy_job_input input = {0, 0, 0};
     EXPECT(cupdaisy_job_input_of(&session, 2, &input) == CUPDAISY_DONE);
@@ -305,7 +332,7 @@ static void jobs_are_told(void)
 static void frames_are_told(void)
 {
     cupdaisy_session session = CUPDAISY_NONE;
-    cupdaisy_receipt receipt = {0, 0, 0, 0};
+    cupdaisy_receipt receipt = {0, 0, 0, 0, 0, 0};
     uint8_t bytes[32];
     size_t needed = 7;
     EXPECT(cupdaisy_open(&session, 16) == CUPDAISY_DONE);
@@ -357,7 +384,7 @@ static void large_frames_are_told(void)
     memcpy(text + second + half, T + second, sizeof T - second);
     const size_t length = sizeof T + 2 * half, count = length - sets_end;
     cupdaisy_session session = CUPDAISY_NONE;
-    cupdaisy_receipt receipt = {0, 0, 0, 0};
+    cupdaisy_receipt receipt = {0, 0, 0, 0, 0, 0};
     cupdaisy_job job = {0, 0};
     size_t needed = 0;
     EXPECT(cupdaisy_open(&session, 1) == CUPDAISY_DONE);
@@ -403,7 +430,7 @@ static void pictures_are_dropped(void)
     uint32_t in_use = 7;
     EXPECT(cupdaisy_key(&session, 3, &key) == CUPDAISY_DONE);
     EXPECT(cupdaisy_in_use(&session, key, &in_use) == CUPDAISY_DONE && in_use == 1);
-    cupdaisy_receipt receipt = {0, 0, 0, 0};
+    cupdaisy_receipt receipt = {0, 0, 0, 0, 0, 0};
     EXPECT(cupdaisy_delete(&session, 3, &receipt) == CUPDAISY_DONE);
     EXPECT(cupdaisy_in_use(&session, key, &in_use) == CUPDAISY_DONE && in_use == 0);
     /* The deleted unit's picture is cached, and comes back with the unit; not so once its surface went back. */
@@ -425,7 +452,7 @@ static void pictures_are_released(void)
     EXPECT(cupdaisy_open(&session, 1) == CUPDAISY_DONE);
     fill(&session);
     cupdaisy_job job = {0, 0};
-    cupdaisy_receipt receipt = {0, 0, 0, 0};
+    cupdaisy_receipt receipt = {0, 0, 0, 0, 0, 0};
     uint64_t surfaces[4] = {7, 7, 7, 7};
     size_t count = 7;
     EXPECT(cupdaisy_released(&session, surfaces, 4, &count) == CUPDAISY_DONE && count == 0 && surfaces[0] == 7);
@@ -453,7 +480,7 @@ static void journal_is_told(void)
     cupdaisy_session session = CUPDAISY_NONE;
     EXPECT(cupdaisy_open(&session, 16) == CUPDAISY_DONE);
     fill(&session);
-    cupdaisy_receipt receipt = {0, 0, 0, 0};
+    cupdaisy_receipt receipt = {0, 0, 0, 0, 0, 0};
     EXPECT(cupdaisy_delete(&session, 3, &receipt) == CUPDAISY_DONE);
     size_t number = 0;
     EXPECT(cupdaisy_journal(&session, &number) == CUPDAISY_DONE && number == 4);
@@ -501,12 +528,12 @@ static void groups_are_made(void)
 {
     cupdaisy_session session = CUPDAISY_NONE;
     EXPECT(cupdaisy_open(&session, 16) == CUPDAISY_DONE);
-    cupdaisy_receipt receipt = {0, 0, 0, 0};
+    cupdaisy_receipt receipt = {0, 0, 0, 0, 0, 0};
     EXPECT(cupdaisy_insert_first(&session, A, sizeof A, &receipt) == CUPDAISY_DONE);
     cupdaisy_edit edits[] = {{CUPDAISY_INSERT_AFTER, 1, 0, 6}, {CUPDAISY_INSERT_AFTER, 2, 6, 6},
                              {CUPDAISY_REPLACE, 2, 0, 6}, {CUPDAISY_DELETE, 3, 99, 99}};
     uint32_t ids[5] = {7, 7, 7, 7, 7};
-    cupdaisy_group_receipt told = {7, 7, 7, 7};
+    cupdaisy_group_receipt told = {7, 7, 7, 7, 7, 7};
     EXPECT(cupdaisy_group(&session, edits, 4, group_texts, 18, ids, 3, &told) == CUPDAISY_TOO_SMALL);
     EXPECT(cupdaisy_group(&session, edits, 0, group_texts, 18, ids, 5, &told) == 20);
     EXPECT(ids[0] == 7 && told.number == 7 && told.steps == 7 && told.index == 7);
@@ -559,16 +586,16 @@ static void hashed_bytes_are_told(void)
 {
     cupdaisy_session session = CUPDAISY_NONE;
     EXPECT(cupdaisy_open(&session, 16) == CUPDAISY_DONE);
-    cupdaisy_receipt receipt = {7, 7, 7, 7};
+    cupdaisy_receipt receipt = {7, 7, 7, 7, 7, 7};
     EXPECT(cupdaisy_insert_first(&session, A, sizeof A, &receipt) == CUPDAISY_DONE && receipt.hashed == sizeof I);
     EXPECT(cupdaisy_insert_last(&session, sets, sizeof sets, &receipt) == CUPDAISY_DONE && receipt.hashed == 0);
     EXPECT(cupdaisy_replace(&session, 2, P1x, sizeof P1x, &receipt) == CUPDAISY_DONE && receipt.hashed == sizeof P1x);
     EXPECT(cupdaisy_delete(&session, 2, &receipt) == CUPDAISY_DONE && receipt.hashed == 0);
     cupdaisy_edit edits[] = {{CUPDAISY_INSERT_AFTER, 1, 0, 6}, {CUPDAISY_INSERT_AFTER, 3, 6, 6}, {CUPDAISY_DELETE, 3, 0, 0}};
     uint32_t ids[3] = {0, 0, 0};
-    cupdaisy_group_receipt group = {7, 7, 7, 7};
+    cupdaisy_group_receipt group = {7, 7, 7, 7, 7, 7};
     EXPECT(cupdaisy_group(&session, edits, 3, group_texts, 12, ids, 3, &group) == CUPDAISY_DONE && group.hashed == 12);
-    cupdaisy_load_receipt load = {7, 7, 7, 7, 7, 7};
+    cupdaisy_load_receipt load = {7, 7, 7, 7, 7, 7, 7, 7};
     EXPECT(cupdaisy_load(&session, group_texts, 12, &load) == CUPDAISY_DONE && load.hashed == 12);
     EXPECT(cupdaisy_load(&session, group_texts, 18, &load) == 2 && load.hashed == 0);
     EXPECT(cupdaisy_close(&session) == CUPDAISY_DONE);
@@ -578,8 +605,8 @@ static void expect_no_more(cupdaisy_session *session)
 {
     cupdaisy_edit edit = {CUPDAISY_DELETE, 1, 0, 0};
     uint32_t ids[1] = {7};
-    cupdaisy_group_receipt group = {7, 7, 7, 7};
-    cupdaisy_load_receipt load = {7, 7, 7, 7, 7, 7};
+    cupdaisy_group_receipt group = {7, 7, 7, 7, 7, 7};
+    cupdaisy_load_receipt load = {7, 7, 7, 7, 7, 7, 7, 7};
     EXPECT(cupdaisy_group(session, &edit, 1, A, sizeof A, ids, 1, &group) == CUPDAISY_NO_SESSION && ids[0] == 7 && group.index == 7);
     EXPECT(cupdaisy_load(session, A, sizeof A, &load) == CUPDAISY_NO_SESSION && load.units == 7);
     uint32_t id = 7;
@@ -626,7 +653,7 @@ static void expect_no_more(cupdaisy_session *session)
 /* With a handle that has no session each call says so, and writes nothing. */
 static void expect_no_session(cupdaisy_session *session)
 {
-    cupdaisy_receipt receipt = {7, 7, 7, 7};
+    cupdaisy_receipt receipt = {7, 7, 7, 7, 7, 7};
     EXPECT(cupdaisy_insert_first(session, A, sizeof A, &receipt) == CUPDAISY_NO_SESSION);
     EXPECT(cupdaisy_insert_after(session, 1, A, sizeof A, &receipt) == CUPDAISY_NO_SESSION);
     EXPECT(cupdaisy_insert_last(session, A, sizeof A, &receipt) == CUPDAISY_NO_SESSION);
@@ -690,7 +717,7 @@ static size_t run_refusing(size_t at, bool after)
     refuse_at = at;
     refuse_after = after;
     cupdaisy_session session = CUPDAISY_NONE;
-    cupdaisy_receipt receipt = {0, 0, 0, 0};
+    cupdaisy_receipt receipt = {0, 0, 0, 0, 0, 0};
     cupdaisy_job job = {0, 0};
     WITH_MEMORY(cupdaisy_open(&session, 2));
     WITH_MEMORY(cupdaisy_insert_first(&session, A, sizeof A, &receipt));
@@ -713,10 +740,10 @@ static size_t run_refusing(size_t at, bool after)
     EXPECT(is_receipt(receipt, 5, 3));
     cupdaisy_edit edits[] = {{CUPDAISY_INSERT_AFTER, 2, 0, 6}, {CUPDAISY_DELETE, 4, 0, 0}};
     uint32_t ids[2] = {0, 0};
-    cupdaisy_group_receipt group = {0, 0, 0, 0};
+    cupdaisy_group_receipt group = {0, 0, 0, 0, 0, 0};
     WITH_MEMORY(cupdaisy_group(&session, edits, 2, group_texts, 6, ids, 2, &group));
     EXPECT(group.number == 6 && ids[0] == 4 && ids[1] == 4);
-    cupdaisy_load_receipt load = {0, 0, 0, 0, 0, 0};
+    cupdaisy_load_receipt load = {0, 0, 0, 0, 0, 0, 0, 0};
     uint32_t status = cupdaisy_load(&session, group_texts, 12, &load);
     if (status == CUPDAISY_MEMORY) {
         refuse_at = 0;
@@ -768,6 +795,7 @@ int main(void)
     stream_is_told();
     faults_are_told();
     units_behind_a_damage_are_told();
+    receipts_tell_what_changed();
     edits_are_refused();
     deleted_unit_is_repaired();
     stale_and_late();

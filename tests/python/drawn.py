@@ -163,7 +163,8 @@ class Drawn:
             return same(f"{name} {operands[:-1]}", found, ("refused", refused.number, None))
         if not isinstance(found, interface.Receipt) or found.steps < (name != "delete"):
             raise Differs(f"{name} is answered by {found}")
-        same(f"receipt of {name}", (found.number, found.id), (self.model.edits, unit))
+        same(f"receipt of {name}", (found.number, found.id, found.changed_from, found.changed_count),
+             (self.model.edits, unit, *self.model.changed))
         self.accepted([edit], [unit])
         self.undo = undo or ("delete", unit)
 
@@ -178,7 +179,8 @@ class Drawn:
             return same("group", found, ("refused", number, index))
         if not isinstance(found, tuple) or isinstance(found[0], str):
             raise Differs(f"a group is answered by {found}")
-        same("group", (found[0].number, found[0].index, found[1]), (self.model.edits, 0, ids))
+        same("group", (found[0].number, found[0].index, found[1], found[0].changed_from, found[0].changed_count),
+             (self.model.edits, 0, ids, *self.model.changed))
         self.accepted(edits, ids)
 
     def load(self):
@@ -201,7 +203,8 @@ class Drawn:
         if not isinstance(found, interface.LoadReceipt):
             raise Differs(f"a load is answered by {found}")
         count = int(words[1])
-        same("load", (found.number, found.units, found.first, found.index), (self.model.edits, count, before + 1, 0))
+        same("load", (found.number, found.units, found.first, found.index, found.changed_from, found.changed_count),
+             (self.model.edits, count, before + 1, 0, len(self.model.stream) - count, count))
         # The first unit of an empty stream is inserted first, each other one after the one before it.
         texts = texts_of(text)
         afters = [unit[0] for unit in self.model.stream][-count - 1:-1] if len(self.model.stream) > count else [None, *(

@@ -185,7 +185,7 @@ class Server:
         except streams.Refused as refusal:
             raise refused(refusal) from None
         self.bytes += size_of(edit)
-        return {"edit": self.session.edits, "id": number, "steps": ANY}
+        return {"edit": self.session.edits, "id": number, "steps": ANY, "changed": self.changed()}
 
     def group(self, parameters):
         edits = parameters.read("edits", lambda value: isinstance(value, list))
@@ -200,7 +200,7 @@ class Server:
             data = {"index": int(words[1])} if words[0] == "at" else None
             raise Failed(int(words[-2]), words[-1], data) from None
         self.bytes += sum(map(size_of, edits))
-        return {"edit": self.session.edits, "ids": about, "steps": ANY}
+        return {"edit": self.session.edits, "ids": about, "steps": ANY, "changed": self.changed()}
 
     def load(self, parameters):
         if ("path" in parameters.values) == ("bytes" in parameters.values):
@@ -227,11 +227,15 @@ class Server:
                 raise refused(refusal, {"index": index}) from None
         if len(self.session.stream) + len(units) > session.MOST_UNITS:
             raise Failed(17, "StreamFull")
-        first = self.session.ids + 1
+        first, begin = self.session.ids + 1, len(self.session.stream)
         for nals in units:
             text, stream = streams.text_of(nals), self.session.stream
             self.edit(("after", stream[-1][0], text) if stream else ("first", text))
-        return {"units": len(units), "first": first, "last": self.session.ids}
+        return {"units": len(units), "first": first, "last": self.session.ids, "changed": {"from": begin, "count": len(units)}}
+
+    def changed(self):
+        """Which places the last edit changed."""
+        return dict(zip(("from", "count"), self.session.changed))
 
     def units(self, parameters):
         begin, count = parameters.number("from"), parameters.read("count", lambda value: is_number(value) and value <= MOST_TOLD)

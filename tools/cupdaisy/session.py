@@ -43,6 +43,19 @@ def edited(stream, ids, edit):
     return stream[:at] + put + stream[at + 1:], ids, unit_id
 
 
+def told(row):
+    """What of a unit's outcome an edit may change: its kind, its fault, and its key."""
+    return type(row.outcome), getattr(row.outcome, "number", None), row.key
+
+
+def changed(before, after):
+    """The least stretch of places, as its first and how many, of all units that weren't there before or of which another thing is told;
+    both streams as lists of pairs of a unit and its row."""
+    was = {unit[0]: told(row) for unit, row in before}
+    places = [at for at, (unit, row) in enumerate(after) if unit[0] not in was or was[unit[0]] != told(row)]
+    return (places[0], places[-1] + 1 - places[0]) if places else (0, 0)
+
+
 class Session:
     """The stream with a row for each unit, the pictures held and cached by their keys, and the jobs that are out."""
 
@@ -50,6 +63,8 @@ class Session:
         self.room, self.stream, self.rows, self.edits, self.ids, self.jobs = room, [], [], 0, 0, 0
         # The cache's keys lie in groups of those that went out of use at once, the last group first.
         self.pictures, self.held, self.cached, self.out = {}, set(), [], []
+        # Which places the last edit changed.
+        self.changed = 0, 0
 
     def place(self, unit_id):
         return place_in(self.stream, unit_id)
@@ -78,8 +93,10 @@ class Session:
 
     def change(self, stream, ids):
         """The stream becomes this one, with so many ids given, in one step."""
+        before = [*zip(self.stream, self.rows)]
         self.stream, self.ids = stream, ids
         self.rows, self.edits = fold.rows(stream, self.pictures), self.edits + 1
+        self.changed = changed(before, [*zip(self.stream, self.rows)])
         in_use = {row.key for row in self.rows} - {None}
         cached = {key for group in self.cached for key in group}
         gone = self.held - in_use

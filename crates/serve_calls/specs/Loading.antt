@@ -24,9 +24,9 @@ use Rattle.serve_calls.specs.Failing.{out_of_memory}
 use Rattle.serve_calls.specs.Sessions.{Asks}
 use Rattle.serve_calls.specs.Sums.{counted}
 
--- before the first unit
-abbrev pub none_inserted : Inserted
-none_inserted = record { units = 0; first = None; last = None }
+-- before the first unit, which will stand at a place
+abbrev pub none_inserted : ℕ → Inserted
+none_inserted from = record { from = from; units = 0; first = None; last = None }
 
 -- the first id stays, if there is one
 abbrev pub first_of : Option ℕ → ℕ → Option ℕ
@@ -36,11 +36,12 @@ first_of None id = Some id
 -- after a unit more, with this id
 abbrev pub with_unit : Inserted → ℕ → Inserted
 with_unit inserted id =
-    record { units = counted inserted.units 1; first = first_of inserted.first id; last = Some id }
+    record { from = inserted.from; units = counted inserted.units 1; first = first_of inserted.first id; last = Some id }
 
--- the result of a load whose units were all inserted
+-- the result of a load whose units were all inserted: they are what it changed
 abbrev pub loaded_answer : Inserted → Answer
-loaded_answer inserted = answer.Loaded inserted.units inserted.first inserted.last
+loaded_answer inserted =
+    answer.Loaded inserted.units inserted.first inserted.last (record { from = inserted.from; count = inserted.units })
 
 -- this is the end of the session's stream
 abbrev pub IsLast : {B S : Type 0} → (B → Machine → Type 0) → Server B S → Last → Type 0
@@ -81,18 +82,18 @@ KeepsAll file old new =
     (new.backend ≡ old.backend) × (new.sums ≡ old.sums)
     × ((name : List ℕ) → file new.source name ≡ file old.source name)
 
--- for so many units the session's stream has room
-abbrev pub HasRoom : {B S : Type 0} → (B → Machine → Type 0) → Server B S → ℕ → Type 0
-HasRoom is_session server room =
-    (last : Last) × IsLast is_session server last × (room ≡ most_units - last.units)
+-- so many units the session's stream has, and for so many it has room
+abbrev pub HasRoom : {B S : Type 0} → (B → Machine → Type 0) → Server B S → ℕ → ℕ → Type 0
+HasRoom is_session server from room =
+    (last : Last) × IsLast is_session server last × (from ≡ last.units) × (room ≡ most_units - from)
 
--- the result of a text that is loaded: its units are inserted; or it is refused, and nothing
--- changes; or memory ran out
+-- the result of a text that is loaded: its units are inserted behind those that are there; or it is
+-- refused, and nothing changes; or memory ran out
 abbrev pub LoadsText : {B S : Type 0} → (B → Machine → Type 0) → Server B S → List ℕ → Result Answer Failure → Server B S → Type 0
 LoadsText is_session old text result new =
-    ((room : ℕ) × (units : List (List (List ℕ))) × HasRoom is_session old room × IsStream text units
-    × (length units ≤ room) × InsertsAll is_session old units none_inserted result new)
-    ⊎ ((room : ℕ) × (refused : StreamRefusal) × HasRoom is_session old room × IsStreamRefused text room refused
+    ((from room : ℕ) × (units : List (List (List ℕ))) × HasRoom is_session old from room × IsStream text units
+    × (length units ≤ room) × InsertsAll is_session old units (none_inserted from) result new)
+    ⊎ ((from room : ℕ) × (refused : StreamRefusal) × HasRoom is_session old from room × IsStreamRefused text room refused
     × (result ≡ Err (Refused (refusal.Stream refused))) × (new ≡ old))
     ⊎ ((result ≡ Err out_of_memory) × (new ≡ old))
 

@@ -13,24 +13,26 @@ use console_io::{InputFault, Source};
 use edit_engine::{EditRefused, Last, ReadEdit, Receipt};
 use picture_keys::{HashedUnit, hash_units};
 use pictures::AuId;
-use serve_messages::{Answer, Failure, Loaded, Refusal};
+use serve_messages::{Answer, Failure, Loaded, Refusal, Stretch};
 use std::alloc::Global;
 use std::thread::Threads;
 
-/// How many units were inserted, and the ids of the first and the last of them.
+/// How many units were inserted, from which place on, and the ids of the first and the last of them.
 #[derive(Clone, Copy, Debug, PartialEq, Eq)]
 pub(crate) struct Inserted {
+    pub(crate) from: usize,
     pub(crate) units: usize,
     pub(crate) first: Option<u32>,
     pub(crate) last: Option<u32>,
 }
 
 impl Inserted {
-    /// Before the first unit.
-    fn none() -> Inserted
-        ensures { result ≡ none_inserted }
+    /// Before the first unit, which will stand at a place.
+    fn none(from: usize) -> Inserted
+        ensures { result ≡ none_inserted from }
     {
         Inserted {
+            from,
             units: 0,
             first: None,
             last: None,
@@ -42,6 +44,7 @@ impl Inserted {
         ensures { result ≡ with_unit self id }
     {
         Inserted {
+            from: self.from,
             units: self.units.saturating_add(1),
             first: self.first.or(Some(id.number())),
             last: Some(id.number()),
@@ -56,6 +59,10 @@ impl Inserted {
             units: self.units,
             first: self.first,
             last: self.last,
+            changed: Stretch {
+                from: self.from as u64,
+                count: self.units as u64,
+            },
         }
     }
 }
@@ -79,10 +86,10 @@ impl<B: Backend, S: Source> Server<B, S> {
     fn load_text<R: Threads + Sync>(&mut self, rt: &R, text: &Bytes) -> Result<Answer, Failure>
         ensures { LoadsText B.is_session self.old text.now result self.new }
     {
-        let room = MOST_UNITS.saturating_sub(self.last().units);
-        match read_units(rt, self.alloc, text, room) {
+        let from = self.last().units;
+        match read_units(rt, self.alloc, text, MOST_UNITS.saturating_sub(from)) {
             Ok(units) => match hash_units(rt, self.alloc, units) {
-                Ok(units) => self.insert_all(units),
+                Ok(units) => self.insert_all(from, units),
                 Err(_) => Err(OUT_OF_MEMORY),
             },
             Err(ReadFault::Refused(refusal)) => Err(Failure::Refused(Refusal::Stream(refusal))),
@@ -90,12 +97,13 @@ impl<B: Backend, S: Source> Server<B, S> {
         }
     }
 
-    /// Inserts the units after the last one. One that is refused ends that, and those before it
-    /// stay.
-    fn insert_all(&mut self, units: Vec<HashedUnit>) -> Result<Answer, Failure>
-        ensures { InsertsAll B.is_session self.old units.items none_inserted result self.new }
+    /// Inserts the units after the last one, the first of them at a place. One that is refused ends
+    /// that, and those before it stay.
+    fn insert_all(&mut self, from: usize, units: Vec<HashedUnit>) -> Result<Answer, Failure>
+        ensures { InsertsAll B.is_session self.old units.items (none_inserted from) result
+            self.new }
     {
-        let mut inserted = Inserted::none();
+        let mut inserted = Inserted::none(from);
         for unit in units {
             match self.insert_last(unit) {
                 Ok(receipt) => inserted = inserted.with_unit(receipt.id),

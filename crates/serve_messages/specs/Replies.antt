@@ -18,19 +18,25 @@ use Rattle.stream_edits.specs.declared.refusals.EditRefused.{EditRefused}
 use Rattle.serve_messages.specs.declared.failure.Failure.{Failure}
 use Rattle.serve_messages.specs.declared.failure.Failure.TheVariants.{Refused}
 use Rattle.serve_messages.specs.declared.failure.Refusal.TheVariants as refusal
+use Rattle.changed_units.specs.declared.changed.Changed.{Changed}
+use Rattle.serve_messages.specs.declared.answer.Stretch.{Stretch}
 use Rattle.serve_messages.specs.declared.answer.Answer.{Answer}
 use Rattle.serve_messages.specs.declared.answer.Answer.TheVariants.{Edited, Grouped, Shown as Shows, Word}
 use Rattle.serve_messages.specs.declared.answer.Appearance.TheVariants as appearance
 use Rattle.serve_messages.specs.declared.words.Word.TheVariants as word
 
+-- the stretch that an edit changed
+abbrev pub stretch_of : Changed → Stretch
+stretch_of changed = record { from = changed.from; count = changed.count }
+
 -- the result of an edit
 abbrev pub edit_answer : Result Receipt EditRefused → Result Answer Failure
-edit_answer (Ok receipt) = Ok (Edited receipt.number receipt.id receipt.steps)
+edit_answer (Ok receipt) = Ok (Edited receipt.number receipt.id receipt.steps (stretch_of receipt.changed))
 edit_answer (Err refused) = Err (Refused (refusal.Edit refused))
 
 -- the result of a group of edits
 abbrev pub group_answer : Result GroupReceipt GroupRefused → Result Answer Failure
-group_answer (Ok receipt) = Ok (Grouped receipt.number receipt.ids.items receipt.steps)
+group_answer (Ok receipt) = Ok (Grouped receipt.number receipt.ids.items receipt.steps (stretch_of receipt.changed))
 group_answer (Err refused) = Err (Refused (refusal.Group refused))
 
 -- the result of what is shown of a unit

@@ -1,9 +1,13 @@
 //! Results.
 
+ghost use Rattle.std.specs.Prelude.{◌≡◌};
+ghost use Rattle.serve_messages.specs.Replies.{stretch_of};
+
 use crate::Listed;
 use crate::job_answers::JobAnswer;
 use crate::unit_answers::UnitAnswer;
 use crate::words::{Digits, Word};
+use edit_engine::Changed;
 use pictures::AuId;
 use serde::{Serialize, Serializer};
 use unit_outcomes::ValidityFault;
@@ -12,25 +16,29 @@ use unit_outcomes::ValidityFault;
 #[derive(Debug, Drop, Serialize)]
 #[serde(untagged)]
 pub enum Answer {
-    /// How many units were inserted, and the ids of the first and the last of them.
+    /// How many units were inserted, the ids of the first and the last of them, and where they stand.
     Loaded {
         units: usize,
         first: Option<u32>,
         last: Option<u32>,
+        changed: Stretch,
     },
-    /// The number of an edit, the id of its unit, and in how many steps of the fold it was made.
+    /// The number of an edit, the id of its unit, in how many steps of the fold it was made, and which
+    /// units it changed.
     Edited {
         edit: u64,
         id: u32,
         steps: u64,
+        changed: Stretch,
     },
-    /// The number of a group, the ids of its edits' units, and in how many steps of the fold it was
-    /// made.
+    /// The number of a group, the ids of its edits' units, in how many steps of the fold it was made,
+    /// and which units it changed.
     Grouped {
         edit: u64,
         #[serde(serialize_with = "write_ids")]
         ids: Listed<AuId>,
         steps: u64,
+        changed: Stretch,
     },
     /// The outcomes of units.
     Units(Listed<UnitAnswer>),
@@ -51,6 +59,26 @@ pub enum Answer {
     Stats(Stats),
     /// Null.
     Nothing,
+}
+
+/// A stretch of places.
+#[derive(Clone, Copy, Debug, PartialEq, Eq, Serialize)]
+pub struct Stretch {
+    /// The first place, from 0; 0 where there is none.
+    pub from: u64,
+    pub count: u64,
+}
+
+impl Stretch {
+    /// The stretch that an edit changed.
+    pub(crate) fn of(changed: Changed) -> Stretch
+        ensures { result ≡ stretch_of changed }
+    {
+        Stretch {
+            from: changed.from,
+            count: changed.count,
+        }
+    }
 }
 
 /// The unit at an output position.

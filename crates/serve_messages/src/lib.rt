@@ -25,7 +25,7 @@ mod request;
 mod unit_answers;
 mod words;
 
-pub use answer::{Answer, Appearance, Found, Picked, Stats};
+pub use answer::{Answer, Appearance, Found, Picked, Stats, Stretch};
 pub use call::{Call, Loaded, Name};
 pub use failure::{Detail, Failure, Refusal};
 pub use job_answers::{JobAnswer, ReferenceAnswer, RequestAnswer};

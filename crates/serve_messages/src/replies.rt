@@ -3,7 +3,7 @@
 ghost use Rattle.std.specs.Prelude.{◌≡◌, IfOk};
 ghost use Rattle.serve_messages.specs.Replies.{drop_answer, edit_answer, give_back_answer, group_answer, land_answer, show_answer};
 
-use crate::answer::{Answer, Appearance};
+use crate::answer::{Answer, Appearance, Stretch};
 use crate::words::{Digits, Word};
 use crate::{Failure, Listed, Refusal};
 use edit_engine::{
@@ -20,6 +20,7 @@ pub fn of_edit(answer: Result<Receipt, EditRefused>) -> Result<Answer, Failure>
             edit: receipt.number,
             id: receipt.id.number(),
             steps: receipt.steps,
+            changed: Stretch::of(receipt.changed),
         }),
         Err(refused) => Err(Failure::Refused(Refusal::Edit(refused))),
     }
@@ -35,12 +36,14 @@ pub fn of_group(answer: Result<GroupReceipt, GroupRefused>) -> Result<Answer, Fa
                 number,
                 ids,
                 steps,
+                changed,
                 ..
             } = receipt;
             Ok(Answer::Grouped {
                 edit: number,
                 ids: Listed::new(ids),
                 steps,
+                changed: Stretch::of(changed),
             })
         }
         Err(refused) => Err(Failure::Refused(Refusal::Group(refused))),

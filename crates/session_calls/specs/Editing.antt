@@ -12,8 +12,14 @@ use Rattle.session_calls.specs.Telling.{Tells}
 
 -- a receipt, as it is told
 abbrev pub told_receipt : Receipt → EditReceipt
-told_receipt receipt =
-    record { number = receipt.number; steps = receipt.steps; hashed = receipt.hashed; id = receipt.id }
+told_receipt receipt = record {
+  number = receipt.number;
+  steps = receipt.steps;
+  hashed = receipt.hashed;
+  changed_from = receipt.changed.from;
+  changed_count = receipt.changed.count;
+  id = receipt.id;
+}
 
 -- an answer to an edit, as it is told: its receipt, or the number of its refusal
 abbrev pub told_edit : Result Receipt EditRefused → Result EditReceipt ℕ

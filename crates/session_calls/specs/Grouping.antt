@@ -52,12 +52,19 @@ filled told was = told ++ drop (length told) was
 
 -- what is told of a group that was made
 abbrev pub told_group : GroupReceipt → GroupTold
-told_group receipt =
-    record { number = receipt.number; steps = receipt.steps; hashed = receipt.hashed; index = 0 }
+told_group receipt = record {
+  number = receipt.number;
+  steps = receipt.steps;
+  hashed = receipt.hashed;
+  changed_from = receipt.changed.from;
+  changed_count = receipt.changed.count;
+  index = 0;
+}
 
 -- what is told of a group whose edit at the index is why it isn't made
 abbrev pub told_at : ℕ → GroupTold
-told_at index = record { number = 0; steps = 0; hashed = 0; index = index }
+told_at index =
+    record { number = 0; steps = 0; hashed = 0; changed_from = 0; changed_count = 0; index = index }
 
 -- the ids and the rest that are told of an answer to a group
 abbrev pub TellsGroup : Result GroupReceipt GroupRefused → ℕ → List ℕ × GroupTold → List ℕ × GroupTold → Type 0

@@ -17,7 +17,16 @@ use Rattle.session_calls.specs.Statuses.{done, memory}
 
 -- nothing was inserted, with this index
 abbrev pub none_at : ℕ → LoadTold
-none_at index = record { number = 0; steps = 0; hashed = 0; units = 0; index = index; first = 0 }
+none_at index = record {
+  number = 0;
+  steps = 0;
+  hashed = 0;
+  units = 0;
+  changed_from = 0;
+  changed_count = 0;
+  index = index;
+  first = 0;
+}
 
 -- two counts together, or the largest that is told
 abbrev pub counted : ℕ → ℕ → ℕ
@@ -30,6 +39,8 @@ with_one told receipt = record {
   steps = counted told.steps receipt.steps;
   hashed = counted told.hashed receipt.hashed;
   units = counted told.units 1;
+  changed_from = if told.units == 0 then receipt.changed.from else told.changed_from;
+  changed_count = counted told.units 1;
   index = 0;
   first = if told.units == 0 then receipt.id else told.first;
 }

@@ -14,14 +14,16 @@ use std::alloc::Global;
 use stream_edits::{Edit, EditRefused, Place, Receipt};
 
 /// What an accepted edit is told: how many edits and groups were accepted, with this one; how many
-/// steps of the fold it made; how many bytes were hashed for it; and the id of the unit that was
-/// inserted, deleted or replaced.
+/// steps of the fold it made; how many bytes were hashed for it; the first place of the units that it
+/// changed, and how many they are; and the id of the unit that was inserted, deleted or replaced.
 #[repr(C)]
 #[derive(Clone, Copy, Debug, PartialEq, Eq)]
 pub struct EditReceipt {
     pub number: u64,
     pub steps: u64,
     pub hashed: u64,
+    pub changed_from: u64,
+    pub changed_count: u64,
     pub id: u32,
 }
 
@@ -59,6 +61,8 @@ fn told_edit(answer: Result<Receipt, EditRefused>) -> Result<EditReceipt, u32>
             number: receipt.number,
             steps: receipt.steps,
             hashed: receipt.hashed,
+            changed_from: receipt.changed.from,
+            changed_count: receipt.changed.count,
             id: receipt.id.number(),
         }),
         Err(refused) => Err(u32::from(refused.number())),

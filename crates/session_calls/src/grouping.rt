@@ -34,6 +34,9 @@ pub struct GroupTold {
     pub steps: u64,
     /// How many bytes were hashed for its edits.
     pub hashed: u64,
+    /// The first place of the units that it changed, and how many they are.
+    pub changed_from: u64,
+    pub changed_count: u64,
     /// Which edit is why the group isn't made, from 0 on.
     pub index: u64,
 }
@@ -179,6 +182,8 @@ fn tell_group(
                 number: receipt.number,
                 steps: receipt.steps,
                 hashed: receipt.hashed,
+                changed_from: receipt.changed.from,
+                changed_count: receipt.changed.count,
                 index: 0,
             };
             DONE
@@ -199,6 +204,8 @@ fn told_at(index: usize) -> GroupTold
         number: 0,
         steps: 0,
         hashed: 0,
+        changed_from: 0,
+        changed_count: 0,
         index: index as u64,
     }
 }

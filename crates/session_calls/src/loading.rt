@@ -26,6 +26,9 @@ pub struct LoadTold {
     pub hashed: u64,
     /// How many units were inserted.
     pub units: u64,
+    /// The first place of the units that they changed, and how many these are: those that were inserted.
+    pub changed_from: u64,
+    pub changed_count: u64,
     /// Which access unit the stream is refused for, from 0 on.
     pub index: u64,
     /// The id of the first unit.
@@ -91,6 +94,8 @@ fn none_at(index: u64) -> LoadTold
         steps: 0,
         hashed: 0,
         units: 0,
+        changed_from: 0,
+        changed_count: 0,
         index,
         first: 0,
     }
@@ -105,6 +110,12 @@ fn with_one(told: LoadTold, receipt: Receipt) -> LoadTold
         steps: told.steps.saturating_add(receipt.steps),
         hashed: told.hashed.saturating_add(receipt.hashed),
         units: told.units.saturating_add(1),
+        changed_from: if told.units == 0 {
+            receipt.changed.from
+        } else {
+            told.changed_from
+        },
+        changed_count: told.units.saturating_add(1),
         index: 0,
         first: if told.units == 0 {
             receipt.id.number()

@@ -2,6 +2,7 @@
 
 use std::fmt;
 use std::iter;
+use std::ops::Range;
 use std::sync::atomic::{AtomicU64, Ordering};
 
 use crate::error::{Error, GroupError, LoadError, NotLanded};
@@ -28,8 +29,14 @@ impl<T> fmt::Debug for Session<T> {
 }
 
 fn receipt(told: Result<cupdaisy_receipt, u32>) -> Result<Receipt, Error> {
-    let cupdaisy_receipt { number, steps, hashed, id } = told.map_err(Error::of)?;
-    Ok(Receipt { unit: UnitId(id), number, steps, hashed })
+    let told = told.map_err(Error::of)?;
+    let changed = stretch(told.changed_from, told.changed_count);
+    Ok(Receipt { unit: UnitId(told.id), number: told.number, steps: told.steps, hashed: told.hashed, changed })
+}
+
+/// A stretch of places.
+fn stretch(from: u64, count: u64) -> Range<usize> {
+    from as usize..(from + count) as usize
 }
 
 /// What a call told; nothing where its status is the absent one.
@@ -98,11 +105,13 @@ impl<T> Session<T> {
         }
         let mut ids = vec![0; edits.len()];
         let untold = edits.len() as u64;
-        let mut told = cupdaisy_group_receipt { number: 0, steps: 0, hashed: 0, index: untold };
+        let mut told =
+            cupdaisy_group_receipt { number: 0, steps: 0, hashed: 0, changed_from: 0, changed_count: 0, index: untold };
         match self.raw.group(&asked, &texts, &mut ids, &mut told) {
             Ok(()) => {
                 let units = ids.into_iter().map(UnitId).collect();
-                Ok(Group { units, number: told.number, steps: told.steps, hashed: told.hashed })
+                let changed = stretch(told.changed_from, told.changed_count);
+                Ok(Group { units, number: told.number, steps: told.steps, hashed: told.hashed, changed })
             }
             Err(status) => {
                 let index = (told.index < untold).then_some(told.index as usize);
@@ -122,6 +131,7 @@ impl<T> Session<T> {
                 number: told.number,
                 steps: told.steps,
                 hashed: told.hashed,
+                changed: stretch(told.changed_from, told.changed_count),
             })
             .map_err(|status| LoadError { error: Error::of(status), index: told.index as usize, units })
     }

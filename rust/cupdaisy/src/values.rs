@@ -1,6 +1,7 @@
 //! What calls are given and answer.
 
 use std::fmt;
+use std::ops::Range;
 
 use crate::error::Fault;
 use crate::sys;
@@ -28,7 +29,7 @@ impl fmt::Display for UnitId {
 }
 
 /// What an accepted edit is told.
-#[derive(Clone, Copy, Debug, PartialEq, Eq)]
+#[derive(Clone, Debug, PartialEq, Eq)]
 pub struct Receipt {
     /// The unit that was inserted, deleted or replaced.
     pub unit: UnitId,
@@ -38,6 +39,9 @@ pub struct Receipt {
     pub steps: u64,
     /// How many bytes were hashed for it.
     pub hashed: u64,
+    /// The least stretch of places, of the stream after it, that has every unit which wasn't there before, or has another outcome
+    /// or key than before. Empty where there is none.
+    pub changed: Range<usize>,
 }
 
 /// An edit of a group.
@@ -76,10 +80,12 @@ pub struct Group {
     pub steps: u64,
     /// How many bytes were hashed for its edits.
     pub hashed: u64,
+    /// The least stretch of places that has every unit which wasn't so before its first edit.
+    pub changed: Range<usize>,
 }
 
 /// What a load is told.
-#[derive(Clone, Copy, Debug, PartialEq, Eq)]
+#[derive(Clone, Debug, PartialEq, Eq)]
 pub struct Loaded {
     /// The first of its units; the others have the next ids.
     pub first: UnitId,
@@ -91,6 +97,8 @@ pub struct Loaded {
     pub steps: u64,
     /// How many bytes were hashed for them.
     pub hashed: u64,
+    /// The places of its units.
+    pub changed: Range<usize>,
 }
 
 /// A unit's outcome.

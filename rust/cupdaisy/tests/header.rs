@@ -42,15 +42,15 @@ fn assert_that(to: &mut String, what: String) {
 fn structs() -> String {
     let mut to = String::new();
     same!(to, "cupdaisy_session" cupdaisy_session: at full);
-    same!(to, "cupdaisy_receipt" cupdaisy_receipt: number steps hashed id);
+    same!(to, "cupdaisy_receipt" cupdaisy_receipt: number steps hashed changed_from changed_count id);
     same!(to, "cupdaisy_outcome" cupdaisy_outcome: kind fault top bottom order begins_period slices);
     same!(to, "cupdaisy_doubt" cupdaisy_doubt: follows in_doubt);
     same!(to, "cupdaisy_job" cupdaisy_job: number unit);
     same!(to, "cupdaisy_job_input" cupdaisy_job_input: unit slices references);
     same!(to, "cupdaisy_reference" cupdaisy_reference: timestamp surface);
     same!(to, "cupdaisy_edit" cupdaisy_edit: kind id from count);
-    same!(to, "cupdaisy_group_receipt" cupdaisy_group_receipt: number steps hashed index);
-    same!(to, "cupdaisy_load_receipt" cupdaisy_load_receipt: number steps hashed units index first);
+    same!(to, "cupdaisy_group_receipt" cupdaisy_group_receipt: number steps hashed changed_from changed_count index);
+    same!(to, "cupdaisy_load_receipt" cupdaisy_load_receipt: number steps hashed units changed_from changed_count index first);
     same!(to, "cupdaisy_journal_edit" cupdaisy_journal_edit: kind id bytes);
     same!(to, "cupdaisy_request" cupdaisy_request: timestamp bytes unit_begins hold has_weights pps sps scaling_matrix
         slice_params decode_params);

@@ -55,6 +55,8 @@ pub struct cupdaisy_receipt {
     pub number: u64,
     pub steps: u64,
     pub hashed: u64,
+    pub changed_from: u64,
+    pub changed_count: u64,
     pub id: u32,
 }
 
@@ -114,6 +116,8 @@ pub struct cupdaisy_group_receipt {
     pub number: u64,
     pub steps: u64,
     pub hashed: u64,
+    pub changed_from: u64,
+    pub changed_count: u64,
     pub index: u64,
 }
 
@@ -124,6 +128,8 @@ pub struct cupdaisy_load_receipt {
     pub steps: u64,
     pub hashed: u64,
     pub units: u64,
+    pub changed_from: u64,
+    pub changed_count: u64,
     pub index: u64,
     pub first: u32,
 }

@@ -6,7 +6,7 @@ use super::{Row, answers_so};
 const EDITS: [Row; 11] = [
     Row {
         message: "{\"jsonrpc\":\"2.0\",\"id\":1,\"method\":\"insert\",\"params\":{\"after\":null,\"bytes\":\"AAABZ0IACtp5AAABaM44gAAAAWWIhIA=\"}}",
-        lines: "{\"jsonrpc\":\"2.0\",\"id\":1,\"result\":{\"edit\":1,\"id\":1,\"steps\":1}}\n",
+        lines: "{\"jsonrpc\":\"2.0\",\"id\":1,\"result\":{\"edit\":1,\"id\":1,\"steps\":1,\"changed\":{\"from\":0,\"count\":1}}}\n",
     },
     Row {
         message: "{\"jsonrpc\":\"2.0\",\"method\":\"insert\",\"params\":{\"after\":1,\"bytes\":\"AAABQZoj\"}}",
@@ -46,7 +46,7 @@ const EDITS: [Row; 11] = [
     },
     Row {
         message: "{\"jsonrpc\":\"2.0\",\"id\":11,\"method\":\"load\",\"params\":{\"path\":\"one\"}}",
-        lines: "{\"jsonrpc\":\"2.0\",\"id\":11,\"result\":{\"units\":1,\"first\":4,\"last\":4}}\n",
+        lines: "{\"jsonrpc\":\"2.0\",\"id\":11,\"result\":{\"units\":1,\"first\":4,\"last\":4,\"changed\":{\"from\":2,\"count\":1}}}\n",
     },
 ];
 
@@ -55,7 +55,7 @@ const EDITS: [Row; 11] = [
 const DOUBTS: [Row; 5] = [
     Row {
         message: "{\"jsonrpc\":\"2.0\",\"id\":1,\"method\":\"load\",\"params\":{\"bytes\":\"AAABZ0IACtp5AAABaM44gAAAAWWIhIAAAAFBmkMAAAFBmiMAAAFnQgAK2nkAAAFozjiA\"}}",
-        lines: "{\"jsonrpc\":\"2.0\",\"id\":1,\"result\":{\"units\":4,\"first\":1,\"last\":4}}\n",
+        lines: "{\"jsonrpc\":\"2.0\",\"id\":1,\"result\":{\"units\":4,\"first\":1,\"last\":4,\"changed\":{\"from\":0,\"count\":4}}}\n",
     },
     Row {
         message: "{\"jsonrpc\":\"2.0\",\"id\":2,\"method\":\"units\",\"params\":{\"from\":0,\"count\":9}}",
@@ -75,11 +75,31 @@ const DOUBTS: [Row; 5] = [
     },
 ];
 
+/// Three units inserted together, the second one taken out and put back, and the last one taken out.
+const CHANGED: [Row; 4] = [
+    Row {
+        message: "{\"jsonrpc\":\"2.0\",\"id\":0,\"method\":\"group\",\"params\":{\"edits\":[{\"insert\":{\"after\":null,\"bytes\":\"AAABZ0IACtp5AAABaM44gAAAAWWIhIA=\"}},{\"insert\":{\"after\":1,\"bytes\":\"AAABQZoj\"}},{\"insert\":{\"after\":2,\"bytes\":\"AAABQZpD\"}}]}}",
+        lines: "{\"jsonrpc\":\"2.0\",\"id\":0,\"result\":{\"edit\":1,\"ids\":[1,2,3],\"steps\":3,\"changed\":{\"from\":0,\"count\":3}}}\n",
+    },
+    Row {
+        message: "{\"jsonrpc\":\"2.0\",\"id\":1,\"method\":\"delete\",\"params\":{\"id\":2}}",
+        lines: "{\"jsonrpc\":\"2.0\",\"id\":1,\"result\":{\"edit\":2,\"id\":2,\"steps\":2,\"changed\":{\"from\":1,\"count\":1}}}\n",
+    },
+    Row {
+        message: "{\"jsonrpc\":\"2.0\",\"id\":2,\"method\":\"insert\",\"params\":{\"after\":1,\"bytes\":\"AAABQZoj\"}}",
+        lines: "{\"jsonrpc\":\"2.0\",\"id\":2,\"result\":{\"edit\":3,\"id\":4,\"steps\":2,\"changed\":{\"from\":1,\"count\":2}}}\n",
+    },
+    Row {
+        message: "{\"jsonrpc\":\"2.0\",\"id\":3,\"method\":\"delete\",\"params\":{\"id\":3}}",
+        lines: "{\"jsonrpc\":\"2.0\",\"id\":3,\"result\":{\"edit\":4,\"id\":3,\"steps\":0,\"changed\":{\"from\":0,\"count\":0}}}\n",
+    },
+];
+
 /// Pictures that are taken, told, dropped and made again.
 const PICTURES: [Row; 18] = [
     Row {
         message: "{\"jsonrpc\":\"2.0\",\"id\":1,\"method\":\"load\",\"params\":{\"bytes\":\"AAABZ0IACtp5AAABaM44gAAAAWWIhIA=\"}}",
-        lines: "{\"jsonrpc\":\"2.0\",\"id\":1,\"result\":{\"units\":1,\"first\":1,\"last\":1}}\n",
+        lines: "{\"jsonrpc\":\"2.0\",\"id\":1,\"result\":{\"units\":1,\"first\":1,\"last\":1,\"changed\":{\"from\":0,\"count\":1}}}\n",
     },
     Row {
         message: "{\"jsonrpc\":\"2.0\",\"id\":2,\"method\":\"want\",\"params\":{\"ids\":[1,9,1]}}",
@@ -164,4 +184,9 @@ fn pictures_are_told_of(rt: HostRuntime) {
 #[test]
 fn units_behind_a_damage_are_told_of(rt: HostRuntime) {
     assert!(rt; answers_so(&rt, &DOUBTS));
+}
+
+#[test]
+fn receipts_tell_what_changed(rt: HostRuntime) {
+    assert!(rt; answers_so(&rt, &CHANGED));
 }

@@ -46,7 +46,7 @@ const ERRORS: [Row; 17] = [
     },
     Row {
         message: "{\"jsonrpc\":\"2.0\",\"id\":7,\"method\":\"load\",\"params\":{\"bytes\":\"AAABaM44gA==\"}}",
-        lines: "{\"jsonrpc\":\"2.0\",\"id\":7,\"result\":{\"units\":1,\"first\":1,\"last\":1}}\n",
+        lines: "{\"jsonrpc\":\"2.0\",\"id\":7,\"result\":{\"units\":1,\"first\":1,\"last\":1,\"changed\":{\"from\":0,\"count\":1}}}\n",
     },
     Row {
         message: "{\"jsonrpc\":\"2.0\",\"id\":8,\"method\":\"insert\",\"params\":{\"after\":7,\"bytes\":\"AAABQZoj\"}}",

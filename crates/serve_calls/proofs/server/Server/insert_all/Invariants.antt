@@ -9,4 +9,4 @@ use Rattle.serve_calls.proofs.server.Server.insert_all.Given as goal
 abbrev pub invariant-loop-unit : goal.invariant-loop-unit
 invariant-loop-unit g l = (result : Result Answer Failure) (new : Server g.row.B.Denot g.row.S.Denot)
     → InsertsAll g.B.Asked.is_session l.self (into_iter_items l.unit-iterator) l.inserted result new
-    → InsertsAll g.B.Asked.is_session l.fn.self l.fn.units.items none_inserted result new
+    → InsertsAll g.B.Asked.is_session l.fn.self l.fn.units.items (none_inserted l.fn.from) result new

@@ -7,7 +7,7 @@ ghost use Rattle.edit_history.specs.Groups.{Leads};
 ghost use Rattle.edit_history.specs.Refusals.{IsRefusedFor};
 ghost use Rattle.edit_history.specs.Texts.{IsStream, Texts};
 ghost use Rattle.stream_edits.specs.Edits.{Register};
-ghost use Rattle.stream_edits.specs.Ids.{AreDifferent};
+ghost use Rattle.changed_units.specs.Units.{AreDifferent};
 ghost use Rattle.stream_edits.specs.Streams.{start_among};
 
 use crate::changes::Change;

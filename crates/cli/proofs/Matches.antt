@@ -11,7 +11,7 @@ use Rattle.clap.proofs.ValueTestLemmas.{Accepts-accepts, accepts-Accepts}
 use Rattle.clap.proofs.WalkLemmas.{first_value-rows, one_text-rows}
 use Rattle.unit_json.specs.declared.decode_mode.DecodeMode.{DecodeMode}
 use Rattle.cli.specs.Bounds.{most_id}
-use Rattle.cli.specs.CommandLine.{Wanted, audit, audit_in, cache_in, draw_in, drawing, form_in, from_by, from_in, has_flag, is_true, mend, mend_in, number_in, number_of, plan, plan_in, run, run_in, several, units_in, workers_in}
+use Rattle.cli.specs.CommandLine.{Wanted, audit, audit_in, cache_in, check, check_in, draw_in, drawing, form_in, from_by, from_in, has_flag, is_true, mend, mend_in, number_in, number_of, plan, plan_in, run, run_in, several, units_in, workers_in}
 
 -- with no value of FILE nothing is planned
 pub no-file : (f : Found) → None ≡ first_value f (codes "FILE") → None ≡ plan_in (rows_of f)
@@ -28,6 +28,17 @@ plan-read f name form file is =
 -- the value of FILE is what is mended
 pub mend-read : (f : Found) (name : Option Text) → name ≡ first_value f (codes "FILE") → option_map mend name ≡ mend_in (rows_of f)
 mend-read f name is = ap (option_map mend) (is ∙ first_value-rows f (codes "FILE"))
+
+-- with no value of FILE nothing is checked
+pub no-check : (f : Found) → None ≡ first_value f (codes "FILE") → None ≡ check_in (rows_of f)
+no-check f none = ap (option_map (λ name. check name (has_flag (codes "json") (rows_of f)))) (none ∙ first_value-rows f (codes "FILE"))
+
+-- with one it is, as the flag says
+pub check-read : (f : Found) (name : Text) (json : Bool) → Some name ≡ first_value f (codes "FILE") → json ≡ has_flag (codes "json") (rows_of f)
+    → Some (check name json) ≡ check_in (rows_of f)
+check-read f name json file is =
+    ap (λ (b : Bool). Some (check name b)) is
+    ∙ ap (option_map (λ t. check t (has_flag (codes "json") (rows_of f)))) (file ∙ first_value-rows f (codes "FILE"))
 
 -- the script by which the stream is edited
 abbrev script_of : Found → Option Text

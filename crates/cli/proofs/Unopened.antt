@@ -13,7 +13,7 @@ use Rattle.script_run.specs.RunFaults.{fault_of_input}
 use Rattle.script_run.proofs.Told.{stops-unread}
 use Rattle.script_run.specs.Messages.{run_fault_text}
 use Rattle.shared_run.proofs.Told.{ends-unread, stops-unread as seat-stops-unread}
-use Rattle.cli.specs.CommandLine.{audit, draw, mend, plan, run}
+use Rattle.cli.specs.CommandLine.{audit, check, draw, mend, plan, run}
 use Rattle.stream_mending.specs.declared.running.MendFault.TheVariants as mending
 use Rattle.unit_json.specs.declared.decode_mode.DecodeMode.{DecodeMode}
 use Rattle.unit_json.proofs.Ends.{ends-unread as ends-unread-json}
@@ -53,6 +53,11 @@ module _ {T : Type 0} (files : Files) (standard : Option (List ℕ)) (told : Res
       (mending.Unread, some-all (text_named files standard name) (λ text. Keeps-refl old), tells)
   mend-unopened name input.Memory tells =
       (mending.Memory, some-all (text_named files standard name) (λ text. Keeps-refl old), tells)
+
+  -- of a check
+  pub check-unopened : (name : List ℕ) (json : Bool) (it : InputFault) → Tells told mute had has (input_fault_text name it)
+      → FailsAt files standard (check name json) told refused old old mute had has
+  check-unopened name json it tells = (input_fault_text name it, tells)
 
   -- of a drawing
   pub draw-unopened : (name : List ℕ) (from units : ℕ) (it : InputFault) → Tells told mute had has (input_fault_text name it)

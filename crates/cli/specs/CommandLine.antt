@@ -18,7 +18,7 @@ use Rattle.unit_json.specs.declared.decode_mode.DecodeMode.{DecodeMode}
 use Rattle.unit_json.specs.declared.decode_mode.DecodeMode.TheVariants.{SliceBased, FrameBased}
 use Rattle.cli.specs.Bounds.{most_drawn, most_id, most_workers}
 use Rattle.cli.specs.declared.asked.Asked.{Asked}
-use Rattle.cli.specs.declared.asked.Asked.TheVariants.{Audit, Draw, DrawEdited, Mend, Plan, Run, Serve}
+use Rattle.cli.specs.declared.asked.Asked.TheVariants.{Audit, Check, Draw, DrawEdited, Mend, Plan, Run, Serve}
 
 -- a word that has to be there
 abbrev pub needed_rule : Text → Rule
@@ -45,6 +45,10 @@ plan_app = with_rule (with_rule (with_rule (new_app (codes "plan")) (needed_rule
 -- `mend FILE`
 abbrev pub mend_app : App
 mend_app = with_rule (new_app (codes "mend")) (needed_rule (codes "FILE"))
+
+-- `check FILE [--json]`
+abbrev pub check_app : App
+check_app = with_rule (with_rule (new_app (codes "check")) (needed_rule (codes "FILE"))) (flag_rule (codes "json"))
 
 -- `--from N`, an id
 abbrev pub from_rule : Rule
@@ -97,14 +101,14 @@ one_worker_rule = option_rule (codes "workers") (Signed (pos 0) (pos most_worker
 abbrev pub serve_app : App
 serve_app = with_rule (with_rule (new_app (codes "serve")) one_worker_rule) cache_rule
 
--- `preview` with one of the six, or with `--version`
+-- `preview` with one of the seven, or with `--version`
 abbrev pub preview_app : App
-preview_app = with_subcommand (with_subcommand (with_subcommand (with_subcommand (with_subcommand (with_subcommand
+preview_app = with_subcommand (with_subcommand (with_subcommand (with_subcommand (with_subcommand (with_subcommand (with_subcommand
     (on_top (λ s. record s { has_version = true; subcommand_required = true }) (new_app (codes "preview")))
-    plan_app.top) mend_app.top) draw_app.top) run_app.top) audit_app.top) serve_app.top
+    plan_app.top) mend_app.top) check_app.top) draw_app.top) run_app.top) audit_app.top) serve_app.top
 
 -- what is asked for: the plan of a file, as JSON for a decoder of a mode, or in lines of text; a file
--- mended; a drawing of so many units of it, from an
+-- mended; a file checked, as JSON or in lines of text; a drawing of so many units of it, from an
 -- id on; one after a script's edits, of so many units from an id or from the first on; a run of a
 -- script, in one thread or beside so many workers, with so much room, and with the hashes of
 -- pictures or without; its audit, beside so many workers and with so much room; or a server, in one
@@ -112,6 +116,7 @@ preview_app = with_subcommand (with_subcommand (with_subcommand (with_subcommand
 pub data Wanted : Type 0 where
   plan : Text → Option DecodeMode → Wanted
   mend : Text → Wanted
+  check : Text → Bool → Wanted
   draw : Text → ℕ → ℕ → Wanted
   draw_edited : Text → Text → Option ℕ → ℕ → Wanted
   run : Text → Option ℕ → ℕ → Bool → Wanted
@@ -122,6 +127,7 @@ pub data Wanted : Type 0 where
 abbrev pub wanted_of : Asked → Wanted
 wanted_of (Plan file json) = plan file.now json
 wanted_of (Mend file) = mend file.now
+wanted_of (Check file json) = check file.now json
 wanted_of (Draw file choice) = draw file.now choice.from choice.units
 wanted_of (DrawEdited file script choice) = draw_edited file.now script.now choice.from choice.units
 wanted_of (Run options workers) =
@@ -192,6 +198,10 @@ plan_in rows = option_and_then (λ file. option_map (plan file) (form_in rows)) 
 abbrev pub mend_in : List Row → Option Wanted
 mend_in rows = option_map mend (first_of (codes "FILE") rows)
 
+-- what the words after `check` ask for
+abbrev pub check_in : List Row → Option Wanted
+check_in rows = option_map (λ name. check name (has_flag (codes "json") rows)) (first_of (codes "FILE") rows)
+
 -- a drawing of a file's stream, from the unit 1 on where no id is given, or after a script's edits
 abbrev pub drawing : Text → Option Text → Option ℕ → ℕ → Wanted
 drawing name None from units = draw name (unwrap_or from 1) units
@@ -224,10 +234,11 @@ serve_in rows =
 abbrev pub wanted_by : Text × List Row → Option Wanted
 wanted_by met = if bytes_eq met.0 (codes "plan") then plan_in met.1
     else (if bytes_eq met.0 (codes "mend") then mend_in met.1
+    else (if bytes_eq met.0 (codes "check") then check_in met.1
     else (if bytes_eq met.0 (codes "draw") then draw_in met.1
     else (if bytes_eq met.0 (codes "run") then run_in met.1
     else (if bytes_eq met.0 (codes "audit") then audit_in met.1
-    else (if bytes_eq met.0 (codes "serve") then serve_in met.1 else None)))))
+    else (if bytes_eq met.0 (codes "serve") then serve_in met.1 else None))))))
 
 -- what is asked for where a subcommand may have been met
 abbrev pub wanted_from : Option (Text × List Row) → Option Wanted

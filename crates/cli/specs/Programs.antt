@@ -15,6 +15,7 @@ use Rattle.unit_json.specs.Ends.{FailsJson, WritesJsonFor}
 use Rattle.plan_stream.specs.Faults.{plan_fault_text}
 use Rattle.plan_stream.specs.Plans.{EndsBy, WritesPlan}
 use Rattle.plan_stream.specs.declared.fault.PlanFault.{PlanFault}
+use Rattle.stream_check.specs.Found.{IsFine}
 use Rattle.stream_mending.specs.Mended.{mended}
 use Rattle.stream_mending.specs.Runs.{EndsBy as EndsMending, mend_fault_text, mend_lines}
 use Rattle.stream_mending.specs.declared.running.MendFault.{MendFault}
@@ -26,7 +27,7 @@ use Rattle.script_run.specs.Running.{WritesScript}
 use Rattle.script_run.specs.Stops.{StopsBy}
 use Rattle.script_run.specs.declared.run_fault.RunFault.{RunFault}
 use Rattle.unit_json.specs.declared.json_line.JsonLine.{JsonLine}
-use Rattle.cli.specs.CommandLine.{HasOne, IsRequest, Wanted, audit, draw, draw_edited, faults_of, mend, plan, run, serve, wanted_in}
+use Rattle.cli.specs.CommandLine.{HasOne, IsRequest, Wanted, audit, check, draw, draw_edited, faults_of, mend, plan, run, serve, wanted_in}
 use Rattle.serve_run.specs.Ends.{end_text}
 use Rattle.serve_run.specs.declared.end.ServeEnd.{ServeEnd}
 
@@ -48,7 +49,8 @@ StopsScript (Some workers) files name text room hex fault refused old new =
     StopsSeatBy files name text hex fault refused old new
 
 -- what is asked for was done, of what its names stand for, and nothing was told; but of a drawing
--- after edits, what was refused of these, and of a stream that is mended, what was left out. Of what a
+-- after edits, what was refused of these, and of a stream that is mended, what was left out. Of a file
+-- that is checked there is nothing to complain of then. Of what a
 -- server writes nothing is said. Of the second output it is said whether it refused, and what it had
 -- and has
 abbrev pub IsDone : {T : Type 0} → Files → Option (List ℕ) → Wanted → Result T PrintFault → Option (List ℕ) → Option (List ℕ)
@@ -59,6 +61,8 @@ IsDone files standard (plan name (Some mode)) told old new mute had has =
     IfSome (text_named files standard name) (λ text. WritesJsonFor says_json mode text old new) × Keeps had has
 IsDone files standard (mend name) told old new mute had has =
     IfSome (text_named files standard name) (λ text. Appends old new (mended text) × Tells told mute had has (mend_lines text))
+IsDone files standard (check name json) told old new mute had has =
+    IfSome (text_named files standard name) IsFine × Keeps had has
 IsDone files standard (draw name from units) told old new mute had has =
     IfSome (text_named files standard name) (λ text. WritesDrawing from units text old new) × Keeps had has
 IsDone files standard (draw_edited name script from units) told old new mute had has =
@@ -84,6 +88,8 @@ FailsAt files standard (plan name None) told refused old new mute had has =
 FailsAt files standard (mend name) told refused old new mute had has =
     (fault : MendFault) × IfSome (text_named files standard name) (λ text. EndsMending text fault refused old new)
     × Tells told mute had has (mend_fault_text name fault)
+FailsAt files standard (check name json) told refused old new mute had has =
+    (message : List ℕ) × Tells told mute had has message
 FailsAt files standard (draw name from units) told refused old new mute had has =
     (fault : PlanFault) × IfSome (text_named files standard name) (λ text. EndsDrawing from units text fault refused old new)
     × Tells told mute had has (plan_fault_text name fault)

@@ -24,6 +24,11 @@ pub enum Asked<'a> {
     Mend {
         file: &'a str,
     },
+    /// What is the matter with this file, `-` being the standard input: as JSON, or in lines of text.
+    Check {
+        file: &'a str,
+        json: bool,
+    },
     /// A drawing of the chosen units of the stream in this file, `-` being the standard input.
     Draw {
         file: &'a str,

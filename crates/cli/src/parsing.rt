@@ -9,7 +9,9 @@ ghost use Rattle.cli.specs.CommandLine.{number_of, option_rule, preview_app, run
 ghost use Rattle.cli.specs.CommandLine.{units_in, units_rule, wanted_from, wanted_in, wanted_of, workers_in};
 
 use crate::asked::{Asked, MOST_WORKERS, Workers};
-use crate::planning_args::{mend_command, plan_command, read_mend, read_plan};
+use crate::planning_args::{
+    check_command, mend_command, plan_command, read_check, read_mend, read_plan,
+};
 use crate::serving_args::{read_serve, serve_command};
 use clap::builder::ValueParser;
 use clap::error::ErrorKind;
@@ -56,6 +58,7 @@ fn read_matches<'a>(matches: &ArgMatches<'a>) -> Option<Asked<'a>>
     match matches.subcommand() {
         Some(("plan", plan)) => read_plan(plan),
         Some(("mend", mend)) => read_mend(mend),
+        Some(("check", check)) => read_check(check),
         Some(("draw", draw)) => read_draw(draw),
         Some(("run", run)) => read_run(run),
         Some(("audit", audit)) => read_audit(audit),
@@ -213,6 +216,7 @@ fn preview_command<'a>(alloc: Global) -> Result<Command<'a>, AllocError>
         .subcommand_required(true)
         .subcommand(plan_command(alloc)?)?
         .subcommand(mend_command(alloc)?)?
+        .subcommand(check_command(alloc)?)?
         .subcommand(draw_command(alloc)?)?
         .subcommand(run_command(alloc)?)?
         .subcommand(audit_command(alloc)?)?

@@ -1,8 +1,8 @@
-//! `plan` and `mend`.
+//! `plan`, `mend` and `check`.
 
 ghost use Rattle.std.specs.Prelude.{◌≡◌, IfOk, codes, false, option_map};
 ghost use Rattle.clap.specs.Words.{app_of, found_of, rows_of, rule_of};
-ghost use Rattle.cli.specs.CommandLine.{form_in, mend_app, mend_in, needed_rule, plan_app, plan_in, wanted_of};
+ghost use Rattle.cli.specs.CommandLine.{check_app, check_in, form_in, mend_app, mend_in, needed_rule, plan_app, plan_in, wanted_of};
 
 use crate::asked::Asked;
 use crate::parsing::{flag, has_flag, needed};
@@ -39,6 +39,15 @@ pub(crate) fn read_mend<'a>(mend: &ArgMatches<'a>) -> Option<Asked<'a>>
     Some(Asked::Mend { file })
 }
 
+/// What the matches of `check` ask for.
+pub(crate) fn read_check<'a>(check: &ArgMatches<'a>) -> Option<Asked<'a>>
+    ensures { option_map wanted_of result ≡ check_in (rows_of (found_of check.now)) }
+{
+    let file = check.get_str("FILE")?;
+    let json = has_flag(check, "json");
+    Some(Asked::Check { file, json })
+}
+
 /// The subcommand `plan`.
 pub(crate) fn plan_command<'a>(alloc: Global) -> Result<Command<'a>, AllocError>
     ensures { IfOk result (λ command. app_of command ≡ plan_app) }
@@ -69,6 +78,18 @@ pub(crate) fn mend_command<'a>(alloc: Global) -> Result<Command<'a>, AllocError>
     Command::new(alloc, "mend")
         .about("Writes a stream without what no command reads, and tells what was left out")
         .arg(file)
+}
+
+/// The subcommand `check`.
+pub(crate) fn check_command<'a>(alloc: Global) -> Result<Command<'a>, AllocError>
+    ensures { IfOk result (λ command. app_of command ≡ check_app) }
+{
+    let file = needed(alloc, "FILE", "A file of any kind; - is the standard input");
+    let json = flag(alloc, "json", "Prints one JSON object");
+    Command::new(alloc, "check")
+        .about("Says what a file is, what its stream has, and what is the matter with it")
+        .arg(file)?
+        .arg(json)
 }
 
 /// `FILE`.

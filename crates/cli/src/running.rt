@@ -10,7 +10,7 @@ ghost use Rattle.cli.specs.CommandLine.{AreMistaken, IsMistake, IsRequest, audit
 ghost use Rattle.cli.specs.Programs.{FailsAt, Fails, IsDone, Succeeds, WantsMemory, WritesPart};
 
 use crate::named_texts::named_texts;
-use crate::planning::{mend_named, plan_as};
+use crate::planning::{check_named, mend_named, plan_as};
 use crate::serving::serve_on;
 use crate::{Asked, Workers, parse};
 use clap::Error;
@@ -110,6 +110,9 @@ pub fn run_on<T: AsStr, D: Directory, I: Read + Drop, W: Sink + Send, E: Sink>(
             threads, alloc, file, json, directory, standard, output, errors,
         ),
         Ok(Asked::Mend { file }) => mend_named(alloc, file, directory, standard, output, errors),
+        Ok(Asked::Check { file, json }) => check_named(
+            threads, alloc, file, json, directory, standard, output, errors,
+        ),
         Ok(Asked::Draw { file, choice }) => draw_named(
             alloc, file, choice, directory, standard, output, errors,
         ),

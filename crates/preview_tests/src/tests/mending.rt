@@ -1,4 +1,4 @@
-//! `mend`, and `plan --json --frames`, by the words of a command line.
+//! `mend`, `check` and `plan --json --frames`, by the words of a command line.
 
 use super::command_lines::{Answer, answer_holds, run_with};
 use super::{A, P1, joined, row_holds};
@@ -62,7 +62,7 @@ fn mends_what_is_named(rt: HostRuntime) -> Result<(), Fail> {
     Ok(())
 }
 
-const ANSWERS: [Answer; 6] = [
+const ANSWERS: [Answer; 11] = [
     (&["plan", "--frames", "a.264"], Usage, "--frames"),
     (
         &["plan", "--frames", "--json", "a.264"],
@@ -81,10 +81,27 @@ const ANSWERS: [Answer; 6] = [
     ),
     (&["mend"], Usage, "<FILE>"),
     (&["mend", "--help"], Success, "Usage: preview mend <FILE>"),
+    (
+        &["check", "a.264"],
+        Success,
+        "a.264: a byte stream of H.264 (Annex B)\n",
+    ),
+    (
+        &["check", "--json", "a.264"],
+        Success,
+        "{\"kind\":\"H264AnnexB\",",
+    ),
+    (&["check", "no"], Failure, "cannot read no\n"),
+    (&["check"], Usage, "<FILE>"),
+    (
+        &["check", "--help"],
+        Success,
+        "Usage: preview check [OPTIONS] <FILE>",
+    ),
 ];
 
 #[test]
-fn answers_words_of_frames_and_mend(rt: HostRuntime) -> Result<(), Fail> {
+fn answers_words_of_frames_mend_and_check(rt: HostRuntime) -> Result<(), Fail> {
     for (row, answer) in ANSWERS.iter().enumerate() {
         row_holds(&rt, row, answer_holds(&rt, answer)?);
     }

@@ -1,5 +1,5 @@
 -- How a command line fails.
-use Rattle.std.proofs.Common.{◌≡◌, true, cond, refl, ap₂, subst, inl, inr, List, [], ◌∷◌, Option, Some, is_some}
+use Rattle.std.proofs.Common.{◌≡◌, true, cond, refl, ap₂, subst, sym, inl, inr, List, [], ◌∷◌, Option, None, Some, is_some}
 use Rattle.clap.specs.Kinds.{HasKind, or_else}
 use Rattle.clap.specs.Words.{Kinds, Text, fault_of, kind_of, is_simple_and_free}
 use Rattle.clap.specs.declared.Error.{Error}
@@ -15,6 +15,13 @@ preview-simple = refl
 -- where clap finds no fault and something is asked for there is none
 pub no-fault : (words : List Text) (wanted : Wanted) → fault_of preview_app words ≡ [] → wanted_in words ≡ Some wanted → faults_of words ≡ []
 no-fault words wanted none some = ap₂ (λ (a : Kinds) (o : Option Wanted). or_else a (cond (is_some o) [] (MissingRequiredArgument ∷ []))) none some
+
+-- where clap finds no fault and nothing is asked for, that is the fault
+pub nothing-asked : (words : List Text) (e : Error) → fault_of preview_app words ≡ [] → wanted_in words ≡ None
+    → kind_of e ≡ MissingRequiredArgument → HasKind (faults_of words) e
+nothing-asked words e none nobody kind =
+    let is = ap₂ (λ (a : Kinds) (o : Option Wanted). or_else a (cond (is_some o) [] (MissingRequiredArgument ∷ []))) none nobody in
+    subst (λ (kinds : Kinds). HasKind kinds e) (sym is) (inr (inl kind))
 
 -- an error of clap's is one of the command line
 pub clap-fails : (words : List Text) (e : Error) → HasKind (fault_of preview_app words) e → HasKind (faults_of words) e

@@ -91,7 +91,7 @@ const CHANGED: [Row; 4] = [
     },
     Row {
         message: "{\"jsonrpc\":\"2.0\",\"id\":3,\"method\":\"delete\",\"params\":{\"id\":3}}",
-        lines: "{\"jsonrpc\":\"2.0\",\"id\":3,\"result\":{\"edit\":4,\"id\":3,\"steps\":0,\"changed\":{\"from\":0,\"count\":0}}}\n",
+        lines: "{\"jsonrpc\":\"2.0\",\"id\":3,\"result\":{\"edit\":4,\"id\":3,\"steps\":1,\"changed\":{\"from\":0,\"count\":0}}}\n",
     },
 ];
 

@@ -135,6 +135,52 @@ def check_command_line(it):
             it.expect(f"the words {words}, errors to a full disk", it.run(*words, stderr=full), 2)
 
 
+COMPLETED = """source '{completions}'; COMP_WORDS=({words}); COMP_CWORD={at}; _preview; printf '%s\\n' "${{COMPREPLY[@]}}\""""
+COMPLETED_BY_ZSH = """_describe() {{ print -l -- ${{found%%:*}} }}; compadd() {{ print -l -- $found }}; _files() {{ }}
+complete_words() {{ source '{completions}' }}; words=({words}); CURRENT={at}; complete_words"""
+
+
+def helped_commands(it):
+    """The commands that the help lists, each with the options that its own help does; for help itself it has none."""
+    lines = it.run("--help").output.decode().split("Commands:\n")[1].split("\n\n")[0].splitlines()
+    names = [line.split()[0] for line in lines]
+    return {name: re.findall(r"^ +(?:-\w, )?(--[a-z-]+)", it.run(name, "--help").output.decode(), re.MULTILINE)
+            for name in names if name != "help"}
+
+
+def completed(it, shell, *words):
+    """What a shell completes behind these words by its completions, of an empty word or of one that is begun."""
+    folder = TOP / "packages" / "completions"
+    form, name, base = (COMPLETED, "preview.bash", 0) if shell == "bash" else (COMPLETED_BY_ZSH, "_preview", 1)
+    line = form.format(completions=folder / name, at=len(words) + base,
+                       words=" ".join(f"'{word}'" for word in (it.program, *words)))
+    return processes.run([shell, "-c", line], None, SECONDS, cwd=it.folder)
+
+
+def check_completions(it):
+    """The completions for bash and zsh, and the manual page's synopsis, name each command and option that the help lists."""
+    helped = helped_commands(it)
+    synopsis = (TOP / "man" / "preview.1").read_text().split(".SH SYNOPSIS\n")[1].split(".SH ")[0].replace("\\", "")
+    pages = {part.split()[0]: part for part in synopsis.split(".B preview ")[1:]}
+    it.expect("the commands of the manual page", Ran(0, sorted(pages), b""), 0, sorted(helped))
+    for name, options in helped.items():
+        told = re.findall(r"--[a-z-]+", pages.get(name, ""))
+        it.expect(f"the options of {name} in the manual page", Ran(0, sorted(told), b""), 0,
+                  sorted(option for option in options if option != "--help"))
+    for shell in ("bash", "zsh"):
+        if not shutil.which(shell):
+            print(f"{shell} is not installed: its completions weren't tried")
+            continue
+        it.expect(f"the commands that {shell} completes", completed(it, shell, ""), 0, names_all(helped))
+        for name, options in helped.items():
+            it.expect(f"the options of {name} that {shell} completes", completed(it, shell, name, "--"), 0, names_all(options))
+
+
+def names_all(names):
+    """Whether each of the names is a line of a text."""
+    return lambda text: set(names) <= set(text.decode().splitlines())
+
+
 def check_files(it):
     """A file by its name and by `-`, and one that is named `-`."""
     clock = it.run("plan", "clock.264")
@@ -357,7 +403,7 @@ def main(doc):
                            ("memory.script", b"load zoom.264\nunit 1\n"),
                            ("jobs.script", b"load zoom.264\nsettle\nshow 1\n")):
             it.write(name, text)
-        for check in (check_command_line, check_files, check_unread, check_permission, check_scripts, check_outputs,
+        for check in (check_command_line, check_completions, check_files, check_unread, check_permission, check_scripts, check_outputs,
                       check_memory):
             check(it)
     print(f"{it.runs} runs, {it.failures} failures")

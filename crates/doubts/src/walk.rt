@@ -1,6 +1,6 @@
 //! A walk over the units of a stream.
 
-ghost use Rattle.std.specs.Prelude.{◌≡◌, ◌⊎◌, ℕ, ◌+◌, List, Some, IfOk, slice_get};
+ghost use Rattle.std.specs.Prelude.{◌≡◌, ◌⊎◌, ℕ, ◌+◌, Bool, List, Some, IfOk, slice_get};
 ghost use Rattle.doubts.specs.SeenUnits.{IsIdrAt, SeenUnit, is_break};
 ghost use Rattle.doubts.specs.InDoubt.{IdsDiffer, IsDoubt};
 ghost use Rattle.doubts.specs.Sets.{has};
@@ -54,8 +54,33 @@ impl Walk {
             → IsBefore units at self
             → IsDoubt units at passed.1 × IsBefore units (at + 1) passed.0) }
     {
+        let breaks = is_break(is_reference, outcome);
+        let passed = self.pass_by(alloc, id, breaks, outcome)?;
+        Ok(passed)
+    }
+
+    /// The same of a unit of which it is known whether it is a break: a valid one never is, so its
+    /// slices needn't be looked at.
+    pub fn pass_by(
+        self,
+        alloc: Global,
+        id: AuId,
+        breaks: bool,
+        outcome: &Outcome,
+    ) -> Result<(Walk, Doubt), AllocError>
+        ensures { IfOk result (λ passed. (units : List SeenUnit) (at : ℕ) (is_reference : Bool)
+            → IdsDiffer units
+            → slice_get units at ≡ Some (record {
+              id = id;
+              is_reference = is_reference;
+              outcome = outcome.now;
+            })
+            → breaks ≡ is_break is_reference outcome.now
+            → IsBefore units at self
+            → IsDoubt units at passed.1 × IsBefore units (at + 1) passed.0) }
+    {
         let doubt = self.doubt(outcome);
-        let walk = self.after(alloc, id, is_break(is_reference, outcome), &doubt)?;
+        let walk = self.after(alloc, id, breaks, &doubt)?;
         Ok((walk, doubt))
     }
 

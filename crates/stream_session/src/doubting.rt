@@ -3,14 +3,14 @@
 ghost use Rattle.std.specs.Prelude.{◌≡◌, ◌⊎◌, ℕ, ◌+◌, ◌<◌, ◌≤◌, length, true, IfOk, slice_get};
 ghost use Rattle.std.specs.List.{filter};
 ghost use Rattle.annexb.specs.NalUnit.{is_slice};
-ghost use Rattle.doubts.specs.SeenUnits.{tells_idr};
+ghost use Rattle.doubts.specs.SeenUnits.{is_break, tells_idr};
 ghost use Rattle.doubts.specs.InDoubt.{AreDoubts, IdsDiffer, IsDoubt};
 ghost use Rattle.doubts.specs.Walks.{IsBefore};
 ghost use Rattle.stream_session.specs.Doubting.{is_reference, seen_with};
 
 use access_unit::Unit;
 use base_types::Shared;
-use doubts::{Doubt, Walk, is_idr_picture};
+use doubts::{Doubt, Walk, is_break, is_idr_picture};
 use picture_keys::{HashedOutcome, HashedUnit};
 use pictures::AuId;
 use std::alloc::{AllocError, Global};
@@ -99,8 +99,19 @@ fn pass(
 {
     let (id, unit) = &units[at];
     let outcome: &Outcome = &outcomes[at];
-    let (next, doubt) = walk.pass(alloc, *id, is_reference(unit.unit()), outcome)?;
+    let (next, doubt) = walk.pass_by(alloc, *id, breaks(unit, outcome), outcome)?;
     Ok((next, doubt))
+}
+
+/// Whether a unit is a break. The slices of a valid one aren't looked at.
+fn breaks(unit: &HashedUnit, outcome: &Outcome) -> bool
+    ensures { result ≡ is_break (is_reference (filter is_slice unit.now)) outcome.now }
+{
+    match outcome {
+        Outcome::Plan(_) => false,
+        Outcome::Fault(_) => is_break(is_reference(unit.unit()), outcome),
+        Outcome::Empty => false,
+    }
 }
 
 /// Whether nal_ref_idc of a unit's first slice isn't 0.

@@ -14,7 +14,7 @@ use Rattle.script_run.proofs.Told.{stops-unread}
 use Rattle.script_run.specs.Messages.{run_fault_text}
 use Rattle.shared_run.proofs.Told.{ends-unread, stops-unread as seat-stops-unread}
 use Rattle.cli.specs.CommandLine.{audit, check, draw, mend, plan, run}
-use Rattle.stream_mending.specs.declared.running.MendFault.TheVariants as mending
+use Rattle.mend_run.specs.declared.running.MendFault.TheVariants as mending
 use Rattle.unit_json.specs.declared.decode_mode.DecodeMode.{DecodeMode}
 use Rattle.unit_json.proofs.Ends.{ends-unread as ends-unread-json}
 use Rattle.cli.specs.Programs.{FailsAt, StopsScript, says_json}

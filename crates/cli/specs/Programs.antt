@@ -17,8 +17,8 @@ use Rattle.plan_stream.specs.Plans.{EndsBy, WritesPlan}
 use Rattle.plan_stream.specs.declared.fault.PlanFault.{PlanFault}
 use Rattle.stream_check.specs.Found.{IsFine}
 use Rattle.stream_mending.specs.Mended.{mended}
-use Rattle.stream_mending.specs.Runs.{EndsBy as EndsMending, mend_fault_text, mend_lines}
-use Rattle.stream_mending.specs.declared.running.MendFault.{MendFault}
+use Rattle.mend_run.specs.Runs.{EndsBy as EndsMending, mend_fault_text, mend_lines}
+use Rattle.mend_run.specs.declared.running.MendFault.{MendFault}
 use Rattle.shared_run.specs.Audits.{FailsAudit, WritesAgreed}
 use Rattle.shared_run.specs.Running.{WritesScript as WritesSeatScript}
 use Rattle.shared_run.specs.Stops.{StopsBy as StopsSeatBy}

@@ -4,7 +4,7 @@
 //! `words` reads the process's words, and `parse` answers what they ask for, or clap's answer to
 //! them: help, the version, or what is wrong (docs/OUTPUT.md has the forms). `run` does what the
 //! process's words ask for, and `run_on` what given words ask for: a plan (plan_stream, unit_json),
-//! a stream mended (stream_mending), a drawing (draw_run), a script in one thread (script_run) or
+//! a stream mended (mend_run), a drawing (draw_run), a script in one thread (script_run) or
 //! beside workers (shared_run), an audit (shared_run), or a server (serve_run). What opens, is read
 //! and is written is generic. Above is preview, which has the process's own.
 #![tactic(auto)]

@@ -6,11 +6,11 @@ ghost use Rattle.cli.specs.Programs.{FailsAt, IsDone};
 
 use check_report::{Form, check_on};
 use console_io::{Directory, Ended, Sink, Status, open_input, say_input_fault};
+use mend_run::mend_on;
 use plan_stream::plan_on;
 use std::alloc::Global;
 use std::io::Read;
 use std::thread::Threads;
-use stream_mending::mend_on;
 use unit_json::{DecodeMode, Json, plan_json_for};
 
 /// Prints the plan of the stream that the name stands for, as JSON or in lines of text.

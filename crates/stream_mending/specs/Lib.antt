@@ -4,7 +4,6 @@ pub mod Faults
 pub mod Portions
 pub mod Mended
 pub mod Told
-pub mod Runs
 pub mod OpenPortions
 pub mod Mending
 pub mod Kept

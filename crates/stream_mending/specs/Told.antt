@@ -1,6 +1,5 @@
--- The lines that tell what is left out (docs/OUTPUT.md).
+-- What is told of bytes that are left out (docs/OUTPUT.md).
 use Rattle.std.specs.Prelude.{ℕ, ◌++◌, List, codes, decimal}
-use Rattle.std.specs.List.{flat_map}
 use Rattle.stream_mending.specs.declared.why.Why.{Why}
 use Rattle.stream_mending.specs.declared.why.Why.TheVariants.{NotNalUnit, Empty, ForbiddenBytes, ForbiddenBit, UnitType, UnreadSps, UnreadPps, Switching, IdrNotIntra, IdrNotReference, TooLarge}
 use Rattle.stream_mending.specs.declared.why.LeftOut.{LeftOut}
@@ -23,7 +22,3 @@ why_text TooLarge = codes "too large"
 abbrev pub left_out_text : LeftOut → List ℕ
 left_out_text left_out = codes "byte " ++ (decimal left_out.byte ++ (codes ": left out " ++ (decimal left_out.bytes
     ++ (codes " bytes: " ++ why_text left_out.why))))
-
--- the lines
-abbrev pub told_text : List LeftOut → List ℕ
-told_text told = flat_map (λ left_out. left_out_text left_out ++ codes "\n") told

@@ -1,9 +1,8 @@
 //! Mending: a byte stream without what keeps it from being read (ITU-T H.264, 7.4.1.2.3).
 //!
 //! `mend` leaves out of a text what no command reads, puts an access unit delimiter where two
-//! pictures would be taken for one, and tells each place and why. `mend_on` does so with what a
-//! reader gives. What a NAL unit is and where access units end stands in annexb, what is refused in
-//! access_unit. Above is cli.
+//! pictures would be taken for one, and tells each place and why. What a NAL unit is and where access
+//! units end stands in annexb, what is refused in access_unit. Above are mend_run and stream_check.
 #![tactic(auto)]
 
 mod faults;
@@ -13,13 +12,9 @@ mod laws;
 mod mending;
 mod open_portion;
 mod pieces;
-mod running;
-#[cfg(test)]
-mod tests;
 mod trimming;
 mod why;
 
 pub use laws::{a_stream_stays, kept_in_order, mended_is_a_stream, mended_stays};
 pub use mending::{Mended, mend};
-pub use running::{MendFault, mend_on};
 pub use why::{LeftOut, Why};

@@ -1,7 +1,7 @@
 //! What is left out of a stream, and why (docs/OUTPUT.md).
 
 ghost use Rattle.std.specs.Prelude.{Some};
-ghost use Rattle.stream_mending.specs.Told.{left_out_text, told_text, why_text};
+ghost use Rattle.stream_mending.specs.Told.{left_out_text, why_text};
 
 use std::fmt;
 use std::fmt::{Display, Formatter, Write};
@@ -70,20 +70,5 @@ impl Display for LeftOut {
     fn fmt<W: Write>(&self, f: &mut Formatter<W>) -> fmt::Result {
         let (byte, bytes, why) = (self.byte, self.bytes, self.why);
         write!(f, "byte {byte}: left out {bytes} bytes: {why}")
-    }
-}
-
-/// The lines that tell what was left out, one each.
-#[derive(Drop)]
-pub(crate) struct Lines<'a>(pub(crate) &'a [LeftOut]);
-
-impl<'a> Display for Lines<'a> {
-    ghost output = { λ lines. Some (told_text lines.0.now) };
-
-    fn fmt<W: Write>(&self, f: &mut Formatter<W>) -> fmt::Result {
-        for left_out in self.0 {
-            writeln!(f, "{left_out}")?;
-        }
-        Ok(())
     }
 }

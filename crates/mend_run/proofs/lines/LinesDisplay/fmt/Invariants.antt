@@ -1,7 +1,7 @@
 use Rattle.std.proofs.Common.{take}
 use Rattle.std.specs.Fmt.{HasWritten, IsPlainFormatter}
-use Rattle.stream_mending.specs.Told.{told_text}
-use Rattle.stream_mending.proofs.why.LinesDisplay.fmt.Given as goal
+use Rattle.mend_run.specs.Runs.{told_text}
+use Rattle.mend_run.proofs.lines.LinesDisplay.fmt.Given as goal
 
 -- the lines so far are written
 abbrev pub invariant-loop-left_out : goal.invariant-loop-left_out

@@ -4,18 +4,18 @@ ghost use Rattle.std.specs.Prelude.{◌≡◌, ◌≢◌, IfErr, IfOk, IfSome, s
 ghost use Rattle.std.specs.Io.KnownBytes.{Appends};
 ghost use Rattle.console_io.specs.Messages.{Tells};
 ghost use Rattle.stream_mending.specs.Mended.{mended};
-ghost use Rattle.stream_mending.specs.Runs.{EndsBy, fault_of_input, mend_fault_text, mend_lines};
-ghost use Rattle.stream_mending.specs.declared.running.MendFault.{MendFault as Fault};
-ghost use Rattle.stream_mending.specs.declared.running.MendFault.TheVariants.{Memory};
+ghost use Rattle.mend_run.specs.Runs.{EndsBy, fault_of_input, mend_fault_text, mend_lines};
+ghost use Rattle.mend_run.specs.declared.running.MendFault.{MendFault as Fault};
+ghost use Rattle.mend_run.specs.declared.running.MendFault.TheVariants.{Memory};
 
-use crate::mending::mend;
-use crate::why::Lines;
+use crate::lines::Lines;
 use console_io::{
     Ended, InputFault, PrintFault, Sink, Status, say_out_of_memory, say_unread, whole_input,
     write_bytes,
 };
 use std::alloc::{AllocError, Global};
 use std::io::Read;
+use stream_mending::mend;
 
 /// Why a stream isn't mended.
 #[derive(Clone, Copy, Debug, PartialEq, Eq)]

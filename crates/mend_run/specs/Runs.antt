@@ -1,14 +1,20 @@
 -- What `mend` writes of a text and tells (docs/OUTPUT.md).
-use Rattle.std.specs.Prelude.{ℕ, List, [], Option}
+use Rattle.std.specs.Prelude.{ℕ, ◌++◌, List, [], Option, codes}
+use Rattle.std.specs.List.{flat_map}
 use Rattle.std.specs.Io.KnownBytes.{Keeps}
 use Rattle.console_io.specs.Chunks.{AppendsFront}
 use Rattle.console_io.specs.Messages.{out_of_memory, unread_text}
 use Rattle.console_io.specs.declared.input.InputFault.{InputFault}
 use Rattle.console_io.specs.declared.input.InputFault.TheVariants as input
 use Rattle.stream_mending.specs.Mended.{mended, told}
-use Rattle.stream_mending.specs.Told.{told_text}
-use Rattle.stream_mending.specs.declared.running.MendFault.{MendFault}
-use Rattle.stream_mending.specs.declared.running.MendFault.TheVariants.{Unread, Memory, Unwritten}
+use Rattle.stream_mending.specs.Told.{left_out_text}
+use Rattle.stream_mending.specs.declared.why.LeftOut.{LeftOut}
+use Rattle.mend_run.specs.declared.running.MendFault.{MendFault}
+use Rattle.mend_run.specs.declared.running.MendFault.TheVariants.{Unread, Memory, Unwritten}
+
+-- the lines that tell these
+abbrev pub told_text : List LeftOut → List ℕ
+told_text told = flat_map (λ left_out. left_out_text left_out ++ codes "\n") told
 
 -- the lines that tell what is left out of a text
 abbrev pub mend_lines : List ℕ → List ℕ

@@ -8,6 +8,7 @@
 
 #include "cupdaisy.h"
 
+#include <algorithm>
 #include <array>
 #include <stdexcept>
 #include <string>
@@ -53,6 +54,32 @@ inline const std::uint8_t *begin_of(const Bytes &text)
 {
     static const std::uint8_t nothing = 0;
     return text.empty() ? &nothing : text.data();
+}
+
+/* What stays of a text that is mended, and what is left out of it. */
+struct Mended {
+    Bytes bytes;
+    std::vector<cupdaisy_left_out> left_out;
+};
+
+/* The text without what a load refuses. */
+inline Mended mend(const Bytes &text)
+{
+    Mended mended = {Bytes(text.size() + 64), std::vector<cupdaisy_left_out>(16)};
+    std::size_t needed = 0, count = 0;
+    std::uint32_t status = CUPDAISY_TOO_SMALL;
+    while (status == CUPDAISY_TOO_SMALL) {
+        mended.bytes.resize(std::max(mended.bytes.size(), needed));
+        mended.left_out.resize(std::max(mended.left_out.size(), count));
+        status = cupdaisy_mend(begin_of(text), text.size(), mended.bytes.data(), mended.bytes.size(), &needed, mended.left_out.data(),
+                               mended.left_out.size(), &count);
+        if (status == CUPDAISY_DONE && count > mended.left_out.size())
+            status = CUPDAISY_TOO_SMALL;
+    }
+    expect(status);
+    mended.bytes.resize(needed);
+    mended.left_out.resize(count);
+    return mended;
 }
 
 class Session {

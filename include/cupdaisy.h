@@ -68,7 +68,7 @@ extern "C" {
 #define CUPDAISY_NO_PICTURE 114   /* the unit has no slice, so that it has no picture */
 #define CUPDAISY_NOT_AN_EDIT 115  /* an edit of a group is of no kind, or its text isn't within the bytes */
 #define CUPDAISY_NO_WEIGHTS 116   /* the slice has no weight table */
-#define CUPDAISY_NO_SUCH_NAME 117 /* no status or fault has the number */
+#define CUPDAISY_NO_SUCH_NAME 117 /* no status, fault or reason has the number */
 #define CUPDAISY_SEVERAL_SLICES 118 /* without start codes a picture of several slices has no bytes */
 
 /* A session, or none. */
@@ -175,6 +175,27 @@ typedef struct cupdaisy_journal_edit {
     uint64_t bytes; /* how many bytes its text has */
 } cupdaisy_journal_edit;
 
+/* Why bytes are left out of a text that is mended. */
+#define CUPDAISY_WHY_NOT_NAL_UNIT 1       /* they stand before the first start code */
+#define CUPDAISY_WHY_EMPTY 2              /* no byte follows the start code */
+#define CUPDAISY_WHY_FORBIDDEN_BYTES 3    /* the NAL unit holds a sequence that none may hold (7.4.1) */
+#define CUPDAISY_WHY_FORBIDDEN_BIT 4      /* forbidden_zero_bit is 1, which marks the NAL unit as damaged */
+#define CUPDAISY_WHY_UNIT_TYPE 5          /* the NAL unit is of a type that isn't read */
+#define CUPDAISY_WHY_UNREAD_SPS 6         /* a sequence parameter set that can't be read */
+#define CUPDAISY_WHY_UNREAD_PPS 7         /* a picture parameter set that can't be read */
+#define CUPDAISY_WHY_SWITCHING 8          /* a slice of type SP or SI */
+#define CUPDAISY_WHY_IDR_NOT_INTRA 9      /* a P or B slice of an IDR picture */
+#define CUPDAISY_WHY_IDR_NOT_REFERENCE 10 /* a slice of an IDR picture whose nal_ref_idc is 0 */
+#define CUPDAISY_WHY_TOO_LARGE 11         /* the access unit has more than 4,194,304 bytes or 256 slices */
+
+/* Bytes that are left out of a text that is mended. */
+typedef struct cupdaisy_left_out {
+    uint64_t byte;      /* the place of the first in the text, from 0 on */
+    uint64_t bytes;     /* how many they are; of an access unit the bytes of its NAL units, with start codes of three bytes */
+    uint32_t why;       /* one of the eleven above */
+    uint32_t unit_type; /* of CUPDAISY_WHY_UNIT_TYPE: nal_unit_type; else 0 */
+} cupdaisy_left_out;
+
 #ifdef __linux__
 /*
  * The request of a slice: the controls of the kernel's stateless decoder interface but the weights, filled, and what else
@@ -270,6 +291,18 @@ uint32_t cupdaisy_group(cupdaisy_session *session, const cupdaisy_edit *edits, s
  * access unit's text too.
  */
 uint32_t cupdaisy_load(cupdaisy_session *session, const uint8_t *text, size_t text_length, cupdaisy_load_receipt *receipt);
+
+/*
+ * Mends a byte stream as it comes from a file or a network: `bytes` is the text without what cupdaisy_load refuses, with an access unit
+ * delimiter where two pictures would be taken for one (docs/OUTPUT.md, "mend"). A text that isn't refused stays as it is. What stays isn't
+ * refused, but for how many access units it has (17), or where it is empty: no NAL unit stays. It needs no session.
+ * `needed` is how many bytes stay, and `count` how often some are left out: of these as many as `left_out` has room for are written, the
+ * first ones, and the rest of it stays as it was. The bytes have to have no more room than the text and a delimiter of five bytes for each
+ * of its slices; so a room of 9 bytes for each 4 of the text is enough.
+ * TOO_SMALL where `bytes` has less room: `bytes` stays as it was, and all else is written. Takes memory, for what stays too. MEMORY.
+ */
+uint32_t cupdaisy_mend(const uint8_t *text, size_t text_length, uint8_t *bytes, size_t bytes_length, size_t *needed,
+                       cupdaisy_left_out *left_out, size_t left_out_length, size_t *count);
 
 /* How many units the stream has. */
 uint32_t cupdaisy_units(cupdaisy_session *session, size_t *units);
@@ -415,12 +448,13 @@ uint32_t cupdaisy_journal_text(cupdaisy_session *session, size_t entry, size_t i
                                size_t *needed);
 
 /*
- * The name of a status, the name of a fault, and the version, as text without a zero at its end, written as the bytes of a
- * slice are. NO_SUCH_NAME. cupdaisy_version is a million times the major number, a thousand times the minor one, and the
+ * The name of a status, of a fault, of a reason why bytes are left out, and the version, as text without a zero at its end, written as
+ * the bytes of a slice are. NO_SUCH_NAME. cupdaisy_version is a million times the major number, a thousand times the minor one, and the
  * patch. These need no session.
  */
 uint32_t cupdaisy_status_name(uint32_t status, uint8_t *name, size_t name_length, size_t *needed);
 uint32_t cupdaisy_fault_name(uint32_t fault, uint8_t *name, size_t name_length, size_t *needed);
+uint32_t cupdaisy_why_name(uint32_t why, uint8_t *name, size_t name_length, size_t *needed);
 uint32_t cupdaisy_version(void);
 uint32_t cupdaisy_version_text(uint8_t *text, size_t text_length, size_t *needed);
 

@@ -16,10 +16,11 @@ CUPDAISY_LIBRARY in the environment names a library in the place of the one that
 """
 from . import kernel
 from .library import (DELETE, EMPTY, FAULT, INSERT_AFTER, INSERT_FIRST, PLAN, REPLACE, Refused, fault_name, status_name,
-                      version)
-from .records import Doubt, Frame, GroupReceipt, Job, JobInput, LoadReceipt, Outcome, Receipt, Request
+                      version, why_name)
+from .mending import Mended, mend
+from .records import Doubt, Frame, GroupReceipt, Job, JobInput, LeftOut, LoadReceipt, Outcome, Receipt, Request
 from .session import Reference, Session
 
 __all__ = ["DELETE", "EMPTY", "FAULT", "INSERT_AFTER", "INSERT_FIRST", "PLAN", "REPLACE", "Doubt", "Frame", "GroupReceipt", "Job",
-           "JobInput", "LoadReceipt", "Outcome", "Receipt", "Reference", "Refused", "Request", "Session", "fault_name", "kernel",
-           "status_name", "version"]
+           "JobInput", "LeftOut", "LoadReceipt", "Mended", "Outcome", "Receipt", "Reference", "Refused", "Request", "Session",
+           "fault_name", "kernel", "mend", "status_name", "version", "why_name"]

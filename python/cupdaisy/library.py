@@ -6,8 +6,8 @@ from ctypes import POINTER, byref, c_bool, c_size_t, c_ubyte, c_uint16, c_uint32
 from typing import Any, Optional
 
 from .kernel import PredWeights
-from .records import (Doubt, Edit, Frame, GroupReceipt, Handle, Job, JobInput, JobReference, JournalEdit, LoadReceipt, Outcome,
-                      Receipt, Request)
+from .records import (Doubt, Edit, Frame, GroupReceipt, Handle, Job, JobInput, JobReference, JournalEdit, LeftOut, LoadReceipt,
+                      Outcome, Receipt, Request)
 
 DONE, NO_SESSION, TOO_SMALL, NO_SUCH_PLACE, NO_SUCH_SLICE = 0, 100, 103, 104, 106
 NOTHING_DUE, STALE, NOT_HELD, PENDING, HAS_FAULT, NO_PICTURE, NO_WEIGHTS = 108, 110, 111, 112, 113, 114, 116
@@ -43,7 +43,11 @@ CALLS: dict[str, tuple[Any, ...]] = {
     "journal": (OUT_SIZE,), "journal_entry": (SIZE, OUT_SIZE), "journal_edit_at": (SIZE, SIZE, POINTER(JournalEdit)),
     "journal_text": (SIZE, SIZE, *FILLED),
 }
-NAMES: dict[str, tuple[Any, ...]] = {"status_name": (c_uint32, *FILLED), "fault_name": (c_uint32, *FILLED), "version_text": FILLED}
+# The same of the calls that have no handle.
+NAMES: dict[str, tuple[Any, ...]] = {
+    "mend": (*TEXT, *FILLED, POINTER(LeftOut), SIZE, OUT_SIZE), "status_name": (c_uint32, *FILLED),
+    "fault_name": (c_uint32, *FILLED), "why_name": (c_uint32, *FILLED), "version_text": FILLED,
+}
 
 
 def places() -> list[str]:
@@ -119,6 +123,12 @@ def status_name(status: int) -> str:
 def fault_name(fault: int) -> str:
     """The name of a fault, empty where it has none."""
     found, name = filled("fault_name", fault)
+    return name.decode() if found == DONE else ""
+
+
+def why_name(why: int) -> str:
+    """The name of a reason why bytes are left out of a text that is mended, empty where it has none."""
+    found, name = filled("why_name", why)
     return name.decode() if found == DONE else ""
 
 

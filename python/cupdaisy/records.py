@@ -70,6 +70,16 @@ class Doubt(Record):
     _fields_ = [("follows", c_uint32), ("in_doubt", c_uint32)]
 
 
+class LeftOut(Record):
+    """Bytes that are left out of a text that is mended: the place of the first, how many they are, the number of the reason, which
+    `why_name` names, and of a NAL unit of a type that isn't read that type, else 0."""
+    byte: int
+    bytes: int
+    why: int
+    unit_type: int
+    _fields_ = [("byte", c_uint64), ("bytes", c_uint64), ("why", c_uint32), ("unit_type", c_uint32)]
+
+
 class Job(Record):
     """A job that was taken: a picture to decode, by its number, and a unit that has it."""
     number: int

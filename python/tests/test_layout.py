@@ -19,7 +19,7 @@ STRUCTS = {
     "struct v4l2_ctrl_h264_decode_params": kernel.DecodeParams, "cupdaisy_session": records.Handle,
     "cupdaisy_receipt": records.Receipt, "cupdaisy_group_receipt": records.GroupReceipt,
     "cupdaisy_load_receipt": records.LoadReceipt, "cupdaisy_outcome": records.Outcome, "cupdaisy_job": records.Job,
-    "cupdaisy_job_input": records.JobInput, "cupdaisy_reference": records.JobReference, "cupdaisy_edit": records.Edit,
+    "cupdaisy_left_out": records.LeftOut, "cupdaisy_job_input": records.JobInput, "cupdaisy_reference": records.JobReference, "cupdaisy_edit": records.Edit,
     "cupdaisy_journal_edit": records.JournalEdit, "cupdaisy_request": records.Request,
     "cupdaisy_frame": records.Frame}
 # Members that have another name in C, where it is a word of Python's.

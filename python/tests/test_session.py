@@ -103,7 +103,26 @@ class Calls(unittest.TestCase):
             self.assertEqual(session.job_frame_bytes(job.number), session.unit_frame_bytes(1))
             self.assertTrue(session.in_use(session.key(1)))
 
+    def test_a_damaged_text_is_mended(self):
+        later = bytes.fromhex("000001415A")
+        text = b"\xAB\0" + PICTURE + bytes.fromhex("0000016E4080") * 20 + later
+        whole = b"\0" + PICTURE + bytes.fromhex("00000109F0") + later
+        mended = cupdaisy.mend(text)
+        told = [(each.byte, each.bytes, cupdaisy.why_name(each.why), each.unit_type) for each in mended.left_out]
+        self.assertEqual(told, [(0, 1, "NotNalUnit", 0)] + [(25 + 6 * index, 6, "UnitType", 14) for index in range(20)])
+        self.assertEqual((mended.bytes, cupdaisy.mend(whole), cupdaisy.mend(b"")), (whole, (whole, []), (b"", [])))
+        with cupdaisy.Session() as session:
+            with self.assertRaisesRegex(cupdaisy.Refused, "^1 Split"):
+                session.load(text)
+            self.assertEqual(session.load(mended.bytes).units, 2)
+
+    def test_slices_of_many_pictures_are_told_apart(self):
+        slices = [bytes.fromhex("000001415A"), bytes.fromhex("000001015A")] * 50
+        mended = cupdaisy.mend(b"".join(slices))
+        self.assertEqual(mended, (bytes.fromhex("00000109F0").join(slices), []))
+
     def test_names(self):
+        self.assertEqual((cupdaisy.why_name(11), cupdaisy.why_name(12)), ("TooLarge", ""))
         self.assertEqual((cupdaisy.status_name(110), cupdaisy.status_name(12), cupdaisy.fault_name(11)), ("Stale", "", "FrameNumGap"))
         self.assertRegex(cupdaisy.version(), r"^\d+\.\d+\.\d+$")
 

@@ -504,6 +504,49 @@ static void journal_is_told(void)
     EXPECT(cupdaisy_close(&session) == CUPDAISY_DONE);
 }
 
+/* A byte before the stream, a unit of a type that isn't read, and a slice of another picture than the one before it, which nothing
+   shows: 31 bytes and a P slice from macroblock 1 on. */
+static const uint8_t damaged[] = {0xAB, 0, 0, 0, 1, 0x67, 0x42, 0x00, 0x0A, 0xDA, 0x79, 0, 0, 1, 0x68, 0xCE, 0x38, 0x80,
+                                  0, 0, 1, 0x65, 0x88, 0x84, 0x80, 0, 0, 1, 0x6E, 0x40, 0x80, 0, 0, 1, 0x41, 0x5A};
+static const uint8_t whole[] = {0, 0, 0, 1, 0x67, 0x42, 0x00, 0x0A, 0xDA, 0x79, 0, 0, 1, 0x68, 0xCE, 0x38, 0x80,
+                                0, 0, 1, 0x65, 0x88, 0x84, 0x80, 0, 0, 1, 0x09, 0xF0, 0, 0, 1, 0x41, 0x5A};
+
+static bool is_left_out(cupdaisy_left_out left_out, uint64_t byte, uint64_t bytes, uint32_t why, uint32_t unit_type)
+{
+    return left_out.byte == byte && left_out.bytes == bytes && left_out.why == why && left_out.unit_type == unit_type;
+}
+
+static void texts_are_mended(void)
+{
+    uint8_t bytes[64];
+    cupdaisy_left_out left_out[3];
+    size_t needed = 9;
+    size_t count = 9;
+    memset(bytes, 7, sizeof bytes);
+    memset(left_out, 0x77, sizeof left_out);
+    EXPECT(cupdaisy_mend(damaged, sizeof damaged, bytes, sizeof whole - 1, &needed, left_out, 0, &count) == CUPDAISY_TOO_SMALL);
+    EXPECT(needed == sizeof whole && count == 2 && bytes[0] == 7 && left_out[0].why == 0x77777777);
+    EXPECT(cupdaisy_mend(damaged, sizeof damaged, bytes, 0, &needed, left_out, 1, &count) == CUPDAISY_TOO_SMALL);
+    EXPECT(needed == sizeof whole && count == 2 && bytes[0] == 7);
+    EXPECT(is_left_out(left_out[0], 0, 1, CUPDAISY_WHY_NOT_NAL_UNIT, 0) && left_out[1].why == 0x77777777);
+    memset(left_out, 0x77, sizeof left_out);
+    EXPECT(cupdaisy_mend(damaged, sizeof damaged, bytes, sizeof bytes, &needed, left_out, 3, &count) == CUPDAISY_DONE);
+    EXPECT(needed == sizeof whole && memcmp(bytes, whole, sizeof whole) == 0 && bytes[sizeof whole] == 7);
+    EXPECT(count == 2 && is_left_out(left_out[0], 0, 1, CUPDAISY_WHY_NOT_NAL_UNIT, 0));
+    EXPECT(is_left_out(left_out[1], 25, 6, CUPDAISY_WHY_UNIT_TYPE, 14) && left_out[2].why == 0x77777777);
+    memset(bytes, 7, sizeof bytes);
+    EXPECT(cupdaisy_mend(whole, sizeof whole, bytes, sizeof whole, &needed, left_out, 3, &count) == CUPDAISY_DONE);
+    EXPECT(needed == sizeof whole && count == 0 && memcmp(bytes, whole, sizeof whole) == 0);
+    EXPECT(cupdaisy_mend(whole, 0, bytes, 0, &needed, left_out, 3, &count) == CUPDAISY_DONE && needed == 0 && count == 0);
+    EXPECT(cupdaisy_mend(damaged, 1, bytes, 0, &needed, left_out, 3, &count) == CUPDAISY_DONE && needed == 0 && count == 1);
+    cupdaisy_session session = CUPDAISY_NONE;
+    cupdaisy_load_receipt told = {7, 7, 7, 7, 7, 7, 7, 7};
+    EXPECT(cupdaisy_open(&session, 16) == CUPDAISY_DONE);
+    EXPECT(cupdaisy_load(&session, damaged, sizeof damaged, &told) == 1);
+    EXPECT(cupdaisy_load(&session, bytes, sizeof whole, &told) == CUPDAISY_DONE && told.units == 2);
+    EXPECT(cupdaisy_close(&session) == CUPDAISY_DONE);
+}
+
 static void names_are_told(void)
 {
     uint8_t name[32];
@@ -516,6 +559,11 @@ static void names_are_told(void)
     EXPECT(needed == 11 && memcmp(name, "FrameNumGap", 11) == 0);
     EXPECT(cupdaisy_fault_name(11, name, 10, &needed) == CUPDAISY_TOO_SMALL && needed == 11);
     EXPECT(cupdaisy_fault_name(19, name, sizeof name, &needed) == CUPDAISY_NO_SUCH_NAME);
+    EXPECT(cupdaisy_why_name(CUPDAISY_WHY_TOO_LARGE, name, sizeof name, &needed) == CUPDAISY_DONE);
+    EXPECT(needed == 8 && memcmp(name, "TooLarge", 8) == 0);
+    EXPECT(cupdaisy_why_name(1, name, 9, &needed) == CUPDAISY_TOO_SMALL && needed == 10);
+    EXPECT(cupdaisy_why_name(0, name, sizeof name, &needed) == CUPDAISY_NO_SUCH_NAME && needed == 10);
+    EXPECT(cupdaisy_why_name(12, name, sizeof name, &needed) == CUPDAISY_NO_SUCH_NAME);
     EXPECT(cupdaisy_version() == 3000);
     EXPECT(cupdaisy_version_text(name, sizeof name, &needed) == CUPDAISY_DONE && needed == 5);
     EXPECT(memcmp(name, "0.3.0", 5) == 0);
@@ -754,10 +802,20 @@ static size_t run_refusing(size_t at, bool after)
     EXPECT(status == CUPDAISY_DONE && load.number == 8);
     WITH_MEMORY(cupdaisy_take_for(&session, 2, &job));
     EXPECT(job.number == 5 && job.unit == 2);
-    uint8_t whole[16];
+    uint8_t bytes[64];
     size_t needed = 0;
-    WITH_MEMORY(cupdaisy_job_frame_bytes(&session, 5, true, whole, sizeof whole, &needed));
-    EXPECT(needed == sizeof P1x && memcmp(whole, P1x, sizeof P1x) == 0);
+    WITH_MEMORY(cupdaisy_job_frame_bytes(&session, 5, true, bytes, sizeof bytes, &needed));
+    EXPECT(needed == sizeof P1x && memcmp(bytes, P1x, sizeof P1x) == 0);
+    cupdaisy_left_out left_out[2];
+    size_t outs = 7;
+    memset(bytes, 7, sizeof bytes);
+    memset(left_out, 7, sizeof left_out);
+    if (cupdaisy_mend(damaged, sizeof damaged, bytes, sizeof bytes, &needed, left_out, 2, &outs) == CUPDAISY_MEMORY) {
+        EXPECT(needed == sizeof P1x && outs == 7 && bytes[0] == 7 && left_out[0].why == 0x07070707);
+        refuse_at = 0;
+        EXPECT(cupdaisy_mend(damaged, sizeof damaged, bytes, sizeof bytes, &needed, left_out, 2, &outs) == CUPDAISY_DONE);
+    }
+    EXPECT(needed == sizeof whole && outs == 2 && memcmp(bytes, whole, sizeof whole) == 0 && left_out[1].byte == 25);
 #ifdef __linux__
     cupdaisy_frame frame;
     WITH_MEMORY(cupdaisy_job_frame(&session, 5, &frame));
@@ -806,6 +864,7 @@ int main(void)
     pictures_are_dropped();
     pictures_are_released();
     journal_is_told();
+    texts_are_mended();
     names_are_told();
     groups_are_made();
     streams_are_loaded();

@@ -668,8 +668,10 @@ static void ask_names(struct input *input)
     size_t room = next(input) % 64;
     UNTOUCHED(name);
     UNTOUCHED(needed);
-    uint32_t status = next(input) % 2 == 0 ? cupdaisy_status_name(number, name, room, &needed)
-                                           : cupdaisy_fault_name(number, name, room, &needed);
+    unsigned of = next(input) % 3;
+    uint32_t status = of == 0   ? cupdaisy_status_name(number, name, room, &needed)
+                      : of == 1 ? cupdaisy_fault_name(number, name, room, &needed)
+                                : cupdaisy_why_name(number, name, room, &needed);
     reached[call_number * STATUSES + status] = 1;
     EXPECT(status == CUPDAISY_DONE || status == CUPDAISY_TOO_SMALL || status == CUPDAISY_NO_SUCH_NAME);
     size_t written = status == CUPDAISY_DONE ? needed : 0;
@@ -678,6 +680,71 @@ static void ask_names(struct input *input)
         EXPECT_UNTOUCHED(needed);
     else
         EXPECT((status == CUPDAISY_DONE) == (needed <= room));
+}
+
+/* How many units a session takes of the text, which nothing else has. */
+static uint64_t loaded(const uint8_t *text, size_t length, uint32_t *status)
+{
+    cupdaisy_session session = CUPDAISY_NONE;
+    cupdaisy_load_receipt receipt;
+    EXPECT(cupdaisy_open(&session, 1) == CUPDAISY_DONE);
+    *status = cupdaisy_load(&session, text, length, &receipt);
+    EXPECT(cupdaisy_close(&session) == CUPDAISY_DONE);
+    return receipt.units;
+}
+
+/* Units and stray bytes: what stays isn't refused and stays as it is, and so does what isn't refused. */
+static void mend(struct input *input)
+{
+    uint8_t text[4 * ROOM];
+    uint8_t bytes[9 * ROOM];
+    uint8_t again[9 * ROOM];
+    cupdaisy_left_out left_out[64];
+    size_t length = 0;
+    size_t needed = 0;
+    size_t count = 0;
+    size_t same = 0;
+    uint32_t status = 0;
+    text[0] = 0;
+    for (size_t i = next(input) % 6; i > 0; i--) {
+        length += drawn_text(input, text + length);
+        for (size_t stray = next(input) % 8; stray > 0; stray--)
+            text[length++] = (uint8_t)next(input);
+    }
+    size_t room = next(input) < 0xF0 ? sizeof bytes : next(input);
+    size_t told = next(input) % 65;
+    UNTOUCHED(bytes);
+    UNTOUCHED(needed);
+    UNTOUCHED(left_out);
+    UNTOUCHED(count);
+    uint32_t made = cupdaisy_mend(text, length, bytes, room, &needed, left_out, told, &count);
+    reached[call_number * STATUSES + made] = 1;
+    size_t written = made == CUPDAISY_DONE ? needed : 0;
+    EXPECT(is_untouched(bytes + written, sizeof bytes - written));
+    if (made == CUPDAISY_MEMORY) {
+        EXPECT(refuse_at != 0 && growths >= refuse_at);
+        EXPECT_UNTOUCHED(needed);
+        EXPECT_UNTOUCHED(left_out);
+        EXPECT_UNTOUCHED(count);
+        return;
+    }
+    refuse_at = 0;
+    EXPECT(made == (needed <= room ? CUPDAISY_DONE : CUPDAISY_TOO_SMALL) && 4 * needed <= 9 * length);
+    size_t outs = count < told ? count : told;
+    EXPECT(is_untouched(left_out + outs, (64 - outs) * sizeof left_out[0]));
+    for (size_t i = 0; i < outs; i++) {
+        EXPECT(left_out[i].byte + left_out[i].bytes <= length && left_out[i].bytes > 0);
+        EXPECT(left_out[i].why >= 1 && left_out[i].why <= 11 && (left_out[i].why == CUPDAISY_WHY_UNIT_TYPE) == (left_out[i].unit_type != 0));
+        reached[(FAULTS - 1) * STATUSES + left_out[i].why] = 1;
+    }
+    loaded(text, length, &status);
+    if (status == CUPDAISY_DONE)
+        EXPECT(count == 0 && needed == length && (made != CUPDAISY_DONE || memcmp(bytes, text, length) == 0));
+    if (made != CUPDAISY_DONE || needed == 0)
+        return;
+    EXPECT(loaded(bytes, needed, &status) > 0 && status == CUPDAISY_DONE);
+    EXPECT(cupdaisy_mend(bytes, needed, again, sizeof again, &same, left_out, 64, &count) == CUPDAISY_DONE);
+    EXPECT(same == needed && count == 0 && memcmp(again, bytes, needed) == 0);
 }
 
 static void open_session(struct known *known, struct input *input)
@@ -744,7 +811,8 @@ static void ask_whole(struct known *known, struct input *input, unsigned which)
 
 static void call(struct known *known, struct input *input)
 {
-    call_number = next(input) % 36;
+    unsigned drawn_call = next(input);
+    call_number = drawn_call < 252 ? drawn_call % 36 : 36;
     if (call_number < 13)
         ask(known, input, call_number);
     else if (call_number < 18)
@@ -759,7 +827,9 @@ static void call(struct known *known, struct input *input)
         refuse_at = growths + 1 + drawn % 64;
         refuse_after = drawn >= 128;
         return;
-    } else if (call_number >= 32)
+    } else if (call_number == 36)
+        mend(input);
+    else if (call_number >= 32)
         ask_whole(known, input, call_number);
     else if (call_number >= 28)
         keep_few(known, input, call_number - 28);

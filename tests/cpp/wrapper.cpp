@@ -59,6 +59,34 @@ static void units_behind_a_damage_are_told()
     EXPECT(session.doubts(3, 9).empty() && session.doubts(0, 0).empty());
 }
 
+static void texts_are_mended()
+{
+    const Bytes delimiter = {0, 0, 1, 0x09, 0xF0};
+    const Bytes later = {0, 0, 1, 0x41, 0x5A};
+    const Bytes prefix = {0, 0, 1, 0x6E, 0x40, 0x80};
+    Bytes text = {0xAB};
+    Bytes whole;
+    text.insert(text.end(), A.begin(), A.end());
+    whole.insert(whole.end(), A.begin(), A.end());
+    text.insert(text.end(), later.begin(), later.end());
+    whole.insert(whole.end(), delimiter.begin(), delimiter.end());
+    whole.insert(whole.end(), later.begin(), later.end());
+    for (int i = 0; i < 20; i++)
+        text.insert(text.end(), prefix.begin(), prefix.end());
+    const cupdaisy::Mended mended = cupdaisy::mend(text);
+    EXPECT(mended.bytes == whole && mended.left_out.size() == 21 && mended.left_out[0].why == CUPDAISY_WHY_NOT_NAL_UNIT);
+    EXPECT(mended.left_out[20].byte == 29 + 19 * 6 && mended.left_out[20].bytes == 6 && mended.left_out[20].unit_type == 14);
+    EXPECT(cupdaisy::mend(whole).bytes == whole && cupdaisy::mend(whole).left_out.empty() && cupdaisy::mend(Bytes()).bytes.empty());
+    /* Each of many pictures needs a delimiter. */
+    Bytes many;
+    for (int i = 0; i < 100; i++) {
+        const std::uint8_t header = i % 2 == 0 ? 0x41 : 0x01;
+        for (std::uint8_t byte : {std::uint8_t(0), std::uint8_t(0), std::uint8_t(1), header, std::uint8_t(0x5A)})
+            many.push_back(byte);
+    }
+    EXPECT(cupdaisy::mend(many).bytes.size() == 100 * 5 + 99 * 5);
+}
+
 static void jobs_are_told()
 {
     cupdaisy::Session session(16);
@@ -108,6 +136,7 @@ int main()
 {
     edits_are_made();
     units_behind_a_damage_are_told();
+    texts_are_mended();
     jobs_are_told();
     surfaces_go_back();
     return failures != 0;

@@ -7,7 +7,7 @@ NUMBERS = {"u8": "uint8_t", "u16": "uint16_t", "u32": "uint32_t", "u64": "uint64
            "i8": "int8_t", "i32": "int32_t", "bool": "bool"}
 # A struct of the library, and the type of the header that it is.
 STRUCTS = {"Handle": "cupdaisy_session", "EditReceipt": "cupdaisy_receipt", "UnitOutcome": "cupdaisy_outcome",
-           "DoubtTold": "cupdaisy_doubt",
+           "DoubtTold": "cupdaisy_doubt", "LeftOutTold": "cupdaisy_left_out",
            "JobTaken": "cupdaisy_job", "JobInput": "cupdaisy_job_input",
            "SliceRequest": "cupdaisy_request", "FrameTold": "cupdaisy_frame", "JobReference": "cupdaisy_reference",
            "JournalEdit": "cupdaisy_journal_edit", "EditAsked": "cupdaisy_edit",

@@ -1,8 +1,8 @@
-//! The names of statuses and faults, and the version.
+//! The names of statuses, of faults and of reasons why bytes are left out, and the version.
 
 ghost use Rattle.std.specs.Prelude.{◌≡◌, codes};
 ghost use Rattle.session_calls.specs.Filling.{Fills};
-ghost use Rattle.session_calls.specs.Names.{FillsName, faults, name_in, name_of_status};
+ghost use Rattle.session_calls.specs.Names.{FillsName, faults, name_in, name_of_status, whys};
 
 /// Writes the name of a status.
 #[unsafe(no_mangle)]
@@ -18,6 +18,14 @@ pub extern "C" fn cupdaisy_fault_name(fault: u32, name: &mut [u8], needed: &mut 
     ensures { FillsName (name_in faults fault) result name.old name.new needed.old needed.new }
 {
     session_calls::fault_name(fault, name, needed)
+}
+
+/// Writes the name of a reason why bytes are left out of a text that is mended.
+#[unsafe(no_mangle)]
+pub extern "C" fn cupdaisy_why_name(why: u32, name: &mut [u8], needed: &mut usize) -> u32
+    ensures { FillsName (name_in whys why) result name.old name.new needed.old needed.new }
+{
+    session_calls::why_name(why, name, needed)
 }
 
 /// The version.

@@ -1,4 +1,4 @@
--- The names of statuses and of faults, by their numbers.
+-- The names of statuses, of faults and of reasons why bytes are left out, by their numbers.
 use Rattle.std.specs.Prelude.{◌≡◌, ◌==◌, ℕ, List, [], ◌∷◌, codes, Option, None, Some, if◌then◌else◌}
 use Rattle.session_calls.specs.Filling.{Fills}
 use Rattle.session_calls.specs.Statuses.{no_such_name}
@@ -91,6 +91,22 @@ faults =
     ∷ (16, codes "BadModification")
     ∷ (17, codes "BadMarking")
     ∷ (18, codes "TooManyReferences")
+    ∷ []
+
+-- the names of reasons why bytes are left out of a text that is mended
+abbrev pub whys : List Row
+whys =
+    (1, codes "NotNalUnit")
+    ∷ (2, codes "Empty")
+    ∷ (3, codes "ForbiddenBytes")
+    ∷ (4, codes "ForbiddenBit")
+    ∷ (5, codes "UnitType")
+    ∷ (6, codes "UnreadSps")
+    ∷ (7, codes "UnreadPps")
+    ∷ (8, codes "Switching")
+    ∷ (9, codes "IdrNotIntra")
+    ∷ (10, codes "IdrNotReference")
+    ∷ (11, codes "TooLarge")
     ∷ []
 
 -- the name of a number is written into a buffer, if it has one

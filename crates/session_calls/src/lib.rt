@@ -18,6 +18,7 @@ mod jobs;
 mod journaling;
 mod keys;
 mod loading;
+mod mending;
 mod naming;
 mod releasing;
 mod requests;
@@ -42,7 +43,12 @@ pub use journaling::{
 };
 pub use keys::{in_use, key};
 pub use loading::{LoadTold, load};
-pub use naming::{fault_name, status_name, version, version_text};
+pub use mending::{
+    LeftOutTold, WHY_EMPTY, WHY_FORBIDDEN_BIT, WHY_FORBIDDEN_BYTES, WHY_IDR_NOT_INTRA,
+    WHY_IDR_NOT_REFERENCE, WHY_NOT_NAL_UNIT, WHY_SWITCHING, WHY_TOO_LARGE, WHY_UNIT_TYPE,
+    WHY_UNREAD_PPS, WHY_UNREAD_SPS, mend,
+};
+pub use naming::{fault_name, status_name, version, version_text, why_name};
 pub use releasing::{drop_picture, released, uncache};
 pub use requests::{
     SliceRequest, job_bytes, job_request, job_weights, unit_bytes, unit_request, unit_weights,

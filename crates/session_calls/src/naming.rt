@@ -1,8 +1,8 @@
-//! The names of statuses and faults, and the version.
+//! The names of statuses, of faults and of reasons why bytes are left out, and the version.
 
 ghost use Rattle.std.specs.Prelude.{◌≡◌, codes, None, Some, MatchOption, string_bytes};
 ghost use Rattle.session_calls.specs.Filling.{Fills};
-ghost use Rattle.session_calls.specs.Names.{FillsName, answers, faults, name_in, name_of_status, refusals};
+ghost use Rattle.session_calls.specs.Names.{FillsName, answers, faults, name_in, name_of_status, refusals, whys};
 
 use crate::filling::fill;
 use crate::statuses::NO_SUCH_NAME;
@@ -121,6 +121,37 @@ fn named_fault(fault: u32) -> Option<&'static str>
         16 => Some("BadModification"),
         17 => Some("BadMarking"),
         18 => Some("TooManyReferences"),
+        _ => None,
+    }
+}
+
+/// Writes the name of a reason why bytes are left out of a text that is mended.
+pub fn why_name(why: u32, name: &mut [u8], needed: &mut usize) -> u32
+    ensures { FillsName (name_in whys why) result name.old name.new needed.old needed.new }
+{
+    match named_why(why) {
+        Some(text) => fill(text.as_bytes(), name, needed),
+        None => NO_SUCH_NAME,
+    }
+}
+
+/// The name of such a reason.
+fn named_why(why: u32) -> Option<&'static str>
+    ensures { MatchOption result (name_in whys why ≡ None)
+        (λ name. name_in whys why ≡ Some name.now) }
+{
+    match why {
+        1 => Some("NotNalUnit"),
+        2 => Some("Empty"),
+        3 => Some("ForbiddenBytes"),
+        4 => Some("ForbiddenBit"),
+        5 => Some("UnitType"),
+        6 => Some("UnreadSps"),
+        7 => Some("UnreadPps"),
+        8 => Some("Switching"),
+        9 => Some("IdrNotIntra"),
+        10 => Some("IdrNotReference"),
+        11 => Some("TooLarge"),
         _ => None,
     }
 }

@@ -2,7 +2,8 @@
 //!
 //! `mend` leaves out of a text what no command reads, puts an access unit delimiter where two
 //! pictures would be taken for one, and tells each place and why. What a NAL unit is and where access
-//! units end stands in annexb, what is refused in access_unit. Above are mend_run and stream_check.
+//! units end stands in annexb, what is refused in access_unit. Above are mend_run, stream_check and
+//! session_calls.
 #![tactic(auto)]
 
 mod faults;

@@ -110,6 +110,22 @@ numbered! {
     18 TooManyReferences "there are more reference pictures than max_num_ref_frames";
 }
 
+numbered! {
+    /// Why bytes are left out of a text that is mended.
+    Why named by handle::why_name:
+    1 NotNalUnit "they stand before the first start code";
+    2 Empty "no byte follows the start code";
+    3 ForbiddenBytes "the NAL unit holds a sequence that none may hold";
+    4 ForbiddenBit "forbidden_zero_bit is 1";
+    5 UnitType "the NAL unit is of a type that isn't read";
+    6 UnreadSps "a sequence parameter set that can't be read";
+    7 UnreadPps "a picture parameter set that can't be read";
+    8 Switching "a slice of type SP or SI";
+    9 IdrNotIntra "a P or B slice of an IDR picture";
+    10 IdrNotReference "a slice of an IDR picture whose nal_ref_idc is 0";
+    11 TooLarge "the access unit has more than 4,194,304 bytes or 256 slices";
+}
+
 /// A surface that wasn't landed, and is the caller's again.
 pub struct NotLanded<T> {
     /// [`Error::Stale`] where nobody wants the picture any more, [`Error::NoSuchJob`] where the job isn't out.
@@ -186,6 +202,10 @@ mod tests {
             assert_eq!(fault.name(), format!("{fault:?}"));
             assert_eq!(Fault::of(fault.number()), *fault);
         }
+        for why in Why::ALL {
+            assert_eq!(why.name(), format!("{why:?}"));
+            assert_eq!(Why::of(why.number()), *why);
+        }
     }
 
     #[test]
@@ -194,5 +214,7 @@ mod tests {
         assert!(refusals.into_iter().all(|number| Error::of(number) != Error::Other(number)));
         let faults = (1..100).filter(|&number| handle::fault_name(number).is_some());
         assert!(faults.into_iter().all(|number| Fault::of(number) != Fault::Other(number)));
+        let whys = (1..100).filter(|&number| handle::why_name(number).is_some());
+        assert!(whys.into_iter().all(|number| Why::of(number) != Why::Other(number)));
     }
 }

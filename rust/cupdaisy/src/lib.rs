@@ -42,13 +42,15 @@
 #![deny(missing_docs, unsafe_code)]
 
 mod error;
+mod mending;
 mod session;
 mod slots;
 #[allow(unsafe_code)]
 pub mod sys;
 mod values;
 
-pub use error::{Error, Fault, GroupError, LoadError, NotLanded};
+pub use error::{Error, Fault, GroupError, LoadError, NotLanded, Why};
+pub use mending::{mend, LeftOut, Mended};
 pub use session::Session;
 pub use sys::v4l2::v4l2_ctrl_h264_pred_weights as PredWeights;
 pub use sys::{cupdaisy_frame as Frame, cupdaisy_job_input as JobInput, cupdaisy_request as Request};

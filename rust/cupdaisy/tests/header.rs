@@ -45,6 +45,7 @@ fn structs() -> String {
     same!(to, "cupdaisy_receipt" cupdaisy_receipt: number steps hashed changed_from changed_count id);
     same!(to, "cupdaisy_outcome" cupdaisy_outcome: kind fault top bottom order begins_period slices);
     same!(to, "cupdaisy_doubt" cupdaisy_doubt: follows in_doubt);
+    same!(to, "cupdaisy_left_out" cupdaisy_left_out: byte bytes why unit_type);
     same!(to, "cupdaisy_job" cupdaisy_job: number unit);
     same!(to, "cupdaisy_job_input" cupdaisy_job_input: unit slices references);
     same!(to, "cupdaisy_reference" cupdaisy_reference: timestamp surface);
@@ -93,6 +94,9 @@ fn constants() -> String {
         CUPDAISY_NOTHING_DUE CUPDAISY_JOBS_SPENT CUPDAISY_STALE CUPDAISY_NOT_HELD CUPDAISY_PENDING CUPDAISY_HAS_FAULT
         CUPDAISY_NO_PICTURE CUPDAISY_NOT_AN_EDIT CUPDAISY_NO_WEIGHTS CUPDAISY_NO_SUCH_NAME CUPDAISY_SEVERAL_SLICES CUPDAISY_PLAN
         CUPDAISY_FAULT CUPDAISY_EMPTY CUPDAISY_INSERT_FIRST CUPDAISY_INSERT_AFTER CUPDAISY_DELETE CUPDAISY_REPLACE
+        CUPDAISY_WHY_NOT_NAL_UNIT CUPDAISY_WHY_EMPTY CUPDAISY_WHY_FORBIDDEN_BYTES CUPDAISY_WHY_FORBIDDEN_BIT
+        CUPDAISY_WHY_UNIT_TYPE CUPDAISY_WHY_UNREAD_SPS CUPDAISY_WHY_UNREAD_PPS CUPDAISY_WHY_SWITCHING
+        CUPDAISY_WHY_IDR_NOT_INTRA CUPDAISY_WHY_IDR_NOT_REFERENCE CUPDAISY_WHY_TOO_LARGE
         V4L2_H264_NUM_DPB_ENTRIES V4L2_H264_REF_LIST_LEN);
     to
 }

@@ -13,7 +13,7 @@ use std::rc::Rc;
 
 use common::stand_in::{picture, Digest};
 use common::{repository, units_of, Drawn};
-use cupdaisy::{Doubt, Edit, Error, Job, Outcome, Plan, Request, Session, Shown, UnitId};
+use cupdaisy::{mend, Doubt, Edit, Error, Job, LeftOut, Mended, Outcome, Plan, Request, Session, Shown, UnitId, Why};
 
 const SAMPLES: [&str; 4] = ["samples/clock.264", "samples/bframes.264", "samples/cuts.264", "samples/zoom.264"];
 
@@ -425,10 +425,27 @@ fn a_whole_stream_is_shown_as_the_program_shows_it() {
     }
 }
 
+const PICTURE: &[u8] =
+    &[0, 0, 1, 0x67, 0x42, 0, 10, 0xDA, 0x79, 0, 0, 1, 0x68, 0xCE, 0x38, 0x80, 0, 0, 1, 0x65, 0x88, 0x84, 0x80];
+
+#[test]
+fn a_damaged_text_is_mended() {
+    let later: &[u8] = &[0, 0, 1, 0x41, 0x5A];
+    let text = [&[0xAB, 0], PICTURE, &[0, 0, 1, 0x6E, 0x40, 0x80].repeat(20), later].concat();
+    let whole = [&[0], PICTURE, &[0, 0, 1, 0x09, 0xF0], later].concat();
+    let mended = mend(&text).unwrap();
+    assert_eq!((&mended.bytes, mended.left_out.len()), (&whole, 21));
+    assert_eq!(mended.left_out[0], LeftOut { byte: 0, bytes: 1, why: Why::NotNalUnit, unit_type: None });
+    assert_eq!(mended.left_out[20], LeftOut { byte: 139, bytes: 6, why: Why::UnitType, unit_type: Some(14) });
+    assert_eq!(mend(&whole).unwrap(), Mended { bytes: whole.clone(), left_out: vec![] });
+    assert_eq!(mend(&[]).unwrap(), Mended { bytes: vec![], left_out: vec![] });
+    let mut session = Session::<()>::open(16).unwrap();
+    assert_eq!(session.load(&text).map_err(|refused| refused.error), Err(Error::Split));
+    assert_eq!(session.load(&mended.bytes).unwrap().units, 2);
+}
+
 #[test]
 fn units_behind_a_damage_are_told() {
-    const PICTURE: &[u8] =
-        &[0, 0, 1, 0x67, 0x42, 0, 10, 0xDA, 0x79, 0, 0, 1, 0x68, 0xCE, 0x38, 0x80, 0, 0, 1, 0x65, 0x88, 0x84, 0x80];
     let mut session = Session::<()>::open(16).unwrap();
     session.insert_last(PICTURE).unwrap();
     let gap = session.insert_last(&[0, 0, 1, 0x41, 0x9A, 0x43]).unwrap().unit;

@@ -38,6 +38,7 @@ plain!(
     cupdaisy_receipt,
     cupdaisy_outcome,
     cupdaisy_doubt,
+    cupdaisy_left_out,
     cupdaisy_job,
     cupdaisy_job_input,
     cupdaisy_reference,
@@ -236,6 +237,38 @@ pub(crate) fn status_name(status: u32) -> Option<String> {
 
 pub(crate) fn fault_name(fault: u32) -> Option<String> {
     text(|name, room, needed| unsafe { cupdaisy_fault_name(fault, name, room, needed) })
+}
+
+pub(crate) fn why_name(why: u32) -> Option<String> {
+    text(|name, room, needed| unsafe { cupdaisy_why_name(why, name, room, needed) })
+}
+
+/// What stays of a text that is mended, and what is left out of it.
+pub(crate) fn mend(text: &[u8]) -> Result<(Vec<u8>, Vec<cupdaisy_left_out>), Status> {
+    let (mut needed, mut count) = (text.len() + 64, 16);
+    loop {
+        let (mut bytes, mut left_out) = (vec![0; needed], vec![zeros(); count]);
+        let status = unsafe {
+            cupdaisy_mend(
+                text.as_ptr(),
+                text.len(),
+                bytes.as_mut_ptr(),
+                bytes.len(),
+                &mut needed,
+                left_out.as_mut_ptr(),
+                left_out.len(),
+                &mut count,
+            )
+        };
+        if status != CUPDAISY_TOO_SMALL {
+            done(status)?;
+            if count <= left_out.len() {
+                bytes.truncate(needed);
+                left_out.truncate(count);
+                return Ok((bytes, left_out));
+            }
+        }
+    }
 }
 
 pub(crate) fn version() -> Option<String> {

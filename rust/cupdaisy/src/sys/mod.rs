@@ -37,6 +37,18 @@ pub const CUPDAISY_PLAN: u32 = 0;
 pub const CUPDAISY_FAULT: u32 = 1;
 pub const CUPDAISY_EMPTY: u32 = 2;
 
+pub const CUPDAISY_WHY_NOT_NAL_UNIT: u32 = 1;
+pub const CUPDAISY_WHY_EMPTY: u32 = 2;
+pub const CUPDAISY_WHY_FORBIDDEN_BYTES: u32 = 3;
+pub const CUPDAISY_WHY_FORBIDDEN_BIT: u32 = 4;
+pub const CUPDAISY_WHY_UNIT_TYPE: u32 = 5;
+pub const CUPDAISY_WHY_UNREAD_SPS: u32 = 6;
+pub const CUPDAISY_WHY_UNREAD_PPS: u32 = 7;
+pub const CUPDAISY_WHY_SWITCHING: u32 = 8;
+pub const CUPDAISY_WHY_IDR_NOT_INTRA: u32 = 9;
+pub const CUPDAISY_WHY_IDR_NOT_REFERENCE: u32 = 10;
+pub const CUPDAISY_WHY_TOO_LARGE: u32 = 11;
+
 pub const CUPDAISY_INSERT_FIRST: u32 = 0;
 pub const CUPDAISY_INSERT_AFTER: u32 = 1;
 pub const CUPDAISY_DELETE: u32 = 2;
@@ -77,6 +89,15 @@ pub struct cupdaisy_outcome {
 pub struct cupdaisy_doubt {
     pub follows: u32,
     pub in_doubt: u32,
+}
+
+#[repr(C)]
+#[derive(Clone, Copy, Debug, PartialEq, Eq)]
+pub struct cupdaisy_left_out {
+    pub byte: u64,
+    pub bytes: u64,
+    pub why: u32,
+    pub unit_type: u32,
 }
 
 #[repr(C)]
@@ -228,6 +249,16 @@ extern "C" {
         length: usize,
         receipt: *mut cupdaisy_load_receipt,
     ) -> Status;
+    pub fn cupdaisy_mend(
+        text: *const u8,
+        text_length: usize,
+        bytes: *mut u8,
+        bytes_length: usize,
+        needed: *mut usize,
+        left_out: *mut cupdaisy_left_out,
+        left_out_length: usize,
+        count: *mut usize,
+    ) -> Status;
     pub fn cupdaisy_units(session: Handle, units: *mut usize) -> Status;
     pub fn cupdaisy_id_at(session: Handle, place: usize, id: *mut u32) -> Status;
     pub fn cupdaisy_place(session: Handle, id: u32, place: *mut usize) -> Status;
@@ -324,6 +355,7 @@ extern "C" {
     ) -> Status;
     pub fn cupdaisy_status_name(status: u32, name: *mut u8, name_length: usize, needed: *mut usize) -> Status;
     pub fn cupdaisy_fault_name(fault: u32, name: *mut u8, name_length: usize, needed: *mut usize) -> Status;
+    pub fn cupdaisy_why_name(why: u32, name: *mut u8, name_length: usize, needed: *mut usize) -> Status;
     pub fn cupdaisy_version() -> u32;
     pub fn cupdaisy_version_text(text: *mut u8, text_length: usize, needed: *mut usize) -> Status;
 }

@@ -7,6 +7,7 @@ ghost use Rattle.draw_run.specs.declared.fault.EditsFault.TheVariants.{Memory};
 
 use access_unit::Refusal;
 use console_io::{PrintFault, Sink};
+use edit_engine::TakeRefused;
 use edit_script::ScriptFault;
 use script_run::{RunFault, say_run_fault};
 use std::alloc::AllocError;
@@ -28,6 +29,15 @@ impl From<AllocError> for EditsFault {
     ghost from_gives = { λ _ fault. fault ≡ Memory };
 
     fn from(_error: AllocError) -> EditsFault {
+        EditsFault::Memory
+    }
+}
+
+// A stream has far fewer units than jobs have numbers, so that memory ran out.
+impl From<TakeRefused> for EditsFault {
+    ghost from_gives = { λ _ fault. fault ≡ Memory };
+
+    fn from(_refused: TakeRefused) -> EditsFault {
         EditsFault::Memory
     }
 }

@@ -1,18 +1,22 @@
 //! All pictures of a stream, decoded one after the other.
 
-ghost use Rattle.std.specs.Prelude.{◌≡◌, [], IfOk, OnOk, false, true};
+ghost use Rattle.std.specs.Prelude.{◌≡◌, ◌+◌, ◌≤◌, [], IfOk, IsErrOf, OnOk, false, true};
+ghost use Rattle.picture_store.specs.Jobs.{most_jobs};
+ghost use Rattle.picture_store.specs.declared.refusals.TakeRefused.TheVariants.{JobsSpent};
 ghost use Rattle.draw_run.specs.Loading.{KeepsRest};
 ghost use Rattle.draw_run.specs.Marks.{HoldsAll};
 
-use edit_engine::{Job, Session};
+use edit_engine::{Job, Session, TakeRefused};
 use stand_in_device::{Device, Finished, Undone};
 use std::alloc::{AllocError, Global};
 
-/// Takes jobs and lands their results, one after the other, until no picture is due.
-pub(crate) fn settle(alloc: Global, session: &mut Session) -> Result<(), AllocError>
+/// Takes jobs and lands their results, one after the other, until no picture is due; or why none is
+/// given though one is, or that there was no memory to decode one.
+pub(crate) fn settle(alloc: Global, session: &mut Session) -> Result<(), TakeRefused>
     requires { session.old.jobs_out ≡ [] }
     ensures held { OnOk result (HoldsAll session.new) }
     ensures keeps { OnOk result (KeepsRest session.old session.new) }
+    ensures spent { IsErrOf result JobsSpent → most_jobs ≤ session.new.jobs }
 {
     let mut device = Device::new(alloc);
     for _ in 0..u64::MAX {
@@ -21,14 +25,17 @@ pub(crate) fn settle(alloc: Global, session: &mut Session) -> Result<(), AllocEr
         }
     }
     // As many jobs were given as there are numbers.
-    Err(AllocError)
+    Err(TakeRefused::JobsSpent)
 }
 
 /// Takes the job of the picture that is due, if one is, and lands its result. Whether one was due.
-fn land_next(alloc: Global, session: &mut Session, device: &mut Device) -> Result<bool, AllocError>
+fn land_next(alloc: Global, session: &mut Session, device: &mut Device) -> Result<bool, TakeRefused>
     requires { session.old.jobs_out ≡ [] }
     ensures keeps { OnOk result (KeepsRest session.old session.new) }
     ensures held { IfOk result (λ was_due. was_due ≡ false → HoldsAll session.new) }
+    ensures given { IfOk result (λ was_due. was_due ≡ true
+        → session.new.jobs ≡ session.old.jobs + 1) }
+    ensures spent { IsErrOf result JobsSpent → session.new.jobs ≡ most_jobs }
 {
     match session.take() {
         Ok(Some(job)) => {
@@ -37,8 +44,7 @@ fn land_next(alloc: Global, session: &mut Session, device: &mut Device) -> Resul
             Ok(true)
         }
         Ok(None) => Ok(false),
-        // Memory ran out, or all numbers of jobs were given.
-        Err(_) => Err(AllocError),
+        Err(refused) => Err(refused),
     }
 }
 

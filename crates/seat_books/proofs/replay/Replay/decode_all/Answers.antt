@@ -1,5 +1,6 @@
+use Rattle.std.proofs.Common.{arith}
 use Rattle.seat_books.proofs.Decoded.{Stays-both}
-use Rattle.seat_books.proofs.replay.Replay.settle.Goals as goal
+use Rattle.seat_books.proofs.replay.Replay.decode_all.Goals as goal
 
 pub returns-then-not-branch-clause-follows : goal.returns-then-not-branch-clause-follows
 returns-then-not-branch-clause-follows c = λ journal books seat earlier replayed.
@@ -12,4 +13,5 @@ loop-preserved c = record {
       c.in_ok-decode_next.ensures.stays;
   follows = λ journal books seat earlier replayed.
       c.in_ok-decode_next.ensures.follows journal books seat earlier (c.loop.invariant.follows journal books seat earlier replayed);
+  given = omega (arith, c.in_ok-decode_next.ensures.given c.if-not-branch.false, c.loop.invariant.given);
 }

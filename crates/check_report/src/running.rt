@@ -1,9 +1,10 @@
 //! `preview check`: a file read, checked, and told of.
 
-ghost use Rattle.std.specs.Prelude.{◌≡◌, ◌≢◌, ℕ, List, IfSome};
+ghost use Rattle.std.specs.Prelude.{◌≡◌, ◌≢◌, [], ℕ, List, IfErr, IfSome};
 ghost use Rattle.std.specs.Io.KnownBytes.{Keeps};
 ghost use Rattle.console_io.specs.Messages.{Tells};
 ghost use Rattle.stream_check.specs.Found.{IsFine};
+ghost use Rattle.check_report.specs.Ends.{FailsCheck, FailsText};
 
 use crate::json::json_of;
 use crate::report::Report;
@@ -26,7 +27,8 @@ pub enum Form {
 }
 
 /// Prints what is found of the file that the reader gives; or tells `errors` why it isn't checked.
-/// It succeeds where there is nothing to complain of.
+/// It succeeds where there is nothing to complain of. Else there is something, the file wasn't read,
+/// memory ran out, or the writer takes no more.
 pub fn check_on<R: Read, W: Sink, E: Sink>(
     threads: &(impl Threads + Sync),
     alloc: Global,
@@ -42,6 +44,9 @@ pub fn check_on<R: Read, W: Sink, E: Sink>(
     ensures told { result.status ≡ Status.Failure → (message : List ℕ)
         × Tells result.told (E.refuses errors.new) (E.contents errors.old)
         (E.contents errors.new) message }
+    ensures ends { result.status ≡ Status.Failure
+        → FailsCheck (R.remaining reader.old) name.now result.told (W.refuses writer.new)
+        (E.refuses errors.new) (E.contents errors.old) (E.contents errors.new) }
     ensures usage { result.status ≢ Status.Usage }
 {
     match whole_input(alloc, reader) {
@@ -66,19 +71,27 @@ fn check_text<W: Sink, E: Sink>(
     ensures fine { result.status ≡ Status.Success → IsFine text.now }
     ensures quiet { result.status ≡ Status.Success
         → Keeps (E.contents errors.old) (E.contents errors.new) }
-    ensures told { result.status ≡ Status.Failure → (message : List ℕ)
-        × Tells result.told (E.refuses errors.new) (E.contents errors.old)
-        (E.contents errors.new) message }
+    ensures ends { result.status ≡ Status.Failure
+        → FailsText text.now result.told (W.refuses writer.new)
+        (E.refuses errors.new) (E.contents errors.old) (E.contents errors.new) }
     ensures usage { result.status ≢ Status.Usage }
 {
     match check(threads, alloc, text) {
         Ok(found) => match print(alloc, form, name, &found, writer) {
             Ok(()) if found.is_fine() => Ended::done(),
-            Ok(()) => Ended::failed(write_bytes(errors, b"")),
+            Ok(()) => Ended::failed(say_nothing(errors)),
             Err(fault) => Ended::failed(say_print_fault(fault, errors)),
         },
         Err(_) => Ended::failed(say_print_fault(PrintFault::Memory, errors)),
     }
+}
+
+/// Says nothing of what was printed.
+fn say_nothing<E: Sink>(errors: &mut E) -> Result<(), PrintFault>
+    ensures { Tells result (E.refuses errors.new) (E.contents errors.old)
+        (E.contents errors.new) [] }
+{
+    write_bytes(errors, b"")
 }
 
 /// Prints what was found of the file of this name.
@@ -88,7 +101,9 @@ fn print<W: Sink>(
     name: &str,
     found: &Found,
     writer: &mut W,
-) -> Result<(), PrintFault> {
+) -> Result<(), PrintFault>
+    ensures { IfErr result (λ fault. fault ≡ PrintFault.Unwritten → W.refuses writer.new) }
+{
     let text = match form {
         Form::Text => Report { name, found }.to_string(alloc)?,
         Form::Json => json_of(alloc, found)?,

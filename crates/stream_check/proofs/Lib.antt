@@ -1,2 +1,4 @@
+mod Fine
 mod FoldSteps
+mod Periods
 mod SeenIds

@@ -1,6 +1,6 @@
 -- What is counted of a stream's units, by their outcomes.
-use Rattle.std.specs.Prelude.{ℕ, ◌+◌, ◌&&◌, not, Bool, true, false, List, [], ◌∷◌, length, count_by, max, if◌then◌else◌}
-use Rattle.std.specs.List.{list_any}
+use Rattle.std.specs.Prelude.{ℕ, ◌&&◌, not, Bool, true, false, List, [], ◌∷◌, length, count_by, map, max}
+use Rattle.std.specs.List.{before_first, list_any, sum}
 use Rattle.h264_controls.specs.declared.request.Request.{Request}
 use Rattle.frame_requests.specs.FrameFlags.{is_b, is_p}
 use Rattle.unit_outcomes.specs.declared.outcome.Outcome.{Outcome}
@@ -42,6 +42,12 @@ has_no_picture (Plan _) = false
 has_no_picture (Fault _) = false
 has_no_picture Empty = true
 
+-- whether it is valid
+abbrev pub is_valid : Outcome → Bool
+is_valid (Plan _) = true
+is_valid (Fault _) = false
+is_valid Empty = false
+
 -- whether output order begins anew
 abbrev pub begins_period : Outcome → Bool
 begins_period (Plan plan) = plan.begins_period
@@ -65,26 +71,31 @@ frames_of (Plan plan) = frames_before plan.requests
 frames_of (Fault _) = 0
 frames_of Empty = 0
 
--- the slices of valid pictures, beside so many
-abbrev pub slices_in : ℕ → List Outcome → ℕ
-slices_in slices [] = slices
-slices_in slices (outcome ∷ outcomes) = slices_in (slices + slices_of outcome) outcomes
+-- the slices of valid pictures together
+abbrev pub slices_in : List Outcome → ℕ
+slices_in outcomes = sum (map slices_of outcomes)
 
--- the most frames in the decoded picture buffer, or so many
-abbrev pub most_frames : ℕ → List Outcome → ℕ
-most_frames most [] = most
-most_frames most (outcome ∷ outcomes) = most_frames (max most (frames_of outcome)) outcomes
+-- the greatest of numbers; 0 of none
+abbrev pub most_of : List ℕ → ℕ
+most_of [] = 0
+most_of (number ∷ numbers) = max number (most_of numbers)
 
--- how long a period is with a unit, which was so long before it
-abbrev pub period_len : ℕ → Outcome → ℕ
-period_len len (Plan plan) = if plan.begins_period then 1 else len + 1
-period_len len (Fault _) = len
-period_len len Empty = len
+-- the most frames in the decoded picture buffer before a picture
+abbrev pub most_frames : List Outcome → ℕ
+most_frames outcomes = most_of (map frames_of outcomes)
 
--- the most valid pictures of a period, or so many, where the last one has so many so far
-abbrev pub longest_period : ℕ → ℕ → List Outcome → ℕ
-longest_period longest len [] = longest
-longest_period longest len (outcome ∷ outcomes) = longest_period (max longest (period_len len outcome)) (period_len len outcome) outcomes
+-- how many valid pictures there are before the next one with which output order begins anew
+abbrev pub before_next : List Outcome → ℕ
+before_next outcomes = count_by is_valid (before_first begins_period outcomes)
+
+-- how many there are from each unit on, before the next such one behind it
+abbrev pub period_lens : List Outcome → List ℕ
+period_lens [] = []
+period_lens (outcome ∷ outcomes) = count_by is_valid (outcome ∷ before_first begins_period outcomes) ∷ period_lens outcomes
+
+-- the most valid pictures from one unit on before the next such one: those of the longest period
+abbrev pub longest_period : List Outcome → ℕ
+longest_period outcomes = most_of (period_lens outcomes)
 
 -- whether a unit is so
 abbrev pub is_so : Which → Outcome → Bool
@@ -96,28 +107,23 @@ is_so kinds.Fault outcome = has_fault outcome
 is_so NoPicture outcome = has_no_picture outcome
 is_so Period outcome = begins_period outcome
 
--- a count with one more, if it counts
-abbrev pub with_one : ℕ → Bool → ℕ
-with_one count counts = if counts then count + 1 else count
-
--- how many units are so, beside so many
-abbrev pub counted : Which → ℕ → List Outcome → ℕ
-counted which count [] = count
-counted which count (outcome ∷ outcomes) = counted which (with_one count (is_so which outcome)) outcomes
+-- how many units are so
+abbrev pub counted : Which → List Outcome → ℕ
+counted which outcomes = count_by (is_so which) outcomes
 
 -- what is counted of units with these outcomes, of which this is told
 abbrev pub counts_of : List Outcome → List Doubt → Counts
 counts_of outcomes told = record {
   units = length outcomes;
-  intra = counted Intra 0 outcomes;
-  predicted = counted Predicted 0 outcomes;
-  bipredicted = counted Bipredicted 0 outcomes;
-  idr = counted Idr 0 outcomes;
-  slices = slices_in 0 outcomes;
-  faults = counted kinds.Fault 0 outcomes;
-  without_picture = counted NoPicture 0 outcomes;
-  periods = counted Period 0 outcomes;
-  longest_period = longest_period 0 0 outcomes;
-  most_frames = most_frames 0 outcomes;
+  intra = counted Intra outcomes;
+  predicted = counted Predicted outcomes;
+  bipredicted = counted Bipredicted outcomes;
+  idr = counted Idr outcomes;
+  slices = slices_in outcomes;
+  faults = counted kinds.Fault outcomes;
+  without_picture = counted NoPicture outcomes;
+  periods = counted Period outcomes;
+  longest_period = longest_period outcomes;
+  most_frames = most_frames outcomes;
   in_doubt = count_by (λ doubt. doubt.in_doubt) told;
 }

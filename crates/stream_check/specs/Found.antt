@@ -1,9 +1,10 @@
 -- What is found of a file.
-use Rattle.std.specs.Prelude.{◌≡◌, ℕ, ◌==◌, Bool, false, List, length, map, None, vec_len}
-use Rattle.access_unit.specs.Rooms.{IsStream}
+use Rattle.std.specs.Prelude.{◌≡◌, ◌≢◌, ◌≤◌, ℕ, ◌==◌, Bool, false, List, length, map, None, vec_len}
+use Rattle.access_unit.specs.Rooms.{IsStream, IsStreamRefused, most_units}
 use Rattle.doubts.specs.InDoubt.{AreDoubts}
 use Rattle.doubts.specs.declared.doubt.Doubt.{Doubt}
 use Rattle.file_kinds.specs.Kinds.{kind_of}
+use Rattle.file_kinds.specs.declared.kind.FileKind.TheVariants.{H264AnnexB}
 use Rattle.stream_mending.specs.Mended.{told}
 use Rattle.unit_json.specs.Seen.{stream_seen}
 use Rattle.unit_json.specs.StreamLines.{stream_outcomes}
@@ -29,12 +30,19 @@ pub record IsCheckOf (units : List (List (List ℕ))) (stream : CheckedStream) :
   pub problems : stream.problems.items ≡ problems_from 1 None (stream_outcomes units)
   pub places : vec_len stream.places ≡ length units
 
--- what is found of a text: the kind that its first bytes tell, what `mend` leaves out, or what its access units show
-abbrev pub IsFound : List ℕ → Found → Type 0
-IsFound text (Other kind) = kind ≡ kind_of text
-IsFound text (Refused refused) = map left_out_of refused.unread.items ≡ told text
-IsFound text (Stream stream) = (units : List (List (List ℕ))) × IsStream text units × IsCheckOf units stream
+-- the text is a stream for which there is room
+abbrev pub IsTaken : List ℕ → Type 0
+IsTaken text = (units : List (List (List ℕ))) × IsStream text units × (length units ≤ most_units)
 
--- there is nothing to complain of: it is a stream, and no unit of its plain fold has a fault
+-- what is found of a text: what the access units of a stream show; of any other text the kind that its first bytes tell, or, if
+-- that is H.264 after start codes, why it is refused and what `mend` leaves out
+abbrev pub IsFound : List ℕ → Found → Type 0
+IsFound text (Other kind) = (¬ IsTaken text) × (kind ≡ kind_of text) × (kind ≢ H264AnnexB)
+IsFound text (Refused refused) = (¬ IsTaken text) × (kind_of text ≡ H264AnnexB)
+    × IsStreamRefused text most_units refused.refusal × (map left_out_of refused.unread.items ≡ told text)
+IsFound text (Stream stream) = (units : List (List (List ℕ))) × IsStream text units × (length units ≤ most_units) × IsCheckOf units stream
+
+-- there is nothing to complain of: it is a stream for which there is room, and no unit of its plain fold has a fault
 abbrev pub IsFine : List ℕ → Type 0
-IsFine text = (units : List (List (List ℕ))) × IsStream text units × (counted Fault 0 (stream_outcomes units) ≡ 0)
+IsFine text = (units : List (List (List ℕ))) × IsStream text units × (length units ≤ most_units)
+    × (counted Fault (stream_outcomes units) ≡ 0)

@@ -1,5 +1,5 @@
 -- Sequence parameter sets in words (7.4.2.1.1, annex A).
-use Rattle.std.specs.Prelude.{ℕ, ◌+◌, ◌*◌, ◌==◌, ◌&&◌, Bool, List, codes, slice_index_or, false, if◌then◌else◌}
+use Rattle.std.specs.Prelude.{ℕ, ◌+◌, ◌*◌, ◌/◌, ◌%◌, ◌==◌, ◌&&◌, ◌++◌, Bool, List, codes, decimal, slice_index_or, false, if◌then◌else◌}
 use Rattle.param_set_types.specs.Profiles.{is_high}
 use Rattle.param_set_types.specs.declared.sps.Sps.{Sps}
 use Rattle.param_set_types.specs.declared.sps.ChromaFormat.{ChromaFormat}
@@ -61,3 +61,7 @@ profile_words Main = codes "Main"
 profile_words High = codes "High"
 profile_words High10 = codes "High 10"
 profile_words High422 = codes "High 4:2:2"
+
+-- a level as it is written
+abbrev pub level_text : Level → List ℕ
+level_text level = if level.is_1b then codes "1b" else decimal (level.level_idc / 10) ++ (codes "." ++ decimal (level.level_idc % 10))

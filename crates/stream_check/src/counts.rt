@@ -1,10 +1,10 @@
 //! What is counted of a stream's units.
 
-ghost use Rattle.std.specs.Prelude.{◌≡◌, count_by, IfOk};
+ghost use Rattle.std.specs.Prelude.{◌≡◌, ◌+◌, count_by, IfOk, if◌then◌else◌};
 ghost use Rattle.std.specs.List.{list_any};
 ghost use Rattle.doubts.specs.SeenUnits.{is_idr_picture};
 ghost use Rattle.frame_requests.specs.FrameFlags.{is_b, is_p};
-ghost use Rattle.stream_check.specs.Counts.{begins_period, counted, counts_of, frames_of, has_fault, has_no_picture, is_bipredicted, is_intra, is_predicted, is_so, longest_period, most_frames, period_len, slices_in, slices_of, with_one};
+ghost use Rattle.stream_check.specs.Counts.{begins_period, counted, counts_of, frames_of, has_fault, has_no_picture, is_bipredicted, is_intra, is_predicted, is_so, is_valid, longest_period, most_frames, slices_in, slices_of};
 
 use doubts::{Doubt, is_idr_picture};
 use h264_controls::Request;
@@ -58,14 +58,14 @@ impl Counts {
     {
         Ok(Counts {
             units: outcomes.len(),
-            intra: counted(outcomes, Which::Intra)?,
-            predicted: counted(outcomes, Which::Predicted)?,
-            bipredicted: counted(outcomes, Which::Bipredicted)?,
-            idr: counted(outcomes, Which::Idr)?,
+            intra: counted(outcomes, Which::Intra),
+            predicted: counted(outcomes, Which::Predicted),
+            bipredicted: counted(outcomes, Which::Bipredicted),
+            idr: counted(outcomes, Which::Idr),
             slices: slices_in(outcomes)?,
-            faults: counted(outcomes, Which::Fault)?,
-            without_picture: counted(outcomes, Which::NoPicture)?,
-            periods: counted(outcomes, Which::Period)?,
+            faults: counted(outcomes, Which::Fault),
+            without_picture: counted(outcomes, Which::NoPicture),
+            periods: counted(outcomes, Which::Period),
             longest_period: longest_period(outcomes)?,
             most_frames: most_frames(outcomes),
             in_doubt: in_doubt(told),
@@ -74,25 +74,13 @@ impl Counts {
 }
 
 /// How many units are so.
-fn counted(outcomes: &[Outcome], which: Which) -> Result<usize, AllocError>
-    ensures { IfOk result (λ count. count ≡ counted which 0 outcomes.now) }
+fn counted(outcomes: &[Outcome], which: Which) -> usize
+    ensures { result ≡ counted which outcomes.now }
 {
-    let mut count: usize = 0;
-    for outcome in outcomes {
-        count = with_one(count, is_so(which, outcome))?;
-    }
-    Ok(count)
-}
-
-/// The count with one more, if it counts.
-fn with_one(count: usize, counts: bool) -> Result<usize, AllocError>
-    ensures { IfOk result (λ after. after ≡ with_one count counts) }
-{
-    if counts {
-        count.checked_add(1).ok_or(AllocError)
-    } else {
-        Ok(count)
-    }
+    outcomes
+        .iter()
+        .filter(|outcome| is_so(which, outcome))
+        .count()
 }
 
 /// Whether the unit is so.
@@ -242,7 +230,7 @@ fn frames_of(outcome: &Outcome) -> usize
 
 /// How many slices the valid pictures have together.
 fn slices_in(outcomes: &[Outcome]) -> Result<usize, AllocError>
-    ensures { IfOk result (λ slices. slices ≡ slices_in 0 outcomes.now) }
+    ensures { IfOk result (λ slices. slices ≡ slices_in outcomes.now) }
 {
     let mut slices: usize = 0;
     for outcome in outcomes {
@@ -253,7 +241,7 @@ fn slices_in(outcomes: &[Outcome]) -> Result<usize, AllocError>
 
 /// The most frames in the decoded picture buffer.
 fn most_frames(outcomes: &[Outcome]) -> usize
-    ensures { result ≡ most_frames 0 outcomes.now }
+    ensures { result ≡ most_frames outcomes.now }
 {
     let mut most = 0;
     for outcome in outcomes {
@@ -264,7 +252,7 @@ fn most_frames(outcomes: &[Outcome]) -> usize
 
 /// The most valid pictures from one with which output order begins anew up to the next.
 fn longest_period(outcomes: &[Outcome]) -> Result<usize, AllocError>
-    ensures { IfOk result (λ longest. longest ≡ longest_period 0 0 outcomes.now) }
+    ensures { IfOk result (λ longest. longest ≡ longest_period outcomes.now) }
 {
     let mut longest: usize = 0;
     let mut len: usize = 0;
@@ -277,7 +265,8 @@ fn longest_period(outcomes: &[Outcome]) -> Result<usize, AllocError>
 
 /// How long the period is with the unit, which was so long before it.
 fn period_len(len: usize, outcome: &Outcome) -> Result<usize, AllocError>
-    ensures { IfOk result (λ after. after ≡ period_len len outcome.now) }
+    ensures { IfOk result (λ after. after ≡ (if begins_period outcome.now then 1
+        else if is_valid outcome.now then len + 1 else len)) }
 {
     match outcome {
         Outcome::Plan(plan) if plan.begins_period => Ok(1),

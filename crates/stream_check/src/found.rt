@@ -1,12 +1,12 @@
 //! What is found of a file.
 
-ghost use Rattle.std.specs.Prelude.{◌≡◌, ◌==◌, IfOk};
+ghost use Rattle.std.specs.Prelude.{◌≡◌, ◌==◌, ◌↔◌, IfOk, IsTrue};
 ghost use Rattle.file_kinds.specs.Kinds.{kind_of as kind_of_text};
 ghost use Rattle.stream_mending.specs.Mended.{told};
 ghost use Rattle.unit_json.specs.StreamLines.{stream_outcomes};
-ghost use Rattle.access_unit.specs.Rooms.{most_units};
+ghost use Rattle.access_unit.specs.Rooms.{IsStreamRefused, most_units};
 ghost use Rattle.std.specs.Prelude.{◌≤◌, length};
-ghost use Rattle.stream_check.specs.Found.{IsCheckOf, IsFound, is_fine};
+ghost use Rattle.stream_check.specs.Found.{IsCheckOf, IsFine, IsFound, IsTaken, is_fine};
 
 use crate::counts::Counts;
 use crate::folding::fold;
@@ -77,7 +77,8 @@ pub fn check(
     alloc: Global,
     text: &Bytes,
 ) -> Result<Found, AllocError>
-    ensures { IfOk result (IsFound text.now) }
+    ensures found { IfOk result (IsFound text.now) }
+    ensures fine { IfOk result (λ found. IsTrue (is_fine found) ↔ IsFine text.now) }
 {
     match read_units(threads, alloc, text, MOST_UNITS) {
         Ok(units) => Ok(Found::Stream(check_units(alloc, text, &units)?)),
@@ -88,7 +89,10 @@ pub fn check(
 
 /// What a file is found to be that isn't read as a stream.
 fn check_refused(alloc: Global, text: &Bytes, refusal: Refusal) -> Result<Found, AllocError>
-    ensures { IfOk result (IsFound text.now) }
+    requires not_taken { ¬ IsTaken text.now }
+    requires refused { IsStreamRefused text.now most_units refusal }
+    ensures found { IfOk result (IsFound text.now) }
+    ensures fine { IfOk result (λ found. IsTrue (is_fine found) ↔ IsFine text.now) }
 {
     match kind_of(text) {
         FileKind::H264AnnexB => Ok(Found::Refused(RefusedStream {

@@ -1,6 +1,7 @@
 //! Where access units stand in a file.
 
 ghost use Rattle.std.specs.Prelude.{◌≡◌, ◌≤◌, length, IfOk, vec_len};
+ghost use Rattle.stream_check.specs.Places.{longest};
 
 use access_unit::Unit;
 use annexb::START_CODE;
@@ -34,8 +35,10 @@ pub(crate) fn places(alloc: Global, text: &[u8], units: &[Unit]) -> Result<Vec<P
     Ok(places)
 }
 
-/// How many bytes the longest access unit has.
-pub fn longest(places: &[Place]) -> usize {
+/// How many bytes the longest access unit has; 0 where there is none.
+pub fn longest(places: &[Place]) -> usize
+    ensures { result ≡ longest places.now }
+{
     let mut longest = 0;
     for place in places {
         longest = longest.max(place.bytes);

@@ -2,6 +2,7 @@
 
 ghost use Rattle.std.specs.Prelude.{◌≡◌, ◌≤◌, None, length, IfOk};
 ghost use Rattle.access_unit.specs.Rooms.{most_units};
+ghost use Rattle.stream_check.specs.Places.{place_of};
 ghost use Rattle.stream_check.specs.Problems.{is_gap, last_after, last_after_plan, problems_from, reason_of};
 
 use crate::places::Place;
@@ -20,8 +21,11 @@ pub struct Problem {
 }
 
 impl Problem {
-    /// Where the unit stands, of a stream whose units stand at these places.
-    pub fn place_in(&self, places: &[Place]) -> Place {
+    /// Where the unit stands, of a stream whose units stand at these places; byte 0 and no bytes
+    /// where it has none of them.
+    pub fn place_in(&self, places: &[Place]) -> Place
+        ensures { result ≡ place_of self.now.unit places.now }
+    {
         let at = (self.unit.number() as usize).saturating_sub(1);
         match places.get(at) {
             Some(place) => *place,

@@ -1,7 +1,7 @@
 //! Sequence parameter sets in words (7.4.2.1.1, annex A).
 
-ghost use Rattle.std.specs.Prelude.{◌≡◌, ◌+◌, ◌*◌};
-ghost use Rattle.stream_check.specs.SetWords.{chroma_words, is_1b, level_of, order_count_type, profile_of, profile_words, set_words};
+ghost use Rattle.std.specs.Prelude.{◌≡◌, ◌+◌, ◌*◌, Some};
+ghost use Rattle.stream_check.specs.SetWords.{chroma_words, is_1b, level_of, level_text, order_count_type, profile_of, profile_words, set_words};
 
 use param_set_types::{ChromaFormat, PicOrderCntType, Sps};
 use std::fmt;
@@ -149,6 +149,8 @@ pub fn profile_words(profile: Profile) -> &'static str
 }
 
 impl Display for Level {
+    ghost output = { λ level. Some (level_text level) };
+
     fn fmt<W: Write>(&self, f: &mut Formatter<W>) -> fmt::Result {
         if self.is_1b {
             f.write_str("1b")

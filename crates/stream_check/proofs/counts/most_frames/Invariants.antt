@@ -1,7 +1,7 @@
-use Rattle.std.proofs.Common.{◌≡◌, drop}
-use Rattle.stream_check.specs.Counts.{most_frames}
+use Rattle.std.proofs.Common.{◌≡◌, map, max, drop}
+use Rattle.stream_check.specs.Counts.{frames_of, most_of}
 use Rattle.stream_check.proofs.counts.most_frames.Given as goal
 
--- what is left is looked at beside what was
+-- the most of those so far and of those that are left
 abbrev pub invariant-loop-outcome : goal.invariant-loop-outcome
-invariant-loop-outcome l = most_frames 0 l.outcomes ≡ most_frames l.most (drop l.outcome-index l.outcomes)
+invariant-loop-outcome l = most_of (map frames_of l.outcomes) ≡ max l.most (most_of (map frames_of (drop l.outcome-index l.outcomes)))

@@ -1,7 +1,8 @@
-use Rattle.std.proofs.Common.{◌≡◌, drop}
-use Rattle.stream_check.specs.Counts.{slices_in}
+use Rattle.std.proofs.Common.{◌≡◌, map, take}
+use Rattle.std.specs.List.{sum}
+use Rattle.stream_check.specs.Counts.{slices_of}
 use Rattle.stream_check.proofs.counts.slices_in.Given as goal
 
--- what is left is counted beside what was
+-- those so far
 abbrev pub invariant-loop-outcome : goal.invariant-loop-outcome
-invariant-loop-outcome l = slices_in 0 l.outcomes ≡ slices_in l.slices (drop l.outcome-index l.outcomes)
+invariant-loop-outcome l = l.slices ≡ sum (map slices_of (take l.outcome-index l.outcomes))

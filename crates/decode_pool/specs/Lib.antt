@@ -2,6 +2,7 @@ pub mod Numbers
 pub mod Jobs
 pub mod Batches
 pub mod Waits
+pub mod Threads
 pub mod Seats
 pub mod Finishing
 pub mod Visits

@@ -62,15 +62,11 @@ impl<P: Decoded> DeskOf<P> {
     /// Closes the desk: each worker brings the jobs that it has, if it has some, and ends, and
     /// nobody waits for news. Seats may go on.
     pub fn close<R: Wait>(&self, rt: &R) {
-        let mut state = self.state.lock(rt);
-        state.status.closed = true;
-        let wakes_workers = state.status.workers.tell_all();
-        let wakes_watchers = state.status.watchers.tell_all();
-        drop(state);
-        if wakes_workers {
+        let wakes = self.state.lock(rt).close();
+        if wakes.workers {
             self.job_due.notify_all();
         }
-        if wakes_watchers {
+        if wakes.watchers {
             self.changed.notify_all();
         }
     }
@@ -128,8 +124,7 @@ impl<P: Decoded> DeskOf<P> {
     /// A thread waits no more for the unit of the id. It wakes those for which there was no room.
     fn want_no_more(&self, state: MutexGuard<'_, DeskState<P>>, id: AuId) {
         let mut state = state;
-        let wakes = state.status.wanted.is_full() && state.status.seats.tell_all();
-        state.status.wanted.wait_no_more(id);
+        let wakes = state.status.wait_no_more(id);
         drop(state);
         if wakes {
             self.settled.notify_all();
@@ -142,7 +137,7 @@ impl<P: Decoded> DeskOf<P> {
         ensures { IsErr result ↔ (64 < length ids.now) }
     {
         let mut state = self.state.lock(rt);
-        state.status.wanted.list(ids)?;
+        state.want(ids)?;
         self.tell(state);
         Ok(())
     }
@@ -150,7 +145,7 @@ impl<P: Decoded> DeskOf<P> {
     /// Makes the rest of the stream wanted or not.
     pub fn rest<R: Wait>(&self, rt: &R, rest: bool) {
         let mut state = self.state.lock(rt);
-        state.status.wanted.set_rest(rest);
+        state.set_rest(rest);
         self.tell(state);
     }
 
@@ -159,17 +154,15 @@ impl<P: Decoded> DeskOf<P> {
     /// there; and who waits for news. It lets the lock go first.
     pub(crate) fn tell(&self, state: MutexGuard<'_, DeskState<P>>) {
         let mut state = state;
-        let wakes_worker = state.status.workers.tell_one();
-        let wakes_seats = state.status.seats.tell_all();
-        let wakes_watchers = state.status.tell_news();
+        let wakes = state.status.tell();
         drop(state);
-        if wakes_worker {
+        if wakes.workers {
             self.job_due.notify_one();
         }
-        if wakes_seats {
+        if wakes.seats {
             self.settled.notify_all();
         }
-        if wakes_watchers {
+        if wakes.watchers {
             self.changed.notify_all();
         }
     }
@@ -200,9 +193,7 @@ impl<P: Decoded> DeskOf<P> {
         ensures results { tally.new.results.items ≡ [] }
     {
         let mut state = self.state.lock(rt);
-        state.come_back(tally);
-        state.give_back_all(tally);
-        state.status.ended = state.status.ended.saturating_add(1);
+        state.end_worker(tally);
         self.tell(state);
     }
 }

@@ -13,7 +13,9 @@
 //! What a call does to a session that is lent is its contract (`Seat::edit_in`,
 //! `Seat::edit_group_in`, `Seat::show_in`). No clause names what lies under a lock, so of the calls
 //! that take it the clauses say what they answer and note: that `Seat::edit`, `Seat::edit_group`
-//! and `Seat::show` reach the desk's own session is known at `finish`, and by tests.
+//! and `Seat::show` reach the desk's own session is known at `finish`, and by tests. A call that
+//! answers nothing, as `DeskOf::close`, has no clause: it is a line that takes the lock, and a
+//! function of what lies under it, which has one.
 #![tactic(auto)]
 
 mod appending;

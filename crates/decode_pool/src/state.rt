@@ -1,10 +1,11 @@
 //! What lies under the lock of a desk.
 
-ghost use Rattle.std.specs.Prelude.{◌≡◌, ◌≢◌, ◌<◌, ◌≤◌, ◌^◌, [], false, IfOk};
+ghost use Rattle.std.specs.Prelude.{◌≡◌, ◌≢◌, ◌<◌, ◌≤◌, ◌↔◌, ◌++◌, ◌^◌, [], false, length, IfOk, IsErr, OnErr, OnOk};
 ghost use Rattle.stream_edits.specs.Streams.{last_of};
 ghost use Rattle.stream_session.specs.Machines.{empty, uncached};
 ghost use Rattle.stream_session.specs.Needing.{AnswersReleased, AnswersUncache};
 ghost use Rattle.decode_pool.specs.Jobs.{JobsDiffer};
+ghost use Rattle.decode_pool.specs.Threads.{Closes};
 ghost use Rattle.worker_jobs.specs.Wanted.{urgent};
 ghost use Rattle.worker_jobs.specs.Counts.{GivesBackIn, LandsIn, TakesFirstIn, TakesIn};
 ghost use Rattle.decode_pool.specs.Waits.{IsReached};
@@ -14,15 +15,16 @@ mod seating;
 mod settling;
 mod visiting;
 
-use crate::status::Status;
+use crate::status::{Status, Wakes};
 pub(crate) use bringing::Next;
 use decode_jobs::Decoded;
 use picture_store::{Landing, Returning, TakeRefused};
+use pictures::AuId;
 pub use settling::Settled;
 use std::alloc::{AllocError, Global};
 use stream_edits::Last;
 use stream_session::{Config, Session};
-use worker_jobs::Tally;
+use worker_jobs::{Tally, TooManyWanted};
 
 /// What lies under the lock of a desk: the session, and what its threads do. Jobs that
 /// are out have different numbers and keys. The session is this module's alone: what a thread does
@@ -66,6 +68,39 @@ impl<P: Decoded> DeskState<P> {
         ensures jobs { JobsDiffer result }
     {
         self.session
+    }
+
+    /// Closes the desk: whom that is to wake.
+    pub(crate) fn close(&mut self) -> Wakes
+        ensures session { self.new.session ≡ self.old.session }
+        ensures status { Closes self.old.status result self.new.status }
+    {
+        self.status.close()
+    }
+
+    /// Makes these the ids that are wanted first, in order of urgency, behind those of the units
+    /// that threads wait for. Where they are too many, nothing changes.
+    pub(crate) fn want(&mut self, ids: &[AuId]) -> Result<(), TooManyWanted>
+        ensures ok { OnOk result (self.new.status ≡ record self.old.status {
+          wanted = record self.old.status.wanted { listed = ids.now };
+        }) }
+        ensures order { OnOk result
+            (urgent self.new.status.wanted ≡ self.old.status.wanted.waited ++ ids.now) }
+        ensures err { OnErr result (self.new.status ≡ self.old.status) }
+        ensures too_many { IsErr result ↔ (64 < length ids.now) }
+        ensures session { self.new.session ≡ self.old.session }
+    {
+        self.status.wanted.list(ids)
+    }
+
+    /// Makes the rest of the stream wanted or not.
+    pub(crate) fn set_rest(&mut self, rest: bool)
+        ensures status { self.new.status ≡ record self.old.status {
+          wanted = record self.old.status.wanted { rest = rest };
+        } }
+        ensures session { self.new.session ≡ self.old.session }
+    {
+        self.status.wanted.set_rest(rest);
     }
 
     /// Drops the pictures that are cached.

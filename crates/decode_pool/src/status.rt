@@ -1,8 +1,10 @@
 //! What the threads of a desk do.
 
-ghost use Rattle.std.specs.Prelude.{◌≡◌, ◌+◌, ◌<◌, ◌≤◌, MatchBool, false, true};
+ghost use Rattle.std.specs.Prelude.{◌≡◌, ◌+◌, ◌<◌, ◌≤◌, false, length};
+ghost use Rattle.std.specs.Bool.{Decides};
 ghost use Rattle.worker_jobs.specs.Wanted.{all_units};
 
+use pictures::AuId;
 use worker_jobs::Wanted;
 
 /// Threads that sleep, and how many of them were told to wake up and haven't yet. One that awakes
@@ -15,6 +17,8 @@ pub(crate) struct Sleepers {
 }
 
 impl Sleepers {
+    ghost use Rattle.decode_pool.specs.Threads.{TellsAll, TellsOne};
+
     /// None sleeps.
     pub(crate) fn none() -> Sleepers
         ensures asleep { result.asleep ≡ 0 }
@@ -44,10 +48,7 @@ impl Sleepers {
 
     /// Whether one sleeps whom nobody told to wake up. It counts as told then.
     pub(crate) fn tell_one(&mut self) -> bool
-        ensures told { MatchBool result
-            ((self.old.told < self.old.asleep) × (self.new.told ≡ self.old.told + 1))
-            ((self.old.told ≡ self.old.asleep) × (self.new.told ≡ self.old.told)) }
-        ensures asleep { self.new.asleep ≡ self.old.asleep }
+        ensures { TellsOne self.old result self.new }
     {
         let sleeps = self.told < self.asleep;
         if sleeps {
@@ -58,15 +59,23 @@ impl Sleepers {
 
     /// Whether some sleep whom nobody told to wake up. All count as told then.
     pub(crate) fn tell_all(&mut self) -> bool
-        ensures some { MatchBool result (self.old.told < self.old.asleep)
-            (self.old.told ≡ self.old.asleep) }
-        ensures told { self.new.told ≡ self.old.asleep }
-        ensures asleep { self.new.asleep ≡ self.old.asleep }
+        ensures { TellsAll self.old result self.new }
     {
         let sleep = self.told < self.asleep;
         self.told = self.asleep;
         sleep
     }
+}
+
+/// Whom a change of a desk wakes, once its lock is let go.
+#[derive(Clone, Copy, Debug, PartialEq, Eq)]
+pub(crate) struct Wakes {
+    /// Workers that sleep: one where a job may be due, all where the desk is closed.
+    pub(crate) workers: bool,
+    /// All seats that wait.
+    pub(crate) seats: bool,
+    /// All who wait for news.
+    pub(crate) watchers: bool,
 }
 
 /// What the threads of a desk do: whether the desk is closed, how many workers have ended, how many
@@ -88,6 +97,9 @@ pub(crate) struct Status {
 }
 
 impl Status {
+    ghost use Rattle.worker_jobs.specs.Wanted.{IsOneLess};
+    ghost use Rattle.decode_pool.specs.Threads.{Closes, Tells, TellsAll, TellsNews};
+
     /// The desk is open, no worker has come yet, and the whole stream is wanted.
     pub(crate) fn new() -> Status
         ensures open { result.closed ≡ false }
@@ -108,13 +120,60 @@ impl Status {
     }
 
     /// The session may have another picture to show. Whether some sleep whom that is to wake.
-    pub(crate) fn tell_news(&mut self) -> bool {
+    pub(crate) fn tell_news(&mut self) -> bool
+        ensures { TellsNews self.old result self.new }
+    {
         self.news = self.news.wrapping_add(1);
         self.watchers.tell_all()
     }
 
+    /// The stream, what is wanted or the number of the workers that have ended may have changed:
+    /// whom that is to wake.
+    pub(crate) fn tell(&mut self) -> Wakes
+        ensures { Tells self.old result self.new }
+    {
+        Wakes {
+            workers: self.workers.tell_one(),
+            seats: self.seats.tell_all(),
+            watchers: self.tell_news(),
+        }
+    }
+
+    /// The desk is closed: whom that is to wake.
+    pub(crate) fn close(&mut self) -> Wakes
+        ensures { Closes self.old result self.new }
+    {
+        self.closed = true;
+        Wakes {
+            workers: self.workers.tell_all(),
+            seats: false,
+            watchers: self.watchers.tell_all(),
+        }
+    }
+
+    /// A thread waits no more for the unit of the id. Whether seats sleep which that is to wake, as
+    /// there was no room for one of them.
+    pub(crate) fn wait_no_more(&mut self, id: AuId) -> bool
+        ensures wanted { IsOneLess self.old.wanted id self.new.wanted }
+        ensures full { length self.old.wanted.waited ≡ 64
+            → TellsAll self.old.seats result self.new.seats }
+        ensures room { (length self.old.wanted.waited ≡ 64 → ⊥)
+            → (result ≡ false) × (self.new.seats ≡ self.old.seats) }
+        ensures rest { self.new ≡ record self.old {
+          seats = self.new.seats;
+          wanted = self.new.wanted;
+        } }
+    {
+        let wakes = self.wanted.is_full() && self.seats.tell_all();
+        self.wanted.wait_no_more(id);
+        wakes
+    }
+
     /// Whether all others of so many workers have something in hand or have ended.
-    pub(crate) fn are_others_at_work(&self, workers: usize) -> bool {
+    pub(crate) fn are_others_at_work(&self, workers: usize) -> bool
+        ensures { workers < 18446744073709551615
+            → Decides result (workers ≤ self.now.ended + self.now.at_work + 1) }
+    {
         workers <= self.ended.saturating_add(self.at_work).saturating_add(1)
     }
 }

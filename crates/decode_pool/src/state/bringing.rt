@@ -1,6 +1,6 @@
 //! What a worker does with a session while it has the lock: several steps, one after the other.
 
-ghost use Rattle.std.specs.Prelude.{◌≡◌, ◌≢◌, ◌<◌, []};
+ghost use Rattle.std.specs.Prelude.{◌≡◌, ◌≢◌, ◌+◌, ◌-◌, ◌<◌, ◌^◌, [], length, min};
 ghost use Rattle.decode_pool.specs.declared.state.bringing.Next.TheVariants.{DecodesLast};
 ghost use Rattle.decode_pool.specs.Batches.{GivesBackAll, LandsAll, TakesNext, TakesSome};
 
@@ -34,11 +34,31 @@ impl<P: Decoded> DeskState<P> {
             tally.new.late.items }
         ensures results { tally.new.results.items ≡ [] }
         ensures jobs { tally.new.jobs.items ≡ tally.old.jobs.items }
+        ensures busy { 0 < length tally.old.jobs.items + length tally.old.results.items
+            → self.new.status ≡ record self.old.status { at_work = self.old.status.at_work - 1 } }
+        ensures idle { length tally.old.jobs.items + length tally.old.results.items ≡ 0
+            → self.new.status ≡ self.old.status }
     {
         if tally.jobs() + tally.results() > 0 {
             self.status.at_work = self.status.at_work.saturating_sub(1);
         }
         self.land_all(tally);
+    }
+
+    /// A worker ends: it brings the results that it has in hand, gives back the jobs, and is
+    /// counted.
+    pub(crate) fn end_worker(&mut self, tally: &mut Tally<P>)
+        ensures jobs { tally.new.jobs.items ≡ [] }
+        ensures results { tally.new.results.items ≡ [] }
+        ensures ended { self.new.status.ended ≡ min (self.old.status.ended + 1) (2 ^ 64 - 1) }
+        ensures rest { self.new.status ≡ record self.old.status {
+          ended = self.new.status.ended;
+          at_work = self.new.status.at_work;
+        } }
+    {
+        self.come_back(tally);
+        self.give_back_all(tally);
+        self.status.ended = self.status.ended.saturating_add(1);
     }
 
     /// A worker that has no job in hand takes its next one for what is wanted first. Where no job
@@ -52,7 +72,12 @@ impl<P: Decoded> DeskState<P> {
         ensures results { tally.new.results.items ≡ tally.old.results.items }
         ensures counts { tally.new.counts ≡ tally.old.counts }
         ensures late { tally.new.late.items ≡ tally.old.late.items }
-        ensures wanted { self.new.status.wanted ≡ self.old.status.wanted }
+        ensures busy { 0 < length tally.new.jobs.items
+            → self.new.status ≡ record self.old.status {
+              at_work = min (self.old.status.at_work + 1) (2 ^ 64 - 1);
+            } }
+        ensures idle { length tally.new.jobs.items ≡ 0
+            → self.new.status ≡ self.old.status }
     {
         let are_busy = self.status.are_others_at_work(workers);
         let next = self.take_urgent(tally, if are_busy { most } else { 1 });

@@ -15,14 +15,14 @@ use Rattle.key_slots.specs.Places.{place_at, numbers_held, pictures_held}
 use Rattle.picture_store.specs.Places.{PlacesValue}
 use Rattle.picture_store.specs.Filling.{IsFilled}
 use Rattle.picture_store.specs.Kept.{Trees, key_for, keys_for, IsRight, IsJobRight, IsKept}
-use Rattle.picture_store.proofs.Viewed.{seen, viewed}
+use Rattle.picture_store.proofs.Viewed.{Marked, seen, viewed}
 use Rattle.picture_store.proofs.Landed.{got_at, seen_without, kept_without, kept_landed, held_landed, unused_for, held_for, used_for_place, awaited_for}
 use Rattle.decode_jobs.specs.Inputs.{InputValue}
 use Rattle.decode_jobs.specs.Keys.{Key}
 
 -- a place that doesn't wait for a picture isn't there or has one
 module _ {P : Type 0} {IsDecoded : InputValue P → P → Type 0} {IsOf : Key → P → Type 0} (keys : Trees) (ids : List ℕ) (outcomes : List Outcome) (numbers : List (Option ℕ)) (places : PlacesValue P)
-    (cached : List (ℕ × P)) (room : ℕ) (out : List (JobOut P)) (given : ℕ) (released : List P)
+    (cached : List (ℕ × P)) (room : ℕ) (out : List (JobOut P)) (given : ℕ) (released : List P) (marked : Marked)
     (kept : IsKept IsDecoded IsOf keys ids outcomes numbers places cached out)
     (at : ℕ) (within : at < length out) (other : JobOut P) (is : other ≡ slice_index_or out at other) (picture : P)
     (decoded : IsDecoded other.input picture) where
@@ -46,16 +46,16 @@ module _ {P : Type 0} {IsDecoded : InputValue P → P → Type 0} {IsOf : Key �
   -- what becomes of the picture of a job that is out
   pub landed : (landing : Landing) (more : PlacesValue P) (left : List (JobOut P)) → left ≡ remove out at
       → IsFilled places other.key picture landing more
-      → LandsThere (viewed keys ids outcomes numbers places cached room out given released) at picture landing
-      (viewed keys ids outcomes numbers more cached room left given released)
+      → LandsThere (viewed keys ids outcomes numbers places cached room out given released marked) at picture landing
+      (viewed keys ids outcomes numbers more cached room left given released marked)
   landed Foreign more left gone filled = absurd filled
   landed Stale more left gone filled = (
     seen keys other,
     got_at (seen keys) out at other within is,
     (
       not_awaited (place_at places other.key) refl filled.0,
-      ap (λ p. viewed keys ids outcomes numbers p cached room left given released) filled.1
-          ∙ seen_without keys ids outcomes numbers places cached room out left given released at gone,
+      ap (λ p. viewed keys ids outcomes numbers p cached room left given released marked) filled.1
+          ∙ seen_without keys ids outcomes numbers places cached room out left given released marked at gone,
     ),
   )
   landed Taken more left gone filled = (
@@ -70,7 +70,7 @@ module _ {P : Type 0} {IsDecoded : InputValue P → P → Type 0} {IsOf : Key �
       ap (λ (s : StoreValue P). record s {
         held = keys_for keys (numbers_held more);
         pictures = record { held = pictures_held more; cached = values_of cached; released = released };
-      }) (seen_without keys ids outcomes numbers places cached room out left given released at gone),
+      }) (seen_without keys ids outcomes numbers places cached room out left given released marked at gone),
     ),
   )
 

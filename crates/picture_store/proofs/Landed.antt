@@ -24,7 +24,7 @@ use Rattle.key_slots.proofs.Held.{held_found, found_held}
 use Rattle.picture_store.proofs.Among.{held_among}
 use Rattle.picture_store.proofs.Lifting.{for_contains, contains_for}
 use Rattle.picture_store.proofs.Tables.{none_not_some}
-use Rattle.picture_store.proofs.Viewed.{seen, viewed}
+use Rattle.picture_store.proofs.Viewed.{Marked, seen, viewed}
 use Rattle.picture_store.proofs.Stays.{key_is, stand_live, stand_number}
 use Rattle.decode_jobs.specs.Inputs.{InputValue}
 
@@ -57,11 +57,11 @@ foreign_for keys out job none = All-map (λ other. IsSameJob job other → ⊥) 
 
 -- without a job that is out
 pub seen_without : {P : Type 0} (keys : Trees) (ids : List ℕ) (outcomes : List Outcome) (numbers : List (Option ℕ)) (places : PlacesValue P)
-    (cached : List (ℕ × P)) (room : ℕ) (out more : List (JobOut P)) (given : ℕ) (released : List P) (at : ℕ) → more ≡ remove out at
-    → viewed keys ids outcomes numbers places cached room more given released
-    ≡ without (viewed keys ids outcomes numbers places cached room out given released) at
-seen_without {P = P} keys ids outcomes numbers places cached room out more given released at is =
-    ap (λ (jobs : List (OutValue P)). record (viewed keys ids outcomes numbers places cached room out given released) { jobs_out = jobs })
+    (cached : List (ℕ × P)) (room : ℕ) (out more : List (JobOut P)) (given : ℕ) (released : List P) (marked : Marked) (at : ℕ) → more ≡ remove out at
+    → viewed keys ids outcomes numbers places cached room more given released marked
+    ≡ without (viewed keys ids outcomes numbers places cached room out given released marked) at
+seen_without {P = P} keys ids outcomes numbers places cached room out more given released marked at is =
+    ap (λ (jobs : List (OutValue P)). record (viewed keys ids outcomes numbers places cached room out given released marked) { jobs_out = jobs })
     (ap (jobs_for keys) is ∙ map_remove (seen keys) out at)
 
 module _ {P : Type 0} {IsDecoded : InputValue P → P → Type 0} {IsOf : Key → P → Type 0} (keys : Trees) (ids : List ℕ) (outcomes : List Outcome) (numbers : List (Option ℕ)) (places : PlacesValue P)
@@ -249,7 +249,7 @@ length-zip_same (x ∷ xs) [] same = absurd (omega (arith, same))
 length-zip_same (x ∷ xs) (y ∷ ys) same = ap suc (length-zip_same xs ys (omega (arith, same)))
 
 module _ {P : Type 0} {IsDecoded : InputValue P → P → Type 0} {IsOf : Key → P → Type 0} (keys : Trees) (ids : List ℕ) (outcomes : List Outcome) (numbers : List (Option ℕ)) (places : PlacesValue P)
-    (cached : List (ℕ × P)) (room : ℕ) (out : List (JobOut P)) (given : ℕ) (released : List P)
+    (cached : List (ℕ × P)) (room : ℕ) (out : List (JobOut P)) (given : ℕ) (released : List P) (marked : Marked)
     (kept : IsKept IsDecoded IsOf keys ids outcomes numbers places cached out) where
   -- each unit has a number, or nothing
   pub found_length : length numbers ≡ length ids
@@ -274,7 +274,7 @@ module _ {P : Type 0} {IsDecoded : InputValue P → P → Type 0} {IsOf : Key �
 
     -- a unit without a key shows no picture
     pub shows_none : None ≡ slice_index_or numbers at None
-        → IsPictureAt IsOf (viewed keys ids outcomes numbers places cached room out given released) at None
+        → IsPictureAt IsOf (viewed keys ids outcomes numbers places cached room out given released marked) at None
     shows_none is key has held =
         let got : (tree : Option Key) × (slice_get (keys_of (zip ids outcomes)) at ≡ Some tree) × StandsFor keys None tree =
         got_keys keys numbers (keys_of (zip ids outcomes)) kept.stand at None within is in
@@ -290,7 +290,7 @@ module _ {P : Type 0} {IsDecoded : InputValue P → P → Type 0} {IsOf : Key �
 
       -- a picture that is held is shown
       pub shows_held : (picture : P) → place_at places number ≡ Some (Some picture)
-          → IsPictureAt IsOf (viewed keys ids outcomes numbers places cached room out given released) at (Some picture)
+          → IsPictureAt IsOf (viewed keys ids outcomes numbers places cached room out given released marked) at (Some picture)
       shows_held picture held =
           let right : IsRight IsDecoded IsOf keys number picture = kept.right.held number picture held in
           let same : key_for keys number ≡ keyed.0 = key_is keys number keyed.0 keyed.2 in (
@@ -304,7 +304,7 @@ module _ {P : Type 0} {IsDecoded : InputValue P → P → Type 0} {IsOf : Key �
 
       -- else none is
       pub shows_waited : ((picture : P) → place_at places number ≡ Some (Some picture) → ⊥)
-          → IsPictureAt IsOf (viewed keys ids outcomes numbers places cached room out given released) at None
+          → IsPictureAt IsOf (viewed keys ids outcomes numbers places cached room out given released marked) at None
       shows_waited not key has held =
           let same : keyed.0 ≡ key = one_key keyed.0 key keyed.1 has in
           let source : (n : ℕ) × Contains (numbers_held places) n × (key_for keys n ≡ key) =
@@ -325,11 +325,11 @@ module _ {P : Type 0} {IsDecoded : InputValue P → P → Type 0} {IsOf : Key �
 
       -- what stands at the key's place is shown
       pub shows_place : (shown : Option P) → place_at places number ≡ Some shown
-          → IsPictureAt IsOf (viewed keys ids outcomes numbers places cached room out given released) at shown
+          → IsPictureAt IsOf (viewed keys ids outcomes numbers places cached room out given released marked) at shown
       shows_place None is = shows_waited (λ picture held. no_inner (place_at places number) picture is held)
       shows_place (Some picture) is = shows_held picture is
 
       -- where the key has no place, none is
       pub shows_unused : place_at places number ≡ None
-          → IsPictureAt IsOf (viewed keys ids outcomes numbers places cached room out given released) at None
+          → IsPictureAt IsOf (viewed keys ids outcomes numbers places cached room out given released marked) at None
       shows_unused is = shows_waited (λ picture held. no_picture (place_at places number) picture is held)

@@ -35,6 +35,8 @@ pub mod Earlier
 pub mod Looked
 pub mod Lowered
 pub mod TakenFor
+pub mod Flags
+pub mod Marked
 pub mod Same
 pub mod Parts
 pub mod Lifted

@@ -23,7 +23,7 @@ use Rattle.picture_store.specs.Pending.{IsPending, IsNeededBy, IsDueAt, IsAnyOut
 use Rattle.picture_store.proofs.Ready.{held_key, key_held}
 use Rattle.picture_store.proofs.Stays.{key_is, none_is_not_some, stand_number}
 use Rattle.picture_store.proofs.Taken.{due_for, due_from, out_seen_key, seen_out_key}
-use Rattle.picture_store.proofs.Viewed.{viewed}
+use Rattle.picture_store.proofs.Viewed.{Marked, viewed}
 use Rattle.picture_store.proofs.Waiting.{got_among, ready_needed}
 use Rattle.decode_jobs.specs.Inputs.{InputValue}
 
@@ -65,11 +65,11 @@ held_or_not {P = P} places number = by_place (place_at places number) refl
     by_place (Some (Some picture)) is = inl (picture, is)
 
 module _ {P : Type 0} {IsDecoded : InputValue P → P → Type 0} {IsOf : Key → P → Type 0} (keys : Trees) (ids : List ℕ) (outcomes : List Outcome) (numbers : List (Option ℕ)) (places : PlacesValue P)
-    (cached : List (ℕ × P)) (room : ℕ) (out : List (JobOut P)) (given : ℕ) (released : List P)
+    (cached : List (ℕ × P)) (room : ℕ) (out : List (JobOut P)) (given : ℕ) (released : List P) (marked : Marked)
     (kept : IsKept IsDecoded IsOf keys ids outcomes numbers places cached out) where
   -- the store as contracts see it
   abbrev store : StoreValue P
-  store = viewed keys ids outcomes numbers places cached room out given released
+  store = viewed keys ids outcomes numbers places cached room out given released marked
 
   -- the number of a unit's key
   pub number_at_place : (at : ℕ) (key : Key) → HasKey store at key
@@ -112,12 +112,12 @@ module _ {P : Type 0} {IsDecoded : InputValue P → P → Type 0} {IsOf : Key �
   pub due_of : (at : ℕ) → IsDueThere keys places out numbers at → IsDueAt store at
   due_of at (n, is, due) =
       let key = key_at_place at n is in
-      (key.0, key.1, due_for keys ids outcomes numbers places cached room out given released kept n key.0 key.2 (got_among numbers at (Some n) is) due)
+      (key.0, key.1, due_for keys ids outcomes numbers places cached room out given released marked kept n key.0 key.2 (got_among numbers at (Some n) is) due)
 
   pub due_there : (at : ℕ) → IsDueAt store at → IsDueThere keys places out numbers at
   due_there at (key, has, due) =
       let number = number_at_place at key has in
-      let from = due_from keys ids outcomes numbers places cached room out given released kept key due in
+      let from = due_from keys ids outcomes numbers places cached room out given released marked kept key due in
       let same : from.0 ≡ number.0 = kept.right.one.trees from.0 number.0 key from.2 number.2 in
       (number.0, number.1, subst (IsDueNumber keys places out) same from.3)
 
@@ -156,7 +156,7 @@ module _ {P : Type 0} {IsDecoded : InputValue P → P → Type 0} {IsOf : Key �
           key,
           has,
           subst (Contains (map (λ (job : OutValue P). job.key) (jobs_for keys out))) (key_is keys n key tree)
-              (out_seen_key keys ids outcomes numbers places cached room out given released kept n among),
+              (out_seen_key keys ids outcomes numbers places cached room out given released marked kept n among),
         ),
       )
       by_out at key needed has not is_ready n tree (inr free) =
@@ -166,7 +166,7 @@ module _ {P : Type 0} {IsDecoded : InputValue P → P → Type 0} {IsOf : Key �
             record {
               in_use = got_among (keys_of (zip ids outcomes)) at (Some key) has;
               awaited = not;
-              free = λ is. free (seen_out_key keys ids outcomes numbers places cached room out given released kept n key tree is);
+              free = λ is. free (seen_out_key keys ids outcomes numbers places cached room out given released marked kept n key tree is);
               ready = is_ready;
             },
           ))

@@ -23,7 +23,7 @@ use Rattle.key_slots.proofs.Members.{among_map, among_source, left_among, All-fr
 use Rattle.picture_store.proofs.Tables.{none_not_some}
 use Rattle.key_slots.proofs.Held.{held_found, found_held}
 use Rattle.picture_store.proofs.Lifting.{for_contains, contains_for, left_for, put_for}
-use Rattle.picture_store.proofs.Viewed.{viewed}
+use Rattle.picture_store.proofs.Viewed.{Marked, viewed}
 use Rattle.picture_store.proofs.Numbered.{one_to_one}
 use Rattle.picture_store.proofs.Stays.{key_is, stand_live, stand_number}
 use Rattle.decode_jobs.specs.Inputs.{InputValue}
@@ -258,15 +258,16 @@ module _ {P : Type 0} {IsDecoded : InputValue P → P → Type 0} {IsOf : Key �
       jobs = kept.jobs;
     }
 
-    abbrev refits_so : (given : ℕ) (released more_released : List P)
-        → Refits (viewed keys ids outcomes numbers places cached room out given released) more_ids more_outcomes
-        (viewed keys more_ids more_outcomes more_found more_places gone_cached room out given more_released)
-    refits_so given released more_released = record {
+    abbrev refits_so : (given : ℕ) (released more_released : List P) (marked : Marked)
+        → Refits (viewed keys ids outcomes numbers places cached room out given released marked) more_ids more_outcomes
+        (viewed keys more_ids more_outcomes more_found more_places gone_cached room out given more_released marked)
+    refits_so given released more_released marked = record {
       ids_are = refl;
       outcomes_are = refl;
       room_stays = refl;
       out_stays = refl;
       given_stays = refl;
+      marked_stays = refl;
       numbers_stay =
           one_to_one keys kept.right.one numbers (keys_of (zip ids outcomes)) more_found (keys_of (zip more_ids more_outcomes))
           kept.stand stand;
@@ -279,7 +280,7 @@ module _ {P : Type 0} {IsDecoded : InputValue P → P → Type 0} {IsOf : Key �
       cached_are = cached_put;
     }
 
-    pub refitted : (given : ℕ) (released more_released : List P)
-        → RefitsLosing (viewed keys ids outcomes numbers places cached room out given released) more_ids more_outcomes lost
-        (viewed keys more_ids more_outcomes more_found more_places gone_cached room out given more_released)
-    refitted given released more_released = (refits_so given released more_released, refl)
+    pub refitted : (given : ℕ) (released more_released : List P) (marked : Marked)
+        → RefitsLosing (viewed keys ids outcomes numbers places cached room out given released marked) more_ids more_outcomes lost
+        (viewed keys more_ids more_outcomes more_found more_places gone_cached room out given more_released marked)
+    refitted given released more_released marked = (refits_so given released more_released marked, refl)

@@ -8,11 +8,13 @@ use Rattle.key_slots.specs.Places.{AreSame, place_of, place_at}
 use Rattle.picture_store.specs.declared.job_out.JobOut.{JobOut}
 use Rattle.picture_store.specs.declared.schedule.Schedule.{Schedule}
 use Rattle.picture_store.specs.Places.{PlacesValue}
-use Rattle.picture_store.specs.Kept.{Trees, IsKept, KeepsStored, keys_for}
+use Rattle.picture_store.specs.Kept.{Trees, IsKept, KeepsMarked, KeepsStored, keys_for}
+use Rattle.picture_store.specs.Marks.{marked_for, numbers_marked}
 use Rattle.picture_store.specs.Settled.{NeedsNone, AreSettled, IsStored}
 use Rattle.picture_store.proofs.Looked.{looked_same, looked_stays}
-use Rattle.picture_store.proofs.Viewed.{viewed}
+use Rattle.picture_store.proofs.Viewed.{Marked, viewed}
 use Rattle.picture_store.proofs.Stays.{kept_stays, viewed_stays}
+use Rattle.picture_store.proofs.Marked.{marked_same, marks_stay}
 use Rattle.picture_store.proofs.Settled.{settled_stay}
 use Rattle.decode_jobs.specs.Inputs.{InputValue}
 use Rattle.decode_jobs.specs.Keys.{Key}
@@ -51,15 +53,15 @@ module _ {P : Type 0} {IsDecoded : InputValue P → P → Type 0} {IsOf : Key �
   }
 
 module _ {P : Type 0} {IsDecoded : InputValue P → P → Type 0} {IsOf : Key → P → Type 0} (keys more : Trees) (ids : List ℕ) (outcomes : List Outcome) (numbers : List (Option ℕ)) (places grown : PlacesValue P)
-    (cached : List (ℕ × P)) (out : List (JobOut P)) (count passed : ℕ) (schedule : Option Schedule)
-    (stored : IsStored IsDecoded IsOf keys ids outcomes numbers places cached out count passed schedule) (stay : KeepsStored numbers cached out keys more)
-    (one : IsKeyMap more) (same : AreSame places grown) where
+    (cached : List (ℕ × P)) (out : List (JobOut P)) (count passed : ℕ) (schedule : Option Schedule) (mark : Option (List ℕ))
+    (stored : IsStored IsDecoded IsOf keys ids outcomes numbers places cached out count passed schedule mark) (stay : KeepsStored numbers cached out keys more)
+    (marks : KeepsMarked (numbers_marked mark) keys more) (one : IsKeyMap more) (same : AreSame places grown) where
   pub kept_still : IsKept IsDecoded IsOf more ids outcomes numbers grown cached out
   kept_still =
       kept_same places grown same more ids outcomes numbers cached out
       (kept_stays keys more ids outcomes numbers places cached out stored.kept stay one)
 
-  pub stored_still : IsStored IsDecoded IsOf more ids outcomes numbers grown cached out count passed None
+  pub stored_still : IsStored IsDecoded IsOf more ids outcomes numbers grown cached out count passed None mark
   stored_still = record {
     kept = kept_still;
     counted = λ number. ap (λ slot. slot.uses) (same.slots number) ∙ stored.counted number;
@@ -70,14 +72,19 @@ module _ {P : Type 0} {IsDecoded : InputValue P → P → Type 0} {IsOf : Key �
         (looked_stays keys more ids outcomes numbers places cached out stored.kept stay passed stored.looked);
     behind = stored.behind;
     scheduled = tt;
+    marked = marks_stay keys more mark stored.marked marks;
   }
 
   -- what contracts see stays
-  pub viewed_still : (room given : ℕ) (released : List P) → viewed more ids outcomes numbers grown cached room out given released
-      ≡ viewed keys ids outcomes numbers places cached room out given released
+  pub viewed_still : (room given : ℕ) (released : List P)
+      → viewed more ids outcomes numbers grown cached room out given released (marked_for more mark)
+      ≡ viewed keys ids outcomes numbers places cached room out given released (marked_for keys mark)
   viewed_still room given released =
-      ap (λ held. record (viewed more ids outcomes numbers grown cached room out given released) { held = keys_for more held }) same.held
-      ∙ ap (λ (pictures : List P). record (viewed more ids outcomes numbers places cached room out given released) {
+      ap (λ held. record (viewed more ids outcomes numbers grown cached room out given released (marked_for more mark)) { held = keys_for more held })
+      same.held
+      ∙ ap (λ (pictures : List P). record (viewed more ids outcomes numbers places cached room out given released (marked_for more mark)) {
         pictures = record { held = pictures; cached = values_of cached; released = released };
       }) same.pictures
-      ∙ viewed_stays keys more ids outcomes numbers places cached out stored.kept stay room given released
+      ∙ viewed_stays keys more ids outcomes numbers places cached out stored.kept stay room given released (marked_for more mark)
+      ∙ ap (λ (marked : Marked). viewed keys ids outcomes numbers places cached room out given released marked)
+      (marked_same keys more mark stored.marked marks)

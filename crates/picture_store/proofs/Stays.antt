@@ -18,7 +18,7 @@ use Rattle.picture_store.specs.Places.{PlacesValue}
 use Rattle.picture_store.specs.Kept.{Trees, key_for, keys_for, jobs_for, IsRight, IsJobRight, IsKept, IsStored, KeepsStored}
 use Rattle.key_slots.proofs.Members.{here, there, nowhere, first_or_among, among_map, among_source, map_same, All-from_contains}
 use Rattle.key_slots.proofs.Held.{held_found}
-use Rattle.picture_store.proofs.Viewed.{viewed}
+use Rattle.picture_store.proofs.Viewed.{Marked, viewed}
 use Rattle.decode_jobs.specs.Inputs.{InputValue}
 
 -- the key of a number
@@ -170,6 +170,6 @@ module _ {P : Type 0} {IsDecoded : InputValue P → P → Type 0} {IsOf : Key �
   }
 
   -- what contracts see stays
-  pub viewed_stays : (room given : ℕ) (released : List P) → viewed more ids outcomes numbers places cached room out given released
-      ≡ viewed keys ids outcomes numbers places cached room out given released
-  viewed_stays room given released = rw (held_stay, cached_stay, out_stay) refl
+  pub viewed_stays : (room given : ℕ) (released : List P) (marked : Marked) → viewed more ids outcomes numbers places cached room out given released marked
+      ≡ viewed keys ids outcomes numbers places cached room out given released marked
+  viewed_stays room given released marked = rw (held_stay, cached_stay, out_stay) refl

@@ -49,8 +49,9 @@ only_added old new numbers number counted among =
       | inr none ↦ inl (some_in number old (omega (arith, some, counted, none)))
     ]
 
-pub swept_all : {P : Type 0} (r : Result (Unit {0}) AllocError) (numbers : List (Option ℕ)) (cached : List (ℕ × P)) (out : List (JobOut P))
-    (old new : Trees) (roots : List ℕ) → ((number : ℕ) → Contains roots number ↔ IsStored numbers cached out number)
-    → OnOk r (IsSwept old roots new) → OnOk r (AreSwept numbers cached out old new)
-swept_all (Ok x) numbers cached out old new roots are swept = record { roots = roots; are = are; swept = swept }
-swept_all (Err e) numbers cached out old new roots are swept = swept
+pub swept_all : {P : Type 0} (r : Result (Unit {0}) AllocError) (numbers : List (Option ℕ)) (marked : List ℕ) (cached : List (ℕ × P))
+    (out : List (JobOut P)) (old new : Trees) (roots : List ℕ)
+    → ((number : ℕ) → Contains roots number ↔ (Contains marked number ⊎ IsStored numbers cached out number))
+    → OnOk r (IsSwept old roots new) → OnOk r (AreSwept numbers marked cached out old new)
+swept_all (Ok x) numbers marked cached out old new roots are swept = record { roots = roots; are = are; swept = swept }
+swept_all (Err e) numbers marked cached out old new roots are swept = swept

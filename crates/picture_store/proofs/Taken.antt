@@ -22,7 +22,7 @@ use Rattle.picture_store.specs.Due.{IsDueNumber, IsNotDue}
 use Rattle.picture_store.specs.Inputs.{HasKnown, IsInputOf}
 use Rattle.picture_store.specs.Kept.{Trees, key_for, keys_for, jobs_for, numbers_out, IsJobRight, IsKept}
 use Rattle.key_slots.proofs.Members.{among_map, among_source, All-from_contains}
-use Rattle.picture_store.proofs.Viewed.{seen, viewed}
+use Rattle.picture_store.proofs.Viewed.{Marked, seen, viewed}
 use Rattle.picture_store.proofs.Stays.{key_is, stand_live, stand_number}
 use Rattle.picture_store.proofs.Tables.{none_not_some}
 use Rattle.picture_store.proofs.Landed.{awaited_for, held_for, found_length, keyed, length-zip_same}
@@ -34,7 +34,7 @@ take_front [] ys = refl
 take_front (x ∷ xs) ys = ap (λ rest. x ∷ rest) (take_front xs ys)
 
 module _ {P : Type 0} {IsDecoded : InputValue P → P → Type 0} {IsOf : Key → P → Type 0} (keys : Trees) (ids : List ℕ) (outcomes : List Outcome) (numbers : List (Option ℕ)) (places : PlacesValue P)
-    (cached : List (ℕ × P)) (room : ℕ) (out : List (JobOut P)) (given : ℕ) (released : List P)
+    (cached : List (ℕ × P)) (room : ℕ) (out : List (JobOut P)) (given : ℕ) (released : List P) (marked : Marked)
     (kept : IsKept IsDecoded IsOf keys ids outcomes numbers places cached out) where
   -- a job's key is among those of the jobs that are seen
   pub out_seen_key : (number : ℕ) → Contains (numbers_out out) number
@@ -64,7 +64,7 @@ module _ {P : Type 0} {IsDecoded : InputValue P → P → Type 0} {IsOf : Key �
   -- a number that is due is that of a key that is
   pub due_for : (number : ℕ) (key : Key) → tree_at keys number ≡ Some key → Contains numbers (Some number)
       → IsDueNumber keys places out number
-      → IsDue (viewed keys ids outcomes numbers places cached room out given released) key
+      → IsDue (viewed keys ids outcomes numbers places cached room out given released marked) key
   due_for number key live unit due =
       let same : key_for keys number ≡ key = key_is keys number key live in
       let tree : (k : Key) × (tree_at keys number ≡ Some k) × Contains (keys_of (zip ids outcomes)) (Some k) =
@@ -93,7 +93,7 @@ module _ {P : Type 0} {IsDecoded : InputValue P → P → Type 0} {IsOf : Key �
       (held_for keys ids outcomes numbers places cached out kept number key live picture (sym same))))
 
   -- a key that is due has a number that is
-  pub due_from : (key : Key) → IsDue (viewed keys ids outcomes numbers places cached room out given released) key
+  pub due_from : (key : Key) → IsDue (viewed keys ids outcomes numbers places cached room out given released marked) key
       → (number : ℕ) × Contains numbers (Some number) × (tree_at keys number ≡ Some key)
       × IsDueNumber keys places out number
   due_from key due =
@@ -116,7 +116,7 @@ module _ {P : Type 0} {IsDecoded : InputValue P → P → Type 0} {IsOf : Key �
 
   -- where no unit's number is due, no key is
   pub none_due : All (IsNotDue keys places out) numbers
-      → IsAnyDue (viewed keys ids outcomes numbers places cached room out given released) → ⊥
+      → IsAnyDue (viewed keys ids outcomes numbers places cached room out given released marked) → ⊥
   none_due none any =
       let from : (number : ℕ) × Contains numbers (Some number) × (tree_at keys number ≡ Some any.0)
       × IsDueNumber keys places out number = due_from any.0 any.1 in
@@ -128,7 +128,7 @@ module _ {P : Type 0} {IsDecoded : InputValue P → P → Type 0} {IsOf : Key �
     in_units = omega (
       arith,
       within,
-      found_length keys ids outcomes numbers places cached room out given released kept,
+      found_length keys ids outcomes numbers places cached room out given released marked kept,
       length-zip_same ids outcomes kept.same,
     )
 
@@ -148,7 +148,7 @@ module _ {P : Type 0} {IsDecoded : InputValue P → P → Type 0} {IsOf : Key �
     tree_is : tree_at keys number ≡ key_of_outcome known unit.0.1
     tree_is =
         let has : (key : Key) × (slice_get (keys_of (zip ids outcomes)) at ≡ Some (Some key)) × (tree_at keys number ≡ Some key) =
-        keyed keys ids outcomes numbers places cached room out given released kept at within number is in
+        keyed keys ids outcomes numbers places cached room out given released marked kept at within number is in
         has.2 ∙ one_key has.0 (key_of_outcome known unit.0.1) has.1 unit.1.key
 
     pub has_known : (outcome : Outcome) → unit.0.1 ≡ outcome → HasKnown keys outcome number known
@@ -160,12 +160,12 @@ module _ {P : Type 0} {IsDecoded : InputValue P → P → Type 0} {IsOf : Key �
     contained = (at, within, sym is)
 
     -- some key is due
-    pub any_due : IsAnyDue (viewed keys ids outcomes numbers places cached room out given released)
+    pub any_due : IsAnyDue (viewed keys ids outcomes numbers places cached room out given released marked)
     any_due = (due.key, due_for number due.key due.tree contained due)
 
     none_before : All (IsNotDue keys places out) (take at numbers) → (key : Option Key)
         → Contains (keys_after [] (take at (zip ids outcomes))) key
-        → IfSome key (λ k. IsDue (viewed keys ids outcomes numbers places cached room out given released) k → ⊥)
+        → IfSome key (λ k. IsDue (viewed keys ids outcomes numbers places cached room out given released marked) k → ⊥)
     none_before none None among = search rules
     none_before none (Some key) among = λ key_due.
         let before : AllStandFor keys (take at numbers) (keys_after [] (take at (zip ids outcomes))) =
@@ -184,8 +184,8 @@ module _ {P : Type 0} {IsDecoded : InputValue P → P → Type 0} {IsOf : Key �
         → (input : InputValue P) → IsInputOf IsOf known outcome input
         → All (λ reference. Contains (pictures_held places) reference.picture) input.references
         → (next from : ℕ) → next ≡ given + 1 → (more : List (JobOut P)) → more ≡ out ++ (record { number = next; key = number; input = input; first_place = from }) ∷ []
-        → Gives IsOf (viewed keys ids outcomes numbers places cached room out given released) at (record { number = next; input = input })
-        (viewed keys ids outcomes numbers places cached room more next released)
+        → Gives IsOf (viewed keys ids outcomes numbers places cached room out given released marked) at (record { number = next; input = input })
+        (viewed keys ids outcomes numbers places cached room more next released marked)
     given_job (Faulty fault) same input made held next from next_is more more_is = absurd made
     given_job Empty same input made held next from next_is more more_is = absurd made
     given_job (Planned plan) same input made held next from next_is more more_is =
@@ -208,7 +208,7 @@ module _ {P : Type 0} {IsDecoded : InputValue P → P → Type 0} {IsOf : Key �
           shows = made.1;
           held = held;
           new_is =
-              ap (λ (jobs : List (OutValue P)). record (viewed keys ids outcomes numbers places cached room out given released) { jobs_out = jobs; jobs_given = next })
+              ap (λ (jobs : List (OutValue P)). record (viewed keys ids outcomes numbers places cached room out given released marked) { jobs_out = jobs; jobs_given = next })
               (ap (jobs_for keys) more_is
               ∙ map-append (seen keys) out ((record { number = next; key = number; input = input; first_place = from }) ∷ [])
               ∙ ap (λ (key : Key). jobs_for keys out ++ (record { number = next; key = key; input = input }) ∷ []) key_same);
@@ -216,16 +216,16 @@ module _ {P : Type 0} {IsDecoded : InputValue P → P → Type 0} {IsOf : Key �
 
     -- where no unit before it is due, its job is taken
     pub taken : (job : JobValue P) (new : StoreValue P)
-        → Gives IsOf (viewed keys ids outcomes numbers places cached room out given released) at job new
+        → Gives IsOf (viewed keys ids outcomes numbers places cached room out given released marked) at job new
         → All (IsNotDue keys places out) (take at numbers)
-        → (takes : Takes IsOf (viewed keys ids outcomes numbers places cached room out given released) job new) × (at ≡ takes.at)
+        → (takes : Takes IsOf (viewed keys ids outcomes numbers places cached room out given released marked) job new) × (at ≡ takes.at)
     taken job new gives none = (
       record {
         at = at;
         gives = gives;
         earliest =
             subst (λ (units : List (ℕ × Outcome)). All (λ key. IfSome key
-            (λ k. IsDue (viewed keys ids outcomes numbers places cached room out given released) k → ⊥)) (keys_of units)) before_is
+            (λ k. IsDue (viewed keys ids outcomes numbers places cached room out given released marked) k → ⊥)) (keys_of units)) before_is
             (All-from_contains (keys_after [] (take at (zip ids outcomes))) (none_before none));
       },
       refl,
@@ -270,7 +270,7 @@ module _ {P : Type 0} {IsDecoded : InputValue P → P → Type 0} {IsOf : Key �
     pub outcome_same : (outcome : Outcome) → outcome ≡ slice_index_or outcomes at outcome → unit.0.1 ≡ outcome
     outcome_same outcome there =
         second_at ids outcomes at unit.0 outcome unit.1.got there
-        (omega (arith, within, found_length keys ids outcomes numbers places cached room out given released kept, kept.same))
+        (omega (arith, within, found_length keys ids outcomes numbers places cached room out given released marked kept, kept.same))
 
     -- what a job is given is whole
     pub whole_of : (outcome : Outcome) (input : InputValue P) → IsInputOf IsOf known outcome input → IsTrue (is_whole input)

@@ -13,7 +13,7 @@ use Rattle.picture_store.specs.Places.{PlacesValue}
 use Rattle.picture_store.specs.Kept.{Trees, key_for, keys_for, IsRight, IsKept}
 use Rattle.picture_store.specs.Released.{AnswersUncache}
 use Rattle.picture_store.proofs.Stays.{key_is}
-use Rattle.picture_store.proofs.Viewed.{viewed}
+use Rattle.picture_store.proofs.Viewed.{Marked, viewed}
 
 module _ {P : Type 0} {IsDecoded : InputValue P → P → Type 0} {IsOf : Key → P → Type 0} (keys : Trees) (ids : List ℕ)
     (outcomes : List Outcome) (numbers : List (Option ℕ)) (places : PlacesValue P) (cached : List (ℕ × P)) (out : List (JobOut P))
@@ -51,10 +51,10 @@ module _ {P : Type 0} {IsDecoded : InputValue P → P → Type 0} {IsOf : Key �
       (subst (λ pairs. Contains pairs pair) (sym is) (Contains-append_right left (pair ∷ []) pair (here pair [])))
 
   -- its picture goes back
-  pub uncached : (room : ℕ) (given : ℕ) (released : List P)
-      → AnswersUncache IsOf (viewed keys ids outcomes numbers places cached room out given released) (Some pair.1)
-      (viewed keys ids outcomes numbers places left room out given released)
-  uncached room given released = (
+  pub uncached : (room : ℕ) (given : ℕ) (released : List P) (marked : Marked)
+      → AnswersUncache IsOf (viewed keys ids outcomes numbers places cached room out given released marked) (Some pair.1)
+      (viewed keys ids outcomes numbers places left room out given released marked)
+  uncached room given released marked = (
     key_for keys pair.0,
     ap (λ pairs. keys_for keys (numbers_of pairs)) is ∙ keys_split,
     subst (λ (key : Key). IsOf key pair.1) (sym (key_is keys pair.0 right.0 right.1)) right.2,
@@ -90,14 +90,14 @@ module _ {P : Type 0} {IsDecoded : InputValue P → P → Type 0} {IsOf : Key �
   numbered_left (Some picture) (key, is, room) number among =
       left_numbered keys ids outcomes numbers places cache.pairs out kept left.pairs (key, picture) is number among
 
-  pub uncaches : (result : Option P) → GivesOldest result → (given : ℕ) (released : List P)
-      → AnswersUncache IsOf (viewed keys ids outcomes numbers places cache.pairs cache.capacity out given released) result
-      (viewed keys ids outcomes numbers places left.pairs left.capacity out given released)
-  uncaches None (none, same) given released = (
+  pub uncaches : (result : Option P) → GivesOldest result → (given : ℕ) (released : List P) (marked : Marked)
+      → AnswersUncache IsOf (viewed keys ids outcomes numbers places cache.pairs cache.capacity out given released marked) result
+      (viewed keys ids outcomes numbers places left.pairs left.capacity out given released marked)
+  uncaches None (none, same) given released marked = (
     ap (λ (pairs : List (ℕ × P)). keys_for keys (numbers_of pairs)) none,
-    ap (λ (c : Bounded ℕ P). viewed keys ids outcomes numbers places c.pairs c.capacity out given released) same,
+    ap (λ (c : Bounded ℕ P). viewed keys ids outcomes numbers places c.pairs c.capacity out given released marked) same,
   )
-  uncaches (Some picture) (key, is, room) given released =
-      subst (λ n. AnswersUncache IsOf (viewed keys ids outcomes numbers places cache.pairs cache.capacity out given released) (Some picture)
-      (viewed keys ids outcomes numbers places left.pairs n out given released)) (sym room)
-      (uncached keys ids outcomes numbers places cache.pairs out kept left.pairs (key, picture) is cache.capacity given released)
+  uncaches (Some picture) (key, is, room) given released marked =
+      subst (λ n. AnswersUncache IsOf (viewed keys ids outcomes numbers places cache.pairs cache.capacity out given released marked) (Some picture)
+      (viewed keys ids outcomes numbers places left.pairs n out given released marked)) (sym room)
+      (uncached keys ids outcomes numbers places cache.pairs out kept left.pairs (key, picture) is cache.capacity given released marked)

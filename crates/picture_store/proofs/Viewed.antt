@@ -2,11 +2,16 @@
 use Rattle.std.proofs.Common.{ℕ, List, Option, OnErr, Result, Ok, Err, rules}
 use Rattle.std.specs.Map.{keys_of as numbers_of, values_of}
 use Rattle.unit_outcomes.specs.declared.outcome.Outcome.{Outcome}
+use Rattle.decode_jobs.specs.Keys.{Key}
 use Rattle.picture_store.specs.declared.job_out.JobOut.{JobOut}
 use Rattle.picture_store.specs.Stores.{OutValue, StoreValue}
 use Rattle.key_slots.specs.Places.{numbers_held, pictures_held}
 use Rattle.picture_store.specs.Places.{PlacesValue}
 use Rattle.picture_store.specs.Kept.{Trees, key_for, keys_for, jobs_for}
+
+-- the marked keys as contracts see them
+abbrev pub Marked : Type 0
+Marked = Option (List Key)
 
 module _ {P : Type 0} where
   -- a job that is out as contracts see it
@@ -15,8 +20,8 @@ module _ {P : Type 0} where
 
   -- a store as contracts see it
   abbrev pub viewed : Trees → List ℕ → List Outcome → List (Option ℕ) → PlacesValue P → List (ℕ × P) → ℕ → List (JobOut P) → ℕ
-      → List P → StoreValue P
-  viewed keys ids outcomes numbers places cached room out given released = record {
+      → List P → Marked → StoreValue P
+  viewed keys ids outcomes numbers places cached room out given released marked = record {
     ids = ids;
     outcomes = outcomes;
     numbers = numbers;
@@ -26,6 +31,7 @@ module _ {P : Type 0} where
     pictures = record { held = pictures_held places; cached = values_of cached; released = released };
     jobs_out = jobs_for keys out;
     jobs_given = given;
+    marked = marked;
   }
 
 -- what holds anyhow holds where a call ran out of memory

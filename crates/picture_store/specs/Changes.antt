@@ -15,6 +15,7 @@ module _ {P : Type 0} where
     pub room_stays : new.room ≡ old.room
     pub out_stays : new.jobs_out ≡ old.jobs_out
     pub given_stays : new.jobs_given ≡ old.jobs_given
+    pub marked_stays : new.marked ≡ old.marked
     pub numbers_stay : AreOneToOne old new
     pub held_are : (key : Key)
         → Contains new.held key ↔ (IsInUse new key × (Contains old.held key ⊎ Contains old.cached key))

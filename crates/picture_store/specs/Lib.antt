@@ -5,6 +5,7 @@ pub mod Jobs
 pub mod Places
 pub mod Recounts
 pub mod Kept
+pub mod Marks
 pub mod Numbers
 pub mod Naming
 pub mod Filling
@@ -16,6 +17,7 @@ pub mod Stretches
 pub mod Needs
 pub mod Inputs
 pub mod Showing
+pub mod Altered
 pub mod Pending
 pub mod TakingFor
 pub mod Unreferred

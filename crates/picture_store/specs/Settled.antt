@@ -9,6 +9,7 @@ use Rattle.picture_store.specs.declared.job_out.JobOut.{JobOut}
 use Rattle.picture_store.specs.declared.schedule.Schedule.{Schedule}
 use Rattle.picture_store.specs.Places.{PlacesValue}
 use Rattle.picture_store.specs.Kept.{Trees, numbers_out, IsKept}
+use Rattle.picture_store.specs.Marks.{AreMarked}
 use Rattle.picture_store.specs.Due.{IsHeld}
 use Rattle.picture_store.specs.Looked.{AreNotDue, IsBehind}
 use Rattle.picture_store.specs.Schedules.{IsScheduled}
@@ -28,9 +29,11 @@ module _ {P : Type 0} where
 module _ {P : Type 0} (IsDecoded : InputValue P → P → Type 0) (IsOf : Key → P → Type 0) where
   -- what is stored: what is kept of the stream, where each place counts the units that use its key
   -- and no key in use is cached; how many units are known to need no job, and how many not to be due;
-  -- no unit before a job's place has its key; and the schedule of the units that one needs
+  -- no unit before a job's place has its key; the schedule of the units that one needs; and the
+  -- numbers of the marked keys
   pub record IsStored (keys : Trees) (ids : List ℕ) (outcomes : List Outcome) (numbers : List (Option ℕ))
-      (places : PlacesValue P) (cached : List (ℕ × P)) (out : List (JobOut P)) (count passed : ℕ) (schedule : Option Schedule) : Type 0 where
+      (places : PlacesValue P) (cached : List (ℕ × P)) (out : List (JobOut P)) (count passed : ℕ) (schedule : Option Schedule)
+      (mark : Option (List ℕ)) : Type 0 where
     pub kept : IsKept IsDecoded IsOf keys ids outcomes numbers places cached out
     pub counted : (number : ℕ) → uses_at places number ≡ times number numbers
     pub apart : (number : ℕ) → 0 < uses_at places number → Contains (numbers_of cached) number → ⊥
@@ -38,3 +41,4 @@ module _ {P : Type 0} (IsDecoded : InputValue P → P → Type 0) (IsOf : Key �
     pub looked : AreNotDue keys places out numbers passed
     pub behind : All (IsBehind numbers) out
     pub scheduled : IsScheduled keys (zip ids outcomes) numbers places out schedule
+    pub marked : AreMarked keys mark

@@ -1,5 +1,5 @@
 -- What is kept of the pictures of a stream's units.
-use Rattle.std.specs.Prelude.{◌≡◌, ℕ, List, [], Option, Some, Contains, ◌↔◌, slice_get}
+use Rattle.std.specs.Prelude.{◌≡◌, ℕ, List, [], Option, None, Some, Contains, ◌↔◌, slice_get}
 use Rattle.std.specs.List.{zip}
 use Rattle.unit_outcomes.specs.declared.outcome.Outcome.{Outcome}
 use Rattle.dep_keys.specs.Trees.Tree.{Bare, Gap, With}
@@ -17,7 +17,8 @@ pub record OutValue (P : Type 0) : Type 0 where
 
 -- the ids of a stream's units, their outcomes, and the number of each unit's key; how many pictures
 -- may be cached; the keys whose pictures are held, those whose pictures are cached, the one put
--- last first; the pictures themselves; the jobs that are out; and how many numbers of jobs were given
+-- last first; the pictures themselves; the jobs that are out; how many numbers of jobs were given;
+-- and the keys that the last mark remembers, where one was made
 pub record StoreValue (P : Type 0) : Type 0 where
   pub ids : List ℕ
   pub outcomes : List Outcome
@@ -28,6 +29,7 @@ pub record StoreValue (P : Type 0) : Type 0 where
   pub pictures : Pictures P
   pub jobs_out : List (OutValue P)
   pub jobs_given : ℕ
+  pub marked : Option (List Key)
 
 module _ {P : Type 0} where
   -- before the first unit
@@ -42,6 +44,7 @@ module _ {P : Type 0} where
     pictures = no_pictures;
     jobs_out = [];
     jobs_given = 0;
+    marked = None;
   }
 
   -- the units, each with its id and its outcome

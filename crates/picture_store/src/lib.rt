@@ -6,7 +6,8 @@
 //! changed with it: a picture whose key stays in use stays held. `take` gives the job of the
 //! earliest picture that can be decoded, `take_for` that of the earliest which a unit needs, `land`
 //! takes its result, late or twice, `give_back` the job undone, and `picture` shows what is held.
-//! Pictures go back to the host by `drop_picture`, `uncache` and `take_released`. Below are
+//! Pictures go back to the host by `drop_picture`, `uncache` and `take_released`. `mark` remembers
+//! the keys of the units, and `is_altered` tells where a unit has another one since. Below are
 //! key_slots, picture_keys, which gives keys their numbers, and picture_cache; above is the
 //! session.
 #![tactic(auto)]
@@ -18,6 +19,7 @@ mod filling;
 mod inputs;
 mod job_out;
 mod laws;
+mod mark;
 mod naming;
 mod recounting;
 mod refitting;

@@ -9,11 +9,13 @@ ghost use Rattle.picture_keys.specs.Known.{Known, keys_after, keys_of, known_aft
 ghost use Rattle.picture_keys.specs.Numbered.{AllStandFor, number_at, numbers_over};
 ghost use Rattle.picture_keys.specs.Following.{AreNumberedSome, Follow};
 ghost use Rattle.key_slots.specs.Counting.{times, times_in};
-ghost use Rattle.picture_store.specs.Kept.{AreSwept, numbers_out, IsStored, KeepsStored};
+ghost use Rattle.picture_store.specs.Kept.{AreSwept, numbers_out, IsStored, KeepsMarked, KeepsStored};
+ghost use Rattle.picture_store.specs.Marks.{numbers_marked};
 ghost use Rattle.picture_store.specs.Needs.{AgreeAt, TellNeeds, between};
 ghost use Rattle.picture_store.specs.Stretches.{IsStretch, ids_with, outcomes_with};
 
 use crate::job_out::JobOut;
+use crate::mark::{Mark, add_marked};
 use crate::stretch::Stretch;
 use base_types::{Shared, replace_range};
 use checkpoints::Checkpoints;
@@ -239,20 +241,22 @@ pub(crate) fn put_stretch(
     replace_range(outcomes, from, to, other_outcomes);
 }
 
-/// Forgets the keys that are neither stored nor below one that is.
+/// Forgets the keys that are neither stored, nor marked, nor below one that is.
 pub(crate) fn sweep<F: Fingerprint<Works>, P: Decoded>(
     alloc: Global,
     keys: &mut Keys<Works, F>,
     numbers: &[Option<KeyId>],
+    mark: &Option<Mark>,
     cache: &PictureCache<KeyId, P>,
     out: &[JobOut<P>],
 ) -> Result<(), AllocError>
     ensures stay { KeepsStored numbers.now cache.now.pairs out.now keys.old keys.new }
+    ensures marks { KeepsMarked (numbers_marked mark.now) keys.old keys.new }
     ensures one { IsKeyMap keys.old → IsKeyMap keys.new }
-    ensures swept { OnOk result
-        (AreSwept numbers.now cache.now.pairs out.now keys.old keys.new) }
+    ensures swept { OnOk result (AreSwept numbers.now (numbers_marked mark.now) cache.now.pairs
+        out.now keys.old keys.new) }
 {
-    let roots = roots(alloc, numbers, cache, out)?;
+    let roots = roots(alloc, numbers, mark, cache, out)?;
     keys.sweep(&roots)
 }
 
@@ -263,36 +267,42 @@ pub(crate) fn sweep_at<F: Fingerprint<Works>, P: Decoded>(
     sweep_threshold: usize,
     keys: &mut Keys<Works, F>,
     numbers: &[Option<KeyId>],
+    mark: &Option<Mark>,
     cache: &PictureCache<KeyId, P>,
     out: &[JobOut<P>],
 ) -> Result<usize, AllocError>
     ensures stay { KeepsStored numbers.now cache.now.pairs out.now keys.old keys.new }
+    ensures marks { KeepsMarked (numbers_marked mark.now) keys.old keys.new }
     ensures one { IsKeyMap keys.old → IsKeyMap keys.new }
     ensures few { IfOk result (λ next. (length keys.new < sweep_threshold)
-        ⊎ AreSwept numbers.now cache.now.pairs out.now keys.old keys.new) }
+        ⊎ AreSwept numbers.now (numbers_marked mark.now) cache.now.pairs out.now keys.old
+        keys.new) }
     ensures next { IfOk result (λ next. (next ≡ sweep_threshold)
         ⊎ (next ≤ 2 * length keys.new + 64)) }
 {
     if keys.len() < sweep_threshold {
         return Ok(sweep_threshold);
     }
-    sweep(alloc, keys, numbers, cache, out)?;
+    sweep(alloc, keys, numbers, mark, cache, out)?;
     Ok(keys.len().saturating_mul(2).saturating_add(64))
 }
 
-/// The keys that are stored.
+/// The keys that are stored or marked.
 fn roots<P: Decoded>(
     alloc: Global,
     numbers: &[Option<KeyId>],
+    mark: &Option<Mark>,
     cache: &PictureCache<KeyId, P>,
     out: &[JobOut<P>],
 ) -> Result<Vec<KeyId>, AllocError>
-    ensures { IfOk result (λ roots. (number : ℕ)
-        → Contains roots.items number ↔ IsStored numbers.now cache.now.pairs out.now number) }
+    ensures { IfOk result (λ roots. (number : ℕ) → Contains roots.items number
+        ↔ (Contains (numbers_marked mark.now) number
+        ⊎ IsStored numbers.now cache.now.pairs out.now number)) }
 {
     let mut roots = cache.keys(alloc)?;
     add_numbers(&mut roots, numbers)?;
     add_out(&mut roots, out)?;
+    add_marked(&mut roots, mark)?;
     Ok(roots)
 }
 

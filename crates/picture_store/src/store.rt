@@ -19,6 +19,7 @@ ghost use Rattle.picture_store.specs.Stretches.{IsStretch, ids_with, outcomes_wi
 mod columns;
 mod counts;
 mod landing;
+mod marking;
 mod releasing;
 mod returning;
 
@@ -27,6 +28,7 @@ use crate::changing::changed_by;
 use crate::due::{first_due, first_to_do};
 use crate::inputs::input_of;
 use crate::job_out::{JobOut, lower_all};
+use crate::mark::Mark;
 use crate::recounting::{forget_released, make_ready, recount};
 use crate::refitting::{keys_from, make_room, put_stretch, sweep_at};
 use crate::refusals::TakeRefused;
@@ -46,7 +48,8 @@ use std::marker::Model;
 
 /// The pictures of a stream's units. Clauses see the units, each with its id and its outcome; the
 /// keys whose pictures are held, and those whose pictures are cached after they went out of use;
-/// the pictures themselves, and those that are released; and the jobs that are out.
+/// the pictures themselves, and those that are released; the jobs that are out; and the keys that
+/// the last mark remembers.
 #[derive(Debug)]
 pub struct PictureStore<P: Decoded> {
     alloc: Global,
@@ -68,6 +71,7 @@ pub struct PictureStore<P: Decoded> {
     schedule: Option<Schedule>,
     // Pictures that were let go and haven't gone back.
     released: Vec<P>,
+    mark: Option<Mark>,
 }
 
 // By hand, so that whoever drops one is proved over one call.
@@ -88,6 +92,7 @@ impl<P: Decoded> Drop for PictureStore<P> {
             units_not_due: _,
             schedule: _,
             released: _,
+            mark: _,
         } = self;
     }
 }
@@ -105,6 +110,7 @@ impl<P: Decoded> Model for PictureStore<P> {
 
     ghost use Rattle.key_slots.specs.Places.{numbers_held, pictures_held};
     ghost use Rattle.picture_store.specs.Kept.{keys_for, jobs_for};
+    ghost use Rattle.picture_store.specs.Marks.{marked_for};
     ghost use Rattle.picture_store.specs.Settled.{IsStored};
 
     ghost view = { λ s. record {
@@ -121,11 +127,12 @@ impl<P: Decoded> Model for PictureStore<P> {
       };
       jobs_out = jobs_for s.keys s.jobs_out.items;
       jobs_given = s.jobs_given;
+      marked = marked_for s.keys s.mark;
     } };
 
     ghost invariant = { λ s. IsStored P.IsDecoded P.IsOf s.keys s.ids.items s.outcomes.items
         s.numbers.items s.places s.cache.pairs s.jobs_out.items s.units_settled s.units_not_due
-        s.schedule };
+        s.schedule s.mark };
 }
 
 impl<P: Decoded> PictureStore<P> {
@@ -150,6 +157,7 @@ impl<P: Decoded> PictureStore<P> {
             units_not_due: 0,
             schedule: None,
             released: Vec::new(alloc),
+            mark: None,
         })
     }
 
@@ -241,8 +249,8 @@ impl<P: Decoded> PictureStore<P> {
         Ok(StretchTaken { lost, changed })
     }
 
-    /// Forgets the keys that are neither stored nor below one that is, where there may be as many
-    /// of them as of others.
+    /// Forgets the keys that are neither stored, nor marked, nor below one that is, where there may
+    /// be as many of them as of others.
     fn sweep(&mut self) -> Result<(), AllocError>
         ensures { self.new ≡ self.old }
     {
@@ -252,6 +260,7 @@ impl<P: Decoded> PictureStore<P> {
             self.sweep_threshold,
             &mut self.keys,
             &self.numbers,
+            &self.mark,
             &self.cache,
             &self.jobs_out,
         )?;

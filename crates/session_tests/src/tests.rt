@@ -1,6 +1,7 @@
 ghost use Rattle.std.specs.Prelude.{◌≡◌};
 ghost use Rattle.stream_session.specs.Machines.{empty};
 
+mod altered;
 mod changed;
 mod damage;
 mod doubt;

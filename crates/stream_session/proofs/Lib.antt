@@ -10,5 +10,6 @@ pub mod Seen
 pub mod ByNumber
 pub mod Told
 pub mod Needed
+pub mod Altered
 pub mod Meetings
 pub mod Moved

@@ -31,6 +31,7 @@ module _ {P : Type 0} where
     pictures = store.pictures;
     jobs_out = store.jobs_out;
     jobs = store.jobs_given;
+    marked = store.marked;
   }
 
   -- ids and outcomes are those of the stream, which is what the accepted edits lead to

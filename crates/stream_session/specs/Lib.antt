@@ -6,6 +6,7 @@ pub mod Grouping
 pub mod Moves
 pub mod Stretches
 pub mod Showing
+pub mod Altered
 pub mod Jobs
 pub mod Needing
 pub mod Taken

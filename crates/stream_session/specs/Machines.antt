@@ -1,5 +1,5 @@
 -- A session as contracts see it, and its edits.
-use Rattle.std.specs.Prelude.{◌≡◌, ℕ, ◌+◌, ◌≤◌, List, [], ◌∷◌, ◌++◌, length, IsPermutation, Option, Result, Ok, Err}
+use Rattle.std.specs.Prelude.{◌≡◌, ℕ, ◌+◌, ◌≤◌, List, [], ◌∷◌, ◌++◌, length, IsPermutation, Option, None, Result, Ok, Err}
 use Rattle.request_core.specs.Fold.{outcomes_of}
 use Rattle.decode_jobs.specs.Keys.{Key}
 use Rattle.picture_store.specs.Pictures.{Pictures, all_of, no_pictures}
@@ -21,7 +21,8 @@ use Rattle.stream_session.specs.Changing.{ChangesUnits}
 -- the room of the cache; the accepted edits in order, those of a group as one entry, and what they
 -- leave; the number of each unit's key, nothing for a unit that isn't valid; the keys whose
 -- pictures are held, and those whose pictures are cached, the one put last first; the pictures
--- themselves; the jobs that are out; and how many numbers of jobs were given
+-- themselves; the jobs that are out; how many numbers of jobs were given; and the keys that the last
+-- mark remembers, where one was made
 pub record Machine (P : Type 0) : Type 0 where
   pub room : ℕ
   pub journal : List (List Edit)
@@ -32,6 +33,7 @@ pub record Machine (P : Type 0) : Type 0 where
   pub pictures : Pictures P
   pub jobs_out : List (OutValue P)
   pub jobs : ℕ
+  pub marked : Option (List Key)
 
 -- the steps are few: at most 64 more than units past the changed one after which the folds before
 -- and after the change agree, or there are no more units
@@ -60,6 +62,7 @@ module _ {P : Type 0} where
     pictures = no_pictures;
     jobs_out = [];
     jobs = 0;
+    marked = None;
   }
 
   -- the pictures of the units, as they are stored: those of the stream's ids and of each unit's
@@ -75,6 +78,7 @@ module _ {P : Type 0} where
     pictures = machine.pictures;
     jobs_out = machine.jobs_out;
     jobs_given = machine.jobs;
+    marked = machine.marked;
   }
 
   -- no picture is cached any more

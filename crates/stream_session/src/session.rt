@@ -16,6 +16,7 @@ ghost use Rattle.stream_session.specs.Jobs.{AnswersGiveBack, AnswersGiveBackOf, 
 ghost use Rattle.stream_session.specs.Needing.{AnswersTakeFor, IsAnyOutFor, IsPendingIn, TellsTakeFor};
 
 mod asking;
+mod marking;
 mod releasing;
 
 use crate::change_costs::ChangeCosts;
@@ -37,7 +38,7 @@ use stream_fold::OrderedFold;
 
 /// A stream of access units under edits, with each unit's outcome, and with pictures, which jobs
 /// bring. Clauses see the accepted edits and what they leave, the keys whose pictures are held or
-/// cached, and the jobs that are out.
+/// cached, the jobs that are out, and the keys that the last mark remembers.
 #[derive(Debug)]
 pub struct Session<P: Decoded> {
     alloc: Global,

@@ -5,6 +5,7 @@ mod acts;
 mod folding;
 mod groups;
 mod lost;
+mod marks;
 mod middle;
 mod reading;
 mod runs;

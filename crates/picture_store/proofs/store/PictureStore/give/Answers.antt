@@ -1,6 +1,7 @@
 use Rattle.std.proofs.Common.{◌≡◌, refl, sym, ◌∙◌, Some, ◌∷◌, ◌++◌, [], arith}
 use Rattle.std.specs.List.{zip}
 use Rattle.std.proofs.lemmas.Option.{get_or_from_slice_get, slice_get_within}
+use Rattle.picture_store.specs.Marks.{marked_for}
 use Rattle.picture_store.proofs.Landed.{found_length}
 use Rattle.picture_store.proofs.Looked.{behind_more, looked_more}
 use Rattle.picture_store.proofs.Pended.{due_number}
@@ -16,7 +17,7 @@ index-outcome-requires g c =
     omega (
       arith,
       slice_get_within s.numbers.items c.args.at (Some c.args.key) is,
-      found_length s.keys s.ids.items s.outcomes.items s.numbers.items s.places s.cache.pairs s.cache.capacity s.jobs_out.items s.jobs_given s.released.items
+      found_length s.keys s.ids.items s.outcomes.items s.numbers.items s.places s.cache.pairs s.cache.capacity s.jobs_out.items s.jobs_given s.released.items (marked_for s.keys s.mark)
           c.self.invariant.kept,
       c.self.invariant.kept.same,
       s.outcomes.ok.0,
@@ -25,7 +26,7 @@ index-outcome-requires g c =
 pub input_of-requires-clause-ready : goal.input_of-requires-clause-ready
 input_of-requires-clause-ready g c =
     let s = c.self.inside in
-    let due = due_number s.keys s.ids.items s.outcomes.items s.numbers.items s.places s.cache.pairs s.cache.capacity s.jobs_out.items s.jobs_given s.released.items
+    let due = due_number s.keys s.ids.items s.outcomes.items s.numbers.items s.places s.cache.pairs s.cache.capacity s.jobs_out.items s.jobs_given s.released.items (marked_for s.keys s.mark)
     c.self.invariant.kept c.args.at c.args.key (rw (← c.self.view_is) at c.requires.number) (rw (← c.self.view_is) at c.requires.due) in
     (due.key, due.tree, due.ready)
 
@@ -35,14 +36,14 @@ input_of-requires-clause-known g c =
     let there = rw (← c.self.view_is) at c.requires.number in
     let within = slice_get_within s.numbers.items c.args.at (Some c.args.key) there in
     let is = sym (get_or_from_slice_get s.numbers.items c.args.at (Some c.args.key) (Some c.args.key) there) in
-    let due = due_number s.keys s.ids.items s.outcomes.items s.numbers.items s.places s.cache.pairs s.cache.capacity s.jobs_out.items s.jobs_given s.released.items
+    let due = due_number s.keys s.ids.items s.outcomes.items s.numbers.items s.places s.cache.pairs s.cache.capacity s.jobs_out.items s.jobs_given s.released.items (marked_for s.keys s.mark)
     c.self.invariant.kept c.args.at c.args.key there (rw (← c.self.view_is) at c.requires.due) in
-    let same = outcome_same s.keys s.ids.items s.outcomes.items s.numbers.items s.places s.cache.pairs s.cache.capacity s.jobs_out.items s.jobs_given s.released.items
+    let same = outcome_same s.keys s.ids.items s.outcomes.items s.numbers.items s.places s.cache.pairs s.cache.capacity s.jobs_out.items s.jobs_given s.released.items (marked_for s.keys s.mark)
     c.self.invariant.kept c.args.at within c.args.key is due c.index-outcome.result.now c.index-outcome.ensures in
     rw (c.deref-2.ensures, c.deref.ensures) (
-      known s.keys s.ids.items s.outcomes.items s.numbers.items s.places s.cache.pairs s.cache.capacity s.jobs_out.items s.jobs_given s.released.items
+      known s.keys s.ids.items s.outcomes.items s.numbers.items s.places s.cache.pairs s.cache.capacity s.jobs_out.items s.jobs_given s.released.items (marked_for s.keys s.mark)
           c.self.invariant.kept c.args.at within c.args.key is due,
-      has_known s.keys s.ids.items s.outcomes.items s.numbers.items s.places s.cache.pairs s.cache.capacity s.jobs_out.items s.jobs_given s.released.items
+      has_known s.keys s.ids.items s.outcomes.items s.numbers.items s.places s.cache.pairs s.cache.capacity s.jobs_out.items s.jobs_given s.released.items (marked_for s.keys s.mark)
           c.self.invariant.kept c.args.at within c.args.key is due c.index-outcome.result.now same,
     )
 
@@ -52,15 +53,15 @@ new-job-requires g c =
     let there = rw (← c.self.view_is) at c.requires.number in
     let within = slice_get_within s.numbers.items c.args.at (Some c.args.key) there in
     let is = sym (get_or_from_slice_get s.numbers.items c.args.at (Some c.args.key) (Some c.args.key) there) in
-    let due = due_number s.keys s.ids.items s.outcomes.items s.numbers.items s.places s.cache.pairs s.cache.capacity s.jobs_out.items s.jobs_given s.released.items
+    let due = due_number s.keys s.ids.items s.outcomes.items s.numbers.items s.places s.cache.pairs s.cache.capacity s.jobs_out.items s.jobs_given s.released.items (marked_for s.keys s.mark)
     c.self.invariant.kept c.args.at c.args.key there (rw (← c.self.view_is) at c.requires.due) in
-    let same = outcome_same s.keys s.ids.items s.outcomes.items s.numbers.items s.places s.cache.pairs s.cache.capacity s.jobs_out.items s.jobs_given s.released.items
+    let same = outcome_same s.keys s.ids.items s.outcomes.items s.numbers.items s.places s.cache.pairs s.cache.capacity s.jobs_out.items s.jobs_given s.released.items (marked_for s.keys s.mark)
     c.self.invariant.kept c.args.at within c.args.key is due c.index-outcome.result.now c.index-outcome.ensures in
     let input = rw (c.deref-2.ensures, c.deref.ensures) at c.in_ok-input.ensures.known in
-    let made = input (known s.keys s.ids.items s.outcomes.items s.numbers.items s.places s.cache.pairs s.cache.capacity s.jobs_out.items s.jobs_given s.released.items
-    c.self.invariant.kept c.args.at within c.args.key is due) (has_known s.keys s.ids.items s.outcomes.items s.numbers.items s.places s.cache.pairs s.cache.capacity s.jobs_out.items s.jobs_given s.released.items
+    let made = input (known s.keys s.ids.items s.outcomes.items s.numbers.items s.places s.cache.pairs s.cache.capacity s.jobs_out.items s.jobs_given s.released.items (marked_for s.keys s.mark)
+    c.self.invariant.kept c.args.at within c.args.key is due) (has_known s.keys s.ids.items s.outcomes.items s.numbers.items s.places s.cache.pairs s.cache.capacity s.jobs_out.items s.jobs_given s.released.items (marked_for s.keys s.mark)
     c.self.invariant.kept c.args.at within c.args.key is due c.index-outcome.result.now same) in
-    whole_of s.keys s.ids.items s.outcomes.items s.numbers.items s.places s.cache.pairs s.cache.capacity s.jobs_out.items s.jobs_given s.released.items
+    whole_of s.keys s.ids.items s.outcomes.items s.numbers.items s.places s.cache.pairs s.cache.capacity s.jobs_out.items s.jobs_given s.released.items (marked_for s.keys s.mark)
     c.self.invariant.kept c.args.at within c.args.key is due c.index-outcome.result.now c.in_ok-input.input made
 
 pub invariant_of-self-2 : goal.invariant_of-self-2
@@ -69,13 +70,13 @@ invariant_of-self-2 g c =
     let there = rw (← c.self.view_is) at c.requires.number in
     let within = slice_get_within s.numbers.items c.args.at (Some c.args.key) there in
     let is = sym (get_or_from_slice_get s.numbers.items c.args.at (Some c.args.key) (Some c.args.key) there) in
-    let due = due_number s.keys s.ids.items s.outcomes.items s.numbers.items s.places s.cache.pairs s.cache.capacity s.jobs_out.items s.jobs_given s.released.items
+    let due = due_number s.keys s.ids.items s.outcomes.items s.numbers.items s.places s.cache.pairs s.cache.capacity s.jobs_out.items s.jobs_given s.released.items (marked_for s.keys s.mark)
     c.self.invariant.kept c.args.at c.args.key there (rw (← c.self.view_is) at c.requires.due) in
-    let same = outcome_same s.keys s.ids.items s.outcomes.items s.numbers.items s.places s.cache.pairs s.cache.capacity s.jobs_out.items s.jobs_given s.released.items
+    let same = outcome_same s.keys s.ids.items s.outcomes.items s.numbers.items s.places s.cache.pairs s.cache.capacity s.jobs_out.items s.jobs_given s.released.items (marked_for s.keys s.mark)
     c.self.invariant.kept c.args.at within c.args.key is due c.index-outcome.result.now c.index-outcome.ensures in
     let input = rw (c.deref-2.ensures, c.deref.ensures) at c.in_ok-input.ensures.known in
-    let made = input (known s.keys s.ids.items s.outcomes.items s.numbers.items s.places s.cache.pairs s.cache.capacity s.jobs_out.items s.jobs_given s.released.items
-    c.self.invariant.kept c.args.at within c.args.key is due) (has_known s.keys s.ids.items s.outcomes.items s.numbers.items s.places s.cache.pairs s.cache.capacity s.jobs_out.items s.jobs_given s.released.items
+    let made = input (known s.keys s.ids.items s.outcomes.items s.numbers.items s.places s.cache.pairs s.cache.capacity s.jobs_out.items s.jobs_given s.released.items (marked_for s.keys s.mark)
+    c.self.invariant.kept c.args.at within c.args.key is due) (has_known s.keys s.ids.items s.outcomes.items s.numbers.items s.places s.cache.pairs s.cache.capacity s.jobs_out.items s.jobs_given s.released.items (marked_for s.keys s.mark)
     c.self.invariant.kept c.args.at within c.args.key is due c.index-outcome.result.now same) in
     let more : c.push_reserved.new.self.items
     ≡ s.jobs_out.items ++ (record { number = c.in-Some.number; key = c.args.key; input = c.in_ok-input.input; first_place = s.units_not_due }) ∷ [] =
@@ -83,7 +84,7 @@ invariant_of-self-2 g c =
     ∙ rw (c.reserve.ensures.items, c.in_ok-copy.ensures) refl in
     record {
       kept =
-          kept_taken s.keys s.ids.items s.outcomes.items s.numbers.items s.places s.cache.pairs s.cache.capacity s.jobs_out.items s.jobs_given s.released.items
+          kept_taken s.keys s.ids.items s.outcomes.items s.numbers.items s.places s.cache.pairs s.cache.capacity s.jobs_out.items s.jobs_given s.released.items (marked_for s.keys s.mark)
           c.self.invariant.kept c.args.at within c.args.key is due g.met.P.Decoded.closed c.index-outcome.result.now same c.in_ok-input.input made c.in-Some.number s.units_not_due
           c.push_reserved.new.self.items more;
       counted = c.self.invariant.counted;
@@ -103,6 +104,7 @@ invariant_of-self-2 g c =
           scheduled_given s.keys (zip s.ids.items s.outcomes.items) s.numbers.items s.places s.jobs_out.items
           (record { number = c.in-Some.number; key = c.args.key; input = c.in_ok-input.input; first_place = s.units_not_due }) c.push_reserved.new.self.items more
           s.schedule c.self.invariant.scheduled;
+      marked = c.self.invariant.marked;
     }
 
 pub returns : goal.returns
@@ -111,13 +113,13 @@ returns g c =
     let there = rw (← c.self.view_is) at c.requires.number in
     let within = slice_get_within s.numbers.items c.args.at (Some c.args.key) there in
     let is = sym (get_or_from_slice_get s.numbers.items c.args.at (Some c.args.key) (Some c.args.key) there) in
-    let due = due_number s.keys s.ids.items s.outcomes.items s.numbers.items s.places s.cache.pairs s.cache.capacity s.jobs_out.items s.jobs_given s.released.items
+    let due = due_number s.keys s.ids.items s.outcomes.items s.numbers.items s.places s.cache.pairs s.cache.capacity s.jobs_out.items s.jobs_given s.released.items (marked_for s.keys s.mark)
     c.self.invariant.kept c.args.at c.args.key there (rw (← c.self.view_is) at c.requires.due) in
-    let same = outcome_same s.keys s.ids.items s.outcomes.items s.numbers.items s.places s.cache.pairs s.cache.capacity s.jobs_out.items s.jobs_given s.released.items
+    let same = outcome_same s.keys s.ids.items s.outcomes.items s.numbers.items s.places s.cache.pairs s.cache.capacity s.jobs_out.items s.jobs_given s.released.items (marked_for s.keys s.mark)
     c.self.invariant.kept c.args.at within c.args.key is due c.index-outcome.result.now c.index-outcome.ensures in
     let input = rw (c.deref-2.ensures, c.deref.ensures) at c.in_ok-input.ensures.known in
-    let made = input (known s.keys s.ids.items s.outcomes.items s.numbers.items s.places s.cache.pairs s.cache.capacity s.jobs_out.items s.jobs_given s.released.items
-    c.self.invariant.kept c.args.at within c.args.key is due) (has_known s.keys s.ids.items s.outcomes.items s.numbers.items s.places s.cache.pairs s.cache.capacity s.jobs_out.items s.jobs_given s.released.items
+    let made = input (known s.keys s.ids.items s.outcomes.items s.numbers.items s.places s.cache.pairs s.cache.capacity s.jobs_out.items s.jobs_given s.released.items (marked_for s.keys s.mark)
+    c.self.invariant.kept c.args.at within c.args.key is due) (has_known s.keys s.ids.items s.outcomes.items s.numbers.items s.places s.cache.pairs s.cache.capacity s.jobs_out.items s.jobs_given s.released.items (marked_for s.keys s.mark)
     c.self.invariant.kept c.args.at within c.args.key is due c.index-outcome.result.now same) in
     let more : c.push_reserved.new.self.items
     ≡ s.jobs_out.items ++ (record { number = c.in-Some.number; key = c.args.key; input = c.in_ok-input.input; first_place = s.units_not_due }) ∷ [] =
@@ -125,7 +127,7 @@ returns g c =
     ∙ rw (c.reserve.ensures.items, c.in_ok-copy.ensures) refl in (
       refl,
       rw (← c.self.view_is, c.new-job.ensures)
-          (given_job s.keys s.ids.items s.outcomes.items s.numbers.items s.places s.cache.pairs s.cache.capacity s.jobs_out.items s.jobs_given s.released.items
+          (given_job s.keys s.ids.items s.outcomes.items s.numbers.items s.places s.cache.pairs s.cache.capacity s.jobs_out.items s.jobs_given s.released.items (marked_for s.keys s.mark)
           c.self.invariant.kept c.args.at within c.args.key is due c.index-outcome.result.now same c.in_ok-input.input made c.in_ok-input.ensures.held c.in-Some.number s.units_not_due
           (omega (arith, c.in-Some.ensures)) c.push_reserved.new.self.items more),
     )

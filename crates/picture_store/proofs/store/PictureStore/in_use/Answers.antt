@@ -2,6 +2,7 @@ use Rattle.std.proofs.Common.{Some, ◌↔◌}
 use Rattle.std.specs.Prelude.{Contains, IsTrue}
 use Rattle.std.specs.List.{zip}
 use Rattle.picture_keys.specs.Known.{keys_of}
+use Rattle.picture_store.specs.Marks.{marked_for}
 use Rattle.picture_store.proofs.Numbered.{in_use_listed, listed_in_use, one_to_one}
 use Rattle.picture_store.proofs.Viewed.{viewed}
 use Rattle.picture_store.proofs.store.PictureStore.in_use.Goals as goal
@@ -9,7 +10,7 @@ use Rattle.picture_store.proofs.store.PictureStore.in_use.Goals as goal
 pub returns-clause-value : goal.returns-clause-value
 returns-clause-value g c =
     let s = c.self.inside in
-    let store = viewed s.keys s.ids.items s.outcomes.items s.numbers.items s.places s.cache.pairs s.cache.capacity s.jobs_out.items s.jobs_given s.released.items in
+    let store = viewed s.keys s.ids.items s.outcomes.items s.numbers.items s.places s.cache.pairs s.cache.capacity s.jobs_out.items s.jobs_given s.released.items (marked_for s.keys s.mark) in
     let listed : IsTrue c.is_some.result ↔ Contains s.numbers.items (Some c.args.key) =
     rw (c.is_some.ensures, c.get.ensures) (c.self.invariant.kept.used c.args.key) in
     rw (← c.self.view_is) (

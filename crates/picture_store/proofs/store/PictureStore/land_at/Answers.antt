@@ -1,5 +1,6 @@
 use Rattle.std.proofs.Common.{◌≡◌, sym, subst, ◌∙◌, ◌<◌, Option, Some}
 use Rattle.std.specs.Prelude.{IfSome}
+use Rattle.picture_store.specs.Marks.{marked_for}
 use Rattle.picture_store.proofs.Landed.{got_at, within_out}
 use Rattle.picture_store.proofs.Filled.{landed, kept_filled}
 use Rattle.picture_store.proofs.Looked.{behind_left, looked_landed}
@@ -22,7 +23,7 @@ after_landing-requires-clause-right g c =
     let decoded = (rw (← c.self.view_is) at c.requires.decoded) (seen s.keys c.remove-job.result)
     (got_at (seen s.keys) s.jobs_out.items c.args.at c.remove-job.result within c.remove-job.ensures.value) in
     let filled = c.fill-landing.ensures.filled in
-    (kept_filled s.keys s.ids.items s.outcomes.items s.numbers.items s.places s.cache.pairs s.cache.capacity s.jobs_out.items s.jobs_given s.released.items
+    (kept_filled s.keys s.ids.items s.outcomes.items s.numbers.items s.places s.cache.pairs s.cache.capacity s.jobs_out.items s.jobs_given s.released.items (marked_for s.keys s.mark)
     c.self.invariant.kept c.args.at within c.remove-job.result c.remove-job.ensures.value c.args.picture decoded
     c.fill-landing.result c.fill-landing.new.places c.remove-job.new.self.items c.remove-job.ensures.items filled).right
 
@@ -35,7 +36,7 @@ invariant_of-self g c =
     let filled = c.fill-landing.ensures.filled in
     record {
       kept =
-          kept_filled s.keys s.ids.items s.outcomes.items s.numbers.items s.places s.cache.pairs s.cache.capacity s.jobs_out.items s.jobs_given s.released.items
+          kept_filled s.keys s.ids.items s.outcomes.items s.numbers.items s.places s.cache.pairs s.cache.capacity s.jobs_out.items s.jobs_given s.released.items (marked_for s.keys s.mark)
           c.self.invariant.kept c.args.at within c.remove-job.result c.remove-job.ensures.value c.args.picture decoded
           c.fill-landing.result c.fill-landing.new.places c.remove-job.new.self.items c.remove-job.ensures.items filled;
       counted = λ number. c.fill-landing.ensures.uses number ∙ c.self.invariant.counted number;
@@ -60,6 +61,7 @@ invariant_of-self g c =
           c.if_ready-schedule.result c.after_landing.result c.self.invariant.scheduled
           (if_ready_at c.take.result s.schedule c.if_ready-schedule.result c.take.ensures.value c.if_ready-schedule.ensures)
           (rw (c.deref.ensures.value, c.deref-2.ensures.value) at c.after_landing.ensures);
+      marked = c.self.invariant.marked;
     }
 
 pub returns : goal.returns
@@ -70,6 +72,6 @@ returns g c =
     (got_at (seen s.keys) s.jobs_out.items c.args.at c.remove-job.result within c.remove-job.ensures.value) in
     let filled = c.fill-landing.ensures.filled in
     rw (← c.self.view_is)
-    (landed s.keys s.ids.items s.outcomes.items s.numbers.items s.places s.cache.pairs s.cache.capacity s.jobs_out.items s.jobs_given s.released.items
+    (landed s.keys s.ids.items s.outcomes.items s.numbers.items s.places s.cache.pairs s.cache.capacity s.jobs_out.items s.jobs_given s.released.items (marked_for s.keys s.mark)
     c.self.invariant.kept c.args.at within c.remove-job.result c.remove-job.ensures.value c.args.picture decoded
     c.fill-landing.result c.fill-landing.new.places c.remove-job.new.self.items c.remove-job.ensures.items filled)

@@ -18,9 +18,11 @@ use Rattle.picture_store.specs.Recounts.{IsRecounted}
 use Rattle.picture_store.specs.Stores.{StoreValue}
 use Rattle.picture_store.specs.Changes.{RefitsLosing}
 use Rattle.picture_store.specs.Stretches.{IsStretch, ids_with, outcomes_with}
-use Rattle.picture_store.proofs.Viewed.{viewed, on_any_err}
+use Rattle.picture_store.specs.Marks.{marked_for}
+use Rattle.picture_store.proofs.Viewed.{Marked, viewed, on_any_err}
 use Rattle.picture_store.proofs.Landed.{found_length}
-use Rattle.picture_store.proofs.Stays.{kept_stays, viewed_stays}
+use Rattle.picture_store.proofs.Marked.{marks_stay}
+use Rattle.picture_store.proofs.Stays.{kept_stays}
 use Rattle.picture_store.proofs.Lifted.{least_by_keys}
 use Rattle.picture_store.proofs.Stretched.{later_long, same_with, stand_with}
 use Rattle.picture_store.proofs.Refitted.{kept_after, refitted}
@@ -54,7 +56,8 @@ invariant_of-self-in_err-past g c =
     let s = c.self.inside in
     rw (c.make_room.ensures.ids, c.make_room.ensures.outcomes)
     (stored_still s.keys c.keys_from.new.keys s.ids.items s.outcomes.items s.numbers.items s.places s.places s.cache.pairs s.jobs_out.items
-    s.units_settled s.units_not_due s.schedule c.self.invariant (λ n k stored is. c.keys_from.ensures.stay n k is)
+    s.units_settled s.units_not_due s.schedule s.mark c.self.invariant (λ n k stored is. c.keys_from.ensures.stay n k is)
+    (λ n k marked is. c.keys_from.ensures.stay n k is)
     (c.keys_from.ensures.one c.self.invariant.kept.right.one) (same_self s.places))
 
 pub returns-in_err-past-clause-err : goal.returns-in_err-past-clause-err
@@ -62,8 +65,10 @@ returns-in_err-past-clause-err g c =
     let s = c.self.inside in
     on_any_err c.from_residual-in_err-past.result
     (rw (← c.sweep.ensures, ← c.self.view_is, c.make_room.ensures.ids, c.make_room.ensures.outcomes)
-    (viewed_stays s.keys c.keys_from.new.keys s.ids.items s.outcomes.items s.numbers.items s.places s.cache.pairs s.jobs_out.items
-    c.self.invariant.kept (λ n k stored is. c.keys_from.ensures.stay n k is) s.cache.capacity s.jobs_given s.released.items))
+    (viewed_still s.keys c.keys_from.new.keys s.ids.items s.outcomes.items s.numbers.items s.places s.places s.cache.pairs s.jobs_out.items
+    s.units_settled s.units_not_due s.schedule s.mark c.self.invariant (λ n k stored is. c.keys_from.ensures.stay n k is)
+    (λ n k marked is. c.keys_from.ensures.stay n k is) (c.keys_from.ensures.one c.self.invariant.kept.right.one) (same_self s.places)
+    s.cache.capacity s.jobs_given s.released.items))
 
 pub make_ready-requires-clause-ordered : goal.make_ready-requires-clause-ordered
 make_ready-requires-clause-ordered g c =
@@ -77,7 +82,7 @@ make_ready-requires-clause-inside g c =
     omega (
       arith,
       behind.1,
-      found_length s.keys s.ids.items s.outcomes.items s.numbers.items s.places s.cache.pairs s.cache.capacity s.jobs_out.items s.jobs_given s.released.items
+      found_length s.keys s.ids.items s.outcomes.items s.numbers.items s.places s.cache.pairs s.cache.capacity s.jobs_out.items s.jobs_given s.released.items (marked_for s.keys s.mark)
           c.self.invariant.kept,
     )
 
@@ -86,7 +91,8 @@ invariant_of-self-in_err-leaving g c =
     let s = c.self.inside in
     rw (c.make_room.ensures.ids, c.make_room.ensures.outcomes, c.make_ready.ensures.numbers)
     (stored_still s.keys c.keys_from.new.keys s.ids.items s.outcomes.items s.numbers.items s.places c.make_ready.new.places
-    s.cache.pairs s.jobs_out.items s.units_settled s.units_not_due s.schedule c.self.invariant (λ n k stored is. c.keys_from.ensures.stay n k is)
+    s.cache.pairs s.jobs_out.items s.units_settled s.units_not_due s.schedule s.mark c.self.invariant (λ n k stored is. c.keys_from.ensures.stay n k is)
+    (λ n k marked is. c.keys_from.ensures.stay n k is)
     (c.keys_from.ensures.one c.self.invariant.kept.right.one) c.make_ready.ensures.same)
 
 pub returns-in_err-leaving-clause-err : goal.returns-in_err-leaving-clause-err
@@ -95,7 +101,8 @@ returns-in_err-leaving-clause-err g c =
     on_any_err c.from_residual-in_err-leaving.result
     (rw (← c.sweep.ensures, ← c.self.view_is, c.make_room.ensures.ids, c.make_room.ensures.outcomes, c.make_ready.ensures.numbers, c.make_ready.ensures.released)
     (viewed_still s.keys c.keys_from.new.keys s.ids.items s.outcomes.items s.numbers.items s.places c.make_ready.new.places
-    s.cache.pairs s.jobs_out.items s.units_settled s.units_not_due s.schedule c.self.invariant (λ n k stored is. c.keys_from.ensures.stay n k is)
+    s.cache.pairs s.jobs_out.items s.units_settled s.units_not_due s.schedule s.mark c.self.invariant (λ n k stored is. c.keys_from.ensures.stay n k is)
+    (λ n k marked is. c.keys_from.ensures.stay n k is)
     (c.keys_from.ensures.one c.self.invariant.kept.right.one) c.make_ready.ensures.same s.cache.capacity s.jobs_given s.released.items))
 
 pub recount-lost-requires-clause-room : goal.recount-lost-requires-clause-room
@@ -155,7 +162,7 @@ pub changed_by-changed-requires-clause-numbers : goal.changed_by-changed-require
 changed_by-changed-requires-clause-numbers g c =
     let s = c.self.inside in
     rw (c.deref-7.ensures.value, c.deref-9.ensures.value, c.make_room.ensures.ids, c.make_ready.ensures.numbers)
-    (found_length s.keys s.ids.items s.outcomes.items s.numbers.items s.places s.cache.pairs s.cache.capacity s.jobs_out.items s.jobs_given s.released.items
+    (found_length s.keys s.ids.items s.outcomes.items s.numbers.items s.places s.cache.pairs s.cache.capacity s.jobs_out.items s.jobs_given s.released.items (marked_for s.keys s.mark)
     c.self.invariant.kept)
 
 pub changed_by-changed-requires-clause-within : goal.changed_by-changed-requires-clause-within
@@ -180,7 +187,7 @@ changed_by-changed-requires-clause-later g c =
     rw (c.deref-10.ensures.value)
     (later_long ids s.outcomes.items c.self.invariant.kept.same c.args.stretch stretch c.keys_from.new.keys _ c.in_ok-past.past
     s.numbers.items c.in_ok-past.later.items
-    (found_length s.keys s.ids.items s.outcomes.items s.numbers.items s.places s.cache.pairs s.cache.capacity s.jobs_out.items s.jobs_given s.released.items
+    (found_length s.keys s.ids.items s.outcomes.items s.numbers.items s.places s.cache.pairs s.cache.capacity s.jobs_out.items s.jobs_given s.released.items (marked_for s.keys s.mark)
     c.self.invariant.kept)
     behind.0 behind.1 anew)
 
@@ -221,7 +228,7 @@ replace_range-requires-clause-inside g c =
       behind.1,
       ap length c.make_ready.ensures.numbers,
       c.make_ready.new.numbers.ok.0,
-      found_length s.keys s.ids.items s.outcomes.items s.numbers.items s.places s.cache.pairs s.cache.capacity s.jobs_out.items s.jobs_given s.released.items
+      found_length s.keys s.ids.items s.outcomes.items s.numbers.items s.places s.cache.pairs s.cache.capacity s.jobs_out.items s.jobs_given s.released.items (marked_for s.keys s.mark)
           c.self.invariant.kept,
     )
 
@@ -274,7 +281,7 @@ invariant_of-self-2 g c =
       arith,
       stretch.ordered,
       stretch.within,
-      found_length s.keys s.ids.items s.outcomes.items s.numbers.items s.places s.cache.pairs s.cache.capacity s.jobs_out.items s.jobs_given s.released.items
+      found_length s.keys s.ids.items s.outcomes.items s.numbers.items s.places s.cache.pairs s.cache.capacity s.jobs_out.items s.jobs_given s.released.items (marked_for s.keys s.mark)
           c.self.invariant.kept,
     ) in
     let later_found : List (Option ℕ) = later.items ++ drop past s.numbers.items in
@@ -322,6 +329,7 @@ invariant_of-self-2 g c =
           (behind_lowered s.numbers.items later_found s.jobs_out.items out c.args.stretch.from in_front out_are
           c.self.invariant.behind));
       scheduled = tt;
+      marked = marks_stay s.keys c.keys_from.new.keys s.mark c.self.invariant.marked (λ n k marked is. c.keys_from.ensures.stay n k is);
     }
 
 pub returns-clause-ok : goal.returns-clause-ok
@@ -369,10 +377,13 @@ returns-clause-ok g c =
     let outcomes_are : c.put_stretch.new.outcomes.items ≡ outcomes_with c.args.stretch outcomes =
     rw (c.make_room.ensures.outcomes) at c.put_stretch.ensures.outcomes in
     let room : c.recount-lost.new.cache.capacity ≡ s.cache.capacity = c.recount-lost.ensures.room in
-    let old : StoreValue g.row.P.Denot = viewed s.keys ids outcomes s.numbers.items s.places s.cache.pairs s.cache.capacity s.jobs_out.items s.jobs_given s.released.items in
-    let is : viewed c.keys_from.new.keys ids outcomes s.numbers.items s.places s.cache.pairs s.cache.capacity s.jobs_out.items s.jobs_given s.released.items ≡ old =
-    viewed_stays s.keys c.keys_from.new.keys ids outcomes s.numbers.items s.places s.cache.pairs s.jobs_out.items
-    c.self.invariant.kept (λ n k stored is. c.keys_from.ensures.stay n k is) s.cache.capacity s.jobs_given s.released.items in
+    let old : StoreValue g.row.P.Denot = viewed s.keys ids outcomes s.numbers.items s.places s.cache.pairs s.cache.capacity s.jobs_out.items s.jobs_given s.released.items (marked_for s.keys s.mark) in
+    let marked : Marked = marked_for c.keys_from.new.keys s.mark in
+    let is : viewed c.keys_from.new.keys ids outcomes s.numbers.items s.places s.cache.pairs s.cache.capacity s.jobs_out.items s.jobs_given s.released.items marked ≡ old =
+    viewed_still s.keys c.keys_from.new.keys ids outcomes s.numbers.items s.places s.places s.cache.pairs s.jobs_out.items
+    s.units_settled s.units_not_due s.schedule s.mark c.self.invariant (λ n k stored is. c.keys_from.ensures.stay n k is)
+    (λ n k marked is. c.keys_from.ensures.stay n k is) (c.keys_from.ensures.one c.self.invariant.kept.right.one) (same_self s.places)
+    s.cache.capacity s.jobs_given s.released.items in
     let out_are : c.lower_all.new.jobs.items ≡ map (lowered c.args.stretch.from) s.jobs_out.items = c.lower_all.ensures in
     let out_seen : jobs_for c.keys_from.new.keys c.lower_all.new.jobs.items ≡ jobs_for c.keys_from.new.keys s.jobs_out.items =
     ap (jobs_for c.keys_from.new.keys) out_are
@@ -380,11 +391,11 @@ returns-clause-ok g c =
     rw (← c.sweep.ensures, ← c.self.view_is, room, ids_are, outcomes_are, found_are, out_seen)
     (subst (λ (store : StoreValue g.row.P.Denot). RefitsLosing store (ids_with c.args.stretch ids) (outcomes_with c.args.stretch outcomes) c.recount-lost.result
     (viewed c.keys_from.new.keys (ids_with c.args.stretch ids) (outcomes_with c.args.stretch outcomes)
-    numbers c.recount-lost.new.places c.recount-lost.new.cache.pairs s.cache.capacity s.jobs_out.items s.jobs_given c.forget_released.new.released.items)) is
+    numbers c.recount-lost.new.places c.recount-lost.new.cache.pairs s.cache.capacity s.jobs_out.items s.jobs_given c.forget_released.new.released.items marked)) is
     (refitted c.keys_from.new.keys ids outcomes s.numbers.items s.places s.cache.pairs s.jobs_out.items kept
     (ids_with c.args.stretch ids) (outcomes_with c.args.stretch outcomes) numbers c.recount-lost.new.places stand
     recounted.placed recounted.left c.recount-lost.new.cache.pairs recounted.leaves recounted.left_pairs s.cache.capacity
-    recounted.gone recounted.go c.recount-lost.result recounted.puts recounted.put_pairs s.jobs_given s.released.items c.forget_released.new.released.items))
+    recounted.gone recounted.go c.recount-lost.result recounted.puts recounted.put_pairs s.jobs_given s.released.items c.forget_released.new.released.items marked))
 
 pub returns-clause-changed : goal.returns-clause-changed
 returns-clause-changed g c =

@@ -1,4 +1,5 @@
 use Rattle.picture_store.specs.Looked.{IsBehind}
+use Rattle.picture_store.specs.Marks.{marked_for}
 use Rattle.picture_store.proofs.Landed.{all_without, kept_without, seen_without}
 use Rattle.picture_store.proofs.Looked.{none_looked}
 use Rattle.picture_store.proofs.Settled.{none_settled}
@@ -18,6 +19,7 @@ invariant_of-self g c =
       looked = none_looked s.keys s.places _ s.numbers.items;
       behind = all_without (IsBehind s.numbers.items) s.jobs_out.items c.args.at c.self.invariant.behind;
       scheduled = tt;
+      marked = c.self.invariant.marked;
     })
 
 pub returns : goal.returns
@@ -25,4 +27,4 @@ returns g c =
     let s = c.self.inside in
     rw (← c.self.view_is)
     (seen_without s.keys s.ids.items s.outcomes.items s.numbers.items s.places s.cache.pairs s.cache.capacity s.jobs_out.items
-    c.remove.new.self.items s.jobs_given s.released.items c.args.at c.remove.ensures.items)
+    c.remove.new.self.items s.jobs_given s.released.items (marked_for s.keys s.mark) c.args.at c.remove.ensures.items)

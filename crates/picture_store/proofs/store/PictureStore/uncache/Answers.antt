@@ -1,3 +1,4 @@
+use Rattle.picture_store.specs.Marks.{marked_for}
 use Rattle.picture_store.proofs.Uncached.{kept_left, numbered_left, uncaches}
 use Rattle.picture_store.proofs.store.PictureStore.uncache.Goals as goal
 
@@ -17,6 +18,7 @@ invariant_of-self g c =
       looked = c.self.invariant.looked;
       behind = c.self.invariant.behind;
       scheduled = c.self.invariant.scheduled;
+      marked = c.self.invariant.marked;
     }
 
 pub returns : goal.returns
@@ -24,4 +26,4 @@ returns g c =
     let s = c.self.inside in
     rw (← c.self.view_is)
     (uncaches s.keys s.ids.items s.outcomes.items s.numbers.items s.places s.cache c.take_oldest.new.self s.jobs_out.items
-    c.self.invariant.kept c.take_oldest.result c.take_oldest.ensures.oldest s.jobs_given s.released.items)
+    c.self.invariant.kept c.take_oldest.result c.take_oldest.ensures.oldest s.jobs_given s.released.items (marked_for s.keys s.mark))

@@ -140,6 +140,17 @@ public:
         return told;
     }
 
+    /* Remembers what the valid units are made of now, in place of an earlier mark. */
+    void mark() { expect(cupdaisy_mark(&handle)); }
+
+    /* Whether a valid unit is made of something of which no unit was at the mark. */
+    bool is_altered(std::uint32_t id)
+    {
+        std::uint32_t altered = 0;
+        expect(cupdaisy_is_altered(&handle, id, &altered));
+        return altered == 1;
+    }
+
     /* CUPDAISY_DONE with the picture's surface, or CUPDAISY_PENDING, _HAS_FAULT, _NO_PICTURE or _NO_SUCH_UNIT. */
     std::uint32_t show(std::uint32_t id, Surface &surface) { return cupdaisy_show(&handle, id, &surface); }
 

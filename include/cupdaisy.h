@@ -339,6 +339,18 @@ uint32_t cupdaisy_key(cupdaisy_session *session, uint32_t id, uint64_t *key);
 uint32_t cupdaisy_in_use(cupdaisy_session *session, uint64_t key, uint32_t *in_use);
 
 /*
+ * Marks the stream as it is: the keys of its valid units are remembered, whether units have them later or not. It takes the place of
+ * an earlier mark, and edits leave it. Takes memory: at most 16 bytes a unit. MEMORY.
+ */
+uint32_t cupdaisy_mark(cupdaisy_session *session);
+
+/*
+ * Whether the unit of the id is altered: 1 where it is valid, the stream was marked, and no unit had its key then; else 0. So a unit
+ * that was deleted and inserted again isn't altered, and one that lists a deleted one is. NO_SUCH_UNIT.
+ */
+uint32_t cupdaisy_is_altered(cupdaisy_session *session, uint32_t id, uint32_t *altered);
+
+/*
  * What is shown of the unit of the id: the surface of its picture as the stream is now, whatever was decoded before. Units whose
  * pictures are made alike have one surface. Takes no memory.
  * PENDING where the picture isn't held: take jobs, decode and land them; HAS_FAULT; NO_PICTURE; NO_SUCH_UNIT.

@@ -30,7 +30,7 @@ CALLS: dict[str, tuple[Any, ...]] = {
     "units": (OUT_SIZE,), "id_at": (SIZE, OUT_ID), "place": (c_uint32, OUT_SIZE), "position": (c_uint32, OUT_SIZE),
     "unit_at": (SIZE, OUT_ID), "outcome_of": (c_uint32, POINTER(Outcome)),
     "doubts": (SIZE, POINTER(Doubt), SIZE, OUT_SIZE), "key": (c_uint32, OUT_NUMBER),
-    "in_use": (c_uint64, OUT_ID),
+    "in_use": (c_uint64, OUT_ID), "mark": (), "is_altered": (c_uint32, OUT_ID),
     "show": (c_uint32, OUT_NUMBER), "take": (POINTER(Job),), "take_for": (c_uint32, POINTER(Job)),
     "land": (c_uint64, c_uint64), "give_back": (c_uint64,), "drop_picture": (c_uint32, OUT_NUMBER), "uncache": (OUT_NUMBER,),
     "released": (OUT_NUMBER, SIZE, OUT_SIZE),

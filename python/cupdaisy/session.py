@@ -180,6 +180,14 @@ class Session(Generic[T]):
         """Whether some unit has the key of this number."""
         return self.number(c_uint32, "in_use", key) == 1
 
+    def mark(self) -> None:
+        """Remembers what the valid units are made of now, in place of an earlier mark."""
+        self.done("mark")
+
+    def is_altered(self, unit: int) -> bool:
+        """Whether a valid unit is made of something of which no unit was at the mark."""
+        return self.number(c_uint32, "is_altered", unit) == 1
+
     def unit_request(self, unit: int, slice: int) -> Request:
         return self.told(Request(), "unit_request", unit, slice)
 

@@ -102,6 +102,14 @@ class Calls(unittest.TestCase):
             self.assertEqual(session.job_frame(job.number), frame)
             self.assertEqual(session.job_frame_bytes(job.number), session.unit_frame_bytes(1))
             self.assertTrue(session.in_use(session.key(1)))
+            self.assertFalse(session.is_altered(1))
+            session.mark()
+            session.replace(1, PICTURE[:-1] + b"\xC0")
+            self.assertTrue(session.is_altered(1))
+            session.replace(1, PICTURE)
+            self.assertFalse(session.is_altered(1))
+            with self.assertRaises(cupdaisy.Refused):
+                session.is_altered(2)
 
     def test_a_damaged_text_is_mended(self):
         later = bytes.fromhex("000001415A")

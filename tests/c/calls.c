@@ -445,6 +445,36 @@ static void pictures_are_dropped(void)
     EXPECT(cupdaisy_close(&session) == CUPDAISY_DONE);
 }
 
+/* Whether a unit is altered, by the number that is told. */
+static bool has_altered(cupdaisy_session *session, uint32_t id, uint32_t expected)
+{
+    uint32_t altered = 7;
+    return cupdaisy_is_altered(session, id, &altered) == CUPDAISY_DONE && altered == expected;
+}
+
+static void altered_units_are_told(void)
+{
+    cupdaisy_session session = CUPDAISY_NONE;
+    cupdaisy_receipt receipt = {0, 0, 0, 0, 0, 0};
+    uint32_t altered = 7;
+    EXPECT(cupdaisy_open(&session, 16) == CUPDAISY_DONE);
+    fill(&session);
+    /* Before a mark none is; behind one a replaced unit is, and so is the one that lists it, until it is as it was. */
+    EXPECT(has_altered(&session, 1, 0) && has_altered(&session, 2, 0) && has_altered(&session, 3, 0));
+    EXPECT(cupdaisy_mark(&session) == CUPDAISY_DONE);
+    EXPECT(cupdaisy_replace(&session, 2, P1x, sizeof P1x, &receipt) == CUPDAISY_DONE);
+    EXPECT(has_altered(&session, 1, 0) && has_altered(&session, 2, 1) && has_altered(&session, 3, 1));
+    EXPECT(cupdaisy_replace(&session, 2, P1, sizeof P1, &receipt) == CUPDAISY_DONE);
+    EXPECT(has_altered(&session, 1, 0) && has_altered(&session, 2, 0) && has_altered(&session, 3, 0));
+    /* A new mark takes the place of the old one; a unit with a fault is none. */
+    EXPECT(cupdaisy_delete(&session, 2, &receipt) == CUPDAISY_DONE && has_altered(&session, 3, 0));
+    EXPECT(cupdaisy_mark(&session) == CUPDAISY_DONE);
+    EXPECT(cupdaisy_insert_after(&session, 1, P1, sizeof P1, &receipt) == CUPDAISY_DONE && receipt.id == 4);
+    EXPECT(has_altered(&session, 1, 0) && has_altered(&session, 4, 1) && has_altered(&session, 3, 1));
+    EXPECT(cupdaisy_is_altered(&session, 2, &altered) == CUPDAISY_NO_SUCH_UNIT && altered == 7);
+    EXPECT(cupdaisy_close(&session) == CUPDAISY_DONE);
+}
+
 /* What a cache of one picture has no room for goes back, but not while a job that is out refers to it. */
 static void pictures_are_released(void)
 {
@@ -664,6 +694,8 @@ static void expect_no_more(cupdaisy_session *session)
     EXPECT(cupdaisy_unit_at(session, 0, &id) == CUPDAISY_NO_SESSION && id == 7);
     EXPECT(cupdaisy_key(session, 1, &key) == CUPDAISY_NO_SESSION && key == 7);
     EXPECT(cupdaisy_in_use(session, 1, &id) == CUPDAISY_NO_SESSION && id == 7);
+    EXPECT(cupdaisy_mark(session) == CUPDAISY_NO_SESSION);
+    EXPECT(cupdaisy_is_altered(session, 1, &id) == CUPDAISY_NO_SESSION && id == 7);
     cupdaisy_doubt doubt = {7, 7};
     EXPECT(cupdaisy_doubts(session, 0, &doubt, 1, &number) == CUPDAISY_NO_SESSION && number == 7 && doubt.follows == 7);
     cupdaisy_job job = {7, 7};
@@ -861,6 +893,7 @@ int main(void)
     jobs_are_told();
     frames_are_told();
     large_frames_are_told();
+    altered_units_are_told();
     pictures_are_dropped();
     pictures_are_released();
     journal_is_told();

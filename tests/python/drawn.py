@@ -38,7 +38,7 @@ KINDS = {"first": interface.INSERT_FIRST, "after": interface.INSERT_AFTER, "dele
          "replace": interface.REPLACE}
 CACHE, MOST_UNITS = 4096, 24
 STEPS = ("edit", "edit", "edit", "edit", "group", "load", "take", "take", "take_for", "take_for", "land", "give", "settle",
-         "settle_for", "drop", "drop", "uncache", "released")
+         "settle_for", "drop", "drop", "uncache", "released", "mark")
 
 
 class Differs(Exception):
@@ -417,6 +417,16 @@ class Drawn:
         for key in {*self.rng.sample(sorted(self.numbers), min(len(self.numbers), 8)), 0, 1 << 63}:
             same(f"whether {key} is in use", self.session.in_use(key), key in now)
 
+    def mark(self):
+        self.session.mark()
+        self.model.mark()
+
+    def altered(self):
+        """Which units are altered since the mark, and one that isn't there."""
+        for unit, _ in self.model.stream:
+            same(f"whether {unit} is altered", self.session.is_altered(unit), self.model.altered(unit))
+        same("altered of no unit", answered(self.session.is_altered, 0), ("refused", 16, None))
+
     def plan(self, unit, row, found):
         outcome = row.outcome
         same(f"outcome of {unit}",
@@ -445,6 +455,7 @@ class Drawn:
         same("surfaces that the session has", len(self.has), len(self.model.held) + sum(map(len, self.model.cached)))
         self.keys_in_use()
         self.doubts()
+        self.altered()
         self.unit_requests()
         self.job_requests()
 

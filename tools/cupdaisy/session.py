@@ -65,6 +65,8 @@ class Session:
         self.pictures, self.held, self.cached, self.out = {}, set(), [], []
         # Which places the last edit changed.
         self.changed = 0, 0
+        # The keys of the valid units at the mark, None before there is one.
+        self.marked = None
 
     def place(self, unit_id):
         return place_in(self.stream, unit_id)
@@ -104,6 +106,18 @@ class Session:
         self.cached = [group - in_use for group in self.cached]
         self.cached = [group for group in [gone] + self.cached if group]
         self.shorten()
+
+    def mark(self):
+        """Remembers the keys of the valid units as they are."""
+        self.marked = {row.key for row in self.rows} - {None}
+
+    def altered(self, unit_id):
+        """Whether the key of a valid unit was no unit's at the mark; None where there is no such unit."""
+        at = self.place(unit_id)
+        if at is None:
+            return None
+        key = self.rows[at].key
+        return self.marked is not None and key is not None and key not in self.marked
 
     def shorten(self):
         """Drops what the cache has no room for."""

@@ -13,6 +13,7 @@ mod handle;
 mod held;
 mod jobs;
 mod journal;
+mod marking;
 mod mending;
 mod names;
 mod questions;

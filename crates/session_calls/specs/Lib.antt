@@ -7,6 +7,7 @@ pub mod Editing
 pub mod Grouping
 pub mod AskedFaults
 pub mod Loading
+pub mod Marking
 pub mod Mending
 pub mod Asking
 pub mod Finding

@@ -18,6 +18,7 @@ mod jobs;
 mod journaling;
 mod keys;
 mod loading;
+mod marking;
 mod mending;
 mod naming;
 mod releasing;
@@ -27,36 +28,105 @@ mod statuses;
 mod surface_session;
 mod telling;
 
-pub use asking::{
-    KIND_EMPTY, KIND_FAULT, KIND_PLAN, UnitOutcome, id_at, outcome, place, position, units,
-};
-pub use doubting::{DoubtTold, doubts};
-pub use editing::{EditReceipt, delete, edit, insert, insert_last, replace};
+pub use asking::KIND_EMPTY;
+pub use asking::KIND_FAULT;
+pub use asking::KIND_PLAN;
+pub use asking::UnitOutcome;
+pub use asking::id_at;
+pub use asking::outcome;
+pub use asking::place;
+pub use asking::position;
+pub use asking::units;
+pub use doubting::DoubtTold;
+pub use doubting::doubts;
+pub use editing::EditReceipt;
+pub use editing::delete;
+pub use editing::edit;
+pub use editing::insert;
+pub use editing::insert_last;
+pub use editing::replace;
 pub use finding::unit_at;
-pub use frames::{FrameTold, job_frame, job_frame_bytes, unit_frame, unit_frame_bytes};
-pub use grouping::{EditAsked, GroupTold, group};
-pub use job_inputs::{JobInput, JobReference, job_input, job_reference};
-pub use jobs::{JobTaken, give_back, land, take, take_for};
-pub use journaling::{
-    JournalEdit, KIND_DELETE, KIND_INSERT_AFTER, KIND_INSERT_FIRST, KIND_REPLACE, journal,
-    journal_edit, journal_entry, journal_text,
-};
-pub use keys::{in_use, key};
-pub use loading::{LoadTold, load};
-pub use mending::{
-    LeftOutTold, WHY_EMPTY, WHY_FORBIDDEN_BIT, WHY_FORBIDDEN_BYTES, WHY_IDR_NOT_INTRA,
-    WHY_IDR_NOT_REFERENCE, WHY_NOT_NAL_UNIT, WHY_SWITCHING, WHY_TOO_LARGE, WHY_UNIT_TYPE,
-    WHY_UNREAD_PPS, WHY_UNREAD_SPS, mend,
-};
-pub use naming::{fault_name, status_name, version, version_text, why_name};
-pub use releasing::{drop_picture, released, uncache};
-pub use requests::{
-    SliceRequest, job_bytes, job_request, job_weights, unit_bytes, unit_request, unit_weights,
-};
+pub use frames::FrameTold;
+pub use frames::job_frame;
+pub use frames::job_frame_bytes;
+pub use frames::unit_frame;
+pub use frames::unit_frame_bytes;
+pub use grouping::EditAsked;
+pub use grouping::GroupTold;
+pub use grouping::group;
+pub use job_inputs::JobInput;
+pub use job_inputs::JobReference;
+pub use job_inputs::job_input;
+pub use job_inputs::job_reference;
+pub use jobs::JobTaken;
+pub use jobs::give_back;
+pub use jobs::land;
+pub use jobs::take;
+pub use jobs::take_for;
+pub use journaling::JournalEdit;
+pub use journaling::KIND_DELETE;
+pub use journaling::KIND_INSERT_AFTER;
+pub use journaling::KIND_INSERT_FIRST;
+pub use journaling::KIND_REPLACE;
+pub use journaling::journal;
+pub use journaling::journal_edit;
+pub use journaling::journal_entry;
+pub use journaling::journal_text;
+pub use keys::in_use;
+pub use keys::key;
+pub use loading::LoadTold;
+pub use loading::load;
+pub use marking::is_altered;
+pub use marking::mark;
+pub use mending::LeftOutTold;
+pub use mending::WHY_EMPTY;
+pub use mending::WHY_FORBIDDEN_BIT;
+pub use mending::WHY_FORBIDDEN_BYTES;
+pub use mending::WHY_IDR_NOT_INTRA;
+pub use mending::WHY_IDR_NOT_REFERENCE;
+pub use mending::WHY_NOT_NAL_UNIT;
+pub use mending::WHY_SWITCHING;
+pub use mending::WHY_TOO_LARGE;
+pub use mending::WHY_UNIT_TYPE;
+pub use mending::WHY_UNREAD_PPS;
+pub use mending::WHY_UNREAD_SPS;
+pub use mending::mend;
+pub use naming::fault_name;
+pub use naming::status_name;
+pub use naming::version;
+pub use naming::version_text;
+pub use naming::why_name;
+pub use releasing::drop_picture;
+pub use releasing::released;
+pub use releasing::uncache;
+pub use requests::SliceRequest;
+pub use requests::job_bytes;
+pub use requests::job_request;
+pub use requests::job_weights;
+pub use requests::unit_bytes;
+pub use requests::unit_request;
+pub use requests::unit_weights;
 pub use showing::show;
-pub use statuses::{
-    CACHE_RANGE, DONE, HAS_FAULT, IS_OPEN, JOBS_SPENT, MEMORY, NO_PICTURE, NO_SESSION, NO_SUCH_JOB,
-    NO_SUCH_NAME, NO_SUCH_PLACE, NO_SUCH_SLICE, NO_SUCH_UNIT, NO_WEIGHTS, NOT_AN_EDIT, NOT_HELD,
-    NOT_VALID, NOTHING_DUE, PENDING, SEVERAL_SLICES, STALE, TOO_SMALL,
-};
+pub use statuses::CACHE_RANGE;
+pub use statuses::DONE;
+pub use statuses::HAS_FAULT;
+pub use statuses::IS_OPEN;
+pub use statuses::JOBS_SPENT;
+pub use statuses::MEMORY;
+pub use statuses::NO_PICTURE;
+pub use statuses::NO_SESSION;
+pub use statuses::NO_SUCH_JOB;
+pub use statuses::NO_SUCH_NAME;
+pub use statuses::NO_SUCH_PLACE;
+pub use statuses::NO_SUCH_SLICE;
+pub use statuses::NO_SUCH_UNIT;
+pub use statuses::NO_WEIGHTS;
+pub use statuses::NOT_AN_EDIT;
+pub use statuses::NOT_HELD;
+pub use statuses::NOT_VALID;
+pub use statuses::NOTHING_DUE;
+pub use statuses::PENDING;
+pub use statuses::SEVERAL_SLICES;
+pub use statuses::STALE;
+pub use statuses::TOO_SMALL;
 pub use surface_session::SurfaceSession;

@@ -202,6 +202,17 @@ impl<T> Session<T> {
         self.raw.in_use(key) == Ok(1)
     }
 
+    /// Remembers what the valid units are made of now, in place of an earlier mark.
+    pub fn mark(&mut self) -> Result<(), Error> {
+        self.raw.mark().map_err(Error::of)
+    }
+
+    /// Whether a valid unit is made of something of which no unit was at the mark.
+    pub fn is_altered(&self, unit: UnitId) -> Result<bool, Error> {
+        let altered = self.raw.is_altered(unit.0).map_err(Error::of)?;
+        Ok(altered == 1)
+    }
+
     /// The request of a slice of a valid unit, from 0 on.
     pub fn unit_request(&self, unit: UnitId, slice: usize) -> Result<Request, Error> {
         self.raw.unit_request(unit.0, slice).map_err(Error::of)

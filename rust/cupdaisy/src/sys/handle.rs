@@ -105,6 +105,7 @@ told! {
     outcome_of = cupdaisy_outcome_of(id: u32) -> cupdaisy_outcome;
     key = cupdaisy_key(id: u32) -> u64;
     in_use = cupdaisy_in_use(key: u64) -> u32;
+    is_altered = cupdaisy_is_altered(id: u32) -> u32;
     show = cupdaisy_show(id: u32) -> u64;
     take = cupdaisy_take() -> cupdaisy_job;
     take_for = cupdaisy_take_for(id: u32) -> cupdaisy_job;
@@ -206,6 +207,10 @@ impl Raw {
         done(unsafe { cupdaisy_doubts(self.at(), from, doubts.as_mut_ptr(), doubts.len(), &mut told) })?;
         doubts.truncate(told);
         Ok(doubts)
+    }
+
+    pub(crate) fn mark(&self) -> Result<(), Status> {
+        done(unsafe { cupdaisy_mark(self.at()) })
     }
 
     pub(crate) fn land(&self, job: u64, surface: u64) -> Result<(), Status> {

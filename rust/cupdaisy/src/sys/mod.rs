@@ -274,6 +274,8 @@ extern "C" {
     ) -> Status;
     pub fn cupdaisy_key(session: Handle, id: u32, key: *mut u64) -> Status;
     pub fn cupdaisy_in_use(session: Handle, key: u64, in_use: *mut u32) -> Status;
+    pub fn cupdaisy_mark(session: Handle) -> Status;
+    pub fn cupdaisy_is_altered(session: Handle, id: u32, altered: *mut u32) -> Status;
     pub fn cupdaisy_show(session: Handle, id: u32, surface: *mut u64) -> Status;
     pub fn cupdaisy_take(session: Handle, job: *mut cupdaisy_job) -> Status;
     pub fn cupdaisy_take_for(session: Handle, id: u32, job: *mut cupdaisy_job) -> Status;

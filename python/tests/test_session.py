@@ -108,8 +108,8 @@ class Calls(unittest.TestCase):
             self.assertTrue(session.is_altered(1))
             session.replace(1, PICTURE)
             self.assertFalse(session.is_altered(1))
-            with self.assertRaises(cupdaisy.Refused):
-                session.is_altered(2)
+            with self.assertRaisesRegex(cupdaisy.Refused, "^16 NoSuchUnit"):
+                session.is_altered(99)
 
     def test_a_damaged_text_is_mended(self):
         later = bytes.fromhex("000001415A")

@@ -67,6 +67,7 @@ struct known {
     size_t entries; /* of the journal */
     bool has[SURFACES]; /* which surfaces the session has */
     uint64_t jobs;      /* how many were taken */
+    bool is_marked;
 };
 
 static unsigned call_number;
@@ -378,11 +379,14 @@ static void ask_unit(struct known *known, struct input *input)
         EXPECT_UNTOUCHED(key);
     else
         EXPECT(cupdaisy_in_use(session, key, &in_use) == CUPDAISY_DONE && in_use == 1);
+    uint32_t altered = 7;
+    EXPECT(answered(known, cupdaisy_is_altered(session, id, &altered), of_unit) == told);
     if (told != CUPDAISY_DONE) {
         EXPECT_UNTOUCHED(outcome);
-        EXPECT(keyed == told && shown == told);
+        EXPECT(keyed == told && shown == told && altered == 7);
         return;
     }
+    EXPECT(altered == 0 || (altered == 1 && known->is_marked && keyed == CUPDAISY_DONE));
     reached[FAULTS * STATUSES + outcome.fault % STATUSES] = 1;
     EXPECT(outcome.kind <= CUPDAISY_EMPTY && (outcome.kind == CUPDAISY_PLAN) == (outcome.slices > 0));
     EXPECT((outcome.kind == CUPDAISY_FAULT) == (outcome.fault != 0) && (shown == CUPDAISY_HAS_FAULT) == (outcome.fault != 0));
@@ -770,8 +774,21 @@ static void close_session(struct known *known)
     known->given = 0;
     known->entries = 0;
     known->jobs = 0;
+    known->is_marked = false;
     memset(known->has, 0, sizeof known->has);
     EXPECT(blocks == 0);
+}
+
+/* The stream is marked, after which none of its units is altered. */
+static void mark(struct known *known)
+{
+    if (answered(known, cupdaisy_mark(&known->session), done) != CUPDAISY_DONE)
+        return;
+    known->is_marked = true;
+    for (size_t i = 0; i < known->units; i++) {
+        uint32_t altered = 7;
+        EXPECT(cupdaisy_is_altered(&known->session, known->ids[i], &altered) == CUPDAISY_DONE && altered == 0);
+    }
 }
 
 /* Calls that take no memory, whatever they answer. */
@@ -812,7 +829,7 @@ static void ask_whole(struct known *known, struct input *input, unsigned which)
 static void call(struct known *known, struct input *input)
 {
     unsigned drawn_call = next(input);
-    call_number = drawn_call < 252 ? drawn_call % 36 : 36;
+    call_number = drawn_call < 248 ? drawn_call % 36 : drawn_call < 252 ? 37 : 36;
     if (call_number < 13)
         ask(known, input, call_number);
     else if (call_number < 18)
@@ -829,6 +846,8 @@ static void call(struct known *known, struct input *input)
         return;
     } else if (call_number == 36)
         mend(input);
+    else if (call_number == 37)
+        mark(known);
     else if (call_number >= 32)
         ask_whole(known, input, call_number);
     else if (call_number >= 28)

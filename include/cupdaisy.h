@@ -340,7 +340,8 @@ uint32_t cupdaisy_in_use(cupdaisy_session *session, uint64_t key, uint32_t *in_u
 
 /*
  * Marks the stream as it is: the keys of its valid units are remembered, whether units have them later or not. It takes the place of
- * an earlier mark, and edits leave it. Takes memory: at most 16 bytes a unit. MEMORY.
+ * an earlier mark, and edits leave it. Takes memory: 8 bytes a valid unit, and one for each number up to the greatest that a unit's
+ * key has then (cupdaisy_key). MEMORY.
  */
 uint32_t cupdaisy_mark(cupdaisy_session *session);
 

@@ -2,6 +2,7 @@
 
 ghost use Rattle.std.specs.Prelude.{◌≡◌, ◌≢◌, ◌<◌, ◌≤◌, ◌↔◌, ◌++◌, ◌^◌, [], false, length, IfOk, IsErr, OnErr, OnOk};
 ghost use Rattle.stream_edits.specs.Streams.{last_of};
+ghost use Rattle.stream_session.specs.Altered.{with_mark};
 ghost use Rattle.stream_session.specs.Machines.{empty, uncached};
 ghost use Rattle.stream_session.specs.Needing.{AnswersReleased, AnswersUncache};
 ghost use Rattle.decode_pool.specs.Jobs.{JobsDiffer};
@@ -109,6 +110,15 @@ impl<P: Decoded> DeskState<P> {
         ensures status { self.new.status ≡ self.old.status }
     {
         self.session.clear_cache();
+    }
+
+    /// Marks the stream as it is.
+    pub(crate) fn mark(&mut self) -> Result<(), AllocError>
+        ensures ok { OnOk result (self.new.session ≡ with_mark self.old.session) }
+        ensures err { OnErr result (self.new.session ≡ self.old.session) }
+        ensures status { self.new.status ≡ self.old.status }
+    {
+        self.session.mark()
     }
 
     /// Gives back the picture that was cached first.

@@ -6,6 +6,7 @@ ghost use Rattle.decode_pool.specs.Visits.{DropsSome, EditsGroupSome, EditsSome,
 use crate::desk::DeskOf;
 use decode_jobs::Decoded;
 use pictures::AuId;
+use std::alloc::AllocError;
 use std::sync::Wait;
 use stream_edits::{EditRefused, GroupReceipt, GroupRefused, ReadEdit, ReadGroup, Receipt};
 use stream_session::{Dropped, Shown};
@@ -72,6 +73,12 @@ impl<P: Decoded> DeskOf<P> {
     /// Forgets the pictures that are cached, for a host that doesn't want them back.
     pub fn clear_cache<R: Wait>(&self, rt: &R) {
         self.state.lock(rt).clear_cache();
+    }
+
+    /// Marks the stream of the desk's session as it is, as `Session::mark` does; where memory runs
+    /// out, the mark before stays.
+    pub fn mark<R: Wait>(&self, rt: &R) -> Result<(), AllocError> {
+        self.state.lock(rt).mark()
     }
 
     /// Waits until the session may show another picture of some unit than it did when `seen` was

@@ -1,7 +1,8 @@
 //! Commands followed on a session.
 
-ghost use Rattle.std.specs.Prelude.{◌≡◌, [], ◌==◌, ◌≤◌, ◌↔◌, None, Some, IfOk, IfSome, IsErrOf, IsTrue, MatchOption, OnErr};
+ghost use Rattle.std.specs.Prelude.{◌≡◌, [], ◌==◌, ◌≤◌, ◌↔◌, None, Some, IfOk, IfSome, IsErrOf, IsTrue, MatchOption, OnErr, OnOk};
 ghost use Rattle.picture_cache.specs.Bounded.{most_room};
+ghost use Rattle.stream_session.specs.Altered.{NoneAltered, with_mark};
 ghost use Rattle.stream_session.specs.Grouping.{AnswersGroup};
 ghost use Rattle.stream_session.specs.Machines.{AnswersEdit, empty, uncached};
 ghost use Rattle.edit_engine.specs.Needing.{AnswersDrop};
@@ -123,6 +124,15 @@ impl Runner {
         ensures { self.new ≡ uncached self.old }
     {
         self.session.clear_cache();
+    }
+
+    /// Marks the stream as it is, as `Session::mark` does. No command asks for it.
+    pub fn mark(&mut self) -> Result<(), AllocError>
+        ensures ok { OnOk result (self.new ≡ with_mark self.old) }
+        ensures unaltered { OnOk result (NoneAltered self.new) }
+        ensures err { OnErr result (self.new ≡ self.old) }
+    {
+        self.session.mark()
     }
 
     /// What the job of this number is made of, as it was when the job was taken, if it is out. It

@@ -149,21 +149,15 @@ def wrong(program, text, words=()):
     return drawing_wrong(drawn.output, chosen(plan.output.decode(), plain_told(text), list(words)))
 
 
-def same_outcome(one, other):
-    if isinstance(one, fold.Fault) and isinstance(other, fold.Fault):
-        return one.number == other.number
-    return type(one) is type(other) and one == other
-
-
 class Edited:
-    """A session whose pictures are all held, before and after edits."""
+    """A session whose pictures are all held, and which is marked before edits."""
 
     def __init__(self, text):
         units = cut(split(text))
         self.session = session.Session(ROOM)
         self.session.change([(number, syntax.Unit(nals)) for number, nals in enumerate(units, 1)], len(units))
         self.session.held = {row.key for row in self.session.rows} - {None}
-        self.before = self.by_id()
+        self.session.mark()
 
     def by_id(self):
         return {unit[0]: row for unit, row in zip(self.session.stream, self.session.rows)}
@@ -185,10 +179,9 @@ class Edited:
 
     def classes(self, unit_id):
         """The classes of the shapes of a unit."""
-        was, row = self.before.get(unit_id), self.by_id()[unit_id]
-        changed = was is None or was.key != row.key or not same_outcome(was.outcome, row.outcome)
+        row = self.by_id()[unit_id]
         picture = [] if row.key is None else ["stayed" if row.key in self.session.held else "pending"]
-        return " ".join(["u", *(["changed"] if changed else []), *picture])
+        return " ".join(["u", *(["altered"] if self.session.altered(unit_id) else []), *picture])
 
 
 def marks_wrong(document, edited, ids):

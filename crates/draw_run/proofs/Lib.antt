@@ -5,5 +5,5 @@ mod OneByOne
 mod Inserted
 mod Landed
 mod Pointwise
-mod Rows
+mod Keyless
 mod Seen

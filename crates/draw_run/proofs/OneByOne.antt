@@ -5,7 +5,6 @@ use Rattle.std.proofs.lemmas.List.{length-take, take_more}
 use Rattle.std.proofs.lemmas.Option.{slice_get_read}
 use Rattle.doubts.specs.declared.doubt.Doubt.{Doubt}
 use Rattle.edit_engine.specs.Machines.{Machine}
-use Rattle.stream_edits.specs.Streams.{Stream}
 use Rattle.stream_svg.specs.declared.caption.Caption.{Caption}
 use Rattle.stream_svg.specs.declared.unit.DrawnUnit.{DrawnUnit}
 use Rattle.draw_run.specs.Chosen.{position_in}
@@ -47,18 +46,18 @@ shown-push positions doubts kept units captions one unit caption all last = reco
   ];
 }
 
-pub shown_as-none : (before : Stream) (after : Machine) (doubts : List Doubt) → AreShownAs before after [] doubts [] []
-shown_as-none before after doubts = record {
+pub shown_as-none : (machine : Machine) (doubts : List Doubt) → AreShownAs machine [] doubts [] []
+shown_as-none machine doubts = record {
   units_long = omega arith;
   captions_long = omega arith;
   each = λ place id doubt unit caption has doubt_is unit_is caption_is. absurd (let inside = get-within [] id place has in omega (arith, inside));
 }
 
-pub shown_as-push : (before : Stream) (after : Machine) (ids : List ℕ) (doubts : List Doubt) (units : List DrawnUnit) (captions : List Caption)
-    (id : ℕ) (doubt : Doubt) (unit : DrawnUnit) (caption : Caption) → AreShownAs before after ids doubts units captions
-    → slice_get doubts (length ids) ≡ Some doubt → IsShownAs before after id doubt unit caption
-    → AreShownAs before after (ids ++ id ∷ []) doubts (units ++ unit ∷ []) (captions ++ caption ∷ [])
-shown_as-push before after ids doubts units captions id doubt unit caption all told last = record {
+pub shown_as-push : (machine : Machine) (ids : List ℕ) (doubts : List Doubt) (units : List DrawnUnit) (captions : List Caption)
+    (id : ℕ) (doubt : Doubt) (unit : DrawnUnit) (caption : Caption) → AreShownAs machine ids doubts units captions
+    → slice_get doubts (length ids) ≡ Some doubt → IsShownAs machine id doubt unit caption
+    → AreShownAs machine (ids ++ id ∷ []) doubts (units ++ unit ∷ []) (captions ++ caption ∷ [])
+shown_as-push machine ids doubts units captions id doubt unit caption all told last = record {
   units_long = omega (arith, all.units_long, length-append units (unit ∷ []), length-append ids (id ∷ []));
   captions_long = omega (arith, all.captions_long, length-append captions (caption ∷ []), length-append ids (id ∷ []));
   each = λ place i d u c has_i has_d has_u has_c. elim (cases_lt place (length ids)) [
@@ -69,10 +68,10 @@ shown_as-push before after ids doubts units captions id doubt unit caption all t
         let inside = get-within (ids ++ id ∷ []) i place has_i in
         let at : place ≡ length ids = omega (arith, not, inside, length-append ids (id ∷ [])) in
         let same_doubt : doubt ≡ d = one_value doubt d (sym told ∙ ap (slice_get doubts) (sym at) ∙ has_d) in
-        subst (λ (x : Caption). IsShownAs before after i d u x) (get-new captions caption c place (omega (arith, at, all.captions_long)) has_c)
-        (subst (λ (x : DrawnUnit). IsShownAs before after i d x caption) (get-new units unit u place (omega (arith, at, all.units_long)) has_u)
-        (subst (λ (x : Doubt). IsShownAs before after i x unit caption) same_doubt
-        (subst (λ (x : ℕ). IsShownAs before after x doubt unit caption) (get-new ids id i place at has_i) last)))
+        subst (λ (x : Caption). IsShownAs machine i d u x) (get-new captions caption c place (omega (arith, at, all.captions_long)) has_c)
+        (subst (λ (x : DrawnUnit). IsShownAs machine i d x caption) (get-new units unit u place (omega (arith, at, all.units_long)) has_u)
+        (subst (λ (x : Doubt). IsShownAs machine i x unit caption) same_doubt
+        (subst (λ (x : ℕ). IsShownAs machine x doubt unit caption) (get-new ids id i place at has_i) last)))
   ];
 }
   where
@@ -80,16 +79,16 @@ shown_as-push before after ids doubts units captions id doubt unit caption all t
     one_value a b same = cc
 
 -- one more of these ids, and what is told of it
-pub shown_as-next : (before : Stream) (after : Machine) (ids : List ℕ) (doubts : List Doubt) (units : List DrawnUnit) (captions : List Caption)
+pub shown_as-next : (machine : Machine) (ids : List ℕ) (doubts : List Doubt) (units : List DrawnUnit) (captions : List Caption)
     (at id : ℕ) (doubt : Doubt) (unit : DrawnUnit) (caption : Caption) → at < length ids → length doubts ≡ length ids
     → id ≡ get_or ids at id → doubt ≡ get_or doubts at doubt
-    → AreShownAs before after (take at ids) doubts units captions → IsShownAs before after id doubt unit caption
-    → AreShownAs before after (take (at + 1) ids) doubts (units ++ unit ∷ []) (captions ++ caption ∷ [])
-shown_as-next before after ids doubts units captions at id doubt unit caption here same is says all last =
+    → AreShownAs machine (take at ids) doubts units captions → IsShownAs machine id doubt unit caption
+    → AreShownAs machine (take (at + 1) ids) doubts (units ++ unit ∷ []) (captions ++ caption ∷ [])
+shown_as-next machine ids doubts units captions at id doubt unit caption here same is says all last =
     let inside : at < length doubts = omega (arith, here, same) in
     let place : at ≡ length (take at ids) = omega (arith, here, length-take at ids) in
     let told : slice_get doubts (length (take at ids)) ≡ Some doubt =
     subst (λ (n : ℕ). slice_get doubts n ≡ Some doubt) place (slice_get_read doubts (length doubts) at doubt refl inside says) in
     let taken : take (at + 1) ids ≡ take at ids ++ id ∷ [] =
     take_more ids at id here ∙ ap (λ (i : ℕ). take at ids ++ i ∷ []) (sym is) in
-    rw taken (shown_as-push before after (take at ids) doubts units captions id doubt unit caption all told last)
+    rw taken (shown_as-push machine (take at ids) doubts units captions id doubt unit caption all told last)

@@ -14,6 +14,7 @@ use Rattle.script_run.specs.Messages.{script_fault_text}
 use Rattle.stream_edits.specs.Streams.{ids_of}
 use Rattle.doubts.specs.InDoubt.{AreDoubts}
 use Rattle.doubts.specs.declared.doubt.Doubt.{Doubt}
+use Rattle.stream_session.specs.Altered.{with_mark}
 use Rattle.stream_session.specs.Doubting.{seen_in}
 use Rattle.stream_svg.specs.Pages.{document_text}
 use Rattle.stream_svg.specs.declared.caption.Caption.{Caption}
@@ -29,28 +30,28 @@ use Rattle.draw_run.specs.declared.fault.EditsFault.{EditsFault}
 use Rattle.draw_run.specs.declared.fault.EditsFault.TheVariants.{Script, Refused, Memory, Unwritten}
 
 -- the document is that of so many units of a session's stream, from the first or from an id on, in
--- stream order: each is drawn by the stream as it is, with its mark by a stream before
-pub record IsDrawnOf (from : Option ℕ) (units : ℕ) (before after : Machine) (document : List ℕ) : Type 0 where
+-- stream order: each is drawn by the stream as it is, and by what it was when it was marked
+pub record IsDrawnOf (from : Option ℕ) (units : ℕ) (after : Machine) (document : List ℕ) : Type 0 where
   pub doubts : List Doubt
   pub doubts_are : AreDoubts (seen_in after.register.stream) (start_among from (ids_of after.register.stream))
       (length (chosen_ids from units (ids_of after.register.stream))) doubts
   pub drawn : List DrawnUnit
   pub captions : List Caption
-  pub shown : AreShownAs before.register.stream after (chosen_ids from units (ids_of after.register.stream)) doubts drawn captions
+  pub shown : AreShownAs after (chosen_ids from units (ids_of after.register.stream)) doubts drawn captions
   pub layout : Layout
   pub laid_out : IsLaidOut drawn layout
   pub document_is : document ≡ document_text layout drawn captions (length (ids_of after.register.stream)) true
 
 -- the document shows the text's stream after the script's edits, which were made when all its
--- pictures were held, and this is told of the edits that are refused
+-- pictures were held and it was marked, and this is told of the edits that are refused
 pub record IsDrawnAfter (from : Option ℕ) (units : ℕ) (text script document told : List ℕ) : Type 0 where
   pub before : Machine
   pub held : IsHeld text before
   pub commands : List (ℕ × EditCommand)
   pub read : IsEditScript script commands
   pub after : Machine
-  pub made : AreMade before commands told after
-  pub drawn : IsDrawnOf from units before after document
+  pub made : AreMade (with_mark before) commands told after
+  pub drawn : IsDrawnOf from units after document
 
 -- one such document was written, and this is to be told
 abbrev pub WritesEdited : Option ℕ → ℕ → List ℕ → List ℕ → List ℕ → Option (List ℕ) → Option (List ℕ) → Type 0

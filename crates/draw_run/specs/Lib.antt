@@ -8,5 +8,4 @@ pub mod Choosing
 pub mod Marks
 pub mod Making
 pub mod Loading
-pub mod Columns
 pub mod EditedDrawings

@@ -1,17 +1,16 @@
 //! The document of a stream after edits.
 
-ghost use Rattle.std.specs.Prelude.{◌≡◌, ◌≤◌, ◌+◌, IfOk, length, string_bytes, take, drop};
+ghost use Rattle.std.specs.Prelude.{◌≡◌, ◌<◌, ◌≤◌, ◌+◌, IfOk, IfSome, length, string_bytes, take, drop};
 ghost use Rattle.edit_engine.specs.Machines.{Machine};
+ghost use Rattle.stream_edits.specs.Streams.{place_among};
+ghost use Rattle.stream_session.specs.Altered.{with_mark};
 ghost use Rattle.draw_run.specs.Choosing.{start_among};
-ghost use Rattle.draw_run.specs.Columns.{AreOfBoth, IsOf};
 ghost use Rattle.draw_run.specs.EditedDrawings.{IsDrawnOf};
 ghost use Rattle.draw_run.specs.Making.{AreMade};
 
-use crate::comparison::{keys_of_both, place_of};
 use crate::edited_choice::EditedChoice;
 use crate::edits::make_edits;
-use crate::shown::{Edited, shown_units};
-use crate::snapshot::Snapshot;
+use crate::shown::shown_units;
 use edit_engine::Session;
 use edit_script::EditCommand;
 use pictures::AuId;
@@ -25,7 +24,8 @@ pub(crate) struct EditedDrawing {
     pub(crate) told: String,
 }
 
-/// Makes the edits on the session, and the document of the stream that they leave.
+/// Marks the session's stream, makes the edits on it, and the document of the stream that they
+/// leave.
 pub(crate) fn edited_drawing(
     alloc: Global,
     choice: EditedChoice,
@@ -33,18 +33,12 @@ pub(crate) fn edited_drawing(
     commands: Vec<(usize, EditCommand)>,
 ) -> Result<EditedDrawing, AllocError>
     ensures { IfOk result (λ drawing. (after : Machine)
-        × AreMade session commands.items (string_bytes drawing.told) after
-        × IsDrawnOf choice.from choice.units session after drawing.document.items) }
+        × AreMade (with_mark session) commands.items (string_bytes drawing.told) after
+        × IsDrawnOf choice.from choice.units after drawing.document.items) }
 {
-    let before = Snapshot::of(alloc, &session)?;
+    session.mark()?;
     let told = make_edits(alloc, &mut session, commands)?;
-    let keys = keys_of_both(alloc, &before, &session)?;
-    let edited = Edited {
-        before: &before,
-        after: &session,
-        keys: &keys,
-    };
-    let document = document_of(alloc, choice, edited)?;
+    let document = document_of(alloc, choice, &session)?;
     Ok(EditedDrawing { document, told })
 }
 
@@ -52,19 +46,16 @@ pub(crate) fn edited_drawing(
 fn document_of(
     alloc: Global,
     choice: EditedChoice,
-    edited: Edited<'_>,
+    session: &Session,
 ) -> Result<Vec<u8>, AllocError>
-    ensures { (before : Machine) → IsOf before.register.stream edited.entry.before.now
-        → AreOfBoth before.register.stream edited.entry.after.now.register.stream
-        edited.entry.keys.now.before.items edited.entry.keys.now.after.items
-        → IfOk result (λ document.
-        IsDrawnOf choice.from choice.units before edited.entry.after.now document.items) }
+    ensures { IfOk result (λ document.
+        IsDrawnOf choice.from choice.units session.now document.items) }
 {
-    let ids = edited.after.ids();
+    let ids = session.ids();
     let start = start_among(ids, choice.from);
     let chosen = chosen_from(ids, start, choice);
-    let doubts = edited.after.doubts(start, chosen.len())?;
-    let shown = shown_units(alloc, edited, chosen, &doubts)?;
+    let doubts = session.doubts(start, chosen.len())?;
+    let shown = shown_units(alloc, session, chosen, &doubts)?;
     let layout = lay_out(alloc, &shown.units)?;
     document(
         alloc,
@@ -88,6 +79,15 @@ fn start_among(ids: &[AuId], from: Option<u32>) -> usize
         },
         None => 0,
     }
+}
+
+/// The place of the id, if it is among them.
+#[tactic(auto, unfolding(stream_edits::specs::Streams::place_among))]
+fn place_of(ids: &[AuId], id: AuId) -> Option<usize>
+    ensures value { result ≡ place_among ids.now id }
+    ensures inside { IfSome result (λ at. at < length ids.now) }
+{
+    ids.iter().position(|other| *other == id)
 }
 
 /// The ids of the chosen units, of which this is the place of the first.

@@ -5,10 +5,10 @@ use Rattle.stream_svg.specs.declared.unit.PictureState.{PictureState}
 use Rattle.stream_svg.specs.declared.unit.PictureState.TheVariants.{Stayed, Pending}
 use Rattle.stream_svg.specs.Escapes.{escaped}
 
--- the word for a unit that edits changed, which the style sheet hatches
-abbrev pub changed_word : Bool → List ℕ
-changed_word true = codes " changed"
-changed_word false = []
+-- the word for a unit that is altered, which the style sheet hatches
+abbrev pub altered_word : Bool → List ℕ
+altered_word true = codes " altered"
+altered_word false = []
 
 -- the word for what became of a picture
 abbrev pub picture_word : Option PictureState → List ℕ
@@ -19,7 +19,7 @@ picture_word (Some Pending) = codes " pending"
 -- the classes of a unit's shapes: what edits did to it, where some were made
 abbrev pub classes_of : Option EditMark → List ℕ
 classes_of None = codes "u"
-classes_of (Some mark) = codes "u" ++ (changed_word mark.changed ++ picture_word mark.picture)
+classes_of (Some mark) = codes "u" ++ (altered_word mark.altered ++ picture_word mark.picture)
 
 -- how the shapes of a unit are opened: with their classes, and with the unit's lines as their title
 abbrev pub opening_of : Option EditMark → List ℕ → List ℕ

@@ -18,17 +18,17 @@ pub(crate) fn classes_of(mark: Option<EditMark>) -> &'static str
     let Some(mark) = mark else {
         return "u";
     };
-    match (mark.changed, mark.picture) {
+    match (mark.altered, mark.picture) {
         (false, None) => "u",
         (false, Some(PictureState::Stayed)) => "u stayed",
         (false, Some(PictureState::Pending)) => "u pending",
-        (true, None) => "u changed",
-        (true, Some(PictureState::Stayed)) => "u changed stayed",
-        (true, Some(PictureState::Pending)) => "u changed pending",
+        (true, None) => "u altered",
+        (true, Some(PictureState::Stayed)) => "u altered stayed",
+        (true, Some(PictureState::Pending)) => "u altered pending",
     }
 }
 
-/// Writes the hatching of a unit's box, which the style sheet shows where edits changed the unit.
+/// Writes the hatching of a unit's box, which the style sheet shows where the unit is altered.
 pub(crate) fn write_hatch(
     page: &mut Page,
     area: Rect,

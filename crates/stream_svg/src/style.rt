@@ -23,7 +23,7 @@ text{font:11px ui-sans-serif,system-ui,sans-serif;fill:#1d2733}
 .why{font-weight:600;fill:#c7361b;paint-order:stroke;stroke:#fff;stroke-width:3px;pointer-events:none}
 .none{fill:#4a5560}
 .hatch,.disc,.diamond{display:none;pointer-events:none}
-.changed>.hatch{display:inline;fill:url(#hatch)}
+.altered>.hatch{display:inline;fill:url(#hatch)}
 .rung{stroke:#14202b;stroke-opacity:.35;stroke-width:1.5}
 .stayed>.disc{display:inline;fill:#14202b;stroke:#fff}
 .pending>.diamond{display:inline;fill:#fff;stroke:#14202b;stroke-width:1.3}
@@ -60,7 +60,7 @@ pub(crate) const LEGEND: &str = "<g transform=\"translate(16 14)\">
 
 /// What the legend has more where edits were made.
 pub(crate) const EDITS_LEGEND: &str =
-    "<g class=\"changed\"><rect class=\"p\" x=\"796\" width=\"16\" height=\"16\" rx=\"3\"/><rect class=\"hatch\" x=\"796\" width=\"16\" height=\"16\" rx=\"3\"/><text class=\"note\" x=\"818\" y=\"12\">changed</text></g>
+    "<g class=\"altered\"><rect class=\"p\" x=\"796\" width=\"16\" height=\"16\" rx=\"3\"/><rect class=\"hatch\" x=\"796\" width=\"16\" height=\"16\" rx=\"3\"/><text class=\"note\" x=\"818\" y=\"12\">altered</text></g>
 <g class=\"stayed\"><rect class=\"p\" x=\"880\" width=\"16\" height=\"16\" rx=\"3\"/><circle class=\"disc\" cx=\"888\" cy=\"8\" r=\"3\"/><text class=\"note\" x=\"902\" y=\"12\">picture stayed</text></g>
 <g class=\"pending\"><rect class=\"p\" x=\"998\" width=\"16\" height=\"16\" rx=\"3\"/><path class=\"diamond\" d=\"M1006 4l4 4l-4 4l-4 -4z\"/><text class=\"note\" x=\"1020\" y=\"12\">pending</text></g>
 ";

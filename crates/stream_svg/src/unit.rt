@@ -19,8 +19,9 @@ pub struct DrawnUnit {
 /// What edits did to a unit.
 #[derive(Clone, Copy, Debug, PartialEq, Eq)]
 pub struct EditMark {
-    /// Whether its outcome or its key isn't what it was, or it wasn't there. It is hatched then.
-    pub changed: bool,
+    /// Whether it is altered: it is valid, and made of something of which no unit was when the stream
+    /// was marked. It is hatched then.
+    pub altered: bool,
     /// What became of its picture, if it has one.
     pub picture: Option<PictureState>,
 }

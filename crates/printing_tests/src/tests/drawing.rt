@@ -54,27 +54,27 @@ const KINDS: [Kind; 5] = [
     Kind::Empty,
 ];
 
-/// What edits did to the five units: the first one's picture stayed, the second one changed, and so
+/// What edits did to the five units: the first one's picture stayed, the second one is altered, and so
 /// did the fault, which has no picture.
 const MARKS: [EditMark; 5] = [
     EditMark {
-        changed: false,
+        altered: false,
         picture: Some(PictureState::Stayed),
     },
     EditMark {
-        changed: true,
+        altered: true,
         picture: Some(PictureState::Pending),
     },
     EditMark {
-        changed: false,
+        altered: false,
         picture: Some(PictureState::Pending),
     },
     EditMark {
-        changed: true,
+        altered: true,
         picture: None,
     },
     EditMark {
-        changed: false,
+        altered: false,
         picture: None,
     },
 ];
@@ -262,8 +262,8 @@ const PARTS: [&str; 16] = [
     "<path class=\"l0 far\" d=\"M132 126C132 145 96 145 96 126\"/>",
     "<path class=\"way\" d=\"M198 126V254L142 310\"/>",
     "<g class=\"u stayed\"><title>&lt;0&gt;</title>",
-    "<g class=\"u changed pending\"><title>&lt;1&gt;</title>",
-    "<g class=\"u changed\"><title>&lt;3&gt;</title>",
+    "<g class=\"u altered pending\"><title>&lt;1&gt;</title>",
+    "<g class=\"u altered\"><title>&lt;3&gt;</title>",
     "<rect class=\"hatch\" x=\"116\" y=\"82\" width=\"52\" height=\"44\" rx=\"3\"/>",
     "<circle class=\"disc\" cx=\"142\" cy=\"119\" r=\"3\"/>",
     "<g class=\"u pending\"><title>unit 3 position 1</title>",

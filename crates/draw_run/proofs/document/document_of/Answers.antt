@@ -1,7 +1,7 @@
 use Rattle.std.proofs.Common.{ap, length, arith}
 use Rattle.std.proofs.lemmas.Result.{IfOk-weaker}
 use Rattle.draw_run.specs.Layouts.{IsLaidOut}
-use Rattle.draw_run.proofs.Rows.{length-ids}
+use Rattle.draw_run.proofs.Keyless.{length-ids}
 use Rattle.draw_run.proofs.document.document_of.Goals as goal
 
 pub doubts-requires : goal.doubts-requires
@@ -10,11 +10,11 @@ doubts-requires c =
       arith,
       c.chosen_from-chosen.ensures.within,
       ap length c.ids-ids.ensures,
-      length-ids c.args.edited.after.now.register.stream,
+      length-ids c.args.session.now.register.stream,
     )
 
 pub returns : goal.returns
-returns c = λ before is both.
+returns c =
     let units = c.in_ok-shown.shown.units.items in
     let laid_out : IsLaidOut units c.in_ok-layout.layout = record {
       units_are = rw c.deref-2.ensures.value at c.in_ok-layout.ensures.units;
@@ -29,7 +29,7 @@ returns c = λ before is both.
       drawn = units;
       captions = c.in_ok-shown.shown.captions.items;
       shown = rw (c.deref.ensures.value, c.chosen_from-chosen.ensures.value, c.start_among-start.ensures.value, c.ids-ids.ensures)
-          at (c.in_ok-shown.ensures.shown before.register.stream is both);
+          at c.in_ok-shown.ensures.shown;
       layout = c.in_ok-layout.layout;
       laid_out = laid_out;
       document_is = text_is;

@@ -4,10 +4,10 @@ use Rattle.draw_run.specs.Marks.{IsMarkOf}
 use Rattle.draw_run.proofs.shown.shown_unit.Goals as goal
 
 pub returns : goal.returns
-returns c = λ stream is both.
-    let mark : EditMark = record { changed = c.has_changed.result; picture = c.state_of.result } in
-    let marked : IsMarkOf stream c.args.edited.after.now c.args.id mark =
-    record { changed = c.has_changed.ensures stream is both; picture = c.state_of.ensures } in
+returns c =
+    let mark : EditMark = record { altered = c.is_altered.result; picture = c.state_of.result } in
+    let marked : IsMarkOf c.args.session.now c.args.id mark =
+    record { altered = c.is_altered.ensures; picture = c.state_of.ensures } in
     IfOk-weaker c.shown_by.result _ _
     (λ shown by. record {
       outcome = c.in-Ok-Ok.outcome.now;

@@ -6,8 +6,8 @@ pub loop-place-init : goal.loop-place-init
 loop-place-init c = record {
   units = rw c.new.ensures.items (omega arith);
   captions = rw c.new-2.ensures.items (omega arith);
-  shown = λ stream is both. rw (c.new.ensures.items, c.new-2.ensures.items)
-      (shown_as-none stream c.args.edited.after.now c.args.doubts.now);
+  shown = rw (c.new.ensures.items, c.new-2.ensures.items)
+      (shown_as-none c.args.session.now c.args.doubts.now);
 }
 
 pub loop-place-preserved : goal.loop-place-preserved
@@ -20,7 +20,7 @@ loop-place-preserved c =
     record {
       units = rw c.in_ok-push.ensures.items (omega (arith, length-append units (unit ∷ []), before.invariant.units));
       captions = rw c.in_ok-push-2.ensures.items (omega (arith, length-append captions (caption ∷ []), before.invariant.captions));
-      shown = λ stream is both. rw (c.in_ok-push.ensures.items, c.in_ok-push-2.ensures.items)
-          (shown_as-next stream c.args.edited.after.now c.args.ids.now c.args.doubts.now units captions before.place c.index-ids-place.result
-          c.index-doubts-place.result unit caption c.loop-place-test.true c.requires c.index-ids-place.is c.index-doubts-place.is (before.invariant.shown stream is both) (c.in_ok-unit.ensures stream is both));
+      shown = rw (c.in_ok-push.ensures.items, c.in_ok-push-2.ensures.items)
+          (shown_as-next c.args.session.now c.args.ids.now c.args.doubts.now units captions before.place c.index-ids-place.result
+          c.index-doubts-place.result unit caption c.loop-place-test.true c.requires c.index-ids-place.is c.index-doubts-place.is before.invariant.shown c.in_ok-unit.ensures);
     }

@@ -1,4 +1,4 @@
-use Rattle.draw_run.proofs.Rows.{absent-key, empty-plan, fault-plan, without-key}
+use Rattle.draw_run.proofs.Keyless.{absent-key, empty-plan, fault-plan, without-key}
 use Rattle.draw_run.proofs.shown.state_of.Goals as goal
 
 pub returns-in-Fault : goal.returns-in-Fault

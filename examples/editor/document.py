@@ -80,6 +80,7 @@ class Document:
             os.fsync(file.fileno())
         os.replace(beside, self.path)
         self.is_saved = True
+        self.shown.mark()
 
     def told(self):
         """All that the page shows, but for pictures: a member for each property of units, lists in stream order or of places."""
@@ -92,6 +93,7 @@ class Document:
                 "idr": [place for place, unit in enumerate(stream.units) if unit.is_idr],
                 "positions": [outcome.get("position", -1) for _, outcome in outcomes],
                 "begins": [place for place, outcome in outcomes if outcome.get("begins_period")],
+                "altered": [place for place, outcome in outcomes if "altered" in outcome],
                 "faults": [[place, *outcome["fault"].values()] for place, outcome in outcomes if "fault" in outcome],
                 "follows": [[place, broken, doubt] for place, (broken, doubt) in stream.doubts.items()]}
 

@@ -119,6 +119,7 @@ class Editor {
     put("page", `${Math.round(view.count)} a page`);
     put("play", player.isPlaying ? "❚❚" : "▶");
     put("changed", this.changed.to > this.changed.from ? `: ${this.changed.to - this.changed.from}` : "");
+    put("altered", stream.altered.length ? `: ${stream.altered.length}` : "");
     if (!stream.length) put("chosen", "no access unit is left");
     else if (!chosen) put("chosen", `access unit ${stream.ids[cursor]}`);
     else put("chosen", `${counted(chosen.to - chosen.from, "access unit")} chosen: ${stream.ids[chosen.from]} to ${stream.ids[chosen.to - 1]}`);

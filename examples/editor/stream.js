@@ -13,6 +13,8 @@ export class Stream {
       if (position >= 0) this.atPosition[position] = place;
       this.shownBefore[place + 1] = this.shownBefore[place] + (position >= 0 ? 1 : 0);
     });
+    const altered = new Set(told.altered);
+    this.isAltered = (place) => altered.has(place);
     // A period that begins by memory_management_control_operation 5 is no safe point: its first picture refers to earlier ones.
     const idr = new Set(told.idr);
     this.starts = told.begins.filter((place) => idr.has(place));

@@ -29,6 +29,13 @@ class Stream:
         self.next_id, self.outcomes = loaded["last"] + 1, self.asked(0, len(units))
         self.texts = dict(zip(self.ids, units))    # of each id that there ever was: what is copied can be pasted when it is gone
         self.doubts = self.told_doubts()
+        self.mark()
+
+    def mark(self):
+        """What a unit was made of now isn't altered later, whatever its id is then."""
+        self.server.call("mark")
+        for outcome in self.outcomes:
+            outcome.pop("altered", None)
 
     def asked(self, begin, end):
         """The outcomes of the units at these places."""

@@ -4,6 +4,7 @@ import { timeCode } from "./stream.js";
 
 const RULER = 20, THUMB = 54, BOX = 20, GAP = 24, NAMES = 16;
 const ROWS = { output: RULER, boxes: RULER + THUMB + 14 + GAP, units: RULER + THUMB + 14 + GAP + BOX + 2 };
+const HATCH = 5; // what is altered is hatched by lines so far apart
 const LINES = 90; // up to so many units, lines lead from each unit to its picture
 
 /** A canvas for screens of any density: its context, cleared, with its size in points. */
@@ -85,6 +86,23 @@ export class Timeline {
     this.pen.globalAlpha = 1;
   }
 
+  hatch(x, y, width, height) {
+    if (width < HATCH) return this.fill(x, y, width, height, "ink", 0.2);
+    const { pen } = this;
+    pen.save();
+    pen.beginPath();
+    pen.rect(x, y, width, height);
+    pen.clip();
+    Object.assign(pen, { strokeStyle: this.colours.ink, globalAlpha: 0.45, lineWidth: 1 });
+    pen.beginPath();
+    for (let at = x - height; at < x + width; at += HATCH) {
+      pen.moveTo(at, y + height);
+      pen.lineTo(at + height, y);
+    }
+    pen.stroke();
+    pen.restore();
+  }
+
   frame(x, y, width, height, colour, wide, dash = []) {
     Object.assign(this.pen, { strokeStyle: this.colours[colour], lineWidth: wide });
     this.pen.setLineDash(dash);
@@ -140,6 +158,7 @@ export class Timeline {
       this.fill(x, ROWS.boxes, width, BOX, kind);
       if (view.unit >= 12) this.text(isFaulty ? "!" : letter, x + width / 2, ROWS.boxes + BOX / 2 + 0.5, isFaulty ? "paper" : `on-${kind}`);
       if (stream.isInDoubt(place)) this.fill(x, ROWS.boxes - 4, width, 3, "doubt");
+      if (stream.isAltered(place)) this.hatch(x, ROWS.boxes, width, BOX);
       if (changed.has(place)) this.fill(x, ROWS.boxes + BOX, width, 2, "changed");
     }
     const names = view.unit >= 26 ? 1 : Math.ceil(46 / view.unit / 5) * 5;

@@ -154,6 +154,8 @@ def break_and_undo(check, number_of):
     browser.wait(f"return editor.stream.length === {PICTURES - 2}")
     faults, doubts = browser.run(f"return [{COUNTS['faults']}, {COUNTS['doubts']}]")
     check.expect(f"{faults} faults and {doubts} in doubt", faults > 5 and doubts > 5)
+    altered = browser.run(f"return {COUNTS['altered']}")
+    check.expect(f"{altered} altered, with {doubts} in doubt", altered > 5)
     check.expect("a fault is behind the next safe point", browser.run("return Math.max(...editor.stream.faults.keys())") < 2 * PERIOD - 2)
     check.state("deleted", units=PICTURES - 2, faults=faults, undo=1)
     sound = lambda unit: number_of[unit] if unit < 64 or unit > 2 * PERIOD else None
@@ -167,7 +169,7 @@ def break_and_undo(check, number_of):
     again = browser.run("return editor.pictures.decoded") - decoded
     check.expect(f"{again} pictures were decoded again", again < 60)
     check.key("z", ctrlKey=True)
-    check.state("undone", units=PICTURES, faults=0, doubts=0, undo=0)
+    check.state("undone", units=PICTURES, faults=0, doubts=0, altered=0, undo=0)
     back = browser.run("return editor.stream.ids")
     check.thumbnails("undone", lambda unit: number_of[back.index(unit) + 1])
 
@@ -212,7 +214,7 @@ def cut(check, number_of):
 def save(check, file):
     """What is saved plans without a fault."""
     check.click("#save")
-    check.state("saved", units=PICTURES + PERIOD)
+    check.state("saved", units=PICTURES + PERIOD, altered=0)
     texts = processes.printed([program(), "plan", file]).splitlines()
     planned = [line for line in texts if line.startswith("unit")]
     check.expect("the saved file plans otherwise", len(planned) == PICTURES + PERIOD and not any("fault" in line for line in planned))
@@ -275,6 +277,8 @@ def edit_drawn(file, edits=30):
             undone()
         if document.text() != again:
             wrong.append(f"{file.name}: undone and made again, it is another stream")
+        if again == text and any("altered" in outcome for outcome in stream.outcomes):
+            wrong.append(f"{file.name}: all is undone, and units are altered")
     document.close()
     return wrong
 

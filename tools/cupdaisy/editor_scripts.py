@@ -56,6 +56,7 @@ COUNTS = {
     "units": "editor.stream.length",
     "faults": "editor.stream.faults.size",
     "doubts": "[...editor.stream.follows.values()].filter(({doubt}) => doubt).length",
+    "altered": "editor.stream.altered.length",
     "cursor": "editor.stream.ids[editor.cursor]",
     "chosen": "editor.chosen ? editor.chosen.to - editor.chosen.from : 0",
     "undo": "editor.stream.undo",

@@ -1,3 +1,4 @@
+pub mod References
 pub mod SeenUnits
 pub mod Entries
 pub mod Breaks

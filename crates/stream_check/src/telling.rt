@@ -3,7 +3,8 @@
 ghost use Rattle.std.specs.Prelude.{◌≡◌, ◌≤◌, length, map, IfOk};
 ghost use Rattle.access_unit.specs.Rooms.{most_units};
 ghost use Rattle.doubts.specs.InDoubt.{AreDoubts};
-ghost use Rattle.unit_json.specs.Seen.{ids_from, is_of_reference, stream_seen};
+ghost use Rattle.doubts.specs.References.{is_of_reference};
+ghost use Rattle.unit_json.specs.Seen.{ids_from, stream_seen};
 
 use access_unit::Unit;
 use doubts::{Doubt, doubts};

@@ -1,12 +1,11 @@
 -- The units of a stream in columns, and their ids.
 use Rattle.std.proofs.Common.{◌≡◌, ap, sym, ◌∙◌, ℕ, zero, suc, Bool, List, [], ◌∷◌, length, Some, option_map}
 use Rattle.std.specs.Prelude.{slice_get}
-use Rattle.std.specs.List.{filter}
 use Rattle.std.proofs.lemmas.List.{length-map}
 use Rattle.std.proofs.lemmas.Option.{same_Some, slice_get-map}
 use Rattle.unit_outcomes.specs.declared.outcome.Outcome.{Outcome}
-use Rattle.annexb.specs.NalUnit.{is_slice}
 use Rattle.request_core.specs.Fold.{outcomes_of}
+use Rattle.doubts.specs.References.{is_of_reference}
 use Rattle.doubts.specs.SeenUnits.{HasId, seen_units}
 use Rattle.doubts.specs.InDoubt.{IdsDiffer}
 use Rattle.doubts.proofs.Columns.{seen_at}
@@ -14,14 +13,14 @@ use Rattle.picture_store.specs.Stores.{StoreValue}
 use Rattle.stream_edits.specs.declared.edits.Edit.{Edit}
 use Rattle.stream_edits.specs.Edits.{Register}
 use Rattle.stream_edits.specs.Streams.{Stream, ids_of}
-use Rattle.stream_session.specs.Doubting.{is_reference, references_of, seen_in, seen_with}
+use Rattle.stream_session.specs.Doubting.{references_of, seen_in, seen_with}
 use Rattle.stream_session.specs.Kept.{IsKept}
 use Rattle.stream_session.proofs.Looked.{place_kept}
 
 -- there are as many of each column
 pub many_references : (stream : Stream) → length (references_of stream) ≡ length (ids_of stream)
 many_references stream =
-    length-map stream (λ (unit : ℕ × List (List ℕ)). is_reference (filter is_slice unit.1))
+    length-map stream (λ (unit : ℕ × List (List ℕ)). is_of_reference unit.1)
     ∙ sym (length-map stream (λ (unit : ℕ × List (List ℕ)). unit.0))
 
 pub many_outcomes : (stream : Stream) (outcomes : List Outcome) → length outcomes ≡ length stream → length outcomes ≡ length (ids_of stream)
@@ -31,12 +30,12 @@ many_outcomes stream outcomes same = same ∙ sym (length-map stream (λ (unit :
 pub stream_at : (stream : Stream) (outcomes : List Outcome) (at : ℕ) (unit : ℕ × List (List ℕ)) (outcome : Outcome)
     → slice_get stream at ≡ Some unit → slice_get outcomes at ≡ Some outcome
     → slice_get (seen_with stream outcomes) at
-    ≡ Some (record { id = unit.0; is_reference = is_reference (filter is_slice unit.1); outcome = outcome })
+    ≡ Some (record { id = unit.0; is_reference = is_of_reference unit.1; outcome = outcome })
 stream_at stream outcomes at unit outcome stands becomes =
-    seen_at (ids_of stream) (references_of stream) outcomes at unit.0 (is_reference (filter is_slice unit.1)) outcome
+    seen_at (ids_of stream) (references_of stream) outcomes at unit.0 (is_of_reference unit.1) outcome
     (slice_get-map (λ (u : ℕ × List (List ℕ)). u.0) stream at ∙ ap (option_map (λ (u : ℕ × List (List ℕ)). u.0)) stands)
-    (slice_get-map (λ (u : ℕ × List (List ℕ)). is_reference (filter is_slice u.1)) stream at
-    ∙ ap (option_map (λ (u : ℕ × List (List ℕ)). is_reference (filter is_slice u.1))) stands)
+    (slice_get-map (λ (u : ℕ × List (List ℕ)). is_of_reference u.1) stream at
+    ∙ ap (option_map (λ (u : ℕ × List (List ℕ)). is_of_reference u.1)) stands)
     becomes
 
 -- the unit of columns that has an id stands where the id does

@@ -1,20 +1,14 @@
 -- The units of a stream as breaks and doubt see them.
-use Rattle.std.specs.Prelude.{ℕ, ◌==◌, Bool, false, not, List, [], ◌∷◌, map}
-use Rattle.std.specs.List.{filter}
+use Rattle.std.specs.Prelude.{Bool, List, map}
 use Rattle.unit_outcomes.specs.declared.outcome.Outcome.{Outcome}
 use Rattle.request_core.specs.Fold.{outcomes_of}
-use Rattle.annexb.specs.NalUnit.{is_slice, nal_ref_idc}
+use Rattle.doubts.specs.References.{is_of_reference}
 use Rattle.doubts.specs.SeenUnits.{SeenUnit, seen_units}
 use Rattle.stream_edits.specs.Streams.{Stream, ids_of}
 
--- nal_ref_idc of the first of slices, if there is one, isn't 0 (7.4.1)
-abbrev pub is_reference : List (List ℕ) → Bool
-is_reference [] = false
-is_reference (slice ∷ slices) = not (nal_ref_idc slice == 0)
-
--- of each unit, whether that of its first slice isn't
+-- of each unit, whether nal_ref_idc of its first slice isn't 0 (7.4.1)
 abbrev pub references_of : Stream → List Bool
-references_of stream = map (λ unit. is_reference (filter is_slice unit.1)) stream
+references_of stream = map (λ unit. is_of_reference unit.1) stream
 
 -- the units, with these outcomes
 abbrev pub seen_with : Stream → List Outcome → List SeenUnit

@@ -1,12 +1,11 @@
 //! Which units of a stream are in doubt, and which break each follows.
 
 ghost use Rattle.std.specs.Prelude.{◌≡◌, ◌⊎◌, ℕ, ◌+◌, ◌<◌, ◌≤◌, length, true, IfOk, slice_get};
-ghost use Rattle.std.specs.List.{filter};
-ghost use Rattle.annexb.specs.NalUnit.{is_slice};
+ghost use Rattle.doubts.specs.References.{is_of_reference};
 ghost use Rattle.doubts.specs.SeenUnits.{is_break, tells_idr};
 ghost use Rattle.doubts.specs.InDoubt.{AreDoubts, IdsDiffer, IsDoubt};
 ghost use Rattle.doubts.specs.Walks.{IsBefore};
-ghost use Rattle.stream_session.specs.Doubting.{is_reference, seen_with};
+ghost use Rattle.stream_session.specs.Doubting.{seen_with};
 
 use access_unit::Unit;
 use base_types::Shared;
@@ -105,7 +104,7 @@ fn pass(
 
 /// Whether a unit is a break. The slices of a valid one aren't looked at.
 fn breaks(unit: &HashedUnit, outcome: &Outcome) -> bool
-    ensures { result ≡ is_break (is_reference (filter is_slice unit.now)) outcome.now }
+    ensures { result ≡ is_break (is_of_reference unit.now) outcome.now }
 {
     match outcome {
         Outcome::Plan(_) => false,
@@ -116,7 +115,7 @@ fn breaks(unit: &HashedUnit, outcome: &Outcome) -> bool
 
 /// Whether nal_ref_idc of a unit's first slice isn't 0.
 fn is_reference(unit: &Unit) -> bool
-    ensures { result ≡ is_reference (filter is_slice unit.now) }
+    ensures { result ≡ is_of_reference unit.now }
 {
     match unit.slices() {
         [] => false,

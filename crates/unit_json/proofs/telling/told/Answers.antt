@@ -3,7 +3,8 @@ use Rattle.std.proofs.lemmas.List.{length-map}
 use Rattle.std.proofs.lemmas.Result.{IfOk-weaker}
 use Rattle.doubts.specs.SeenUnits.{seen_units}
 use Rattle.doubts.specs.InDoubt.{AreDoubts, IdsDiffer}
-use Rattle.unit_json.specs.Seen.{is_of_reference, stream_seen}
+use Rattle.doubts.specs.References.{is_of_reference}
+use Rattle.unit_json.specs.Seen.{stream_seen}
 use Rattle.unit_json.proofs.SeenIds.{ids_differ, length_ids}
 use Rattle.unit_json.proofs.telling.told.Goals as goal
 

@@ -6,15 +6,17 @@ ghost use Rattle.stream_session.specs.Altered.{NoneAltered, with_mark};
 ghost use Rattle.stream_session.specs.Grouping.{AnswersGroup};
 ghost use Rattle.stream_session.specs.Machines.{AnswersEdit, empty, uncached};
 ghost use Rattle.edit_engine.specs.Needing.{AnswersDrop};
-ghost use Rattle.edit_engine.specs.Runs.{Answers, IsRun, Reports};
+ghost use Rattle.edit_engine.specs.Runs.{Answers, GivesJobBack, IsRun, Reports};
 ghost use Rattle.stream_session.specs.Taken.{input_of};
 ghost use Rattle.decode_jobs.specs.Inputs.{is_whole};
 
 use crate::commands::Command;
 use crate::dropping::{Dropping, drop_picture};
 use crate::jobs::{give_back, land, take, take_for};
+use crate::refusals::NotOut;
 use crate::replies::{Reply, UnitReport};
 use crate::session::Session;
+use picture_store::Returning;
 use pictures::AuId;
 use stand_in_device::{Device, Input};
 use std::alloc::{AllocError, Global};
@@ -124,6 +126,13 @@ impl Runner {
         ensures { self.new ≡ uncached self.old }
     {
         self.session.clear_cache();
+    }
+
+    /// Gives the job of this number back, as `step` does at `Command::GiveBack`. It takes no memory.
+    pub fn give_back(&mut self, number: u64) -> Result<Returning, NotOut>
+        ensures { GivesJobBack self.old number result self.new }
+    {
+        give_back(&mut self.session, number)
     }
 
     /// Marks the stream as it is, as `Session::mark` does. No command asks for it.

@@ -12,3 +12,4 @@ pub mod Written
 pub mod Accepted
 pub mod Unchanged
 pub mod Drawn
+pub mod Sizes

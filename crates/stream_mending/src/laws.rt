@@ -1,6 +1,6 @@
 //! Laws of what is written, each the contract of a function that does nothing.
 
-ghost use Rattle.std.specs.Prelude.{◌≡◌, ◌<◌, [], ℕ, List, length};
+ghost use Rattle.std.specs.Prelude.{◌≡◌, ◌<◌, ◌≤◌, ◌*◌, [], ℕ, List, length};
 ghost use Rattle.annexb.specs.ByteStream.{HasUnits};
 ghost use Rattle.access_unit.specs.Rooms.{IsStream};
 ghost use Rattle.stream_mending.specs.Kept.{IsDrawnFrom, units_at};
@@ -26,6 +26,12 @@ pub fn mended_is_a_stream()
 pub fn mended_stays()
     ensures written { (text : List ℕ) → mended (mended text) ≡ mended text }
     ensures told { (text : List ℕ) → told (mended text) ≡ [] }
+{}
+
+/// What is written has at most 9 bytes for each 4 that were given: a delimiter has 5, and is put
+/// before a NAL unit that has at least 4 with its start code.
+pub fn mended_is_short()
+    ensures { (text : List ℕ) → 4 * length (mended text) ≤ 9 * length text }
 {}
 
 /// The NAL units that are written are some of those that were given, in their order, and delimiters.

@@ -16,6 +16,6 @@ mod pieces;
 mod trimming;
 mod why;
 
-pub use laws::{a_stream_stays, kept_in_order, mended_is_a_stream, mended_stays};
+pub use laws::{a_stream_stays, kept_in_order, mended_is_a_stream, mended_is_short, mended_stays};
 pub use mending::{Mended, mend};
 pub use why::{LeftOut, Why};

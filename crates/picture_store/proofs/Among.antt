@@ -1,5 +1,5 @@
 -- A picture that is held is among those that are.
-use Rattle.std.proofs.Common.{◌≡◌, sym, ap, subst, ℕ, zero, suc, List, [], ◌∷◌, Option, None, Some, ⊥, IsSome}
+use Rattle.std.proofs.Common.{◌≡◌, sym, ap, subst, ℕ, zero, suc, List, [], ◌∷◌, Option, None, Some}
 use Rattle.std.specs.Prelude.{All, Contains}
 use Rattle.std.specs.Option.{option_and_then, option_to_list}
 use Rattle.std.proofs.lemmas.List.Elements.{All-weaker, Contains-append_left, Contains-append_right}
@@ -9,11 +9,6 @@ use Rattle.key_slots.specs.Places.{picture_held, pictures_held, place_at, place_
 use Rattle.key_slots.proofs.Members.{here}
 use Rattle.picture_store.specs.Naming.{IsShown, picture_in}
 use Rattle.picture_store.specs.Places.{PlacesValue}
-
--- where nothing is found, there is nothing
-pub none_not_some : {X : Type 0} (o : Option X) → o ≡ None → IsSome o → ⊥
-none_not_some None none some = cc
-none_not_some (Some x) none some = cc
 
 module _ {P : Type 0} where
   -- the picture of a slot, if it has one

@@ -1,5 +1,5 @@
 -- What becomes of the jobs that are out, and of held pictures where a result lands.
-use Rattle.std.proofs.Common.{◌≡◌, refl, ap, sym, ◌∙◌, subst, ℕ, zero, suc, ◌<◌, ◌==◌, List, [], ◌∷◌, length, map, take, drop, Bool, true, false, Option, None, Some, IsSome, if◌then◌else◌, inl, inr, ◌⊎◌, ◌↔◌, arith, slice_get}
+use Rattle.std.proofs.Common.{◌≡◌, refl, ap, sym, ◌∙◌, subst, ℕ, zero, suc, ◌<◌, ◌==◌, List, [], ◌∷◌, length, map, take, drop, Bool, true, false, Option, None, Some, IsSome, if◌then◌else◌, inl, inr, ◌⊎◌, ◌↔◌, arith}
 use Rattle.std.specs.Prelude.{All, Contains, remove, slice_get, slice_index_or}
 use Rattle.std.specs.Option.{is_some}
 use Rattle.std.specs.List.{zip}
@@ -14,20 +14,19 @@ use Rattle.decode_jobs.specs.Keys.{Key}
 use Rattle.picture_keys.specs.Known.{Known, key_of_outcome, known_with, keys_after, keys_of}
 use Rattle.picture_keys.specs.Numbered.{StandsFor, AllStandFor}
 use Rattle.picture_store.specs.declared.job_out.JobOut.{JobOut}
-use Rattle.picture_store.specs.Stores.{OutValue, StoreValue}
+use Rattle.picture_store.specs.Stores.{OutValue}
 use Rattle.picture_store.specs.Showing.{IsPictureAt}
-use Rattle.picture_store.specs.Jobs.{IsSameJob, without, IsOut, LandsThere, AnswersLand, AnswersLandOf}
+use Rattle.picture_store.specs.Jobs.{IsSameJob, without}
 use Rattle.key_slots.specs.Places.{place_at, numbers_held}
 use Rattle.picture_store.specs.Places.{PlacesValue}
 use Rattle.picture_store.specs.Kept.{Trees, key_for, keys_for, jobs_for, IsRight, IsJobRight, IsKept}
 use Rattle.key_slots.proofs.Held.{held_found, found_held}
-use Rattle.picture_store.proofs.Among.{held_among, none_not_some}
+use Rattle.picture_store.proofs.Among.{held_among}
 use Rattle.picture_store.proofs.Lifting.{for_contains, contains_for}
+use Rattle.picture_store.proofs.Tables.{none_not_some}
 use Rattle.picture_store.proofs.Viewed.{Marked, seen, viewed}
 use Rattle.picture_store.proofs.Stays.{key_is, stand_live, stand_number}
 use Rattle.decode_jobs.specs.Inputs.{InputValue}
-use Rattle.picture_store.specs.declared.answers.Landing.{Landing}
-use Rattle.picture_store.specs.declared.answers.Landing.TheVariants.{Taken, Stale, Foreign}
 
 -- the item at a place, as it is seen
 pub got_at : {X Y : Type 0} (f : X → Y) (xs : List X) (i : ℕ) (x : X) → i < length xs → x ≡ slice_index_or xs i x
@@ -334,26 +333,3 @@ module _ {P : Type 0} {IsDecoded : InputValue P → P → Type 0} {IsOf : Key �
       pub shows_unused : place_at places number ≡ None
           → IsPictureAt IsOf (viewed keys ids outcomes numbers places cached room out given released marked) at None
       shows_unused is = shows_waited (λ picture held. no_picture (place_at places number) picture is held)
-
-module _ {P : Type 0} (old : StoreValue P) (at : ℕ) (picture : P) where
-  module _ (job : JobValue P) (other : OutValue P) (there : slice_get old.jobs_out at ≡ Some other) (is : IsSameJob job other) where
-    out_at : (out : OutValue P) → slice_get old.jobs_out at ≡ Some out → IsOut old job at out
-    out_at out stands = record { stands = stands; is = subst (IsSameJob job) (same_Some other out (sym there ∙ stands)) is }
-
-    -- that of a job
-    pub job_lands : (landing : Landing) (new : StoreValue P) → LandsThere old at picture landing new
-        → AnswersLand old job picture landing new
-    job_lands Foreign new (out, stands, lands) = absurd lands
-    job_lands Stale new (out, stands, lands) = (at, out, out_at out stands, lands)
-    job_lands Taken new (out, stands, lands) = (at, out, out_at out stands, lands)
-
-  module _ (number : ℕ) (other : OutValue P) (there : slice_get old.jobs_out at ≡ Some other) (is : other.number ≡ number) where
-    number_of : (out : OutValue P) → slice_get old.jobs_out at ≡ Some out → out.number ≡ number
-    number_of out stands = subst (λ (job : OutValue P). job.number ≡ number) (same_Some other out (sym there ∙ stands)) is
-
-    -- that of the job of a number
-    pub number_lands : (landing : Landing) (new : StoreValue P) → LandsThere old at picture landing new
-        → AnswersLandOf old number picture landing new
-    number_lands Foreign new (out, stands, lands) = absurd lands
-    number_lands Stale new (out, stands, lands) = (at, out, stands, number_of out stands, lands)
-    number_lands Taken new (out, stands, lands) = (at, out, stands, number_of out stands, lands)

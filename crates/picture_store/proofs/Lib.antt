@@ -1,3 +1,4 @@
+pub mod Tables
 pub mod Lifting
 pub mod Among
 pub mod Loops
@@ -18,7 +19,9 @@ pub mod Refitted
 pub mod Landed
 pub mod ByNumber
 pub mod Filled
+pub mod Landings
 pub mod Uncached
+pub mod Freed
 pub mod Taken
 pub mod Waiting
 pub mod Pended

@@ -1,5 +1,5 @@
 -- A store as contracts see it, from what it stores.
-use Rattle.std.proofs.Common.{ℕ, List, Option, OnErr, Result, Ok, Err, rules, All}
+use Rattle.std.proofs.Common.{ℕ, List, Option, OnErr, Result, Ok, Err, rules}
 use Rattle.std.specs.Map.{keys_of as numbers_of, values_of}
 use Rattle.unit_outcomes.specs.declared.outcome.Outcome.{Outcome}
 use Rattle.decode_jobs.specs.Keys.{Key}
@@ -8,10 +8,6 @@ use Rattle.picture_store.specs.Stores.{OutValue, StoreValue}
 use Rattle.key_slots.specs.Places.{numbers_held, pictures_held}
 use Rattle.picture_store.specs.Places.{PlacesValue}
 use Rattle.picture_store.specs.Kept.{Trees, key_for, keys_for, jobs_for}
-use Rattle.std.proofs.lemmas.List.Elements.{All-contains, All-map, All-weaker}
-use Rattle.key_slots.proofs.Members.{among_map, All-from_contains}
-use Rattle.picture_store.specs.Unreferred.{AreOthers, IsFree}
-use Rattle.picture_store.specs.Released.{IsUnreferred}
 
 -- the marked keys as contracts see them
 abbrev pub Marked : Type 0
@@ -42,20 +38,3 @@ module _ {P : Type 0} where
 pub on_any_err : {T E Q : Type 0} (r : Result T E) → Q → OnErr r Q
 on_any_err (Ok x) p = search rules
 on_any_err (Err e) p = p
-
-module _ {P : Type 0} (keys : Trees) (out : List (JobOut P)) where
-  pub free_seen : (picture : P) → IsFree out picture → IsUnreferred (jobs_for keys out) picture
-  free_seen picture free = All-map (λ (job : OutValue P). AreOthers job.input.references picture) (seen keys) out free
-
-  pub seen_free : (picture : P) → IsUnreferred (jobs_for keys out) picture → IsFree out picture
-  seen_free picture free =
-      All-from_contains {P = λ (job : JobOut P). AreOthers job.input.references picture} out (λ job among.
-      All-contains (λ (job : OutValue P). AreOthers job.input.references picture) (jobs_for keys out) (seen keys job) free
-      (among_map (seen keys) out job among))
-
-  -- where a job refers to each picture, one that is seen does
-  pub none_free : (pictures : List P) → All (λ picture. IsFree out picture → ⊥) pictures
-      → All (λ picture. IsUnreferred (jobs_for keys out) picture → ⊥) pictures
-  none_free pictures none =
-      All-weaker (λ picture. IsFree out picture → ⊥) (λ picture. IsUnreferred (jobs_for keys out) picture → ⊥)
-      (λ picture not free. not (seen_free picture free)) pictures none

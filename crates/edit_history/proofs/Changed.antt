@@ -11,9 +11,9 @@ use Rattle.edit_history.specs.declared.changes.Change.TheVariants.{Inserted, Del
 use Rattle.edit_history.specs.declared.refusals.NotUndone.{NotUndone}
 use Rattle.edit_history.specs.declared.refusals.NotUndone.TheVariants.{Nothing, IdsSpent, Unfit, Memory}
 use Rattle.edit_history.specs.Changes.{Changes, ChangesAll, IsMore, IsWithin}
-use Rattle.edit_history.specs.Groups.{Leads, LeadsAll, Reaches}
+use Rattle.edit_history.specs.Groups.{Leads, LeadsAll}
 use Rattle.edit_history.specs.Refusals.{IsRefusedFor}
-use Rattle.edit_history.specs.Texts.{Texts, Carries, IsStream}
+use Rattle.edit_history.specs.Texts.{Texts, IsStream}
 use Rattle.edit_history.proofs.Led.{IsStream-length}
 
 -- one change more
@@ -25,7 +25,7 @@ ChangesAll-push old (first ∷ changes) between change new all next =
     (all.0, all.1, ChangesAll-push all.0 changes between change new all.2 next)
 
 -- there is one more where one is more
-more-length : (fewer : Texts) (at : ℕ) (text : List ℕ) (more : Texts) → IsMore fewer at text more → length more ≡ length fewer + 1
+pub more-length : (fewer : Texts) (at : ℕ) (text : List ℕ) (more : Texts) → IsMore fewer at text more → length more ≡ length fewer + 1
 more-length fewer at text more is = ap length is.more_is ∙ length-insert fewer at text is.within
 
 -- the place of a change is there
@@ -73,7 +73,7 @@ pub record IsPartly (old : Register) (edits : List Edit) (changes : List Change)
   pub left : ChangesAll between (drop index changes) after
 
 -- the changes from a place on begin with the one at it
-from_change : (before : Texts) (changes : List Change) (index : ℕ) (change : Change) (after : Texts) → index < length changes
+pub from_change : (before : Texts) (changes : List Change) (index : ℕ) (change : Change) (after : Texts) → index < length changes
     → change ≡ get_or changes index change → ChangesAll before (drop index changes) after
     → ChangesAll before (change ∷ drop (index + 1) changes) after
 from_change before changes index change after inside item all =
@@ -96,16 +96,11 @@ IsPartly-more old edits changes index change edit ids given more more_given afte
 
 -- all are made
 pub IsPartly-whole : (old : Register) (edits : List Edit) (changes : List Change) (index : ℕ) (ids : List ℕ) (given : ℕ) (after : Texts)
-    → length changes ≤ index → IsPartly old edits changes index ids given after → Reaches old edits after
+    → length changes ≤ index → IsPartly old edits changes index ids given after → LeadsAll old edits after ids given
 IsPartly-whole old edits changes index ids given after late is =
     let same : is.between ≡ after =
     subst (λ (rest : List Change). ChangesAll is.between rest after) (drop_of_length-le changes late) is.left in
-    record {
-      about = is.made.about;
-      new = is.made.new;
-      makes = is.made.makes;
-      carries = subst (λ (texts : Texts). Carries is.made.new.stream texts) same is.made.is.carries;
-    }
+    subst (λ (texts : Texts). LeadsAll old edits texts ids given) same is.made
 
 -- the next one fits
 pub IsPartly-fits : (old : Register) (edits : List Edit) (changes : List Change) (index : ℕ) (change : Change) (ids : List ℕ) (given : ℕ) (after : Texts)

@@ -16,12 +16,12 @@ use Rattle.edit_history.specs.Texts.{Texts, Carries, IsStream}
 use Rattle.edit_history.proofs.Carried.{Carries-insert, Carries-length, Carries-remove, Carries-set}
 
 -- the ids of a stream with a unit more, and with one fewer
-ids-insert : (units : Stream) (at id : ℕ) (unit : List (List ℕ)) → insert (ids_of units) at id ≡ ids_of (insert units at (id, unit))
+pub ids-insert : (units : Stream) (at id : ℕ) (unit : List (List ℕ)) → insert (ids_of units) at id ≡ ids_of (insert units at (id, unit))
 ids-insert units at id unit =
     let number : ℕ × List (List ℕ) → ℕ = λ unit. unit.0 in
     rw (map-append number (take at units) ((id, unit) ∷ drop at units), take-map number at units, drop-map number at units) refl
 
-ids-remove : (units : Stream) (at : ℕ) → remove (ids_of units) at ≡ ids_of (remove units at)
+pub ids-remove : (units : Stream) (at : ℕ) → remove (ids_of units) at ≡ ids_of (remove units at)
 ids-remove units at =
     let number : ℕ × List (List ℕ) → ℕ = λ unit. unit.0 in
     rw (map-append number (take at units) (drop (suc at) units), take-map number at units, drop-map number (suc at) units) refl

@@ -1,6 +1,8 @@
 -- The texts that a group of edits leads to.
 use Rattle.std.specs.Prelude.{ℕ, List}
-use Rattle.edit_history.specs.Texts.{Texts, Carries, IsStream}
+use Rattle.edit_history.specs.declared.groups.StepGroup.{StepGroup}
+use Rattle.edit_history.specs.Changes.{ChangesAll}
+use Rattle.edit_history.specs.Texts.{Texts, IsStream}
 use Rattle.stream_edits.specs.declared.edits.Edit.{Edit}
 use Rattle.stream_edits.specs.Edits.{Register, Makes}
 use Rattle.stream_edits.specs.Groups.{MakesAll}
@@ -19,9 +21,7 @@ pub record LeadsAll (old : Register) (edits : List Edit) (texts : Texts) (ids : 
   pub makes : MakesAll old edits about new
   pub is : IsStream new texts ids ids_given
 
--- the edits are accepted, and leave units of these texts
-pub record Reaches (old : Register) (edits : List Edit) (texts : Texts) : Type 0 where
-  pub about : List ℕ
-  pub new : Register
-  pub makes : MakesAll old edits about new
-  pub carries : Carries new.stream texts
+-- the edits are accepted, and what they change leads to these texts, whose units then have the ids
+pub record TakesTo (old : Register) (texts : Texts) (group : StepGroup) (to : Texts) : Type 0 where
+  pub leads : LeadsAll old group.edits.items to group.ids.items group.ids_given
+  pub changes : ChangesAll texts group.changes.items to

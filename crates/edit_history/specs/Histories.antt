@@ -1,5 +1,6 @@
 -- A history beside the texts that a stream had after each of its steps.
-use Rattle.std.specs.Prelude.{◌≡◌, ℕ, ◌+◌, ◌≤◌, List, length, Some, slice_get}
+use Rattle.std.specs.Prelude.{◌≡◌, ℕ, ◌+◌, ◌<◌, ◌≤◌, List, length, Some, slice_get, vec_len}
+use Rattle.std.specs.Vec.{vec_capacity}
 use Rattle.edit_history.specs.declared.history.History.{History}
 use Rattle.edit_history.specs.declared.history.Step.{Step}
 use Rattle.edit_history.specs.Changes.{ChangesAll}
@@ -17,3 +18,7 @@ pub record Fits (history : History) (states : List Texts) : Type 0 where
 pub record IsHistory (history : History) (states : List Texts) (texts : Texts) : Type 0 where
   pub fits : Fits history states
   pub now : slice_get states history.done ≡ Some texts
+
+-- there is room for one step more
+abbrev pub HasRoom : History → Type 0
+HasRoom history = vec_len history.steps < vec_capacity history.steps

@@ -1,6 +1,6 @@
 //! What an accepted edit changed.
 
-ghost use Rattle.std.specs.Prelude.{IfOk};
+ghost use Rattle.std.specs.Prelude.{◌≡◌, IfOk};
 ghost use Rattle.edit_history.specs.Changes.{Changes};
 ghost use Rattle.edit_history.specs.Texts.{Texts};
 
@@ -19,6 +19,19 @@ pub enum Change {
 }
 
 impl Change {
+    /// The change once more; it shares the bytes.
+    pub fn copy(&self) -> Result<Change, AllocError>
+        ensures { IfOk result (λ copy. copy ≡ self.now) }
+    {
+        match self {
+            Change::Inserted(at, text) => Ok(Change::Inserted(*at, text.clone()?)),
+            Change::Deleted(at, text) => Ok(Change::Deleted(*at, text.clone()?)),
+            Change::Replaced(at, former, text) => {
+                Ok(Change::Replaced(*at, former.clone()?, text.clone()?))
+            }
+        }
+    }
+
     /// What takes the change back. It shares the bytes.
     pub(crate) fn inverse(&self) -> Result<Change, AllocError>
         ensures { IfOk result (λ inverse. (old : Texts) (new : Texts)

@@ -1,9 +1,9 @@
 //! The ids of a stream under the edits of a group.
 
-ghost use Rattle.std.specs.Prelude.{◌≡◌, ℕ, List, ◌<◌, ◌≤◌, ◌+◌, Some, length, IfErr, IfOk, OnOk};
-ghost use Rattle.edit_history.specs.Changes.{Changes, IsWithin, IsMore};
+ghost use Rattle.std.specs.Prelude.{◌≡◌, ◌≢◌, ℕ, List, ◌<◌, ◌≤◌, ◌+◌, Some, length, IfErr, IfOk, OnOk};
+ghost use Rattle.edit_history.specs.Changes.{Changes, ChangesAll, IsWithin, IsMore};
 ghost use Rattle.edit_history.specs.declared.refusals.NotUndone.TheVariants.{Unfit};
-ghost use Rattle.edit_history.specs.Groups.{Leads};
+ghost use Rattle.edit_history.specs.Groups.{Leads, LeadsAll};
 ghost use Rattle.edit_history.specs.Refusals.{IsRefusedFor};
 ghost use Rattle.edit_history.specs.Texts.{IsStream, Texts};
 ghost use Rattle.stream_edits.specs.Edits.{Register};
@@ -35,6 +35,28 @@ impl Draft {
             ids: ids.to_vec(alloc)?,
             ids_given,
         })
+    }
+
+    /// The edits that make the changes, made on the draft one after the other.
+    pub(crate) fn make_all(
+        &mut self,
+        alloc: Global,
+        changes: &[Change],
+    ) -> Result<Vec<Edit>, NotUndone>
+        ensures ok { IfOk result (λ edits. (old : Register) (before : Texts) (after : Texts)
+            → IsStream old before self.old.ids.items self.old.ids_given
+            → ChangesAll before changes.now after
+            → LeadsAll old edits.items after self.new.ids.items self.new.ids_given) }
+        ensures err { IfErr result (IsRefusedFor (self.old.ids_given + length changes.now)) }
+        ensures fit { IfErr result (λ refused. (old : Register) (before : Texts) (after : Texts)
+            → IsStream old before self.old.ids.items self.old.ids_given
+            → ChangesAll before changes.now after → refused ≢ Unfit) }
+    {
+        let mut edits = Vec::with_capacity(alloc, changes.len())?;
+        for change in changes {
+            edits.push(self.make(change)?)?;
+        }
+        Ok(edits)
     }
 
     /// The edit that makes the change, made on the draft.

@@ -3,7 +3,7 @@
 ghost use Rattle.std.specs.Prelude.{◌≡◌, ◌≢◌, ◌+◌, length, IfErr, IfOk};
 ghost use Rattle.edit_history.specs.Changes.{ChangesAll};
 ghost use Rattle.edit_history.specs.declared.refusals.NotUndone.TheVariants.{Unfit};
-ghost use Rattle.edit_history.specs.Groups.{Reaches};
+ghost use Rattle.edit_history.specs.Groups.{LeadsAll};
 ghost use Rattle.edit_history.specs.Refusals.{IsRefusedFor};
 ghost use Rattle.edit_history.specs.Texts.{IsStream, Texts};
 ghost use Rattle.stream_edits.specs.Edits.{Register};
@@ -15,28 +15,68 @@ use pictures::AuId;
 use std::alloc::{AllocError, Global};
 use stream_edits::Edit;
 
+/// A group of edits that takes a step back, or makes it again.
+#[derive(Debug)]
+pub struct StepGroup {
+    /// The edits, to be made together.
+    pub edits: Vec<Edit>,
+    /// What they change, one after the other.
+    pub changes: Vec<Change>,
+    /// The ids of the units once they are made.
+    pub ids: Vec<AuId>,
+    /// How many ids are given then.
+    pub ids_given: u32,
+}
+
+// By hand, so that whoever drops one is proved over one call.
+impl Drop for StepGroup {
+    fn drop(self) {
+        let StepGroup {
+            edits: _,
+            changes: _,
+            ids: _,
+            ids_given: _,
+        } = self;
+    }
+}
+
 /// The edits that make the changes, one for each, of a stream with these ids and with so many ids
 /// given. An edit names an id that one before it gives.
 pub(crate) fn group_of(
     alloc: Global,
     ids: &[AuId],
     ids_given: u32,
-    changes: &[Change],
-) -> Result<Vec<Edit>, NotUndone>
-    ensures ok { IfOk result (λ edits. (old : Register) (before : Texts) (after : Texts)
-        → IsStream old before ids.now ids_given → ChangesAll before changes.now after
-        → Reaches old edits.items after) }
-    ensures err { IfErr result (IsRefusedFor (ids_given + length changes.now)) }
+    changes: Vec<Change>,
+) -> Result<StepGroup, NotUndone>
+    ensures ok { IfOk result (λ group. (old : Register) (before : Texts) (after : Texts)
+        → IsStream old before ids.now ids_given → ChangesAll before changes.items after
+        → LeadsAll old group.edits.items after group.ids.items group.ids_given) }
+    ensures changes { IfOk result (λ group. group.changes.items ≡ changes.items) }
+    ensures err { IfErr result (IsRefusedFor (ids_given + length changes.items)) }
     ensures fit { IfErr result (λ refused. (old : Register) (before : Texts) (after : Texts)
-        → IsStream old before ids.now ids_given → ChangesAll before changes.now after
+        → IsStream old before ids.now ids_given → ChangesAll before changes.items after
         → refused ≢ Unfit) }
 {
     let mut draft = Draft::new(alloc, ids, ids_given)?;
-    let mut edits = Vec::with_capacity(alloc, changes.len())?;
+    let edits = draft.make_all(alloc, &changes)?;
+    let Draft { ids, ids_given } = draft;
+    Ok(StepGroup {
+        edits,
+        changes,
+        ids,
+        ids_given,
+    })
+}
+
+/// The changes once more. They share the bytes.
+pub(crate) fn copies_of(alloc: Global, changes: &[Change]) -> Result<Vec<Change>, AllocError>
+    ensures { IfOk result (λ copies. copies.items ≡ changes.now) }
+{
+    let mut copies = Vec::with_capacity(alloc, changes.len())?;
     for change in changes {
-        edits.push(draft.make(change)?)?;
+        copies.push(change.copy()?)?;
     }
-    Ok(edits)
+    Ok(copies)
 }
 
 /// What takes the changes back, the last first. It shares the bytes.

@@ -3,18 +3,17 @@
 ghost use Rattle.std.specs.Prelude.{◌≡◌, ◌≢◌, ℕ, ◌+◌, ◌-◌, ◌<◌, List, [], ◌∷◌, ◌++◌, Some, length, slice_get, take, min, IfErr, IfOk, OnErr, OnOk};
 ghost use Rattle.edit_history.specs.Changes.{ChangesAll};
 ghost use Rattle.edit_history.specs.declared.refusals.NotUndone.TheVariants.{Unfit};
-ghost use Rattle.edit_history.specs.Groups.{Reaches};
-ghost use Rattle.edit_history.specs.Histories.{IsHistory};
+ghost use Rattle.edit_history.specs.Groups.{TakesTo};
+ghost use Rattle.edit_history.specs.Histories.{HasRoom, IsHistory};
 ghost use Rattle.edit_history.specs.Refusals.{IsNotUndone};
 ghost use Rattle.edit_history.specs.Texts.{IsStream, Texts};
 ghost use Rattle.stream_edits.specs.Edits.{Register};
 
 use crate::changes::Change;
-use crate::groups::{group_of, inverse_of};
+use crate::groups::{StepGroup, copies_of, group_of, inverse_of};
 use crate::refusals::NotUndone;
 use pictures::AuId;
 use std::alloc::{AllocError, Global};
-use stream_edits::Edit;
 
 /// What one edit, group or load changed.
 #[derive(Debug)]
@@ -70,32 +69,39 @@ impl History {
         self.steps.len().saturating_sub(self.done)
     }
 
-    /// Takes in what an edit, a group or a load changed, in the order of its edits. What could be
-    /// redone is forgotten. Where memory is refused, all stays as it was.
-    pub fn changed(&mut self, changes: Vec<Change>) -> Result<(), AllocError>
-        ensures ok { OnOk result ((states : List Texts) (before : Texts) (after : Texts)
-            → IsHistory self.old states before → ChangesAll before changes.items after
-            → IsHistory self.new (take (self.old.done + 1) states ++ after ∷ []) after) }
-        ensures done { OnOk result (self.new.done ≡ length self.new.steps.items) }
-        ensures steps { OnErr result (self.new.steps.items ≡ self.old.steps.items) }
-        ensures stays { OnErr result (self.new.done ≡ self.old.done) }
+    /// Makes room for one step more, so that a change that is accepted can be taken in without
+    /// memory. What can be undone and redone stays.
+    pub fn reserve(&mut self) -> Result<(), AllocError>
+        ensures ok { OnOk result (HasRoom self.new) }
+        ensures done { self.new.done ≡ self.old.done }
+        ensures steps { self.new.steps.items ≡ self.old.steps.items }
     {
-        self.steps.reserve(1)?;
+        self.steps.reserve(1)
+    }
+
+    /// Takes in what an edit, a group or a load changed, in the order of its edits. What could be
+    /// redone is forgotten. It takes no memory: `reserve` made the room.
+    pub fn changed(&mut self, changes: Vec<Change>)
+        requires room { HasRoom self.old }
+        ensures fits { (states : List Texts) (before : Texts) (after : Texts)
+            → IsHistory self.old states before → ChangesAll before changes.items after
+            → IsHistory self.new (take (self.old.done + 1) states ++ after ∷ []) after }
+        ensures done { self.new.done ≡ length self.new.steps.items }
+    {
         self.steps.truncate(self.done);
-        self.steps.push(Step { changes })?;
+        self.steps.push_reserved(Step { changes });
         self.done = self.steps.len();
-        Ok(())
     }
 
     /// The group of edits that takes back the last step that is done, of the stream with these ids
     /// and with so many ids given: for its edits, the last one first, a deletion for an insertion,
     /// an insertion behind the unit that stood before it for a deletion, and the text that was there
     /// for a replacement.
-    pub fn undo(&self, alloc: Global, ids: &[AuId], ids_given: u32) -> Result<Vec<Edit>, NotUndone>
-        ensures ok { IfOk result (λ edits. (states : List Texts) (texts : Texts) (old : Register)
+    pub fn undo(&self, alloc: Global, ids: &[AuId], ids_given: u32) -> Result<StepGroup, NotUndone>
+        ensures ok { IfOk result (λ group. (states : List Texts) (texts : Texts) (old : Register)
             → IsHistory self.now states texts → IsStream old texts ids.now ids_given
             → (at : ℕ) (before : Texts) → self.now.done ≡ at + 1
-            → slice_get states at ≡ Some before → Reaches old edits.items before) }
+            → slice_get states at ≡ Some before → TakesTo old texts group before) }
         ensures some { IfOk result (λ _. 0 < self.now.done) }
         ensures err { IfErr result (IsNotUndone self.now.done) }
         ensures fit { IfErr result (λ refused. (states : List Texts) (texts : Texts) (old : Register)
@@ -110,7 +116,7 @@ impl History {
             return Err(NotUndone::Unfit);
         };
         let inverse = inverse_of(alloc, &step.changes)?;
-        group_of(alloc, ids, ids_given, &inverse)
+        group_of(alloc, ids, ids_given, inverse)
     }
 
     /// Takes in that the group of `undo` was made.
@@ -126,11 +132,11 @@ impl History {
 
     /// The group of edits that makes the next step again that was taken back, of the stream with
     /// these ids and with so many ids given: its edits as they were.
-    pub fn redo(&self, alloc: Global, ids: &[AuId], ids_given: u32) -> Result<Vec<Edit>, NotUndone>
-        ensures ok { IfOk result (λ edits. (states : List Texts) (texts : Texts) (old : Register)
+    pub fn redo(&self, alloc: Global, ids: &[AuId], ids_given: u32) -> Result<StepGroup, NotUndone>
+        ensures ok { IfOk result (λ group. (states : List Texts) (texts : Texts) (old : Register)
             → IsHistory self.now states texts → IsStream old texts ids.now ids_given
             → (after : Texts) → slice_get states (self.now.done + 1) ≡ Some after
-            → Reaches old edits.items after) }
+            → TakesTo old texts group after) }
         ensures some { IfOk result (λ _. self.now.done < length self.now.steps.items) }
         ensures err { IfErr result (IsNotUndone (length self.now.steps.items - self.now.done)) }
         ensures fit { IfErr result (λ refused. (states : List Texts) (texts : Texts) (old : Register)
@@ -141,7 +147,8 @@ impl History {
         let Some(step) = self.steps.get(self.done) else {
             return Err(NotUndone::Nothing);
         };
-        group_of(alloc, ids, ids_given, &step.changes)
+        let changes = copies_of(alloc, &step.changes)?;
+        group_of(alloc, ids, ids_given, changes)
     }
 
     /// Takes in that the group of `redo` was made.

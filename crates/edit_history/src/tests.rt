@@ -1,6 +1,6 @@
 //! A history beside streams of two or three units that are changed by hand.
 
-use crate::{Change, History, NotUndone};
+use crate::{Change, History, NotUndone, StepGroup};
 use bytes::Bytes;
 use pictures::AuId;
 use std::alloc::{AllocError, Global};
@@ -29,11 +29,12 @@ fn first(text: &Bytes) -> u8 {
 }
 
 /// Whether the edits are these.
-fn are(edits: &Result<Vec<Edit>, NotUndone>, wanted: &[(char, u32, u8)]) -> bool {
-    match edits {
-        Ok(edits) => {
-            edits.len() == wanted.len()
-                && edits
+fn are(group: &Result<StepGroup, NotUndone>, wanted: &[(char, u32, u8)]) -> bool {
+    match group {
+        Ok(group) => {
+            group.edits.len() == wanted.len()
+                && group
+                    .edits
                     .iter()
                     .zip(wanted)
                     .all(|(edit, wanted)| shown(edit) == *wanted)
@@ -54,6 +55,13 @@ fn replaced(at: usize, former: &'static [u8], text: &'static [u8]) -> Change {
     Change::Replaced(at, Bytes::from_static(former), Bytes::from_static(text))
 }
 
+/// Takes in what an accepted edit or group changed.
+fn take_in(history: &mut History, changes: Vec<Change>) -> Result<(), AllocError> {
+    history.reserve()?;
+    history.changed(changes);
+    Ok(())
+}
+
 /// The ids of these numbers.
 fn ids(alloc: Global, numbers: &[u32]) -> Result<Vec<AuId>, AllocError> {
     let mut ids = Vec::new(alloc);
@@ -68,7 +76,10 @@ fn units_come_back_under_new_ids(rt: HostRuntime) -> Result<(), Fail> {
     let alloc = rt.alloc();
     let mut history = History::new(alloc);
     // A, B and C stand under 1, 2 and 3; a group takes out B and then A.
-    history.changed(vec![in alloc; deleted(1, &B), deleted(0, &A)]?)?;
+    take_in(
+        &mut history,
+        vec![in alloc; deleted(1, &B), deleted(0, &A)]?,
+    )?;
     let back = history.undo(alloc, &ids(alloc, &[3])?, 3);
     assert!(rt; are(&back, &[('i', 0, 1), ('i', 4, 2)]));
     history.undone();
@@ -85,8 +96,11 @@ fn units_come_back_under_new_ids(rt: HostRuntime) -> Result<(), Fail> {
 fn edits_are_taken_back_and_made_again(rt: HostRuntime) -> Result<(), Fail> {
     let alloc = rt.alloc();
     let mut history = History::new(alloc);
-    history.changed(vec![in alloc; inserted(0, &A)]?)?;
-    history.changed(vec![in alloc; replaced(0, &A, &B), inserted(1, &C)]?)?;
+    take_in(&mut history, vec![in alloc; inserted(0, &A)]?)?;
+    take_in(
+        &mut history,
+        vec![in alloc; replaced(0, &A, &B), inserted(1, &C)]?,
+    )?;
     let back = history.undo(alloc, &ids(alloc, &[1, 2])?, 2);
     assert!(rt; are(&back, &[('d', 2, 0), ('r', 1, 1)]));
     // Refused, it can be asked for again.
@@ -103,7 +117,7 @@ fn edits_are_taken_back_and_made_again(rt: HostRuntime) -> Result<(), Fail> {
     let again = history.redo(alloc, &ids(alloc, &[3])?, 3);
     assert!(rt; are(&again, &[('r', 3, 2), ('i', 3, 3)]));
     // Another edit: what could be redone is forgotten.
-    history.changed(vec![in alloc; deleted(0, &A)]?)?;
+    take_in(&mut history, vec![in alloc; deleted(0, &A)]?)?;
     assert!(rt; history.redo(alloc, &[], 3).err() == Some(NotUndone::Nothing));
     assert!(rt; (history.to_undo(), history.to_redo()) == (2, 0));
     Ok(())
@@ -113,7 +127,7 @@ fn edits_are_taken_back_and_made_again(rt: HostRuntime) -> Result<(), Fail> {
 fn ids_may_be_spent(rt: HostRuntime) -> Result<(), Fail> {
     let alloc = rt.alloc();
     let mut history = History::new(alloc);
-    history.changed(vec![in alloc; deleted(0, &A)]?)?;
+    take_in(&mut history, vec![in alloc; deleted(0, &A)]?)?;
     let back = history.undo(alloc, &[], u32::MAX);
     assert!(rt; back.err() == Some(NotUndone::IdsSpent));
     let back = history.undo(alloc, &[], u32::MAX - 1);

@@ -21,11 +21,12 @@ returns-clause-fit c =
     (slice_get_read c.deref.result.now (length c.deref.result.now) history.done step refl lookup.3.0 lookup.1) in
     IfErr-more c.group_of.result
     (λ refused. (old : Register) (before after : Texts) → IsStream old before c.args.ids.now c.args.ids_given
-    → ChangesAll before c.deref-2.result.now after → refused ≢ Unfit)
+    → ChangesAll before c.in_ok-changes.changes.items after → refused ≢ Unfit)
     (λ refused. (states : List Texts) (texts : Texts) (old : Register) → IsHistory history states texts
     → IsStream old texts c.args.ids.now c.args.ids_given → (after : Texts) → slice_get states (history.done + 1) ≡ Some after → refused ≢ Unfit)
     (λ refused never states texts old is stream after after_is.
     never old texts after stream
+    (subst (λ (changes : List Change). ChangesAll texts changes after) (sym c.in_ok-changes.ensures)
     (subst (λ (changes : List Change). ChangesAll texts changes after) (sym c.deref-2.ensures.value)
-    (is.fits.each history.done step texts after step_is is.now after_is)))
+    (is.fits.each history.done step texts after step_is is.now after_is))))
     c.group_of.ensures.fit

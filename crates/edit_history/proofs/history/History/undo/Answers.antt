@@ -23,7 +23,7 @@ returns-clause-fit c =
     (slice_get_read c.deref.result.now (length c.deref.result.now) last step refl lookup.3.0 lookup.1) in
     IfErr-more c.group_of.result
     (λ refused. (old : Register) (before after : Texts) → IsStream old before c.args.ids.now c.args.ids_given
-    → ChangesAll before c.deref-3.result.now after → refused ≢ Unfit)
+    → ChangesAll before c.in_ok-inverse.inverse.items after → refused ≢ Unfit)
     (λ refused. (states : List Texts) (texts : Texts) (old : Register) → IsHistory history states texts
     → IsStream old texts c.args.ids.now c.args.ids_given → (at : ℕ) (before : Texts) → history.done ≡ at + 1 → slice_get states at ≡ Some before
     → refused ≢ Unfit)
@@ -32,8 +32,7 @@ returns-clause-fit c =
     let here : slice_get states last ≡ Some before = subst (λ (n : ℕ). slice_get states n ≡ Some before) at_is before_is in
     let now : slice_get states (last + 1) ≡ Some texts = subst (λ (n : ℕ). slice_get states n ≡ Some texts) done_is is.now in
     never old texts before stream
-    (subst (λ (changes : List Change). ChangesAll texts changes before) (sym c.deref-3.ensures.value)
     (c.in_ok-inverse.ensures.back before texts
     (subst (λ (changes : List Change). ChangesAll before changes texts) (sym c.deref-2.ensures.value)
-    (is.fits.each last step before texts step_is here now)))))
+    (is.fits.each last step before texts step_is here now))))
     c.group_of.ensures.fit

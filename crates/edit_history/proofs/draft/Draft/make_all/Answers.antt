@@ -1,7 +1,7 @@
 use Rattle.std.proofs.Common.{arith}
 use Rattle.std.proofs.lemmas.Result.{err_from_is_err_and}
 use Rattle.edit_history.proofs.Changed.{IsPartly-fits, IsPartly-more, IsPartly-whole}
-use Rattle.edit_history.proofs.groups.group_of.Goals as goal
+use Rattle.edit_history.proofs.draft.Draft.make_all.Goals as goal
 
 pub returns-in_err-make-clause-fit : goal.returns-in_err-make-clause-fit
 returns-in_err-make-clause-fit c =
@@ -10,7 +10,7 @@ returns-in_err-make-clause-fit c =
     rw (p.1, p.2)
     (λ old before after is all unfit.
     c.in_err-make.ensures.fit unfit
-    (IsPartly-fits old loop.edits.items c.args.changes.now loop.change-index c.change-item.result loop.draft.ids.items loop.draft.ids_given after
+    (IsPartly-fits old loop.edits.items c.args.changes.now loop.change-index c.change-item.result loop.self.ids.items loop.self.ids_given after
     c.loop-change-test.true c.change-item.is (loop.invariant.made old before after is all)))
 
 pub loop-change-preserved : goal.loop-change-preserved
@@ -19,8 +19,8 @@ loop-change-preserved c =
     record {
       made = λ old before after is all.
           rw (c.in_ok-push.ensures.items)
-          (IsPartly-more old loop.edits.items c.args.changes.now loop.change-index c.change-item.result c.in_ok-make.field-0 loop.draft.ids.items
-          loop.draft.ids_given c.make.new.self.ids.items c.make.new.self.ids_given after c.loop-change-test.true c.change-item.is
+          (IsPartly-more old loop.edits.items c.args.changes.now loop.change-index c.change-item.result c.in_ok-make.field-0 loop.self.ids.items
+          loop.self.ids_given c.make.new.self.ids.items c.make.new.self.ids_given after c.loop-change-test.true c.change-item.is
           c.in_ok-make.ensures.makes (loop.invariant.made old before after is all));
       few = omega (arith, c.in_ok-make.ensures.given, loop.invariant.few);
     }
@@ -28,5 +28,5 @@ loop-change-preserved c =
 pub returns-clause-ok : goal.returns-clause-ok
 returns-clause-ok c = λ old before after is all.
     let loop = c.loop-change in
-    IsPartly-whole old loop.edits.items c.args.changes.now loop.change-index loop.draft.ids.items loop.draft.ids_given after c.loop-change-test.false
+    IsPartly-whole old loop.edits.items c.args.changes.now loop.change-index loop.self.ids.items loop.self.ids_given after c.loop-change-test.false
     (loop.invariant.made old before after is all)

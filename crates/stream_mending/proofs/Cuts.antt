@@ -1,7 +1,7 @@
 -- The cut of bytes at start codes, as a search finds them.
-use Rattle.std.proofs.Common.{◌≡◌, ℕ, zero, suc, ◌+◌, ◌<◌, ⊎_elim, List, [], ◌∷◌, ◌++◌, length, take, drop, arith, refl, ap, sym, ◌∙◌, length-drop}
+use Rattle.std.proofs.Common.{◌≡◌, ℕ, zero, suc, ◌+◌, ◌<◌, ⊎_elim, List, [], ◌∷◌, ◌++◌, length, take, drop, arith, refl, ap, sym, ◌∙◌, append_assoc, length-drop}
 use Rattle.std.proofs.lemmas.Bool.{cases_lt}
-use Rattle.std.proofs.lemmas.List.{take-append-drop, length-take-le}
+use Rattle.std.proofs.lemmas.List.{drop-append-le, take-append-drop, length-take-le}
 use Rattle.memchr.specs.Find.{OccursAt, Nowhere, NoneBefore}
 use Rattle.annexb.specs.ByteStream.{start_code}
 use Rattle.annexb.proofs.Needles.{drop-occurs, OccursAt-from_drop}
@@ -62,6 +62,40 @@ found_cut bytes ahead (none, occurs) =
   where
     subst_drop : {one other : List ℕ} (k : ℕ) → other ≡ one → NoCode (drop k one) → NoCode (drop k other)
     subst_drop k e h rest there = h rest (ap (drop k) (sym e) ∙ there)
+
+-- three bytes in front are those of what they are in front of
+front_code : (bytes more rest : List ℕ) → 3 < length bytes → bytes ++ more ≡ start_code ++ rest
+    → (own : List ℕ) × (bytes ≡ start_code ++ own)
+front_code [] more rest long e = absurd (omega (arith, long))
+front_code (a ∷ []) more rest long e = absurd (omega (arith, long))
+front_code (a ∷ b ∷ []) more rest long e = absurd (omega (arith, long))
+front_code (a ∷ b ∷ c ∷ own) more rest long e = (own, cc)
+
+-- bytes behind it change nothing of what stands before it
+pub found_cut_more : (bytes : List ℕ) (ahead : ℕ) (more : List ℕ)
+    → NoneBefore (OccursAt bytes needle) 0 (length bytes + 1) ahead × OccursAt bytes needle ahead
+    → cut_of (bytes ++ more)
+    ≡ record {
+      front = take ahead bytes;
+      rest = (cut_of (drop (ahead + 3) bytes ++ more)).front ∷ (cut_of (drop (ahead + 3) bytes ++ more)).rest;
+    }
+found_cut_more bytes ahead more (none, occurs) =
+    ap cut_of whole ∙ cut_at (take ahead bytes) (drop (ahead + 3) bytes ++ more) (λ k below rest e.
+    none_there k (omega (arith, below, size)) rest (ap (drop k) whole ∙ e))
+  where
+    size : length (take ahead bytes) ≡ ahead
+    size = length-take-le ahead bytes (omega (arith, occurs.fits))
+
+    whole : bytes ++ more ≡ take ahead bytes ++ (start_code ++ (drop (ahead + 3) bytes ++ more))
+    whole =
+        ap (λ l. l ++ more) (found_whole bytes ahead occurs)
+        ∙ append_assoc (take ahead bytes) (start_code ++ drop (ahead + 3) bytes) more
+
+    none_there : (k : ℕ) → k < ahead → NoCode (drop k (bytes ++ more))
+    none_there k below rest e =
+        let own = front_code (drop k bytes) more rest (omega (arith, below, length-drop k bytes, occurs.fits))
+        (sym (drop-append-le k bytes more (omega (arith, below, occurs.fits))) ∙ e) in
+        no_code bytes ahead none.before k below own.0 own.1
 
 -- where it finds none
 pub none_cut : (bytes : List ℕ) → Nowhere (OccursAt bytes needle) 0 (length bytes + 1) → cut_of bytes ≡ record { front = bytes; rest = [] }

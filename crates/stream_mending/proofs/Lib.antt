@@ -13,3 +13,4 @@ pub mod Accepted
 pub mod Unchanged
 pub mod Drawn
 pub mod Sizes
+pub mod Fronts

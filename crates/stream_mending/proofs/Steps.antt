@@ -1,5 +1,5 @@
 -- How far a text is mended, step by step.
-use Rattle.std.proofs.Common.{◌≡◌, ℕ, ◌+◌, ◌-◌, ◌≤◌, Bool, true, false, ◌||◌, List, [], ◌∷◌, ◌++◌, length, take, drop, replicate, Some, None, refl, ap, sym, ◌∙◌, append_assoc, cond}
+use Rattle.std.proofs.Common.{◌≡◌, ℕ, ◌+◌, ◌-◌, ◌≤◌, Bool, true, false, ◌||◌, List, [], ◌∷◌, ◌++◌, length, take, drop, replicate, Some, None, refl, ap, sym, ◌∙◌, append_assoc, cond, subst}
 use Rattle.std.proofs.lemmas.List.{append-nil, length-take-le}
 use Rattle.std.proofs.lemmas.Grind.{flat_map-append}
 use Rattle.std.proofs.lemmas.List.Folds.{list_any-append}
@@ -11,12 +11,13 @@ use Rattle.stream_mending.specs.Faults.{fault_of, is_sound, has_none}
 use Rattle.stream_mending.specs.Portions.{Portion, units_of, joint_after, ended_by, goes_on_in, with_stretch, portions_from, portions_of, fits, no_stretch}
 use Rattle.stream_mending.specs.Mended.{mended, told, front_text, told_front, told_bytes, told_stretch, told_for, told_portion, told_size, portion_text, stays, first_place}
 use Rattle.stream_mending.specs.OpenPortions.{IsOpen}
-use Rattle.stream_mending.specs.Mending.{IsDone, IsEnded, IsMendedTo, stretches_from}
+use Rattle.stream_mending.specs.Mending.{IsDone, IsEnded, IsMendedTo, IsMendedUpTo, stretches_from}
 use Rattle.stream_mending.specs.declared.joint.Joint.{Joint}
 use Rattle.stream_mending.specs.declared.joint.Joint.TheVariants.{Joins}
 use Rattle.stream_mending.specs.declared.why.Why.{Why}
 use Rattle.stream_mending.specs.declared.why.Why.TheVariants.{NotNalUnit, TooLarge}
 use Rattle.stream_mending.specs.declared.why.LeftOut.{LeftOut}
+use Rattle.stream_mending.specs.declared.mender.Mender.{Mender}
 use Rattle.stream_mending.specs.declared.mending.Mending.{Mending}
 use Rattle.stream_mending.proofs.Portions.{told-push}
 
@@ -28,31 +29,37 @@ mended_as front rest = cond (list_any stays (portions_of (stretches_at (length f
 abbrev told_as : List ℕ → List (List ℕ) → List LeftOut
 told_as front rest = told_front front rest ++ flat_map told_portion (portions_of (stretches_at (length front) rest))
 
+-- what comes behind what was there, after what was given away
+pub said_more : {A : Type 0} (before old new more : List A) → new ≡ old ++ more → before ++ new ≡ (before ++ old) ++ more
+said_more before old new more is = ap (λ l. before ++ l) is ∙ sym (append_assoc before old more)
+
 -- one stretch more in the access unit
-module _ (text : List ℕ) (done : List Portion) (portion : Portion) (stretch : Stretch) (old new : Mending)
-    (so_far : IsDone text done portion old) (opened : IsOpen (with_stretch portion stretch) new.portion)
+module _ (text written : List ℕ) (said : List LeftOut) (done : List Portion) (portion : Portion) (stretch : Stretch) (old new : Mending)
+    (so_far : IsDone text written said done portion old) (opened : IsOpen (with_stretch portion stretch) new.portion)
     (bytes : new.bytes.items ≡ old.bytes.items) (stay : new.stays ≡ old.stays) where
-  done_more : new.left_out.items ≡ old.left_out.items ++ told_stretch stretch → IsDone text done (with_stretch portion stretch) new
+  done_more : new.left_out.items ≡ old.left_out.items ++ told_stretch stretch → IsDone text written said done (with_stretch portion stretch) new
   done_more tells =
       let before = told_front (cut_of text).front (cut_of text).rest ++ flat_map told_portion done in
       record {
         open_is = opened;
-        bytes_are = bytes ∙ so_far.bytes_are;
+        bytes_are = ap (λ l. written ++ l) bytes ∙ so_far.bytes_are;
         told_are =
-            tells ∙ ap (λ l. l ++ told_stretch stretch) so_far.told_are
+            said_more said old.left_out.items new.left_out.items (told_stretch stretch) tells
+            ∙ ap (λ l. l ++ told_stretch stretch) so_far.told_are
             ∙ append_assoc before (flat_map told_stretch portion.stretches) (told_stretch stretch)
             ∙ ap (λ l. before ++ l) (sym (told-push portion stretch));
         stays_is = stay ∙ so_far.stays_is;
+        unwritten = λ none. so_far.unwritten (sym stay ∙ none);
       }
 
   pub done_left_out : (why : Why) → fault_of stretch.unit ≡ Some why
       → new.left_out.items ≡ old.left_out.items ++ told_bytes stretch.place (3 + length stretch.unit) why
-      → IsDone text done (with_stretch portion stretch) new
+      → IsDone text written said done (with_stretch portion stretch) new
   done_left_out why fault tells =
       done_more (tells ∙ ap (λ f. old.left_out.items ++ told_for stretch f) (sym fault))
 
   pub done_kept : fault_of stretch.unit ≡ None → new.left_out.items ≡ old.left_out.items
-      → IsDone text done (with_stretch portion stretch) new
+      → IsDone text written said done (with_stretch portion stretch) new
   done_kept fault tells =
       done_more (tells ∙ sym (append-nil old.left_out.items) ∙ ap (λ f. old.left_out.items ++ told_for stretch f) (sym fault))
 
@@ -63,11 +70,11 @@ pub step : (portion : Portion) (stretch : Stretch) (left : List Stretch) (joint 
 step portion stretch left _ e =
     ap (λ j. ended_by j portion ++ portions_from (with_stretch (goes_on_in j portion) stretch) left) e
 
-pub mended_more : (text : List ℕ) (left : List Stretch) (stretch : Stretch) (old new : Mending) (joint : Joint)
-    → (h : IsMendedTo text (stretch ∷ left) old) → joint_after h.portion stretch ≡ joint
-    → IsDone text (h.done ++ ended_by joint h.portion) (with_stretch (goes_on_in joint h.portion) stretch) new
-    → IsMendedTo text left new
-mended_more text left stretch old new joint h e so_far = record {
+pub mended_more : (text written : List ℕ) (said : List LeftOut) (left : List Stretch) (stretch : Stretch) (old new : Mending) (joint : Joint)
+    → (h : IsMendedTo text written said (stretch ∷ left) old) → joint_after h.portion stretch ≡ joint
+    → IsDone text written said (h.done ++ ended_by joint h.portion) (with_stretch (goes_on_in joint h.portion) stretch) new
+    → IsMendedTo text written said left new
+mended_more text written said left stretch old new joint h e so_far = record {
   done = h.done ++ ended_by joint h.portion;
   portion = with_stretch (goes_on_in joint h.portion) stretch;
   whole =
@@ -83,10 +90,10 @@ joins_unsound portion stretch unsound = rw unsound refl
 pub unsound_fault : (unit : List ℕ) (why : Why) → fault_of unit ≡ Some why → is_sound unit ≡ false
 unsound_fault unit why fault = ap has_none fault
 
-pub mended_left_out : (text : List ℕ) (left : List Stretch) (stretch : Stretch) (old new : Mending)
-    → (h : IsMendedTo text (stretch ∷ left) old) → is_sound stretch.unit ≡ false
-    → IsDone text h.done (with_stretch h.portion stretch) new → IsMendedTo text left new
-mended_left_out text left stretch old new h unsound so_far = record {
+pub mended_left_out : (text written : List ℕ) (said : List LeftOut) (left : List Stretch) (stretch : Stretch) (old new : Mending)
+    → (h : IsMendedTo text written said (stretch ∷ left) old) → is_sound stretch.unit ≡ false
+    → IsDone text written said h.done (with_stretch h.portion stretch) new → IsMendedTo text written said left new
+mended_left_out text written said left stretch old new h unsound so_far = record {
   done = h.done;
   portion = with_stretch h.portion stretch;
   whole = h.whole ∙ ap (λ l. h.done ++ l) (step h.portion stretch left Joins (joins_unsound h.portion stretch unsound));
@@ -94,28 +101,36 @@ mended_left_out text left stretch old new h unsound so_far = record {
 }
 
 -- an access unit at its end
-module _ (text : List ℕ) (done : List Portion) (portion : Portion) (old new : Mending) (so_far : IsDone text done portion old) where
+module _ (text written : List ℕ) (said : List LeftOut) (done : List Portion) (portion : Portion) (old new : Mending)
+    (so_far : IsDone text written said done portion old) where
   ended : new.bytes.items ≡ old.bytes.items ++ portion_text portion
       → new.left_out.items ≡ old.left_out.items ++ told_size portion
-      → new.stays ≡ (old.stays || stays portion) → IsEnded text (done ++ portion ∷ []) new
+      → new.stays ≡ (old.stays || stays portion) → IsEnded text written said (done ++ portion ∷ []) new
   ended bytes tells stay =
       let front = front_text (cut_of text).front in
       let before = told_front (cut_of text).front (cut_of text).rest in
       record {
         bytes_are =
-            bytes ∙ ap (λ l. l ++ portion_text portion) so_far.bytes_are
+            said_more written old.bytes.items new.bytes.items (portion_text portion) bytes
+            ∙ ap (λ l. l ++ portion_text portion) so_far.bytes_are
             ∙ append_assoc front (flat_map portion_text done) (portion_text portion)
             ∙ ap (λ l. front ++ l) (sym (last portion_text (portion_text portion) refl));
         told_are =
-            tells ∙ ap (λ l. l ++ told_size portion) so_far.told_are
+            said_more said old.left_out.items new.left_out.items (told_size portion) tells
+            ∙ ap (λ l. l ++ told_size portion) so_far.told_are
             ∙ append_assoc (before ++ flat_map told_portion done) (flat_map told_stretch portion.stretches) (told_size portion)
             ∙ append_assoc before (flat_map told_portion done) (told_portion portion)
             ∙ ap (λ l. before ++ l) (sym (last told_portion (told_portion portion) refl));
         stays_is =
             stay ∙ ap (λ b. b || stays portion) so_far.stays_is
             ∙ sym (list_any-append stays done (portion ∷ []) ∙ ap (λ b. list_any stays done || b) (or_nothing (stays portion)));
+        unwritten = λ none. so_far.unwritten (neither old.stays (stays portion) (sym stay ∙ none));
       }
     where
+      neither : (a b : Bool) → (a || b) ≡ false → a ≡ false
+      neither true b none = none
+      neither false b none = refl
+
       or_nothing : (b : Bool) → list_any (λ (x : Bool). x) (b ∷ []) ≡ b
       or_nothing true = refl
       or_nothing false = refl
@@ -125,7 +140,7 @@ module _ (text : List ℕ) (done : List Portion) (portion : Portion) (old new : 
           flat_map-append f done (portion ∷ []) ∙ ap (λ l. flat_map f done ++ l) (append-nil (f portion) ∙ sym e)
 
   pub ended_fits : fits portion ≡ true → new.bytes.items ≡ old.bytes.items ++ old.portion.text.items → new.left_out.items ≡ old.left_out.items
-      → new.stays ≡ (old.stays || nat_lt 0 (length (units_of portion))) → IsEnded text (done ++ portion ∷ []) new
+      → new.stays ≡ (old.stays || nat_lt 0 (length (units_of portion))) → IsEnded text written said (done ++ portion ∷ []) new
   ended_fits fit bytes tells stay =
       ended
       (bytes ∙ ap (λ l. old.bytes.items ++ l) (so_far.open_is.text_is ∙ rw fit refl))
@@ -134,7 +149,7 @@ module _ (text : List ℕ) (done : List Portion) (portion : Portion) (old new : 
 
   pub ended_large : fits portion ≡ false → new.bytes.items ≡ old.bytes.items ++ replicate old.portion.zeros 0
       → new.left_out.items ≡ old.left_out.items ++ told_bytes old.portion.place old.portion.bytes TooLarge
-      → new.stays ≡ old.stays → IsEnded text (done ++ portion ∷ []) new
+      → new.stays ≡ old.stays → IsEnded text written said (done ++ portion ∷ []) new
   ended_large fit bytes tells stay =
       ended
       (bytes ∙ ap (λ l. old.bytes.items ++ l) (so_far.open_is.zeros_are ∙ rw fit refl))
@@ -148,15 +163,17 @@ module _ (text : List ℕ) (done : List Portion) (portion : Portion) (old new : 
       or_false false = refl
 
 -- the next one is begun
-pub begun : (text : List ℕ) (done : List Portion) (is_delimited : Bool) (old new : Mending) → IsEnded text done old
+pub begun : (text written : List ℕ) (said : List LeftOut) (done : List Portion) (is_delimited : Bool) (old new : Mending)
+    → IsEnded text written said done old
     → IsOpen (record { is_delimited = is_delimited; stretches = [] }) new.portion
     → new.bytes ≡ old.bytes → new.left_out ≡ old.left_out → new.stays ≡ old.stays
-    → IsDone text done (record { is_delimited = is_delimited; stretches = [] }) new
-begun text done is_delimited old new h opened bytes tells stay = record {
+    → IsDone text written said done (record { is_delimited = is_delimited; stretches = [] }) new
+begun text written said done is_delimited old new h opened bytes tells stay = record {
   open_is = opened;
-  bytes_are = ap (λ v. v.items) bytes ∙ h.bytes_are;
-  told_are = ap (λ v. v.items) tells ∙ h.told_are ∙ sym (append-nil _);
+  bytes_are = ap (λ v. written ++ v.items) bytes ∙ h.bytes_are;
+  told_are = ap (λ v. said ++ v.items) tells ∙ h.told_are ∙ sym (append-nil _);
   stays_is = stay ∙ h.stays_is;
+  unwritten = λ none. h.unwritten (sym stay ∙ none);
 }
 
 -- before the first stretch
@@ -165,7 +182,7 @@ pub first_mended : (text bytes : List ℕ) (rest : List (List ℕ)) (front : Lis
     → place ≡ zero_run front → foreign_len ≡ length (foreign front)
     → IsOpen no_stretch new.portion → new.bytes.items ≡ replicate (length front - foreign_len) 0
     → new.left_out.items ≡ told_bytes place foreign_len NotNalUnit → new.stays ≡ false
-    → IsMendedTo text (stretches_of text) new
+    → IsMendedTo text [] [] (stretches_of text) new
 first_mended text bytes rest front place foreign_len new cut at len opened written tells stay = record {
   done = [];
   portion = no_stretch;
@@ -181,6 +198,7 @@ first_mended text bytes rest front place foreign_len new cut at len opened writt
         ∙ sym (append-nil (told_front (cut_of text).front (cut_of text).rest))
         ∙ sym (append-nil (told_front (cut_of text).front (cut_of text).rest ++ []));
     stays_is = stay;
+    unwritten = λ none. refl;
   };
 }
 
@@ -188,6 +206,29 @@ first_mended text bytes rest front place foreign_len new cut at len opened writt
 pub first_stretches : (text front rest : List ℕ) → cut_of text ≡ record { front = front; rest = (cut_of rest).front ∷ (cut_of rest).rest }
     → stretches_of text ≡ stretches_from (length front) rest
 first_stretches text front rest cut = ap (λ c. stretches_at (length c.front) c.rest) cut
+
+-- the first piece is taken
+pub first_left : (text written left rest front : List ℕ) (said : List LeftOut) (m : Mending)
+    → cut_of left ≡ record { front = front; rest = (cut_of rest).front ∷ (cut_of rest).rest }
+    → (text ≡ left) × (written ≡ []) × (said ≡ [])
+    → ((bytes : List ℕ) (others : List (List ℕ)) → cut_of text ≡ record { front = front; rest = bytes ∷ others }
+    → IsMendedTo text [] [] (stretches_of text) m)
+    → IsMendedTo text written said (stretches_from (length front) rest) m
+first_left text written left rest front said m cut (same, none, nothing) begins =
+    let there : cut_of text ≡ record { front = front; rest = (cut_of rest).front ∷ (cut_of rest).rest } = ap cut_of same ∙ cut in
+    let begun = begins (cut_of rest).front (cut_of rest).rest there in
+    subst (λ (w : List ℕ). IsMendedTo text w said (stretches_from (length front) rest) m) (sym none)
+    (subst (λ (s : List LeftOut). IsMendedTo text [] s (stretches_from (length front) rest) m) (sym nothing)
+    (subst (λ (l : List Stretch). IsMendedTo text [] [] l m) (first_stretches text front rest there) begun))
+
+-- nothing comes behind
+pub none_behind : (text written left : List ℕ) (said : List LeftOut) (m : Mender) → IsMendedUpTo text written said left m
+    → IsMendedUpTo text written said (left ++ []) m
+none_behind text written left said m = subst (λ (l : List ℕ). IsMendedUpTo text written said l m) (sym (append-nil left))
+
+pub none_came : (text written left : List ℕ) (said : List LeftOut) (m : Mender) → IsMendedUpTo text written said (left ++ []) m
+    → IsMendedUpTo text written said left m
+none_came text written left said m = subst (λ (l : List ℕ). IsMendedUpTo text written said l m) (append-nil left)
 
 -- a text without start codes
 module _ (text : List ℕ) (cut : cut_of text ≡ record { front = text; rest = [] }) where
@@ -199,28 +240,56 @@ module _ (text : List ℕ) (cut : cut_of text ≡ record { front = text; rest = 
   unfolding told fits
   none_told = sym (append-nil (told_bytes 0 (length text) NotNalUnit)) ∙ ap (λ c. told_as c.front c.rest) (sym cut)
 
+-- what was mended is given away
+module _ (text written : List ℕ) (said : List LeftOut) (done : List Portion) (portion : Portion) (old new : Mending) (bytes : List ℕ)
+    (so_far : IsDone text written said done portion old) (portion_is : new.portion ≡ old.portion) (stay : new.stays ≡ old.stays)
+    (told_is : new.left_out.items ≡ []) where
+  given : bytes ++ new.bytes.items ≡ old.bytes.items → (old.stays ≡ false → bytes ≡ [])
+      → IsDone text (written ++ bytes) (said ++ old.left_out.items) done portion new
+  given bytes_is none = record {
+    open_is = subst (IsOpen portion) (sym portion_is) so_far.open_is;
+    bytes_are = append_assoc written bytes new.bytes.items ∙ ap (λ l. written ++ l) bytes_is ∙ so_far.bytes_are;
+    told_are = ap (λ l. (said ++ old.left_out.items) ++ l) told_is ∙ append-nil (said ++ old.left_out.items) ∙ so_far.told_are;
+    stays_is = stay ∙ so_far.stays_is;
+    unwritten = λ is_none.
+        let before : old.stays ≡ false = sym stay ∙ is_none in
+        ap (λ l. l ++ bytes) (so_far.unwritten before) ∙ none before;
+  }
+
+pub mended_given : (text written : List ℕ) (said : List LeftOut) (left : List Stretch) (old new : Mending) (bytes : List ℕ)
+    → IsMendedTo text written said left old → new.portion ≡ old.portion → new.stays ≡ old.stays → new.left_out.items ≡ []
+    → bytes ++ new.bytes.items ≡ old.bytes.items → (old.stays ≡ false → bytes ≡ [])
+    → IsMendedTo text (written ++ bytes) (said ++ old.left_out.items) left new
+mended_given text written said left old new bytes h portion_is stay told_is bytes_is none = record {
+  done = h.done;
+  portion = h.portion;
+  whole = h.whole;
+  so_far = given text written said h.done h.portion old new bytes h.so_far portion_is stay told_is bytes_is none;
+}
+
 -- a text at its end
-module _ (text : List ℕ) (portions : List Portion) (whole : portions_of (stretches_of text) ≡ portions) (m : Mending) (h : IsEnded text portions m) where
-  pub mended_some : m.stays ≡ true → m.bytes.items ≡ mended text
+module _ (text written : List ℕ) (said : List LeftOut) (portions : List Portion) (whole : portions_of (stretches_of text) ≡ portions)
+    (m : Mending) (h : IsEnded text written said portions m) where
+  mended_some : m.stays ≡ true → written ++ m.bytes.items ≡ mended text
   unfolding mended
   mended_some some =
       let any : list_any stays portions ≡ true = sym h.stays_is ∙ some in
       h.bytes_are ∙ rw (whole, any) refl
 
-  pub mended_none : m.stays ≡ false → [] ≡ mended text
+  mended_none : m.stays ≡ false → written ++ [] ≡ mended text
   unfolding mended
   mended_none none =
       let any : list_any stays portions ≡ false = sym h.stays_is ∙ none in
-      rw (whole, any) refl
+      ap (λ l. l ++ []) (h.unwritten none) ∙ rw (whole, any) refl
 
-  pub told_all : m.left_out.items ≡ told text
+  pub told_all : said ++ m.left_out.items ≡ told text
   unfolding told
   told_all = h.told_are ∙ rw whole refl
 
-  pub mended_cases : cond m.stays m.bytes.items [] ≡ mended text
+  pub mended_cases : written ++ cond m.stays m.bytes.items [] ≡ mended text
   mended_cases = cases m.stays refl
     where
-      cases : (b : Bool) → m.stays ≡ b → cond b m.bytes.items [] ≡ mended text
+      cases : (b : Bool) → m.stays ≡ b → written ++ cond b m.bytes.items [] ≡ mended text
       cases true some = mended_some some
       cases false none = mended_none none
 

@@ -1,7 +1,8 @@
 //! Mending: a byte stream without what keeps it from being read (ITU-T H.264, 7.4.1.2.3).
 //!
 //! `mend` leaves out of a text what no command reads, puts an access unit delimiter where two
-//! pictures would be taken for one, and tells each place and why. What a NAL unit is and where access
+//! pictures would be taken for one, and tells each place and why. A `Mender` does so with a stream as
+//! it comes. What a NAL unit is and where access
 //! units end stands in annexb, what is refused in access_unit. Above are mend_run, stream_check and
 //! session_calls.
 #![tactic(auto)]
@@ -10,6 +11,7 @@ mod faults;
 mod forbidden;
 mod joint;
 mod laws;
+mod mender;
 mod mending;
 mod open_portion;
 mod pieces;
@@ -17,5 +19,6 @@ mod trimming;
 mod why;
 
 pub use laws::{a_stream_stays, kept_in_order, mended_is_a_stream, mended_is_short, mended_stays};
-pub use mending::{Mended, mend};
+pub use mender::{Mender, mend};
+pub use mending::Mended;
 pub use why::{LeftOut, Why};

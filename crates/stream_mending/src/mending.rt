@@ -1,62 +1,38 @@
-//! A text mended.
+//! A text as far as it is mended.
 
-ghost use Rattle.std.specs.Prelude.{◌≡◌, ◌+◌, ◌<◌, ◌^◌, ◌++◌, ◌∷◌, [], ℕ, List, length, take, drop, IfOk, OnOk, None, Some, true, false, if◌then◌else◌};
+ghost use Rattle.std.specs.Prelude.{◌≡◌, ◌++◌, ◌∷◌, [], ℕ, List, length, IfOk, OnOk, None, Some, true, false, if◌then◌else◌};
 ghost use Rattle.stream_mending.specs.Faults.{fault_of};
 ghost use Rattle.stream_mending.specs.Stretches.{Stretch, stretch_at, cut_of, stretches_of};
-ghost use Rattle.stream_mending.specs.Portions.{Portion, no_stretch, with_stretch, goes_on_in, ended_by, fits};
+ghost use Rattle.stream_mending.specs.Portions.{Portion, goes_on_in, ended_by, fits};
 ghost use Rattle.stream_mending.specs.Mended.{mended, told, told_bytes};
-ghost use Rattle.stream_mending.specs.Mending.{IsDone, IsEnded, IsMendedTo, stretches_from};
+ghost use Rattle.stream_mending.specs.declared.why.LeftOut.{LeftOut as Told};
+ghost use Rattle.stream_mending.specs.Mending.{IsDone, IsEnded, IsMendedTo};
 
 use crate::faults::fault_of;
 use crate::joint::Joint;
 use crate::open_portion::{OpenPortion, push_zeros};
-use crate::pieces::next_piece;
 use crate::trimming::{trimmed_len, zero_run};
 use crate::why::{LeftOut, Why};
 use annexb::START_CODE;
 use std::alloc::{AllocError, Global};
+use std::mem;
 
-/// A stream that was mended.
+/// What was mended of a stream.
 #[derive(Drop)]
 pub struct Mended {
-    /// What stays of it, with the delimiters that were put.
+    /// What stays, with the delimiters that were put.
     pub bytes: Vec<u8>,
     /// What was left out, in the order in which it ended.
     pub left_out: Vec<LeftOut>,
 }
 
-/// The text without what no command reads. In memory are the text, what stays of it, and an access
-/// unit.
-pub fn mend(alloc: Global, text: &[u8]) -> Result<Mended, AllocError>
-    ensures bytes { IfOk result (λ done. done.bytes.items ≡ mended text.now) }
-    ensures told { IfOk result (λ done. done.left_out.items ≡ told text.now) }
-{
-    match next_piece(text) {
-        None => without_nal_units(alloc, text),
-        Some(piece) => {
-            let mut mending = Mending::new(alloc, piece.bytes)?;
-            mending.take_all(alloc, piece.bytes.len(), piece.rest)?;
-            mending.finish()
-        }
-    }
-}
-
-/// What a text comes to that has no start code.
-fn without_nal_units(alloc: Global, text: &[u8]) -> Result<Mended, AllocError>
-    requires { cut_of text.now ≡ record { front = text.now; rest = [] } }
-    ensures bytes { IfOk result (λ done. done.bytes.items ≡ mended text.now) }
-    ensures told { IfOk result (λ done. done.left_out.items ≡ told text.now) }
-{
-    let mut left_out = Vec::new(alloc);
-    tell(&mut left_out, 0, text.len(), Why::NotNalUnit)?;
-    Ok(Mended {
-        bytes: Vec::new(alloc),
-        left_out,
-    })
-}
-
 /// Tells of bytes, if there are any.
-fn tell(left_out: &mut Vec<LeftOut>, byte: usize, bytes: usize, why: Why) -> Result<(), AllocError>
+pub(crate) fn tell(
+    left_out: &mut Vec<LeftOut>,
+    byte: usize,
+    bytes: usize,
+    why: Why,
+) -> Result<(), AllocError>
     ensures { OnOk result
         (left_out.new.items ≡ left_out.old.items ++ told_bytes byte bytes why) }
 {
@@ -67,9 +43,9 @@ fn tell(left_out: &mut Vec<LeftOut>, byte: usize, bytes: usize, why: Why) -> Res
     Ok(())
 }
 
-/// A text as far as it is mended.
+/// A text as far as it is mended, from its first start code on: what isn't written of it yet.
 #[derive(Drop)]
-struct Mending {
+pub(crate) struct Mending {
     bytes: Vec<u8>,
     left_out: Vec<LeftOut>,
     /// Whether an access unit stays.
@@ -79,10 +55,10 @@ struct Mending {
 
 impl Mending {
     /// After what stands before the first start code.
-    fn new(alloc: Global, front: &[u8]) -> Result<Mending, AllocError>
+    pub(crate) fn new(alloc: Global, front: &[u8]) -> Result<Mending, AllocError>
         ensures { (text : List ℕ) (bytes : List ℕ) (rest : List (List ℕ))
             → cut_of text ≡ record { front = front.now; rest = bytes ∷ rest }
-            → IfOk result (IsMendedTo text (stretches_of text)) }
+            → IfOk result (IsMendedTo text [] [] (stretches_of text)) }
     {
         let place = zero_run(front);
         let foreign = trimmed_len(front.split_at(place).1);
@@ -97,28 +73,16 @@ impl Mending {
         Ok(mending)
     }
 
-    /// Takes all NAL units, of which the first has its start code at this place, and then the rest.
-    fn take_all(&mut self, alloc: Global, first: usize, bytes: &[u8]) -> Result<(), AllocError>
-        requires { first + (3 + length bytes.now) < 2 ^ 64 }
-        ensures { (text : List ℕ) → IsMendedTo text (stretches_from first bytes.now) self.old
-            → OnOk result (IsMendedTo text [] self.new) }
-    {
-        let mut place = first;
-        let mut rest = bytes;
-        while let Some(piece) = next_piece(rest) {
-            self.take(alloc, place, piece.bytes)?;
-            place += piece.bytes.len() + START_CODE.len();
-            rest = piece.rest;
-        }
-        self.take(alloc, place, rest)?;
-        Ok(())
-    }
-
     /// Takes what stands after the start code at this place, up to the next one.
-    fn take(&mut self, alloc: Global, place: usize, bytes: &[u8]) -> Result<(), AllocError>
-        ensures { (text : List ℕ) (left : List Stretch)
-            → IsMendedTo text (stretch_at place bytes.now ∷ left) self.old
-            → OnOk result (IsMendedTo text left self.new) }
+    pub(crate) fn take(
+        &mut self,
+        alloc: Global,
+        place: usize,
+        bytes: &[u8],
+    ) -> Result<(), AllocError>
+        ensures { (text written : List ℕ) (said : List Told) (left : List Stretch)
+            → IsMendedTo text written said (stretch_at place bytes.now ∷ left) self.old
+            → OnOk result (IsMendedTo text written said left self.new) }
     {
         let len = trimmed_len(bytes);
         let (unit, zeros) = bytes.split_at(len);
@@ -137,10 +101,10 @@ impl Mending {
         why: Why,
     ) -> Result<(), AllocError>
         requires { fault_of unit.now ≡ Some why }
-        ensures { (text : List ℕ) (left : List Stretch)
-            → IsMendedTo text
+        ensures { (text written : List ℕ) (said : List Told) (left : List Stretch)
+            → IsMendedTo text written said
             (record { place = place; unit = unit.now; zeros = zeros } ∷ left) self.old
-            → OnOk result (IsMendedTo text left self.new) }
+            → OnOk result (IsMendedTo text written said left self.new) }
     {
         tell(
             &mut self.left_out,
@@ -155,10 +119,10 @@ impl Mending {
     /// Keeps a NAL unit, unless its access unit turns out to be too large.
     fn keep(&mut self, place: usize, unit: &[u8], zeros: usize) -> Result<(), AllocError>
         requires { fault_of unit.now ≡ None }
-        ensures { (text : List ℕ) (left : List Stretch)
-            → IsMendedTo text
+        ensures { (text written : List ℕ) (said : List Told) (left : List Stretch)
+            → IsMendedTo text written said
             (record { place = place; unit = unit.now; zeros = zeros } ∷ left) self.old
-            → OnOk result (IsMendedTo text left self.new) }
+            → OnOk result (IsMendedTo text written said left self.new) }
     {
         let joint = self.portion.joint(unit);
         self.go_on(joint)?;
@@ -168,8 +132,8 @@ impl Mending {
 
     /// Ends the access unit, and begins the next one, where a NAL unit stands so to it.
     fn go_on(&mut self, joint: Joint) -> Result<(), AllocError>
-        ensures { (text : List ℕ) (done : List Portion) (portion : Portion)
-            → IsDone text done portion self.old → OnOk result (IsDone text
+        ensures { (text written : List ℕ) (said : List Told) (done : List Portion)
+            (portion : Portion) → IsDone text written said done portion self.old → OnOk result (IsDone text written said
             (done ++ ended_by joint portion) (goes_on_in joint portion) self.new) }
     {
         match joint {
@@ -181,8 +145,8 @@ impl Mending {
 
     /// Ends the access unit, and begins the next one.
     fn begin(&mut self, is_delimited: bool) -> Result<(), AllocError>
-        ensures { (text : List ℕ) (done : List Portion) (portion : Portion)
-            → IsDone text done portion self.old → OnOk result (IsDone text
+        ensures { (text written : List ℕ) (said : List Told) (done : List Portion)
+            (portion : Portion) → IsDone text written said done portion self.old → OnOk result (IsDone text written said
             (done ++ portion ∷ []) (record { is_delimited = is_delimited; stretches = [] })
             self.new) }
     {
@@ -193,9 +157,9 @@ impl Mending {
 
     /// Ends the access unit.
     fn end(&mut self) -> Result<(), AllocError>
-        ensures { (text : List ℕ) (done : List Portion) (portion : Portion)
-            → IsDone text done portion self.old
-            → OnOk result (IsEnded text (done ++ portion ∷ []) self.new) }
+        ensures { (text written : List ℕ) (said : List Told) (done : List Portion)
+            (portion : Portion) → IsDone text written said done portion self.old
+            → OnOk result (IsEnded text written said (done ++ portion ∷ []) self.new) }
     {
         if self.portion.fits() {
             self.write_portion()
@@ -206,9 +170,9 @@ impl Mending {
 
     /// Writes the access unit.
     fn write_portion(&mut self) -> Result<(), AllocError>
-        ensures { (text : List ℕ) (done : List Portion) (portion : Portion)
-            → IsDone text done portion self.old → fits portion ≡ true
-            → OnOk result (IsEnded text (done ++ portion ∷ []) self.new) }
+        ensures { (text written : List ℕ) (said : List Told) (done : List Portion)
+            (portion : Portion) → IsDone text written said done portion self.old → fits portion ≡ true
+            → OnOk result (IsEnded text written said (done ++ portion ∷ []) self.new) }
     {
         self.stays |= self.portion.has_units();
         self.bytes.extend_from_slice(&self.portion.text)?;
@@ -217,9 +181,9 @@ impl Mending {
 
     /// Leaves the access unit out, which is too large, and keeps the zeros after its NAL units.
     fn drop_portion(&mut self) -> Result<(), AllocError>
-        ensures { (text : List ℕ) (done : List Portion) (portion : Portion)
-            → IsDone text done portion self.old → fits portion ≡ false
-            → OnOk result (IsEnded text (done ++ portion ∷ []) self.new) }
+        ensures { (text written : List ℕ) (said : List Told) (done : List Portion)
+            (portion : Portion) → IsDone text written said done portion self.old → fits portion ≡ false
+            → OnOk result (IsEnded text written said (done ++ portion ∷ []) self.new) }
     {
         push_zeros(&mut self.bytes, self.portion.zeros)?;
         let (byte, bytes) = (self.portion.place, self.portion.bytes);
@@ -238,12 +202,30 @@ impl Mending {
         }
     }
 
+    /// What can be written and told; it is another's then. No zeros are written before a NAL unit
+    /// stays.
+    pub(crate) fn drain(&mut self, alloc: Global) -> Mended
+        ensures { (text written : List ℕ) (said : List Told) (left : List Stretch)
+            → IsMendedTo text written said left self.old → IsMendedTo text
+            (written ++ result.bytes.items) (said ++ result.left_out.items) left self.new }
+    {
+        let left_out = mem::replace(&mut self.left_out, Vec::new(alloc));
+        let bytes = if self.stays {
+            mem::replace(&mut self.bytes, Vec::new(alloc))
+        } else {
+            Vec::new(alloc)
+        };
+        Mended { bytes, left_out }
+    }
+
     /// What the text came to, of which nothing is left.
-    fn finish(mut self) -> Result<Mended, AllocError>
-        ensures bytes { (text : List ℕ) → IsMendedTo text [] self
-            → IfOk result (λ done. done.bytes.items ≡ mended text) }
-        ensures told { (text : List ℕ) → IsMendedTo text [] self
-            → IfOk result (λ done. done.left_out.items ≡ told text) }
+    pub(crate) fn finish(mut self) -> Result<Mended, AllocError>
+        ensures bytes { (text written : List ℕ) (said : List Told)
+            → IsMendedTo text written said [] self
+            → IfOk result (λ done. written ++ done.bytes.items ≡ mended text) }
+        ensures told { (text written : List ℕ) (said : List Told)
+            → IsMendedTo text written said [] self
+            → IfOk result (λ done. said ++ done.left_out.items ≡ told text) }
     {
         self.end()?;
         self.clear_unless_some_stay();

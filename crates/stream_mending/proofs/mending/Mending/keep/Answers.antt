@@ -9,12 +9,12 @@ pub add-requires : goal.add-requires
 add-requires c = ap has_none c.requires
 
 pub returns : goal.returns
-returns c = λ text left h.
+returns c = λ text written said left h.
     let stretch : Stretch = record { place = c.args.place; unit = c.args.unit.now; zeros = c.args.zeros } in
     let joint = c.joint-joint.result in
     let sound : is_sound stretch.unit ≡ true = ap has_none c.requires in
     let is : joint_after h.portion stretch ≡ joint = rw (sound, c.joint-joint.ensures h.portion h.so_far.open_is) refl in
-    let next = c.in_ok-go_on.ensures text h.done h.portion h.so_far in
-    mended_more text left stretch c.args.self.now _ joint h is
-    (done_kept text (h.done ++ ended_by joint h.portion) (goes_on_in joint h.portion) stretch _ _ next
+    let next = c.in_ok-go_on.ensures text written said h.done h.portion h.so_far in
+    mended_more text written said left stretch c.args.self.now _ joint h is
+    (done_kept text written said (h.done ++ ended_by joint h.portion) (goes_on_in joint h.portion) stretch _ _ next
     (c.in_ok-add.ensures (goes_on_in joint h.portion) next.open_is) refl refl c.requires refl)

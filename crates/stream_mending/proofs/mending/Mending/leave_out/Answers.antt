@@ -4,9 +4,9 @@ use Rattle.stream_mending.proofs.Steps.{done_left_out, mended_left_out, unsound_
 use Rattle.stream_mending.proofs.mending.Mending.leave_out.Goals as goal
 
 pub returns : goal.returns
-returns c = λ text left h.
+returns c = λ text written said left h.
     let stretch : Stretch = record { place = c.args.place; unit = c.args.unit.now; zeros = c.args.zeros } in
     let unsound = unsound_fault c.args.unit.now c.args.why c.requires in
-    mended_left_out text left stretch c.args.self.now _ h unsound
-    (done_left_out text h.done h.portion stretch c.args.self.now _ h.so_far
+    mended_left_out text written said left stretch c.args.self.now _ h unsound
+    (done_left_out text written said h.done h.portion stretch c.args.self.now _ h.so_far
     (c.in_ok-leave_out.ensures h.portion stretch unsound refl h.so_far.open_is) refl refl c.args.why c.requires c.in_ok-tell.ensures)

@@ -2,7 +2,7 @@ use Rattle.std.proofs.Common.{◌∙◌, ◌++◌, ap, length}
 use Rattle.stream_mending.specs.Mended.{told_bytes}
 use Rattle.stream_mending.specs.declared.why.Why.TheVariants.{NotNalUnit}
 use Rattle.stream_mending.proofs.Steps.{none_mended, none_told}
-use Rattle.stream_mending.proofs.mending.without_nal_units.Goals as goal
+use Rattle.stream_mending.proofs.mender.without_nal_units.Goals as goal
 
 pub returns-clause-bytes : goal.returns-clause-bytes
 returns-clause-bytes c = c.new.ensures.items ∙ none_mended c.args.text.now c.requires

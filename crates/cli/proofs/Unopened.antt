@@ -1,8 +1,9 @@
 -- What is told where no file is opened for a name.
-use Rattle.std.proofs.Common.{ℕ, Bool, true, false, List, Option, Some, None, IfSome, inl, inr}
+use Rattle.std.proofs.Common.{ℕ, Bool, true, false, List, [], Option, Some, None, IfSome, inl, inr, refl}
 use Rattle.std.proofs.KnownBytes.{Keeps-refl}
 use Rattle.std.specs.Borrow.{Bor}
 use Rattle.std.specs.Prelude.{Result}
+use Rattle.console_io.proofs.Chunked.{front-none}
 use Rattle.console_io.specs.Inputs.{Files, text_named}
 use Rattle.console_io.specs.Messages.{Tells, input_fault_text}
 use Rattle.console_io.specs.declared.chunks.PrintFault.{PrintFault}
@@ -15,6 +16,7 @@ use Rattle.script_run.specs.Messages.{run_fault_text}
 use Rattle.shared_run.proofs.Told.{ends-unread, stops-unread as seat-stops-unread}
 use Rattle.cli.specs.CommandLine.{audit, check, draw, mend, plan, run}
 use Rattle.mend_run.specs.declared.running.MendFault.TheVariants as mending
+use Rattle.stream_mending.specs.Mended.{mended, told as told_of}
 use Rattle.unit_json.specs.declared.decode_mode.DecodeMode.{DecodeMode}
 use Rattle.unit_json.proofs.Ends.{ends-unread as ends-unread-json}
 use Rattle.cli.specs.Programs.{FailsAt, StopsScript, says_json}
@@ -50,9 +52,9 @@ module _ {T : Type 0} (files : Files) (standard : Option (List ℕ)) (told : Res
   pub mend-unopened : (name : List ℕ) (it : InputFault) → Tells told mute had has (input_fault_text name it)
       → FailsAt files standard (mend name) told refused old old mute had has
   mend-unopened name input.Unread tells =
-      (mending.Unread, some-all (text_named files standard name) (λ text. Keeps-refl old), tells)
+      (mending.Unread, [], some-all (text_named files standard name) (λ text. (front-none old old (mended text) (Keeps-refl old), (told_of text, refl))), tells)
   mend-unopened name input.Memory tells =
-      (mending.Memory, some-all (text_named files standard name) (λ text. Keeps-refl old), tells)
+      (mending.Memory, [], some-all (text_named files standard name) (λ text. (front-none old old (mended text) (Keeps-refl old), (told_of text, refl))), tells)
 
   -- of a check
   pub check-unopened : (name : List ℕ) (json : Bool) (it : InputFault) → Tells told mute had has (input_fault_text name it)

@@ -1,6 +1,6 @@
 -- What the program does with the words of a command line, on files and a standard input
 -- (docs/OUTPUT.md).
-use Rattle.std.specs.Prelude.{◌≡◌, ◌⊎◌, ℕ, Bool, List, [], Option, None, Some, IfSome, Result, ⊤}
+use Rattle.std.specs.Prelude.{◌≡◌, ◌⊎◌, ◌++◌, ℕ, Bool, List, [], Option, None, Some, IfSome, Result, ⊤}
 use Rattle.std.specs.Io.KnownBytes.{Appends, Keeps}
 use Rattle.clap.specs.Words.{Text}
 use Rattle.console_io.specs.Chunks.{AppendsFront}
@@ -16,8 +16,10 @@ use Rattle.plan_stream.specs.Faults.{plan_fault_text}
 use Rattle.plan_stream.specs.Plans.{EndsBy, WritesPlan}
 use Rattle.plan_stream.specs.declared.fault.PlanFault.{PlanFault}
 use Rattle.stream_check.specs.Found.{IsFine}
-use Rattle.stream_mending.specs.Mended.{mended}
-use Rattle.mend_run.specs.Runs.{EndsBy as EndsMending, mend_fault_text, mend_lines}
+use Rattle.stream_mending.specs.Mended.{mended, told as told_of}
+use Rattle.stream_mending.specs.Mending.{IsFrontOf}
+use Rattle.stream_mending.specs.declared.why.LeftOut.{LeftOut}
+use Rattle.mend_run.specs.Runs.{EndsBy as EndsMending, mend_fault_text, mend_lines, told_text}
 use Rattle.mend_run.specs.declared.running.MendFault.{MendFault}
 use Rattle.shared_run.specs.Audits.{FailsAudit, WritesAgreed}
 use Rattle.shared_run.specs.Running.{WritesScript as WritesSeatScript}
@@ -86,8 +88,9 @@ FailsAt files standard (plan name None) told refused old new mute had has =
     (fault : PlanFault) × IfSome (text_named files standard name) (λ text. EndsBy text fault refused old new)
     × Tells told mute had has (plan_fault_text name fault)
 FailsAt files standard (mend name) told refused old new mute had has =
-    (fault : MendFault) × IfSome (text_named files standard name) (λ text. EndsMending text fault refused old new)
-    × Tells told mute had has (mend_fault_text name fault)
+    (fault : MendFault) × (said : List LeftOut)
+    × IfSome (text_named files standard name) (λ text. EndsMending text fault refused old new × IsFrontOf said (told_of text))
+    × Tells told mute had has (told_text said ++ mend_fault_text name fault)
 FailsAt files standard (check name json) told refused old new mute had has =
     (message : List ℕ) × Tells told mute had has message
 FailsAt files standard (draw name from units) told refused old new mute had has =

@@ -1,0 +1,3 @@
+mod Listening
+mod Progress
+mod Reading

@@ -1,21 +1,24 @@
-//! `preview mend`: a stream read, mended and written.
+//! `preview mend`: a stream read, mended and written as it comes.
 
-ghost use Rattle.std.specs.Prelude.{◌≡◌, ◌≢◌, IfErr, IfOk, IfSome, string_bytes};
-ghost use Rattle.std.specs.Io.KnownBytes.{Appends};
+ghost use Rattle.std.specs.Prelude.{◌≡◌, ◌≢◌, ◌++◌, ℕ, List, Option, IfErr, IfSome, IsOk, OnErr, OnOk, string_bytes};
+ghost use Rattle.std.specs.Io.KnownBytes.{Appends, IsAtEnd};
+ghost use Rattle.console_io.specs.Chunks.{AppendsFront};
 ghost use Rattle.console_io.specs.Messages.{Tells};
-ghost use Rattle.stream_mending.specs.Mended.{mended};
-ghost use Rattle.mend_run.specs.Runs.{EndsBy, fault_of_input, mend_fault_text, mend_lines};
+ghost use Rattle.stream_mending.specs.Mended.{mended, told};
+ghost use Rattle.stream_mending.specs.Mending.{IsFrontOf};
+ghost use Rattle.stream_mending.specs.declared.why.LeftOut.{LeftOut as Told};
+ghost use Rattle.mend_run.specs.Runs.{EndsBy, PassesFront, IsBroken, IsSoFar, IsWhole, fault_of_input, mend_fault_text, mend_lines, told_text};
 ghost use Rattle.mend_run.specs.declared.running.MendFault.{MendFault as Fault};
-ghost use Rattle.mend_run.specs.declared.running.MendFault.TheVariants.{Memory};
+ghost use Rattle.mend_run.specs.declared.running.MendFault.TheVariants.{Memory, Unwritten};
 
+use crate::input::Input;
 use crate::lines::Lines;
 use console_io::{
-    Ended, InputFault, PrintFault, Sink, Status, say_out_of_memory, say_unread, whole_input,
-    write_bytes,
+    Ended, InputFault, PrintFault, Sink, Status, say_out_of_memory, say_unread, write_bytes,
 };
 use std::alloc::{AllocError, Global};
 use std::io::Read;
-use stream_mending::mend;
+use stream_mending::{Mended, Mender};
 
 /// Why a stream isn't mended.
 #[derive(Clone, Copy, Debug, PartialEq, Eq)]
@@ -48,8 +51,8 @@ impl From<InputFault> for MendFault {
 }
 
 /// Writes what stays of the stream that the reader gives, and tells `errors` what is left out, a
-/// line each; or why it isn't mended. The reader has this name there. The stream is held in memory
-/// whole.
+/// line each; or why it isn't mended to its end. The reader has this name there. In memory is what
+/// stands between two start codes, and an access unit.
 pub fn mend_on<R: Read, W: Sink, E: Sink>(
     alloc: Global,
     name: &str,
@@ -62,43 +65,153 @@ pub fn mend_on<R: Read, W: Sink, E: Sink>(
         Appends (W.contents writer.old) (W.contents writer.new) (mended text)
         × Tells result.told (E.refuses errors.new) (E.contents errors.old)
         (E.contents errors.new) (mend_lines text)) }
-    // At a failure it is what the fault that is told leaves of it.
-    ensures ends { result.status ≡ Status.Failure → (fault : Fault)
+    // At a failure a front of it is, before the fault is told.
+    ensures ends { result.status ≡ Status.Failure → (fault : Fault) × (said : List Told)
         × IfSome (R.remaining reader.old) (λ text.
-        EndsBy text fault (W.refuses writer.new) (W.contents writer.old) (W.contents writer.new))
+        EndsBy text fault (W.refuses writer.new) (W.contents writer.old) (W.contents writer.new)
+        × IsFrontOf said (told text))
         × Tells result.told (E.refuses errors.new) (E.contents errors.old) (E.contents errors.new)
-        (mend_fault_text name.now fault) }
+        (told_text said ++ mend_fault_text name.now fault) }
     ensures usage { result.status ≢ Status.Usage }
 {
-    match write_mended(alloc, reader, writer) {
-        Ok(lines) => Ended {
+    let mut told = Ok(());
+    match mend_through(alloc, reader, writer, errors, &mut told) {
+        Ok(()) => Ended {
             status: Status::Success,
-            told: write_bytes(errors, lines.as_bytes()),
+            told,
         },
-        Err(fault) => Ended::failed(say_mend_fault(fault, name, errors)),
+        Err(fault) => Ended::failed(say_last(fault, name, errors, told)),
     }
 }
 
-/// Writes what stays of the stream that the reader gives, and gives the lines that tell the rest.
-fn write_mended<R: Read, W: Sink>(
+/// Mends the stream that the reader gives to its end. What became of telling is `told`.
+fn mend_through<R: Read, W: Sink, E: Sink>(
     alloc: Global,
     reader: &mut R,
     writer: &mut W,
-) -> Result<String, MendFault>
-    ensures done { IfOk result (λ lines. IfSome (R.remaining reader.old) (λ text.
-        Appends (W.contents writer.old) (W.contents writer.new) (mended text)
-        × (string_bytes lines ≡ mend_lines text))) }
-    ensures ends { IfErr result (λ fault. IfSome (R.remaining reader.old) (λ text.
-        EndsBy text fault (W.refuses writer.new) (W.contents writer.old)
-        (W.contents writer.new))) }
+    errors: &mut E,
+    told: &mut Result<(), PrintFault>,
+) -> Result<(), MendFault>
+    requires { IsOk told.old }
+    ensures done { OnOk result (IsWhole (R.remaining reader.old) (W.contents writer.old)
+        (W.contents writer.new) (E.refuses errors.new) (E.contents errors.old)
+        (E.contents errors.new) told.new) }
+    ensures ends { IfErr result (λ fault. IsBroken (R.remaining reader.old) fault
+        (W.refuses writer.new) (W.contents writer.old) (W.contents writer.new)
+        (E.refuses errors.new) (E.contents errors.old) (E.contents errors.new) told.new) }
 {
-    let text = whole_input(alloc, reader)?;
-    let mended = mend(alloc, &text)?;
-    let lines = Lines(&mended.left_out).to_string(alloc)?;
-    match write_bytes(writer, &mended.bytes) {
-        Ok(()) => Ok(lines),
-        Err(_) => Err(MendFault::Unwritten),
+    let mut mender = Mender::new();
+    let mut held = Vec::new(alloc);
+    let mut input = Input::new(alloc)?;
+    while input.read_more(reader, &mut held)? {
+        mend_held(alloc, &mut mender, &mut held, writer, errors, told)?;
     }
+    mend_last(alloc, mender, &held, writer, errors, told)
+}
+
+/// Mends what is held up to the last start code in it, and passes that on. The rest stays held.
+fn mend_held<W: Sink, E: Sink>(
+    alloc: Global,
+    mender: &mut Mender,
+    held: &mut Vec<u8>,
+    writer: &mut W,
+    errors: &mut E,
+    told: &mut Result<(), PrintFault>,
+) -> Result<(), MendFault>
+    ensures done { (known rest had heard : Option (List ℕ))
+        → IsSoFar known mender.old held.old.items rest had (W.contents writer.old)
+        (E.refuses errors.old) heard (E.contents errors.old) told.old
+        → OnOk result (IsSoFar known mender.new held.new.items rest had (W.contents writer.new)
+        (E.refuses errors.new) heard (E.contents errors.new) told.new) }
+    ensures ends { (known rest had heard : Option (List ℕ))
+        → IsSoFar known mender.old held.old.items rest had (W.contents writer.old)
+        (E.refuses errors.old) heard (E.contents errors.old) told.old
+        → IfErr result (λ fault. IsBroken known fault (W.refuses writer.new) had
+        (W.contents writer.new) (E.refuses errors.new) heard (E.contents errors.new) told.new) }
+{
+    let rest = mender.take(alloc, held)?.len();
+    let tail = held.split_off(held.len() - rest)?;
+    *held = tail;
+    pass_on(alloc, &mender.drain(alloc), writer, errors, told)
+}
+
+/// Mends what is held at the end of the stream, and passes that on.
+fn mend_last<W: Sink, E: Sink>(
+    alloc: Global,
+    mut mender: Mender,
+    held: &[u8],
+    writer: &mut W,
+    errors: &mut E,
+    told: &mut Result<(), PrintFault>,
+) -> Result<(), MendFault>
+    ensures done { (known rest had heard : Option (List ℕ)) → IsAtEnd rest
+        → IsSoFar known mender held.now rest had (W.contents writer.old)
+        (E.refuses errors.old) heard (E.contents errors.old) told.old
+        → OnOk result (IsWhole known had (W.contents writer.new)
+        (E.refuses errors.new) heard (E.contents errors.new) told.new) }
+    ensures ends { (known rest had heard : Option (List ℕ)) → IsAtEnd rest
+        → IsSoFar known mender held.now rest had (W.contents writer.old)
+        (E.refuses errors.old) heard (E.contents errors.old) told.old
+        → IfErr result (λ fault. IsBroken known fault (W.refuses writer.new) had
+        (W.contents writer.new) (E.refuses errors.new) heard (E.contents errors.new) told.new) }
+{
+    let rest = mender.take(alloc, held)?;
+    let last = mender.finish(alloc, rest)?;
+    pass_on(alloc, &last, writer, errors, told)
+}
+
+/// Writes what was mended, and then tells what was left out.
+fn pass_on<W: Sink, E: Sink>(
+    alloc: Global,
+    mended: &Mended,
+    writer: &mut W,
+    errors: &mut E,
+    told: &mut Result<(), PrintFault>,
+) -> Result<(), MendFault>
+    ensures written { OnOk result
+        (Appends (W.contents writer.old) (W.contents writer.new) mended.now.bytes.items) }
+    ensures told { (heard : Option (List ℕ)) (said : List Told)
+        → Tells told.old (E.refuses errors.old) heard (E.contents errors.old) (told_text said)
+        → OnOk result (Tells told.new (E.refuses errors.new) heard (E.contents errors.new)
+        (told_text (said ++ mended.now.left_out.items))) }
+    ensures err { OnErr result ((told.new ≡ told.old) × (errors.new ≡ errors.old)) }
+    ensures unwritten { IfErr result (λ fault. PassesFront fault (W.refuses writer.new)
+        (W.contents writer.old) (W.contents writer.new) mended.now.bytes.items) }
+{
+    let lines = Lines(&mended.left_out).to_string(alloc)?;
+    if write_bytes(writer, &mended.bytes).is_err() {
+        return Err(MendFault::Unwritten);
+    }
+    tell(&lines, errors, told);
+    Ok(())
+}
+
+/// Tells lines to one who still listens.
+fn tell<E: Sink>(lines: &str, errors: &mut E, told: &mut Result<(), PrintFault>)
+    ensures { (heard : Option (List ℕ)) (said : List ℕ)
+        → Tells told.old (E.refuses errors.old) heard (E.contents errors.old) said
+        → Tells told.new (E.refuses errors.new) heard (E.contents errors.new)
+        (said ++ lines.now) }
+{
+    if told.is_ok() {
+        *told = write_bytes(errors, lines.as_bytes());
+    }
+}
+
+/// Says why the stream of this name isn't mended to its end, to one who still listens.
+fn say_last<E: Sink>(
+    fault: MendFault,
+    name: &str,
+    errors: &mut E,
+    told: Result<(), PrintFault>,
+) -> Result<(), PrintFault>
+    ensures { (heard : Option (List ℕ)) (said : List ℕ)
+        → Tells told (E.refuses errors.old) heard (E.contents errors.old) said
+        → Tells result (E.refuses errors.new) heard (E.contents errors.new)
+        (said ++ mend_fault_text name.now fault) }
+{
+    told?;
+    say_mend_fault(fault, name, errors)
 }
 
 /// Says why the stream of this name isn't mended. A writer that takes no more is known to who reads

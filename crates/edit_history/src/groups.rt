@@ -16,7 +16,7 @@ use std::alloc::{AllocError, Global};
 use stream_edits::Edit;
 
 /// A group of edits that takes a step back, or makes it again.
-#[derive(Debug)]
+#[derive(Debug, Drop)]
 pub struct StepGroup {
     /// The edits, to be made together.
     pub edits: Vec<Edit>,
@@ -26,18 +26,6 @@ pub struct StepGroup {
     pub ids: Vec<AuId>,
     /// How many ids are given then.
     pub ids_given: u32,
-}
-
-// By hand, so that whoever drops one is proved over one call.
-impl Drop for StepGroup {
-    fn drop(self) {
-        let StepGroup {
-            edits: _,
-            changes: _,
-            ids: _,
-            ids_given: _,
-        } = self;
-    }
 }
 
 /// The edits that make the changes, one for each, of a stream with these ids and with so many ids

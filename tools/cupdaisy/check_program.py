@@ -261,11 +261,12 @@ def check_scripts(it):
     front = b"load clock.264\n\n# \xff\nunit 1\n"
     for line in (b"bogus", b"\tunit 1", b"unit 1\r", b"unit", b"unit 1 2", b"unit 12345678901", b"unit -1",
                  b"delete x", b"load", b"load a b", b"insert first 0", b"insert first 0g", b"insert before 1 00",
-                 b"replace", b"\xff", b"take 1 2", b"settle now", b"drop", b"clear 1", b"want 1", b"rest on", b"land",
-                 b"land x", b"give 1 2", b"show"):
+                 b"replace", b"\xff", b"take 1 2", b"settle now", b"drop", b"clear 1", b"mark 1", b"altered", b"want 1", b"rest on",
+                 b"land", b"land x", b"give 1 2", b"show"):
         ran = it.run("run", "-", text=front + line + b"\nbogus\n")
         it.expect(f"a script with the line {line!r}", ran, 1, b"", b"script fault at line 5\n")
-    for line in (b"unit 1", b"json 1", b"take", b"take 1", b"land 1", b"give 1", b"want x", b"rest", b"bogus"):
+    for line in (b"unit 1", b"json 1", b"take", b"take 1", b"land 1", b"give 1", b"mark", b"altered 1", b"want x", b"rest",
+                 b"bogus"):
         for words in (["run", "--workers", "1"], ["audit"]):
             ran = it.run(*words, "-", text=b"load clock.264\n" + line + b"\n")
             it.expect(f"{words} of a script with the line {line!r}", ran, 1, b"", b"script fault at line 2\n")
@@ -275,6 +276,8 @@ def check_scripts(it):
                            (b"take\nsettle\nland 1\ngive 2\nshow 3\n",
                             b"job none\nsettled\nland 1 none\ngive 2 none\nshow 3 none\n"),
                            (b"take 4\nsettle 4\ndrop 4\nclear\n", b"job none\nsettled\ndrop 4 none\ncleared\n"),
+                           (b"mark\naltered 1\nload clock.264\naltered 1\nmark\naltered 12\n",
+                            b"marked\naltered 1 none\nloaded 12\naltered 1 yes\nmarked\naltered 12 no\n"),
                            (b"insert first\n", b"refused 1 Split\n"), (b"load text\n", b"refused 1 Split\n"),
                            (b"insert after 1 00\n", b"refused 1 Split\n"),
                            (b"insert first " + (SETS + IDR).hex().encode() + b"\nunit 1", b"edit 1 id 1\n" + UNIT)):

@@ -63,7 +63,7 @@ def script_of(seed, texts):
         mends = f"replace {at + 1} {texts[at].hex()}", f"replace {at + 1} {near.hex()}"
         edits = (f"delete {number}", f"replace {number} {near.hex()}", f"insert after {number} {near.hex()}",
                  f"insert after {at} {texts[at].hex()}", f"insert first {near.hex()}")
-        kind = rng.choices(("take", "jobs", "looks", "settle", "drop", "mends", "edits", "group"), (6, 6, 4, 2, 2, 3, 2, 1))[0]
+        kind = rng.choices(("take", "jobs", "looks", "settle", "drop", "mark", "mends", "edits", "group"), (6, 6, 4, 2, 2, 2, 3, 2, 1))[0]
         if kind == "group":
             lines += ["group", *rng.choices(mends + edits, k=rng.randint(0, 4)), "end"]
             continue
@@ -75,8 +75,9 @@ def script_of(seed, texts):
             "looks": (f"show {at + 1}", f"show {number}", f"unit {number}"),
             "settle": ("settle", f"settle {at + 1}", f"settle {number}"),
             "drop": (f"drop {at + 1}", f"drop {at + 1}", f"drop {number}", "clear"),
+            "mark": ("mark", f"altered {at + 1}", f"altered {number}"),
             "mends": mends, "edits": edits}[kind]))
-    lines += ["settle"] + [f"{word} {number}" for number in range(1, len(texts) + 20) for word in ("unit", "show")]
+    lines += ["settle"] + [f"{word} {number}" for number in range(1, len(texts) + 20) for word in ("unit", "show", "altered")]
     return "".join(line + "\n" for line in lines).encode(), rng.choice((1, 2, 5, 64))
 
 

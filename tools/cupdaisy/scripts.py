@@ -9,7 +9,9 @@ from cupdaisy.session import MOST_UNITS, GroupRefused, Session
 
 EDITS = "first", "after", "replace", "delete"
 # The commands that are none without workers, and those that are none beside them.
-OF_WORKERS, OF_JOBS = ("want", "rest"), ("unit", "json", "take", "land", "give")
+OF_WORKERS, OF_JOBS = ("want", "rest"), ("unit", "json", "take", "land", "give", "mark", "altered")
+# What `altered` tells of a unit, or that there is none.
+ALTERED_WORDS = {True: "yes", False: "no", None: "none"}
 
 
 class Wrong(Exception):
@@ -109,9 +111,9 @@ def command_of(line):
             return "replace", number_of(number), bytes_of(digits)
         case ["load", path]:
             return "load", path
-        case [("delete" | "unit" | "json" | "show" | "land" | "give" | "take" | "settle" | "drop") as name, number]:
+        case [("delete" | "unit" | "json" | "show" | "land" | "give" | "take" | "settle" | "drop" | "altered") as name, number]:
             return name, number_of(number)
-        case [("take" | "settle" | "clear" | "group" | "end") as name]:
+        case [("take" | "settle" | "clear" | "mark" | "group" | "end") as name]:
             return name,
         case ["want", *numbers]:
             return "want", [number_of(number) for number in numbers]
@@ -142,6 +144,11 @@ def answer(session, with_hex, name, operands):
     if name == "clear":
         session.clear()
         return ["cleared\n"]
+    if name == "mark":
+        session.mark()
+        return ["marked\n"]
+    if name == "altered":
+        return [f"altered {operands[0]} {ALTERED_WORDS[session.altered(operands[0])]}\n"]
     if name == "land":
         return [f"land {operands[0]} {session.land(operands[0])}\n"]
     if name == "give":

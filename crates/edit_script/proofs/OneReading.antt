@@ -40,6 +40,8 @@ group-no-command (command.SettleFor number) is = absurd (cc)
 group-no-command (command.Show number) is = absurd (cc)
 group-no-command (command.Drop number) is = absurd (cc)
 group-no-command command.Clear is = absurd (cc)
+group-no-command command.Mark is = absurd (cc)
+group-no-command (command.Altered number) is = absurd (cc)
 group-no-command (command.Want ids) is = absurd (cc)
 group-no-command (command.Rest rest) is = absurd (cc)
 

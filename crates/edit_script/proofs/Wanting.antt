@@ -11,9 +11,9 @@ use Rattle.edit_script.specs.Words.{texts_of}
 want_none : (ids : List (List ℕ)) → ids_of_words ids ≡ None → IsNoCommand (codes "want" ∷ ids)
 want_none [] e = absurd (cc)
 want_none (id ∷ []) e =
-    (refl, refl, refl, refl, refl, refl, refl, refl, refl, refl, refl, refl, refl, e, refl)
+    (refl, refl, refl, refl, refl, refl, refl, refl, refl, refl, refl, refl, refl, refl, refl, e, refl)
 want_none (id ∷ more ∷ ids) e =
-    (refl, refl, refl, refl, refl, refl, refl, refl, refl, refl, refl, refl, refl, e, refl)
+    (refl, refl, refl, refl, refl, refl, refl, refl, refl, refl, refl, refl, refl, refl, refl, e, refl)
 
 -- the same, where the first word is `want`
 wanted_none : (name : List ℕ) (ids : List (List ℕ)) → bytes_eq name (codes "want") ≡ true

@@ -113,6 +113,8 @@ IsCommand words (command.SettleFor number) = number_after (codes "settle") words
 IsCommand words (command.Show number) = number_after (codes "show") words ≡ Some number
 IsCommand words (command.Drop number) = number_after (codes "drop") words ≡ Some number
 IsCommand words command.Clear = are_alone (codes "clear") words ≡ true
+IsCommand words command.Mark = are_alone (codes "mark") words ≡ true
+IsCommand words (command.Altered number) = number_after (codes "altered") words ≡ Some number
 IsCommand words (command.Want ids) = wanted_of words ≡ Some ids.items
 IsCommand words (command.Rest rest) = rest_of words ≡ Some rest
 
@@ -124,7 +126,9 @@ IsNoCommand words = (edit_of words ≡ None) × (path_of words ≡ None)
     × (number_after (codes "land") words ≡ None) × (number_after (codes "give") words ≡ None)
     × (are_alone (codes "settle") words ≡ false) × (number_after (codes "settle") words ≡ None)
     × (number_after (codes "show") words ≡ None) × (number_after (codes "drop") words ≡ None)
-    × (are_alone (codes "clear") words ≡ false) × (wanted_of words ≡ None) × (rest_of words ≡ None)
+    × (are_alone (codes "clear") words ≡ false)
+    × (are_alone (codes "mark") words ≡ false) × (number_after (codes "altered") words ≡ None)
+    × (wanted_of words ≡ None) × (rest_of words ≡ None)
 
 -- an answer for words that may be digits: what they stand for; wrong where they stand for nothing
 abbrev pub IsHexAnswer : Option (List ℕ) → Result (List ℕ) LineFault → Type 0

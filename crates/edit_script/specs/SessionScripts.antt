@@ -22,6 +22,8 @@ of_session (session.SettleFor number) = command.SettleFor number
 of_session (session.Show number) = command.Show number
 of_session (session.Drop number) = command.Drop number
 of_session session.Clear = command.Clear
+of_session session.Mark = command.Mark
+of_session (session.Altered number) = command.Altered number
 
 -- the text is a script of these commands of a session
 abbrev pub IsSessionScript : List ℕ → List SessionCommand → Type 0

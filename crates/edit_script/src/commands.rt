@@ -44,6 +44,10 @@ pub enum Command<'a> {
     Drop { number: u64 },
     /// The cached pictures, which are to be there no more.
     Clear,
+    /// A mark of the stream as it is.
+    Mark,
+    /// Whether the unit of this number is altered since the mark.
+    Altered { number: u64 },
     /// The pictures of the units of these ids before all others.
     Want(Vec<AuId>),
     /// Whether the rest of the stream is decoded too.
@@ -121,6 +125,7 @@ fn read_alone<'a>(name: &str) -> Result<Command<'a>, LineFault>
         "take" => Ok(Command::Take),
         "settle" => Ok(Command::Settle),
         "clear" => Ok(Command::Clear),
+        "mark" => Ok(Command::Mark),
         _ => Err(LineFault::Wrong),
     }
 }
@@ -155,6 +160,9 @@ fn read_pair<'a>(alloc: Global, name: &'a str, word: &'a str) -> Result<Command<
             number: read_given(word)?,
         }),
         "drop" => Ok(Command::Drop {
+            number: read_given(word)?,
+        }),
+        "altered" => Ok(Command::Altered {
             number: read_given(word)?,
         }),
         _ => Ok(Command::Edit(read_edit(alloc, &[name, word])?)),

@@ -56,7 +56,9 @@ impl<'a> Kind<'a> for SeatCommand<'a> {
             | Command::Take
             | Command::TakeFor { .. }
             | Command::Land { .. }
-            | Command::GiveBack { .. } => None,
+            | Command::GiveBack { .. }
+            | Command::Mark
+            | Command::Altered { .. } => None,
         }
     }
 }

@@ -40,6 +40,10 @@ pub enum SessionCommand<'a> {
     Drop { number: u64 },
     /// The cached pictures, which are to be there no more.
     Clear,
+    /// A mark of the stream as it is.
+    Mark,
+    /// Whether the unit of this number is altered since the mark.
+    Altered { number: u64 },
 }
 
 impl<'a> Kind<'a> for SessionCommand<'a> {
@@ -61,6 +65,8 @@ impl<'a> Kind<'a> for SessionCommand<'a> {
             Command::Show { number } => Some(SessionCommand::Show { number }),
             Command::Drop { number } => Some(SessionCommand::Drop { number }),
             Command::Clear => Some(SessionCommand::Clear),
+            Command::Mark => Some(SessionCommand::Mark),
+            Command::Altered { number } => Some(SessionCommand::Altered { number }),
             Command::Want(_) | Command::Rest(_) => None,
         }
     }

@@ -30,6 +30,8 @@ alone_form name =
     else if bytes_eq name (codes "take") then Some (codes "take takes the id of a unit or nothing, and is for run without workers")
     else if bytes_eq name (codes "land") then Some (codes "land takes the number of a job, and is for run without workers")
     else if bytes_eq name (codes "give") then Some (codes "give takes the number of a job, and is for run without workers")
+    else if bytes_eq name (codes "mark") then Some (codes "mark takes nothing, and is for run without workers")
+    else if bytes_eq name (codes "altered") then Some (codes "altered takes the id of a unit, and is for run without workers")
     else None
 
 -- how those are that it has beside workers, in no group

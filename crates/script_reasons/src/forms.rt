@@ -58,6 +58,8 @@ fn alone_form(name: &str) -> Option<&'static str>
         "take" => Some("take takes the id of a unit or nothing, and is for run without workers"),
         "land" => Some("land takes the number of a job, and is for run without workers"),
         "give" => Some("give takes the number of a job, and is for run without workers"),
+        "mark" => Some("mark takes nothing, and is for run without workers"),
+        "altered" => Some("altered takes the id of a unit, and is for run without workers"),
         _ => None,
     }
 }

@@ -27,3 +27,5 @@ module _ (says : JsonLine → List ℕ → Type 0) (files : Files) (hex : Bool) 
   Answers-same others same old (command.Show number) lines new answers = answers
   Answers-same others same old (command.Drop number) lines new answers = answers
   Answers-same others same old command.Clear lines new answers = answers
+  Answers-same others same old command.Mark lines new answers = answers
+  Answers-same others same old (command.Altered number) lines new answers = answers

@@ -1,5 +1,6 @@
 pub mod Answers
 pub mod JobLines
+pub mod Marking
 pub mod GroupLines
 pub mod ShownLines
 pub mod ToldUnits

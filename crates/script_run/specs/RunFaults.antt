@@ -47,3 +47,5 @@ IsCommandFault (command.SettleFor number) fault = fault ≡ Memory
 IsCommandFault (command.Show number) fault = fault ≡ Memory
 IsCommandFault (command.Drop number) fault = fault ≡ Memory
 IsCommandFault command.Clear fault = fault ≡ Memory
+IsCommandFault command.Mark fault = fault ≡ Memory
+IsCommandFault (command.Altered number) fault = fault ≡ Memory

@@ -17,6 +17,7 @@ use Rattle.stream_session.specs.Machines.{empty}
 use Rattle.edit_engine.specs.Runs.{Answers as Replies}
 use Rattle.script_run.specs.Answers.{refused_line, loaded_line, reply_lines}
 use Rattle.script_run.specs.JobLines.{settled_line}
+use Rattle.script_run.specs.Marking.{Marks, SaysAltered}
 use Rattle.script_run.specs.Sequences.{AreAnswered, AreWritten}
 use Rattle.script_run.specs.Settling.{Settles}
 use Rattle.script_run.specs.ToldUnits.{IsReportJson}
@@ -87,6 +88,8 @@ module _ (says : JsonLine → List ℕ → Type 0) where
   Answers files hex old (command.Show number) lines new = Follows hex old (told.Show (id_of number)) number lines new
   Answers files hex old (command.Drop number) lines new = Follows hex old (told.Drop (id_of number)) number lines new
   Answers files hex old command.Clear lines new = Follows hex old told.ClearCache 0 lines new
+  Answers files hex old command.Mark lines new = Marks old lines new
+  Answers files hex old (command.Altered number) lines new = SaysAltered old number lines × (new ≡ old)
 
   -- the commands are answered one after the other, by these lines in all
   abbrev pub Runs : Files → Bool → Machine → List SessionCommand → List ℕ → Machine → Type 0

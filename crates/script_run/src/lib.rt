@@ -10,6 +10,7 @@ mod answers;
 mod group_lines;
 mod job_lines;
 mod loading;
+mod marking;
 mod messages;
 mod options;
 mod run;

@@ -15,6 +15,7 @@ use crate::answers::{AcceptedLine, NoUnitLine, RefusedLine};
 use crate::group_lines::{GroupLine, GroupRefusedLine};
 use crate::job_lines::{DroppedLine, GivenLine, LandedLine, TakenLine};
 use crate::loading::load;
+use crate::marking::{mark, say_altered};
 use crate::messages::say_run_fault;
 use crate::options::Options;
 use crate::run_fault::RunFault;
@@ -159,6 +160,8 @@ fn run_command<'a, J: Encoder, S: Source>(
     match command {
         Command::Load { path } => load(threads, alloc, path, runner, source),
         Command::Json { number } => Ok(say_unit(alloc, encoder, runner, number)?),
+        Command::Mark => Ok(mark(alloc, runner)?),
+        Command::Altered { number } => Ok(say_altered(alloc, runner.session(), number)?),
         Command::Settle => Ok(settle(alloc, runner, None)?),
         Command::SettleFor { number } => {
             let unit = Some(id_of_number(number));

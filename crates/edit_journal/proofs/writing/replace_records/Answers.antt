@@ -1,0 +1,35 @@
+use Rattle.std.proofs.Common.{[], arith, refl}
+use Rattle.sqlite_trees.specs.View.{IsClean}
+use Rattle.edit_journal.proofs.ViewLemmas.{quiet_same, writes_keep, if_ok, on_err, on_err_then}
+use Rattle.edit_journal.proofs.CommitLemmas.{keeps_itself, survives_quiet, survives_before}
+use Rattle.edit_journal.proofs.writing.replace_records.Goals as goal
+
+pub returns-in_default-clause-keeps : goal.returns-in_default-clause-keeps
+returns-in_default-clause-keeps g c clean = keeps_itself (g.S.Store.view c.args.store.now)
+
+pub returns-in_default-clause-survives : goal.returns-in_default-clause-survives
+returns-in_default-clause-survives g c = survives_quiet g.S.Store _ c.args.store.now c.args.store.now (quiet_same g.S.Store c.args.store.now)
+
+pub returns-in_err-delete_rows-clause-keeps : goal.returns-in_err-delete_rows-clause-keeps
+returns-in_err-delete_rows-clause-keeps g c clean = on_err c.from_residual.result _ (c.in_err-delete_rows.ensures.keeps clean)
+
+pub returns-in_err-delete_rows-clause-survives : goal.returns-in_err-delete_rows-clause-survives
+returns-in_err-delete_rows-clause-survives g c = survives_quiet g.S.Store _ c.args.store.now c.delete_rows.new.store c.delete_rows.ensures.quiet
+
+pub returns-clause-replaces : goal.returns-clause-replaces
+returns-clause-replaces g c clean =
+    let early : IsClean (g.S.Store.view c.delete_rows.new.store) = omega (arith, c.commit_record.ensures.survives.clean, clean) in
+    if_ok c.commit_record.result _ _ (λ after adds lines shows. adds [] (record { now = c.in_ok-delete_rows.ensures.deletes early lines shows.now shows.count; count = refl })) (c.commit_record.ensures.adds clean)
+
+pub returns-clause-keeps : goal.returns-clause-keeps
+returns-clause-keeps g c clean =
+    let old = g.S.Store.view c.args.store.now in
+    let mid = g.S.Store.view c.delete_rows.new.store in
+    let new = g.S.Store.view c.commit_record.new.store in
+    let early : IsClean mid = omega (arith, c.commit_record.ensures.survives.clean, clean) in
+    on_err_then c.commit_record.result _ _ (writes_keep old mid new (c.in_ok-delete_rows.ensures.writes early)) (c.commit_record.ensures.keeps clean)
+
+pub returns-clause-survives : goal.returns-clause-survives
+returns-clause-survives g c =
+    survives_before g.S.Store _ _ c.args.store.now c.delete_rows.new.store c.commit_record.new.store c.delete_rows.ensures.quiet c.commit_record.ensures.survives
+    (λ early db adds lines shows. adds [] (record { now = c.in_ok-delete_rows.ensures.deletes early lines shows.now shows.count; count = refl }))

@@ -1,0 +1,4 @@
+pub mod Faults
+pub mod Journals
+pub mod Lines
+pub mod Tables

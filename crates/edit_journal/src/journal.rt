@@ -1,0 +1,125 @@
+//! A journal over a store.
+
+ghost use Rattle.std.specs.Prelude.{◌≡◌, ◌+◌, ◌≤◌, ◌++◌, List, IfOk, IsTrue, OnErr, OnOk};
+ghost use Rattle.sqlite_trees.specs.View.{IsClean, doubt};
+ghost use Rattle.edit_journal.specs.declared.line.Line.{Line as LineValue};
+ghost use Rattle.edit_journal.specs.Journals.{Lasts, Shows, Stands, Survives};
+ghost use Rattle.edit_journal.specs.Lines.{Keeps, lines_of};
+ghost use Rattle.edit_journal.specs.Tables.{IsJournal};
+
+use crate::fault::JournalFault;
+use crate::line::{Line, Step};
+use crate::reading::read_lines;
+use crate::table::find_table;
+use crate::writing::{commit_record, replace_records};
+use sqlite_trees::store::Alter;
+use std::alloc::Global;
+
+/// A journal, open.
+pub struct Journal<S: Alter> {
+    pub(crate) store: S,
+    pub(crate) alloc: Global,
+    /// How many rows there are.
+    pub(crate) rows: u32,
+    /// The number of the last record.
+    pub(crate) entries: u32,
+}
+
+// By hand, so that whoever drops one is proved over one call.
+impl<S: Alter + Drop> Drop for Journal<S> {
+    fn drop(self) {
+        let Journal {
+            store: _,
+            alloc: _,
+            rows: _,
+            entries: _,
+        } = self;
+    }
+}
+
+impl<S: Alter> Journal<S> {
+    /// Adds a record of these steps behind those that are there. On an error nothing of it stands.
+    pub fn append(&mut self, steps: &[Step]) -> Result<(), JournalFault>
+        ensures added { IsClean (S.Store.view self.new.store) → OnOk result ((lines : List LineValue)
+            → Stands (S.Store.view self.old.store) self.old.rows lines
+            → Lasts S.Store self.new.store self.new.rows (lines ++ lines_of (self.old.entries + 1) steps.now)) }
+        ensures entries { OnOk result (self.new.entries ≡ self.old.entries + 1) }
+        ensures stays { IsClean (S.Store.view self.new.store) → OnErr result ((lines : List LineValue)
+            → Stands (S.Store.view self.old.store) self.old.rows lines → IsTrue (S.Store.view self.new.store).is_open
+            → Stands (S.Store.view self.new.store) self.new.rows lines) }
+        ensures number { OnErr result (self.new.entries ≡ self.old.entries) }
+        ensures survives { Survives S.Store self.old.store self.new.store (λ db. (lines : List LineValue)
+            → Stands (S.Store.view self.old.store) self.old.rows lines
+            → Keeps db (lines ++ lines_of (self.old.entries + 1) steps.now)) }
+    {
+        let Some(entry) = self.entries.checked_add(1) else {
+            return Err(JournalFault::TooLarge);
+        };
+        match commit_record(self.alloc, &mut self.store, self.rows, entry, steps) {
+            Ok(rows) => {
+                self.rows = rows;
+                self.entries = entry;
+                Ok(())
+            }
+            Err(fault) => {
+                self.store.rollback();
+                Err(fault)
+            }
+        }
+    }
+
+    /// Puts one record of these steps in the place of all that are there, or none where there are no steps. On an error
+    /// those that are there stand.
+    pub fn rewrite(&mut self, steps: &[Step]) -> Result<(), JournalFault>
+        ensures replaced { IsClean (S.Store.view self.new.store) → OnOk result ((lines : List LineValue)
+            → Stands (S.Store.view self.old.store) self.old.rows lines
+            → Lasts S.Store self.new.store self.new.rows (lines_of 1 steps.now)) }
+        ensures entries { OnOk result (self.new.entries ≡ 1) }
+        ensures stays { IsClean (S.Store.view self.new.store) → OnErr result ((lines : List LineValue)
+            → Stands (S.Store.view self.old.store) self.old.rows lines → IsTrue (S.Store.view self.new.store).is_open
+            → Stands (S.Store.view self.new.store) self.new.rows lines) }
+        ensures number { OnErr result (self.new.entries ≡ self.old.entries) }
+        ensures survives { Survives S.Store self.old.store self.new.store (λ db. (lines : List LineValue)
+            → Stands (S.Store.view self.old.store) self.old.rows lines → Keeps db (lines_of 1 steps.now)) }
+    {
+        match replace_records(self.alloc, &mut self.store, self.rows, steps) {
+            Ok(rows) => {
+                self.rows = rows;
+                self.entries = 1;
+                Ok(())
+            }
+            Err(fault) => {
+                self.store.rollback();
+                Err(fault)
+            }
+        }
+    }
+}
+
+impl<S: Alter + Drop> Journal<S> {
+    /// The journal that the store has, and its lines, or a journal without lines in a store without tables.
+    pub fn over(alloc: Global, store: S) -> Result<(Journal<S>, Vec<Line>), JournalFault>
+        requires { IsClean (S.Store.view store) → IsTrue (S.Store.view store).is_numbered }
+        ensures read { IfOk result (λ made. IsClean (S.Store.view made.0.store) → Stands (S.Store.view made.0.store) made.0.rows made.1.items) }
+        ensures found { IfOk result (λ made. IsClean (S.Store.view made.0.store) → (lines : List LineValue)
+            → IsJournal (S.Store.view store).committed lines → made.1.items ≡ lines) }
+        ensures open { IfOk result (λ made. IsClean (S.Store.view made.0.store) → IsTrue (S.Store.view store).is_open) }
+        ensures clean { IfOk result (λ made. doubt (S.Store.view store).is_clean ≤ doubt (S.Store.view made.0.store).is_clean) }
+    {
+        let mut store = store;
+        store.rollback();
+        find_table(alloc, &mut store)?;
+        let lines = read_lines(alloc, &mut store)?;
+        let Ok(rows) = u32::try_from(lines.len()) else {
+            return Err(JournalFault::TooLarge);
+        };
+        let entries = lines.last().map_or(0, |line| line.entry);
+        let journal = Journal {
+            store,
+            alloc,
+            rows,
+            entries,
+        };
+        Ok((journal, lines))
+    }
+}

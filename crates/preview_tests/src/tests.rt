@@ -10,6 +10,7 @@ mod groups;
 mod jobs;
 mod limits;
 mod loads;
+mod marked;
 mod mending;
 mod needed;
 mod plans;

@@ -12,7 +12,7 @@ use std::thread::Threads;
 use unit_json::Json;
 
 /// Lines that are no command.
-const WRONG: [&str; 65] = [
+const WRONG: [&str; 69] = [
     // No word, or one that is no command.
     " ",
     "   ",
@@ -59,6 +59,10 @@ const WRONG: [&str; 65] = [
     "drop 1 2",
     "drop x",
     "clear 1",
+    "mark 1",
+    "altered",
+    "altered 1 2",
+    "altered x",
     // No worker is there to be told.
     "want",
     "want 1",

@@ -1,0 +1,22 @@
+//! What standard error says in words behind a failure: why files and scripts weren't taken.
+//!
+//! `stream_lines`, `edited_lines` and `script_lines` open files once more, and say in a line each why
+//! one can't be read, or why its stream or its script isn't taken; where nothing is known, or there is
+//! no memory for it, they have no line. Files are opened by `Again`, which opens nothing that can't be
+//! read twice. `Watched` notes whether a refusal was printed, of which there is something to say.
+//! Below are file_reasons and script_reasons, which have the words; no program uses it yet.
+#![tactic(auto)]
+
+mod again;
+mod loads;
+mod noted;
+mod scripts;
+mod streams;
+mod unread;
+mod watched;
+
+pub use again::Again;
+pub use script_reasons::ScriptKind;
+pub use scripts::{edited_lines, script_lines};
+pub use streams::stream_lines;
+pub use watched::Watched;

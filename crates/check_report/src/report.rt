@@ -60,12 +60,28 @@ struct OtherLines(FileKind);
 
 impl Display for OtherLines {
     fn fmt<W: Write>(&self, f: &mut Formatter<W>) -> fmt::Result {
-        let sentence = self.0.sentence();
-        writeln!(f, "{sentence}, not a byte stream of H.264 (Annex B)")?;
+        let (negation, sentence) = (negation(self.0), self.0.sentence());
+        writeln!(f, "{negation}: {sentence}")?;
         match self.0.command() {
-            Some(command) => writeln!(f, "{command} makes one of it"),
+            Some(command) => writeln!(f, "this makes a byte stream of it: {command}"),
             None => Ok(()),
         }
+    }
+}
+
+/// What a file of this kind isn't: a container may hold H.264, and so may a file of which nothing is
+/// known.
+fn negation(kind: FileKind) -> &'static str {
+    match kind {
+        FileKind::Mp4
+        | FileKind::Matroska
+        | FileKind::MpegTransportStream
+        | FileKind::MpegProgramStream
+        | FileKind::Avi
+        | FileKind::Flv
+        | FileKind::LengthPrefixedH264
+        | FileKind::Unknown => "not a byte stream of H.264 (Annex B)",
+        _ => "not H.264",
     }
 }
 
@@ -77,8 +93,8 @@ impl<'a> Display for RefusedLines<'a> {
     fn fmt<W: Write>(&self, f: &mut Formatter<W>) -> fmt::Result {
         let why = Refused(self.0.refusal);
         let unread = self.0.unread.as_slice();
-        writeln!(f, "a byte stream of H.264 (Annex B) that can't be planned")?;
-        writeln!(f, "{why}")?;
+        writeln!(f, "a byte stream of H.264 (Annex B) that is refused")?;
+        writeln!(f, "first problem: {why}")?;
         writeln!(f, "{}", MendLine(unread.len()))?;
         for line in unread.iter().take(MOST_LINES) {
             writeln!(f, "{}", UnreadLine(line))?;
@@ -104,12 +120,12 @@ impl Display for MendLine {
         if self.0 == 0 {
             write!(
                 f,
-                "preview mend puts access unit delimiters between its pictures"
+                "preview mend leaves nothing out, and puts a delimiter where two pictures are taken for one"
             )
         } else {
             write!(
                 f,
-                "preview mend writes a stream of what can be read, and leaves out:"
+                "preview mend writes a stream of what can be read, and leaves this out:"
             )
         }
     }
@@ -125,7 +141,7 @@ impl Display for Refused {
             Refusal::Split => write!(f, "{}", Reason::Refused(access_unit::Refused::Split)),
             Refusal::Unit { index, refused } => {
                 let reason = Reason::Refused(refused);
-                write!(f, "access unit at index {index}: {reason}")
+                write!(f, "in the access unit at index {index}, {reason}")
             }
             Refusal::StreamFull => write!(f, "{}", Reason::StreamFull),
         }
@@ -178,8 +194,9 @@ impl<'a> Display for StreamLines<'a> {
         let (surfaces, longest) = (self.0.surfaces, longest(self.0.places.as_slice()));
         writeln!(
             f,
-            "surfaces for output order: {surfaces}; bytes of the longest access unit: {longest}"
+            "surfaces that a decoder needs to show pictures in output order: {surfaces}"
         )?;
+        writeln!(f, "largest access unit: {longest} bytes")?;
         write!(f, "{}", ProblemLines(self.0))?;
         write!(f, "{}", DoubtLines(self.0))
     }
@@ -192,16 +209,16 @@ struct CountLines<'a>(&'a Counts);
 impl<'a> Display for CountLines<'a> {
     fn fmt<W: Write>(&self, f: &mut Formatter<W>) -> fmt::Result {
         let counts = *self.0;
-        let (units, without) = (counts.units, counts.without_picture);
+        let (units, faults, without) = (counts.units, counts.faults, counts.without_picture);
         writeln!(
             f,
-            "access units: {units}, {without} of them without a picture"
+            "access units: {units}, of which {faults} can't be decoded and {without} have no picture"
         )?;
         let (i, p, b) = (counts.intra, counts.predicted, counts.bipredicted);
         let (idr, slices) = (counts.idr, counts.slices);
         writeln!(
             f,
-            "pictures: I {i}, P {p}, B {b}; {idr} IDR; slices: {slices}"
+            "pictures that can be decoded: {i} I, {p} P and {b} B, of which {idr} are IDR, in {slices} slices"
         )?;
         let (periods, longest, frames) = (
             counts.periods,
@@ -210,9 +227,9 @@ impl<'a> Display for CountLines<'a> {
         );
         writeln!(
             f,
-            "periods of output order: {periods}, of {longest} pictures at most"
+            "output order begins anew at {periods} of them; the most pictures from one such on: {longest}"
         )?;
-        writeln!(f, "reference frames held: {frames} at most")
+        writeln!(f, "most reference frames before a picture: {frames}")
     }
 }
 
@@ -223,7 +240,7 @@ struct ProblemLines<'a>(&'a CheckedStream);
 impl<'a> Display for ProblemLines<'a> {
     fn fmt<W: Write>(&self, f: &mut Formatter<W>) -> fmt::Result {
         let faults = self.0.counts.faults;
-        writeln!(f, "problems: {faults}")?;
+        writeln!(f, "problems, access units that can't be decoded: {faults}")?;
         for fault in &FAULTS {
             write!(
                 f,
@@ -281,7 +298,10 @@ impl<'a> Display for ProblemLine<'a> {
         let (unit, place) = (self.problem.unit.number(), self.place);
         let fault = self.problem.fault;
         let (number, name, reason) = (fault.number(), fault.name(), self.problem.reason);
-        write!(f, "  unit {unit}, byte {place}: {number} {name}: {reason}")
+        write!(
+            f,
+            "  unit {unit} at byte {place}: {reason} [fault {number}, {name}]"
+        )
     }
 }
 
@@ -292,7 +312,10 @@ struct DoubtLines<'a>(&'a CheckedStream);
 impl<'a> Display for DoubtLines<'a> {
     fn fmt<W: Write>(&self, f: &mut Formatter<W>) -> fmt::Result {
         let count = self.0.counts.in_doubt;
-        writeln!(f, "pictures in doubt: {count}")?;
+        writeln!(
+            f,
+            "pictures in doubt, which may be made of other frames than was meant: {count}"
+        )?;
         for stretch in self.0.stretches.iter().take(MOST_LINES) {
             writeln!(f, "{}", StretchLine(stretch))?;
         }
@@ -318,7 +341,7 @@ impl<'a> Display for StretchLine<'a> {
         let (count, follows) = (self.0.in_doubt, self.0.follows.number());
         write!(
             f,
-            "  units {first} to {last}: {count}, which follow the fault of unit {follows}"
+            "  {count} of units {first} to {last}, after the fault of unit {follows}"
         )
     }
 }

@@ -76,23 +76,23 @@ impl FileKind {
             FileKind::Matroska => "a Matroska or WebM file, a container",
             FileKind::MpegTransportStream => "an MPEG transport stream, a container",
             FileKind::MpegProgramStream =>
-                "an MPEG program stream, a container of MPEG-1 or MPEG-2 video mostly",
+                "an MPEG program stream, a container of MPEG-1 or MPEG-2 video",
             FileKind::Avi => "an AVI file, a container",
             FileKind::Flv => "a Flash Video file, a container",
             FileKind::Ivf => "an IVF file, which holds VP8, VP9 or AV1",
-            FileKind::Y4m => "a YUV4MPEG2 file, which holds pictures that aren't coded",
-            FileKind::Ogg => "an Ogg file, a container in which H.264 doesn't come",
-            FileKind::HevcAnnexB => "a byte stream of HEVC (H.265), not of H.264",
-            FileKind::VvcAnnexB => "a byte stream of VVC (H.266), not of H.264",
-            FileKind::Mpeg2 => "video of MPEG-1 or MPEG-2, not of H.264",
+            FileKind::Y4m => "a YUV4MPEG2 file, which holds uncompressed pictures",
+            FileKind::Ogg => "an Ogg file, a container that doesn't hold H.264",
+            FileKind::HevcAnnexB => "HEVC (H.265) video",
+            FileKind::VvcAnnexB => "VVC (H.266) video",
+            FileKind::Mpeg2 => "MPEG-1 or MPEG-2 video",
             FileKind::LengthPrefixedH264 => {
                 "H.264 with a length before each NAL unit in place of a start code"
             }
             FileKind::H264AnnexB => "a byte stream of H.264 (Annex B)",
-            FileKind::Text => "text",
+            FileKind::Text => "a text file",
             FileKind::Empty => "an empty file",
             FileKind::Directory => "a directory",
-            FileKind::Unknown => "a file of no kind that is known here",
+            FileKind::Unknown => "a file of an unknown kind",
         }
     }
 

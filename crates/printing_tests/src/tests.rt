@@ -1,4 +1,5 @@
 mod checks;
+mod cropping;
 mod drawing;
 mod json;
 mod kinds;

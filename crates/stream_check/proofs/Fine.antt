@@ -1,5 +1,5 @@
 -- A stream that is read has nothing to complain of exactly where none of its units has a fault.
-use Rattle.std.proofs.Common.{◌≡◌, ◌≤◌, ◌↔◌, ◌==◌, ◌∙◌, ap, sym, ℕ, List, length, true, IsTrue}
+use Rattle.std.proofs.Common.{◌≡◌, ◌≤◌, ◌↔◌, ◌==◌, ◌∙◌, ap, sym, ℕ, List, length, IsTrue}
 use Rattle.std.proofs.lemmas.Bool.{eq-eqb, eqb-true}
 use Rattle.access_unit.specs.Rooms.{IsStream, most_units}
 use Rattle.unit_json.specs.StreamLines.{stream_outcomes}

@@ -6,21 +6,23 @@ use Rattle.unit_outcomes.specs.declared.outcome.Outcome.{Outcome}
 use Rattle.request_core.specs.States.{FoldState, no_units}
 use Rattle.request_core.specs.Fold.{fold_step, outcomes_from, outcomes_of}
 use Rattle.unit_json.specs.StreamLines.{numbered_from}
+use Rattle.stream_check.specs.Problems.{problem_at, problems_from, reason_at}
+use Rattle.stream_check.specs.declared.problems.Problem.{Problem}
 
 -- the outcomes of the units from a place on
 abbrev pub rest_from : FoldState → List (List (List ℕ)) → ℕ → List Outcome
 rest_from state units place = outcomes_from state (numbered_from (place + 1) (drop place units))
 
 -- the next one moves over to those that are done
-pub fold-next : (all done more : List Outcome) (state after : FoldState) (outcome : Outcome) (units : List (List (List ℕ))) (place id : ℕ) (unit : List (List ℕ))
-    → all ≡ done ++ rest_from state units place → place < length units → id ≡ place + 1 → unit ≡ get_or units place []
+pub fold-next : (all done more : List Outcome) (state after : FoldState) (outcome : Outcome) (units : List (List (List ℕ))) (place id : ℕ) (unit default : List (List ℕ))
+    → all ≡ done ++ rest_from state units place → place < length units → id ≡ place + 1 → unit ≡ get_or units place default
     → Path (FoldState × Outcome) (after, outcome) (fold_step state id unit) → more ≡ done ++ outcome ∷ []
     → all ≡ more ++ rest_from after units (place + 1)
-fold-next all done more state after outcome units place id unit so_far here id_is unit_is pair more_is =
+fold-next all done more state after outcome units place id unit default so_far here id_is unit_is pair more_is =
     let moved : done ++ rest_from state units place
-    ≡ (done ++ (fold_step state (place + 1) (get_or units place [])).1 ∷ []) ++ rest_from (fold_step state (place + 1) (get_or units place [])).0 units (place + 1) =
-    ap (λ rest. done ++ outcomes_from state (numbered_from (place + 1) rest)) (drop_more units place [] here) ∙ sym (append_assoc done ((fold_step state (place + 1) (get_or units place [])).1 ∷ []) (rest_from (fold_step state (place + 1) (get_or units place [])).0 units (place + 1))) in
-    let step : Path (FoldState × Outcome) (after, outcome) (fold_step state (place + 1) (get_or units place [])) = rw (id_is, unit_is) at pair in
+    ≡ (done ++ (fold_step state (place + 1) (get_or units place default)).1 ∷ []) ++ rest_from (fold_step state (place + 1) (get_or units place default)).0 units (place + 1) =
+    ap (λ rest. done ++ outcomes_from state (numbered_from (place + 1) rest)) (drop_more units place default here) ∙ sym (append_assoc done ((fold_step state (place + 1) (get_or units place default)).1 ∷ []) (rest_from (fold_step state (place + 1) (get_or units place default)).0 units (place + 1))) in
+    let step : Path (FoldState × Outcome) (after, outcome) (fold_step state (place + 1) (get_or units place default)) = rw (id_is, unit_is) at pair in
     rw (more_is, ap (λ (p : FoldState × Outcome). p.0) step, ap (λ (p : FoldState × Outcome). p.1) step) (so_far ∙ moved)
 
 -- an outcome for each unit
@@ -30,3 +32,18 @@ length-outcomes state id (unit ∷ units) = ap (λ n. suc n) (length-outcomes (f
 
 pub length-fold : (units : List (List (List ℕ))) → length (outcomes_of (numbered_from 1 units)) ≡ length units
 length-fold units = length-outcomes no_units 1 units
+
+-- the problem of the next one moves over to those that are found
+pub problems-next : (all found more : List Problem) (state after : FoldState) (outcome : Outcome) (units : List (List (List ℕ))) (place id : ℕ) (unit default : List (List ℕ))
+    → all ≡ found ++ problems_from state (place + 1) (drop place units) → place < length units → id ≡ place + 1 → unit ≡ get_or units place default
+    → Path (FoldState × Outcome) (after, outcome) (fold_step state id unit) → more ≡ found ++ problem_at id (reason_at state unit) outcome
+    → all ≡ more ++ problems_from after (place + 1 + 1) (drop (place + 1) units)
+problems-next all found more state after outcome units place id unit default so_far here id_is unit_is pair more_is =
+    let at = get_or units place default in
+    let now = problem_at (place + 1) (reason_at state at) (fold_step state (place + 1) at).1 in
+    let moved : found ++ problems_from state (place + 1) (drop place units)
+    ≡ (found ++ now) ++ problems_from (fold_step state (place + 1) at).0 (place + 1 + 1) (drop (place + 1) units) =
+    ap (λ rest. found ++ problems_from state (place + 1) rest) (drop_more units place default here)
+    ∙ sym (append_assoc found now (problems_from (fold_step state (place + 1) at).0 (place + 1 + 1) (drop (place + 1) units))) in
+    let step : Path (FoldState × Outcome) (after, outcome) (fold_step state (place + 1) at) = rw (id_is, unit_is) at pair in
+    rw (more_is, id_is, unit_is, ap (λ (p : FoldState × Outcome). p.0) step, ap (λ (p : FoldState × Outcome). p.1) step) (so_far ∙ moved)

@@ -1,4 +1,5 @@
 mod Fine
 mod FoldSteps
+mod NextStates
 mod Periods
 mod SeenIds

@@ -1,8 +1,8 @@
 -- The ids of a stream's units.
-use Rattle.std.proofs.Common.{◌≡◌, sym, ◌∙◌, ap, ℕ, ◌+◌, Bool, List, [], ◌∷◌, ◌++◌, length, map, option_map, Some, slice_get, zero, suc, arith, refl}
+use Rattle.std.proofs.Common.{◌≡◌, ◌∙◌, ap, ℕ, ◌+◌, Bool, List, [], ◌∷◌, ◌++◌, length, map, zero, suc, arith, refl}
 use Rattle.std.proofs.lemmas.Option.{same_Some}
 use Rattle.unit_outcomes.specs.declared.outcome.Outcome.{Outcome}
-use Rattle.doubts.specs.SeenUnits.{HasId, SeenUnit, seen_units}
+use Rattle.doubts.specs.SeenUnits.{HasId, seen_units}
 use Rattle.doubts.specs.InDoubt.{IdsDiffer}
 use Rattle.doubts.specs.References.{is_of_reference}
 use Rattle.unit_json.specs.Seen.{ids_from, stream_seen}

@@ -1,10 +1,11 @@
 -- What is found of a file.
-use Rattle.std.specs.Prelude.{◌≡◌, ◌≢◌, ◌≤◌, ℕ, ◌==◌, Bool, false, List, length, map, None, vec_len}
+use Rattle.std.specs.Prelude.{◌≡◌, ◌≢◌, ◌≤◌, ℕ, ◌==◌, Bool, false, List, length, map, vec_len}
 use Rattle.access_unit.specs.Rooms.{IsStream, IsStreamRefused, most_units}
 use Rattle.doubts.specs.InDoubt.{AreDoubts}
 use Rattle.doubts.specs.declared.doubt.Doubt.{Doubt}
 use Rattle.file_kinds.specs.Kinds.{kind_of}
 use Rattle.file_kinds.specs.declared.kind.FileKind.TheVariants.{H264AnnexB}
+use Rattle.request_core.specs.States.{no_units}
 use Rattle.stream_mending.specs.Mended.{told}
 use Rattle.unit_json.specs.Seen.{stream_seen}
 use Rattle.unit_json.specs.StreamLines.{stream_outcomes}
@@ -22,12 +23,12 @@ is_fine (Other _) = false
 is_fine (Refused _) = false
 is_fine (Stream stream) = stream.counts.faults == 0
 
--- what is found of the access units of a stream, by the outcomes of its plain fold and what is told of doubt
+-- what is found of the access units of a stream, by its plain fold and what is told of doubt
 pub record IsCheckOf (units : List (List (List ℕ))) (stream : CheckedStream) : Type 0 where
   pub told : List Doubt
   pub are_told : AreDoubts (stream_seen units (stream_outcomes units)) 0 (length units) told
   pub counts : stream.counts ≡ counts_of (stream_outcomes units) told
-  pub problems : stream.problems.items ≡ problems_from 1 None (stream_outcomes units)
+  pub problems : stream.problems.items ≡ problems_from no_units 1 units
   pub places : vec_len stream.places ≡ length units
 
 -- the text is a stream for which there is room

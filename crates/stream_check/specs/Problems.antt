@@ -1,12 +1,19 @@
 -- The units of a stream that have no valid picture, and why.
-use Rattle.std.specs.Prelude.{ℕ, ◌+◌, ◌==◌, ◌++◌, Bool, List, [], ◌∷◌, Option, None, Some, if◌then◌else◌}
+use Rattle.std.specs.Prelude.{ℕ, ◌+◌, ◌%◌, ◌==◌, ◌++◌, Bool, List, [], ◌∷◌, map, filter, Result, Ok, Err, if◌then◌else◌}
+use Rattle.annexb.specs.NalUnit.{is_slice}
 use Rattle.h264_controls.specs.declared.request.Request.{Request}
+use Rattle.param_set_types.specs.FrameNumbers.{max_frame_num}
 use Rattle.unit_outcomes.specs.Numbers.{number_of}
 use Rattle.unit_outcomes.specs.declared.outcome.Outcome.{Outcome}
 use Rattle.unit_outcomes.specs.declared.outcome.Outcome.TheVariants as outcome
 use Rattle.unit_outcomes.specs.declared.outcome.Plan.{Plan}
 use Rattle.unit_outcomes.specs.declared.validity_fault.ValidityFault.{ValidityFault}
 use Rattle.unit_outcomes.specs.declared.validity_fault.ValidityFault.TheVariants.{FrameNumGap}
+use Rattle.slice_reading.specs.Numbers.{gathered}
+use Rattle.slice_reading.specs.ParameterSets.{ParameterSets}
+use Rattle.slice_reading.specs.Slices.{SliceRead, slice_at}
+use Rattle.request_core.specs.Fold.{fold_step, with_sets}
+use Rattle.request_core.specs.States.{FoldState}
 use Rattle.stream_reasons.specs.declared.reason.Reason.{Reason}
 use Rattle.stream_reasons.specs.declared.reason.Reason.TheVariants as reason
 use Rattle.stream_check.specs.declared.problems.Problem.{Problem}
@@ -15,34 +22,49 @@ use Rattle.stream_check.specs.declared.problems.Problem.{Problem}
 abbrev pub is_gap : ValidityFault → Bool
 is_gap fault = number_of fault == number_of FrameNumGap
 
--- why a unit isn't valid, where the last reference picture has this frame_num
-abbrev pub reason_of : Option ℕ → ValidityFault → Reason
-reason_of None fault = reason.Fault fault
-reason_of (Some last) fault = if is_gap fault then reason.FrameNumGap last else reason.Fault fault
+-- frame_num of the first slice, and which was expected where PrevRefFrameNum is this number (7.4.3)
+abbrev pub gap_before : ℕ → ValidityFault → List SliceRead → Reason
+gap_before last fault [] = reason.Fault fault
+gap_before last fault (slice ∷ _) = reason.FrameNumGap slice.header.frame_num last ((last + 1) % max_frame_num slice.sps)
 
--- frame_num of the last reference picture after a slice: it counts as 0 where output order begins anew
-abbrev pub last_after_slices : Option ℕ → Bool → List Request → Option ℕ
+-- the same of slices that were read
+abbrev pub gap_in : ℕ → ValidityFault → Result (List SliceRead) ValidityFault → Reason
+gap_in last fault (Ok slices) = gap_before last fault slices
+gap_in last fault (Err _) = reason.Fault fault
+
+-- why a unit with this fault isn't valid, with these parameter sets and this PrevRefFrameNum
+abbrev pub reason_in : ParameterSets → ℕ → List (List ℕ) → ValidityFault → Reason
+reason_in tables last unit fault =
+    if is_gap fault then gap_in last fault (gathered (map (slice_at tables) (filter is_slice unit))) else reason.Fault fault
+
+-- why a unit with this fault isn't valid after units that lead to this state of the fold
+abbrev pub reason_at : FoldState → List (List ℕ) → ValidityFault → Reason
+reason_at state unit fault = reason_in (with_sets state unit).tables state.prev_ref_frame_num unit fault
+
+-- the problem of the unit of an id, if it has one, which has this reason
+abbrev pub problem_at : ℕ → (ValidityFault → Reason) → Outcome → List Problem
+problem_at id why (outcome.Plan _) = []
+problem_at id why (outcome.Fault fault) = record { unit = id; fault = fault; reason = why fault } ∷ []
+problem_at id why outcome.Empty = []
+
+-- those of units with ids from this one on, after units that lead to this state, each once and in order
+abbrev pub problems_from : FoldState → ℕ → List (List (List ℕ)) → List Problem
+problems_from state id [] = []
+problems_from state id (unit ∷ units) =
+    problem_at id (reason_at state unit) (fold_step state id unit).1 ++ problems_from (fold_step state id unit).0 (id + 1) units
+
+-- PrevRefFrameNum after a picture of these requests: it counts as 0 where output order begins anew (7.4.3)
+abbrev pub last_after_slices : ℕ → Bool → List Request → ℕ
 last_after_slices before begins [] = before
 last_after_slices before begins (request ∷ _) = if request.work.controls.decode_params.nal_ref_idc == 0 then before
-    else Some (if begins then 0 else request.work.controls.decode_params.frame_num)
+    else if begins then 0 else request.work.controls.decode_params.frame_num
 
 -- after a valid unit
-abbrev pub last_after_plan : Option ℕ → Plan → Option ℕ
+abbrev pub last_after_plan : ℕ → Plan → ℕ
 last_after_plan before plan = last_after_slices before plan.begins_period plan.requests
 
 -- after a unit
-abbrev pub last_after : Option ℕ → Outcome → Option ℕ
+abbrev pub last_after : ℕ → Outcome → ℕ
 last_after before (outcome.Plan plan) = last_after_plan before plan
 last_after before (outcome.Fault _) = before
 last_after before outcome.Empty = before
-
--- the problem of a unit, if it has one
-abbrev pub problem_at : ℕ → Option ℕ → Outcome → List Problem
-problem_at id last (outcome.Plan _) = []
-problem_at id last (outcome.Fault fault) = record { unit = id; fault = fault; reason = reason_of last fault } ∷ []
-problem_at id last outcome.Empty = []
-
--- those of units with ids from this one on, each once and in order
-abbrev pub problems_from : ℕ → Option ℕ → List Outcome → List Problem
-problems_from id last [] = []
-problems_from id last (outcome ∷ outcomes) = problem_at id last outcome ++ problems_from (id + 1) (last_after last outcome) outcomes

@@ -1,11 +1,12 @@
 -- Sequence parameter sets in words (7.4.2.1.1, annex A).
-use Rattle.std.specs.Prelude.{ℕ, ◌+◌, ◌*◌, ◌/◌, ◌%◌, ◌==◌, ◌&&◌, ◌++◌, Bool, List, codes, decimal, slice_index_or, false, if◌then◌else◌}
+use Rattle.std.specs.Prelude.{ℕ, ◌+◌, ◌/◌, ◌%◌, ◌==◌, ◌&&◌, ◌++◌, Bool, List, codes, decimal, slice_index_or, false, if◌then◌else◌}
 use Rattle.param_set_types.specs.Profiles.{is_high}
 use Rattle.param_set_types.specs.declared.sps.Sps.{Sps}
 use Rattle.param_set_types.specs.declared.sps.ChromaFormat.{ChromaFormat}
 use Rattle.param_set_types.specs.declared.sps.ChromaFormat.TheVariants.{Monochrome, Yuv420, Yuv422}
 use Rattle.param_set_types.specs.declared.sps.PicOrderCntType.{PicOrderCntType}
 use Rattle.param_set_types.specs.declared.sps.PicOrderCntType.TheVariants as order
+use Rattle.sps_cropping.specs.declared.size.Size.{Size}
 use Rattle.stream_check.specs.declared.set_words.SetWords.{SetWords}
 use Rattle.stream_check.specs.declared.set_words.Level.{Level}
 use Rattle.stream_check.specs.declared.set_words.Profile.{Profile}
@@ -31,14 +32,14 @@ order_count_type order.Zero = 0
 order_count_type order.One = 1
 order_count_type order.Two = 2
 
--- what a set says
-abbrev pub set_words : Sps → SetWords
-set_words sps = record {
+-- what a set says, whose frames have this size after cropping
+abbrev pub set_words : Sps → Size → SetWords
+set_words sps size = record {
   seq_parameter_set_id = sps.seq_parameter_set_id;
   profile = profile_of sps;
   level = level_of sps;
-  width = (sps.pic_width_in_mbs_minus1 + 1) * 16;
-  height = (sps.pic_height_in_map_units_minus1 + 1) * 16;
+  width = size.width;
+  height = size.height;
   chroma = sps.chroma_format_idc;
   luma_bits = sps.bit_depth_luma_minus8 + 8;
   chroma_bits = sps.bit_depth_chroma_minus8 + 8;

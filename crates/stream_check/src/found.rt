@@ -9,9 +9,9 @@ ghost use Rattle.std.specs.Prelude.{◌≤◌, length};
 ghost use Rattle.stream_check.specs.Found.{IsCheckOf, IsFine, IsFound, IsTaken, is_fine};
 
 use crate::counts::Counts;
-use crate::folding::fold;
+use crate::folding::{Folded, fold};
 use crate::places::{Place, places};
-use crate::problems::{Problem, problems};
+use crate::problems::Problem;
 use crate::set_words::SetWords;
 use crate::sets::sets_in_words;
 use crate::stretches::{Stretch, stretches};
@@ -108,13 +108,13 @@ fn check_units(alloc: Global, text: &[u8], units: &[Unit]) -> Result<CheckedStre
     requires { length units.now ≤ most_units }
     ensures { IfOk result (IsCheckOf units.now) }
 {
-    let outcomes = fold(alloc, units)?;
+    let Folded { outcomes, problems } = fold(alloc, units)?;
     let told = told(alloc, units, &outcomes)?;
     let positions = output_order::positions(alloc, &outcomes)?;
     Ok(CheckedStream {
         sets: sets_in_words(alloc, units)?,
         counts: Counts::of(&outcomes, &told)?,
-        problems: problems(alloc, &outcomes)?,
+        problems,
         stretches: stretches(alloc, &told)?,
         places: places(alloc, text, units)?,
         surfaces: surfaces(alloc, &outcomes, &positions)?,

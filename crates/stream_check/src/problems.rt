@@ -1,12 +1,16 @@
 //! The units that have no valid picture, and why.
 
-ghost use Rattle.std.specs.Prelude.{◌≡◌, ◌≤◌, None, length, IfOk};
-ghost use Rattle.access_unit.specs.Rooms.{most_units};
+ghost use Rattle.std.specs.Prelude.{◌≡◌, ◌++◌, [], IfOk, OnOk};
+ghost use Rattle.access_unit.specs.Sets.{sets_of};
+ghost use Rattle.slice_reading.specs.ParameterSets.{no_sets, put_all};
 ghost use Rattle.stream_check.specs.Places.{place_of};
-ghost use Rattle.stream_check.specs.Problems.{is_gap, last_after, last_after_plan, problems_from, reason_of};
+ghost use Rattle.stream_check.specs.Problems.{gap_before, is_gap, last_after, last_after_plan, problem_at, reason_in};
 
 use crate::places::Place;
+use access_unit::Unit;
+use base_types::Shared;
 use pictures::AuId;
+use slice_reading::{Slice, Stop, Tables, read_slices, tables_with};
 use std::alloc::{AllocError, Global};
 use stream_reasons::Reason;
 use unit_outcomes::{Outcome, Plan, ValidityFault};
@@ -34,34 +38,76 @@ impl Problem {
     }
 }
 
-/// The units with a fault, in order, of a stream with these outcomes, whose ids are 1, 2, 3 and so
-/// on.
-pub(crate) fn problems(alloc: Global, outcomes: &[Outcome]) -> Result<Vec<Problem>, AllocError>
-    requires { length outcomes.now ≤ most_units }
-    ensures { IfOk result (λ problems. problems.items ≡ problems_from 1 None outcomes.now) }
-{
-    let mut problems = Vec::new(alloc);
-    let mut last = None;
-    for (place, outcome) in outcomes.iter().enumerate() {
-        if let Outcome::Fault(fault) = outcome {
-            problems.push(Problem {
-                unit: AuId::new(place as u32 + 1),
-                fault: *fault,
-                reason: reason_of(last, *fault),
-            })?;
-        }
-        last = last_after(last, outcome);
-    }
-    Ok(problems)
+/// The units with a fault of those that were folded, and what frame_num of the next one is compared
+/// with (7.4.3).
+#[derive(Drop)]
+pub(crate) struct Problems {
+    pub(crate) found: Vec<Problem>,
+    /// The parameter sets that were sent.
+    tables: Shared<Tables>,
+    /// PrevRefFrameNum.
+    last: u16,
 }
 
-/// Why a unit with this fault isn't valid, where the last reference picture has this frame_num.
-fn reason_of(last: Option<u16>, fault: ValidityFault) -> Reason
-    ensures { result ≡ reason_of last fault }
-{
-    match last {
-        Some(last) if is_gap(fault) => Reason::FrameNumGap { last },
-        _ => Reason::Fault(fault),
+impl Problems {
+    /// Those of no units.
+    pub(crate) fn new(alloc: Global) -> Result<Problems, AllocError>
+        ensures none { IfOk result (λ problems. problems.found.items ≡ []) }
+        ensures tables { IfOk result (λ problems. problems.tables ≡ no_sets) }
+        ensures last { IfOk result (λ problems. problems.last ≡ 0) }
+    {
+        Ok(Problems {
+            found: Vec::new(alloc),
+            tables: Shared::new(alloc, Tables::new(alloc)?)?,
+            last: 0,
+        })
+    }
+
+    /// Adds what one unit more leads to.
+    pub(crate) fn add(
+        &mut self,
+        alloc: Global,
+        id: AuId,
+        unit: &Unit,
+        outcome: &Outcome,
+    ) -> Result<(), AllocError>
+        ensures tables { OnOk result
+            (self.new.tables ≡ put_all self.old.tables (sets_of unit.now)) }
+        ensures last { OnOk result (self.new.last ≡ last_after self.old.last outcome.now) }
+        ensures found { OnOk result (self.new.found.items ≡ self.old.found.items
+            ++ problem_at id (reason_in self.new.tables self.old.last unit.now) outcome.now) }
+    {
+        self.tables = tables_with(alloc, &self.tables, unit.sets())?;
+        if let Outcome::Fault(fault) = outcome {
+            let reason = self.reason_of(alloc, unit, *fault)?;
+            self.found.push(Problem {
+                unit: id,
+                fault: *fault,
+                reason,
+            })?;
+        }
+        self.last = last_after(self.last, outcome);
+        Ok(())
+    }
+
+    /// Why the unit isn't valid that has this fault, and whose parameter sets are put.
+    fn reason_of(
+        &self,
+        alloc: Global,
+        unit: &Unit,
+        fault: ValidityFault,
+    ) -> Result<Reason, AllocError>
+        ensures { IfOk result (λ reason.
+            reason ≡ reason_in self.now.tables self.now.last unit.now fault) }
+    {
+        if !is_gap(fault) {
+            return Ok(Reason::Fault(fault));
+        }
+        match read_slices(alloc, &self.tables, unit.slices()) {
+            Ok(slices) => Ok(gap_before(self.last, fault, &slices)),
+            Err(Stop::Fault(_)) => Ok(Reason::Fault(fault)),
+            Err(Stop::Memory) => Err(AllocError),
+        }
     }
 }
 
@@ -72,8 +118,22 @@ fn is_gap(fault: ValidityFault) -> bool
     fault.number() == ValidityFault::FrameNumGap.number()
 }
 
-/// frame_num of the last reference picture after the unit.
-fn last_after(before: Option<u16>, outcome: &Outcome) -> Option<u16>
+/// frame_num of the first slice, and which was expected after this PrevRefFrameNum (7.4.3).
+fn gap_before(last: u16, fault: ValidityFault, slices: &[Slice]) -> Reason
+    ensures { result ≡ gap_before last fault slices.now }
+{
+    match slices {
+        [first, ..] => Reason::FrameNumGap {
+            frame_num: first.header().frame_num,
+            last,
+            next: ((u32::from(last) + 1) % first.sps().max_frame_num()) as u16,
+        },
+        [] => Reason::Fault(fault),
+    }
+}
+
+/// PrevRefFrameNum after the unit.
+fn last_after(before: u16, outcome: &Outcome) -> u16
     ensures { result ≡ last_after before outcome.now }
 {
     match outcome {
@@ -84,7 +144,7 @@ fn last_after(before: Option<u16>, outcome: &Outcome) -> Option<u16>
 }
 
 /// The same after a valid unit. frame_num counts as 0 where output order begins anew (7.4.3).
-fn last_after_plan(before: Option<u16>, plan: &Plan) -> Option<u16>
+fn last_after_plan(before: u16, plan: &Plan) -> u16
     ensures { result ≡ last_after_plan before plan.now }
 {
     match plan.requests.as_slice() {
@@ -93,8 +153,8 @@ fn last_after_plan(before: Option<u16>, plan: &Plan) -> Option<u16>
             let params = &request.controls().decode_params;
             match (params.nal_ref_idc, plan.begins_period) {
                 (0, _) => before,
-                (_, true) => Some(0),
-                (_, false) => Some(params.frame_num),
+                (_, true) => 0,
+                (_, false) => params.frame_num,
             }
         }
     }

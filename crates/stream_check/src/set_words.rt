@@ -1,9 +1,10 @@
 //! Sequence parameter sets in words (7.4.2.1.1, annex A).
 
-ghost use Rattle.std.specs.Prelude.{◌≡◌, ◌+◌, ◌*◌, Some};
+ghost use Rattle.std.specs.Prelude.{◌≡◌, Some};
 ghost use Rattle.stream_check.specs.SetWords.{chroma_words, is_1b, level_of, level_text, order_count_type, profile_of, profile_words, set_words};
 
 use param_set_types::{ChromaFormat, PicOrderCntType, Sps};
+use sps_cropping::Size;
 use std::fmt;
 use std::fmt::{Display, Formatter, Write};
 
@@ -14,7 +15,7 @@ pub struct SetWords {
     /// The profile's name.
     pub profile: Profile,
     pub level: Level,
-    /// The size of a frame in luma samples, before cropping.
+    /// The size of a frame in luma samples, after cropping.
     pub width: u32,
     pub height: u32,
     pub chroma: ChromaFormat,
@@ -46,16 +47,16 @@ pub struct Level {
 }
 
 impl SetWords {
-    /// What the set says.
-    pub fn of(sps: &Sps) -> SetWords
-        ensures { result ≡ set_words sps.now }
+    /// What the set says, whose frames have this size after cropping.
+    pub fn of(sps: &Sps, size: Size) -> SetWords
+        ensures { result ≡ set_words sps.now size }
     {
         SetWords {
             seq_parameter_set_id: sps.seq_parameter_set_id.get(),
             profile: Profile::of(sps),
             level: Level::of(sps),
-            width: samples(sps.pic_width_in_mbs_minus1),
-            height: samples(sps.pic_height_in_map_units_minus1),
+            width: size.width,
+            height: size.height,
             chroma: sps.chroma_format_idc,
             luma_bits: sps.bit_depth_luma_minus8.get() + 8,
             chroma_bits: sps.bit_depth_chroma_minus8.get() + 8,
@@ -64,13 +65,6 @@ impl SetWords {
             max_num_ref_frames: sps.max_num_ref_frames.get(),
         }
     }
-}
-
-/// How many luma samples so many macroblocks and one more have in a row or a column.
-fn samples(macroblocks_minus1: u16) -> u32
-    ensures { result ≡ (macroblocks_minus1 + 1) * 16 }
-{
-    (u32::from(macroblocks_minus1) + 1) * 16
 }
 
 impl Profile {
@@ -176,7 +170,7 @@ impl Display for SetWords {
         let (luma, chroma_bits) = (self.luma_bits, self.chroma_bits);
         write!(
             f,
-            "{width}x{height} before cropping, {chroma}, {luma} bits of luma and {chroma_bits} of chroma, "
+            "{width}x{height}, {chroma}, {luma} bits of luma and {chroma_bits} of chroma, "
         )?;
         let (bits, order, frames) = (
             self.frame_num_bits,

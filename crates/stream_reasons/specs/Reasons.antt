@@ -11,4 +11,5 @@ reason_text StreamFull = codes "there are more than 65,536 access units"
 reason_text (Field field) = field_text field ++ codes " is out of its range (7.4.2)"
 reason_text (Set fault) = set_sentence fault
 reason_text (Fault fault) = fault_sentence fault
-reason_text (FrameNumGap last) = codes "frame_num is neither " ++ (decimal last ++ codes " nor the next number: pictures are missing (7.4.3)")
+reason_text (FrameNumGap frame_num last next) = codes "frame_num is " ++ (decimal frame_num ++ (codes " and "
+    ++ (decimal last ++ (codes " or " ++ (decimal next ++ codes " was expected: pictures are missing (7.4.3)")))))

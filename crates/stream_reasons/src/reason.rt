@@ -23,8 +23,13 @@ pub enum Reason {
     Set(SetFault),
     /// A unit has no valid picture.
     Fault(ValidityFault),
-    /// frame_num is neither this one, that of the last reference picture, nor the next (7.4.3).
-    FrameNumGap { last: u16 },
+    /// frame_num of a unit is neither that of the last reference picture nor the next number
+    /// (7.4.3).
+    FrameNumGap {
+        frame_num: u16,
+        last: u16,
+        next: u16,
+    },
 }
 
 impl Display for Reason {
@@ -40,9 +45,13 @@ impl Display for Reason {
             }
             Reason::Set(fault) => f.write_str(set_sentence(fault)),
             Reason::Fault(fault) => f.write_str(fault_sentence(fault)),
-            Reason::FrameNumGap { last } => write!(
+            Reason::FrameNumGap {
+                frame_num,
+                last,
+                next,
+            } => write!(
                 f,
-                "frame_num is neither {last} nor the next number: pictures are missing (7.4.3)"
+                "frame_num is {frame_num} and {last} or {next} was expected: pictures are missing (7.4.3)"
             ),
         }
     }

@@ -45,10 +45,13 @@ pub(crate) fn set_sentence(fault: SetFault) -> &'static str
     match fault {
         SetFault::Cut => "the parameter set ends within a field (7.3.2)",
         SetFault::Range { .. } => "a field is out of its range",
-        SetFault::Profile => "profile_idc is none of 66, 77, 100, 110 and 122 (A.2)",
-        SetFault::Chroma444 => "chroma_format_idc is 3: 4:4:4 (7.4.2.1.1)",
-        SetFault::Interlaced => "frame_mbs_only_flag is 0: interlaced coding (7.4.2.1.1)",
-        SetFault::SliceGroups => "num_slice_groups_minus1 isn't 0: slice groups (7.4.2.2)",
+        SetFault::Profile =>
+            "profile_idc is none of 66, 77, 100, 110 and 122: the profile isn't supported (A.2)",
+        SetFault::Chroma444 => "chroma_format_idc is 3: 4:4:4 isn't supported (7.4.2.1.1)",
+        SetFault::Interlaced =>
+            "frame_mbs_only_flag is 0: interlaced coding isn't supported (7.4.2.1.1)",
+        SetFault::SliceGroups =>
+            "num_slice_groups_minus1 isn't 0: slice groups aren't supported (7.4.2.2)",
         SetFault::RefFrames => "max_num_ref_frames is above 16 (7.4.2.1.1)",
         SetFault::Memory => "out of memory",
     }

@@ -72,19 +72,19 @@ const SENTENCES: [(Reason, &str); 58] = [
     ),
     (
         Reason::Set(SetFault::Profile),
-        "profile_idc is none of 66, 77, 100, 110 and 122 (A.2)",
+        "profile_idc is none of 66, 77, 100, 110 and 122: the profile isn't supported (A.2)",
     ),
     (
         Reason::Set(SetFault::Chroma444),
-        "chroma_format_idc is 3: 4:4:4 (7.4.2.1.1)",
+        "chroma_format_idc is 3: 4:4:4 isn't supported (7.4.2.1.1)",
     ),
     (
         Reason::Set(SetFault::Interlaced),
-        "frame_mbs_only_flag is 0: interlaced coding (7.4.2.1.1)",
+        "frame_mbs_only_flag is 0: interlaced coding isn't supported (7.4.2.1.1)",
     ),
     (
         Reason::Set(SetFault::SliceGroups),
-        "num_slice_groups_minus1 isn't 0: slice groups (7.4.2.2)",
+        "num_slice_groups_minus1 isn't 0: slice groups aren't supported (7.4.2.2)",
     ),
     (
         Reason::Set(SetFault::RefFrames),
@@ -232,8 +232,12 @@ const SENTENCES: [(Reason, &str); 58] = [
         "more frames are marked than max_num_ref_frames allows (8.2.5.3)",
     ),
     (
-        Reason::FrameNumGap { last: 3 },
-        "frame_num is neither 3 nor the next number: pictures are missing (7.4.3)",
+        Reason::FrameNumGap {
+            frame_num: 5,
+            last: 3,
+            next: 4,
+        },
+        "frame_num is 5 and 3 or 4 was expected: pictures are missing (7.4.3)",
     ),
 ];
 

@@ -1,0 +1,4 @@
+pub mod Cropping
+pub mod SetCodes
+pub mod Sizes
+pub mod Skipping

@@ -1,4 +1,5 @@
 pub mod CommitLemmas
+pub mod OpenLemmas
 pub mod OverLemmas
 pub mod RowLemmas
 pub mod TableLemmas

@@ -8,8 +8,10 @@
 #![tactic(auto)]
 
 mod fault;
+mod first_page;
 mod journal;
 mod line;
+mod opening;
 mod reading;
 mod rows;
 mod table;
@@ -18,3 +20,5 @@ mod writing;
 pub use fault::JournalFault;
 pub use journal::Journal;
 pub use line::{Kind, Line, Step};
+pub use opening::{FileJournal, open};
+pub use sqlite_disk::{Start, Wary};

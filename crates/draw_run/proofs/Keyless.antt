@@ -1,5 +1,5 @@
 -- Units of a stream that have no key.
-use Rattle.std.proofs.Common.{◌≡◌, ℕ, zero, suc, List, [], ◌∷◌, length, Option, None, Some, ap, sym, refl}
+use Rattle.std.proofs.Common.{◌≡◌, ℕ, zero, suc, List, [], ◌∷◌, length, Option, None, Some, ap, sym, refl, ◌∙◌}
 use Rattle.std.specs.Prelude.{slice_get, option_and_then}
 use Rattle.std.specs.List.{zip}
 use Rattle.unit_outcomes.specs.declared.outcome.Outcome.{Outcome}

@@ -1,8 +1,6 @@
 -- The units of a stream as doubts see them, and a walk over them.
 use Rattle.std.proofs.Common.{◌≡◌, ◌∙◌, ◌⊎◌, inl, ℕ, zero, suc, ◌+◌, Bool, List, [], ◌∷◌, ◌++◌, length, Some, slice_get, subst, ap, sym, refl, append_assoc, arith, length-append}
-use Rattle.std.specs.List.{filter}
 use Rattle.std.proofs.lemmas.Option.{same_Some}
-use Rattle.annexb.specs.NalUnit.{is_slice}
 use Rattle.doubts.specs.InDoubt.{AreDoubts, IdsDiffer, IsDoubt}
 use Rattle.doubts.specs.SeenUnits.{HasId, IsIdrAt, SeenUnit}
 use Rattle.doubts.specs.Walks.{IsBefore}
@@ -12,13 +10,14 @@ use Rattle.doubts.proofs.Columns.{told_more, told_none}
 use Rattle.unit_outcomes.specs.declared.outcome.Outcome.{Outcome}
 use Rattle.plan_stream.specs.Streams.{numbered_from}
 use Rattle.stream_edits.specs.Streams.{Stream}
-use Rattle.stream_session.specs.Doubting.{is_reference, seen_with}
+use Rattle.doubts.specs.References.{is_of_reference}
+use Rattle.stream_session.specs.Doubting.{seen_with}
 use Rattle.draw_run.specs.Folds.{AreWalked}
 use Rattle.draw_run.proofs.Pointwise.{get-middle}
 
 -- a unit as doubts see it
 abbrev pub seen_of : ℕ → List (List ℕ) → Outcome → SeenUnit
-seen_of id unit outcome = record { id = id; is_reference = is_reference (filter is_slice unit); outcome = outcome }
+seen_of id unit outcome = record { id = id; is_reference = is_of_reference unit; outcome = outcome }
 
 -- one more
 pub seen-push : (stream : Stream) (outcomes : List Outcome) (id : ℕ) (unit : List (List ℕ)) (outcome : Outcome)

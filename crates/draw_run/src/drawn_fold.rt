@@ -1,10 +1,8 @@
 //! The fold over the units of a stream, with what is kept of those that are drawn.
 
 ghost use Rattle.std.specs.Prelude.{◌≡◌, ◌≢◌, ◌⊎◌, ◌+◌, ◌<◌, ◌≤◌, ◌++◌, [], ◌∷◌, List, length, IfOk, OnOk, true, false, vec_len};
-ghost use Rattle.std.specs.List.{filter};
 ghost use Rattle.access_unit.specs.Rooms.{most_units};
-ghost use Rattle.annexb.specs.NalUnit.{is_slice};
-ghost use Rattle.stream_session.specs.Doubting.{is_reference};
+ghost use Rattle.doubts.specs.References.{is_of_reference};
 ghost use Rattle.draw_run.specs.Chosen.{chosen};
 ghost use Rattle.draw_run.specs.declared.drawn_fold.KeptUnit.{KeptUnit as KeptUnitValue};
 
@@ -91,7 +89,7 @@ impl UnitFold for DrawnFold {
 
 /// Whether nal_ref_idc of a unit's first slice isn't 0.
 fn is_reference(unit: &Unit) -> bool
-    ensures { result ≡ is_reference (filter is_slice unit.now) }
+    ensures { result ≡ is_of_reference unit.now }
 {
     match unit.slices() {
         [] => false,

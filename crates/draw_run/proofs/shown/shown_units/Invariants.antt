@@ -6,5 +6,5 @@ abbrev pub invariant-loop-place : goal.invariant-loop-place
 invariant-loop-place l = record {
   units : length l.shown.units.items ≡ l.place;
   captions : length l.shown.captions.items ≡ l.place;
-  shown : AreShownAs l.session.now (take l.place l.ids) l.doubts l.shown.units.items l.shown.captions.items;
+  shown : AreShownAs l.session (take l.place l.ids) l.doubts l.shown.units.items l.shown.captions.items;
 }

@@ -1,4 +1,6 @@
+mod Altered
 mod Listing
 mod Numbered
 mod Pages
+mod Texts
 mod Told

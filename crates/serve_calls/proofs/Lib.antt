@@ -1,6 +1,6 @@
 mod Altered
+mod EditsAfter
 mod Listing
 mod Numbered
 mod Pages
-mod Texts
 mod Told

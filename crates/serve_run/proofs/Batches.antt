@@ -3,7 +3,7 @@ use Rattle.std.proofs.Common.{◌≡◌, ◌∙◌, ◌<◌, ◌||◌, Bool, tru
 use Rattle.std.proofs.lemmas.Option.{none-some, same_Some}
 use Rattle.serde_json.specs.Data.{Data, null, boolean, number, string, array, object, Items, no_items, item}
 use Rattle.serde_json.specs.Find.{as_array}
-use Rattle.serde_json.specs.View.{items_view}
+use Rattle.serde_json.specs.View.{items_view, view}
 use Rattle.serde_json.specs.declared.value.Value.{Value}
 use Rattle.serve_run.specs.Serving.{messages_in}
 
@@ -40,6 +40,15 @@ one (number n) is = refl
 one (string s) is = refl
 one (array ds) is = absurd (none-some ds is)
 one (object ms) is = refl
+
+-- so the messages of an array's value are its values, or it where there are none
+pub chosen : (it : Data) (values result : List Value) (alone : Value) → Some (items_view values) ≡ as_array it → view alone ≡ it
+    → (values ≡ [] → result ≡ alone ∷ []) → (0 < length values → result ≡ values) → items_view result ≡ messages_in it
+chosen it [] result alone is same empty some =
+    ap items_view (empty refl) ∙ (ap (λ (it : Data). item it no_items) same ∙ none it is)
+chosen it (value ∷ values) result alone is same empty some =
+    let more : 0 < length (value ∷ values) = omega arith in
+    ap items_view (some more) ∙ many it (value ∷ values) is more
 
 -- whether one of several is so
 pub or_assoc : (a b c : Bool) → (a || (b || c)) ≡ ((a || b) || c)

@@ -1,6 +1,6 @@
 //! Messages served one after the other.
 
-ghost use Rattle.std.specs.Prelude.{◌≡◌, ◌⊎◌, List, false};
+ghost use Rattle.std.specs.Prelude.{◌≡◌, ◌⊎◌, ◌<◌, List, [], ◌∷◌, length, false};
 ghost use Rattle.serde_json.specs.Errors.{IsMemory};
 ghost use Rattle.serve_calls.specs.declared.requests.Served.{Served};
 ghost use Rattle.serve_calls.specs.declared.wanted_units.WantedUnit.{WantedUnit};
@@ -142,9 +142,20 @@ fn messages_in(value: &Value) -> &[Value]
     ensures { items_view result.now ≡ messages_in (view value.now) }
 {
     match value.as_array() {
-        Some(values) if values.is_empty() => slice::from_ref(value),
-        Some(values) => values.as_slice(),
+        Some(values) => some_or(values.as_slice(), value),
         None => slice::from_ref(value),
+    }
+}
+
+/// Some values, or this one where there are none.
+fn some_or<'a>(values: &'a [Value], none: &'a Value) -> &'a [Value]
+    ensures none { values.now ≡ [] → result.now ≡ none.now ∷ [] }
+    ensures some { 0 < length values.now → result.now ≡ values.now }
+{
+    if values.is_empty() {
+        slice::from_ref(none)
+    } else {
+        values
     }
 }
 

@@ -9,7 +9,10 @@ use Rattle.serve_calls.proofs.Pages.{told_more, told_none}
 use Rattle.serve_calls.proofs.questions.all_told.Goals as goal
 
 pub loop-at-init : goal.loop-at-init
-loop-at-init c = λ from doubts. told_none c.args.session.now from c.args.ids.now
+loop-at-init c = λ from doubts.
+    let machine = c.args.session.now in
+    let ids = c.args.ids.now in
+    subst (λ (told : List Told). AreToldFrom machine from 0 ids told) (sym c.in_ok-told.ensures.items) (told_none machine from ids)
 
 pub loop-at-preserved : goal.loop-at-preserved
 loop-at-preserved c = λ from doubts.
@@ -25,3 +28,9 @@ loop-at-preserved c = λ from doubts.
       altered = subst (λ (id : ℕ). IsTrue c.is_altered.result ↔ IsAltered machine id)
           (get_or_read_under ids at (length ids) c.index-ids-at.result 0 c.index-ids-at.is here refl) c.is_altered.ensures;
     }))
+
+pub returns : goal.returns
+returns c = λ from doubts.
+    let all : c.loop-at.at ≡ length c.args.ids.now = omega (arith, c.loop-at-test.false, c.loop-at.auto.at-end) in
+    subst (λ (count : ℕ). AreToldFrom c.args.session.now from count c.args.ids.now c.loop-at.told.items) all
+    (c.loop-at.invariant from doubts)

@@ -18,7 +18,7 @@ loop-value-preserved g c = λ rest new wants left.
     let value : Value = c.value-item.result in
     let next : items_view (drop at values) ≡ item (view value) (items_view (drop (at + 1) values)) =
     at_drop_more items_view values at value c.loop-value-test.true
-        ∙ ap (λ (first : Value). item (view first) (items_view (drop (at + 1) values))) (sym c.value-item.is) in
+    ∙ ap (λ (first : Value). item (view first) (items_view (drop (at + 1) values))) (sym c.value-item.is) in
     let whole = c.loop-value.invariant (one.0 ∷ rest) new wants
     (subst (λ (items : Items). ServesAll g.B.Asked.is_session g.B.Backend.lends_jobs g.S.Source.file c.loop-value.server c.loop-value.wanted.items
     items (one.0 ∷ rest) new wants) (sym next)

@@ -5,6 +5,10 @@ use Rattle.serde_json.specs.Data.{Data, null, boolean, number, string, array, ob
 use Rattle.serde_json.specs.Find.{as_array}
 use Rattle.serde_json.specs.View.{items_view, view}
 use Rattle.serde_json.specs.declared.value.Value.{Value}
+use Rattle.serve_requests.specs.Messages.{IsMessage, request_in}
+use Rattle.serve_requests.specs.declared.message.Message.{Message}
+use Rattle.serve_requests.specs.declared.message.Message.TheVariants as message
+use Rattle.serve_calls.specs.Requests.{parts_if}
 use Rattle.serve_run.specs.Serving.{messages_in}
 
 -- those of a list of some
@@ -58,3 +62,8 @@ or_assoc false b c = refl
 pub or_false : (a : Bool) → (a || false) ≡ a
 or_false true = refl
 or_false false = refl
+
+-- the request that a message is
+pub request_of : (value : Data) (it : Message) → IsMessage value it → parts_if it ≡ request_in value
+request_of value (message.Request request) is = sym is
+request_of value (message.Other id) is = sym is.0

@@ -1,6 +1,6 @@
 //! Messages served one after the other.
 
-ghost use Rattle.std.specs.Prelude.{◌≡◌, ◌⊎◌, ◌<◌, List, [], ◌∷◌, length, false};
+ghost use Rattle.std.specs.Prelude.{◌≡◌, ◌⊎◌, ◌||◌, ◌<◌, List, [], ◌∷◌, length, false};
 ghost use Rattle.serde_json.specs.Errors.{IsMemory};
 ghost use Rattle.serve_calls.specs.declared.requests.Served.{Served};
 ghost use Rattle.serve_calls.specs.declared.wanted_units.WantedUnit.{WantedUnit};
@@ -176,9 +176,16 @@ fn serve_all<R: Threads + Sync, B: Backend, S: Source>(
     let mut is_last = false;
     for value in values {
         let one_is = serve_one(rt, server, wanted, value, answers);
-        is_last = is_last || one_is;
+        is_last = either(is_last, one_is);
     }
     is_last
+}
+
+/// Whether one of the two is so.
+fn either(first: bool, second: bool) -> bool
+    ensures { result ≡ (first || second) }
+{
+    first || second
 }
 
 /// Serves a message: whether it asks for the end. Its answer is added to those of the line.

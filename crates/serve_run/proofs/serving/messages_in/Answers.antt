@@ -1,4 +1,4 @@
-use Rattle.std.proofs.Common.{◌≡◌, ◌∙◌, ap, refl, subst, sym}
+use Rattle.std.proofs.Common.{◌∙◌, ◌<◌, ap, length, refl, subst, sym}
 use Rattle.serde_json.specs.Data.{item, no_items}
 use Rattle.serde_json.specs.View.{items_view, view}
 use Rattle.serve_run.proofs.Batches.{chosen, one}
@@ -11,7 +11,7 @@ returns-in-Some c =
     let same = c.as_slice.ensures.value in
     chosen (view value) values c.some_or.result.now value c.in-Some.ensures refl
     (λ empty. c.some_or.ensures.none (same ∙ empty))
-    (λ more. c.some_or.ensures.some (rw same at more) ∙ same)
+    (λ more. c.some_or.ensures.some (subst (λ l. 0 < length l) (sym same) more) ∙ same)
 
 pub returns-in-None : goal.returns-in-None
 returns-in-None c = ap items_view c.from_ref.ensures.value ∙ one (view c.args.value.now) c.in-None.ensures

@@ -12,7 +12,7 @@ loop-value-init g c = λ rest new wants all. (rest, all, refl)
 
 pub loop-value-preserved : goal.loop-value-preserved
 loop-value-preserved g c = λ rest new wants left.
-    let one = c.serve_one.ensures in
+    let one = c.serve_one-one_is.ensures in
     let values : List Value = c.args.values.now in
     let at = c.loop-value.value-index in
     let value : Value = c.value-item.result in
@@ -22,11 +22,11 @@ loop-value-preserved g c = λ rest new wants left.
     let whole = c.loop-value.invariant (one.0 ∷ rest) new wants
     (subst (λ (items : Items). ServesAll g.B.Asked.is_session g.B.Backend.lends_jobs g.S.Source.file c.loop-value.server c.loop-value.wanted.items
     items (one.0 ∷ rest) new wants) (sym next)
-    (one.0, rest, c.serve_one.new.server, c.serve_one.new.wanted.items, one.1, left, refl)) in (
+    (one.0, rest, c.serve_one-one_is.new.server, c.serve_one-one_is.new.wanted.items, one.1, left, refl)) in (
       whole.0,
       whole.1,
       whole.2 ∙ or_assoc c.loop-value.is_last one.0.is_last (end_any rest)
-          ∙ ap (λ is. (c.loop-value.is_last || is) || end_any rest) (sym one.2),
+          ∙ ap (λ is. (c.loop-value.is_last || is) || end_any rest) (sym one.2) ∙ ap (λ is. is || end_any rest) (sym c.either.ensures),
     )
 
 pub returns : goal.returns

@@ -56,6 +56,13 @@ class Client:
         return self.process.wait(SECONDS), left
 
 
+def opened(wanted):
+    """What is wanted, with each id that is a number with a point left open."""
+    if isinstance(wanted, list):
+        return [*map(opened, wanted)]
+    return wanted | ({"id": serve_model.ANY} if isinstance(wanted.get("id"), serve_model.Float) else {})
+
+
 def text_of(data):
     return base64.b64encode(data).decode()
 
@@ -67,16 +74,19 @@ class Drawn:
         self.rng, self.texts, self.damage = random.Random(seed), texts, damage
         self.model, self.number = serve_model.Server(workers), 0
         self.kinds = {"insert": 6, "delete": 3, "replace": 4, "group": 3, "units": 2, "find": 2, "show": 4, "want": 2, "drop": 2,
-                      "stats": 1, "load": 1, "wrong": 2} | ({} if workers else {"take": 10, "land": 8, "give_back": 2})
+                      "stats": 1, "load": 1, "wrong": 2, "mark": 1, "text": 2, "journal": 1, "initialize": 0.3} | ({} if workers else {"take": 10, "land": 8, "give_back": 2})
 
     def line(self):
-        """The next message, damaged now and then."""
+        """The next message or batch, damaged now and then."""
+        value = self.message() if self.rng.random() < 0.9 else [self.message() for _ in range(self.rng.randint(1, 4))]
+        line = json.dumps(value).encode()
+        return self.damaged(line) if self.rng.random() * 100 < self.damage else line
+
+    def message(self):
         kind = self.rng.choices(list(self.kinds), list(self.kinds.values()))[0]
         self.number += 1
         message = {"jsonrpc": "2.0"} | ({"id": self.number} if self.rng.random() < 0.9 else {})
-        message |= {"method": kind, "params": getattr(self, kind)()} if kind != "wrong" else self.wrong()
-        line = json.dumps(message).encode()
-        return self.damaged(line) if self.rng.random() * 100 < self.damage else line
+        return message | ({"method": kind, "params": getattr(self, kind)()} if kind != "wrong" else self.wrong())
 
     def damaged(self, line):
         line = bytearray(line)
@@ -93,18 +103,18 @@ class Drawn:
             return self.rng.choice((0, self.model.session.ids, self.model.session.ids + 1, 1 << 32, (1 << 64) - 1))
         return self.rng.choice(stream)[0]
 
-    def text(self):
+    def bytes(self):
         text = self.rng.choice(self.texts)
         return text_of(text if self.rng.random() < 0.9 else text[:self.rng.randrange(len(text))])
 
     def insert(self):
-        return {"after": None if self.rng.random() < 0.2 else self.id(), "bytes": self.text()}
+        return {"after": None if self.rng.random() < 0.2 else self.id(), "bytes": self.bytes()}
 
     def delete(self):
         return {"id": self.id()}
 
     def replace(self):
-        return {"id": self.id(), "bytes": self.text()}
+        return {"id": self.id(), "bytes": self.bytes()}
 
     def group(self):
         names = self.rng.choices(("insert", "delete", "replace"), k=self.rng.choice((0, 1, 2, 2, 3)))
@@ -114,10 +124,13 @@ class Drawn:
         return {"from": self.rng.randrange(20), "count": self.rng.choice((0, 1, 5, 1000, 1001)),
                 "controls": self.rng.random() < 0.2}
 
+    def journal(self):
+        return {"from": self.rng.randrange(40), "count": self.rng.choice((0, 1, 5, 1000, 1001))}
+
     def find(self):
         return {"position": self.rng.randrange(20)}
 
-    show = delete
+    show = text = delete
 
     def want(self):
         ids = [self.id() for _ in range(self.rng.choice((0, 1, 3, 5, 65)))]
@@ -134,14 +147,16 @@ class Drawn:
     give_back = land
 
     def stats(self):
-        return {}
+        return self.rng.choice(({}, []))
+
+    initialize = mark = stats
 
     def load(self):
         units = self.texts[:self.rng.randint(1, 4)] if len(self.model.session.stream) < 40 else []
         return {"bytes": text_of(b"".join(units))} if self.rng.random() < 0.7 else {"path": "missing"}
 
     def wrong(self):
-        return self.rng.choice(({"method": "sow"}, {"method": 1}, {"method": "show", "params": [1]},
+        return self.rng.choice(({"method": "sow"}, {"method": 1}, {"method": "find", "params": []}, {"method": "show", "params": [1]},
                                 {"method": "stats", "params": [1]}, {"method": "land", "params": {"job": "1"}}, {}))
 
 
@@ -166,9 +181,7 @@ class Run:
         self.may_be = [pictures] if wanted is not None else self.may_be + [pictures]
 
     def compare(self, line, wanted, found):
-        if isinstance(wanted.get("id"), serve_model.Float):
-            wanted = wanted | {"id": serve_model.ANY}
-        if wanted != found:
+        if opened(wanted) != found:
             raise Wrong(f"{line[:300]!r}: {found}, not {wanted}")
 
     def tell_until_answer(self, line, wanted):
@@ -176,8 +189,9 @@ class Run:
         while "method" in (found := self.client.receive()):
             self.tell(found)
         self.compare(line, wanted, found)
-        if isinstance(found.get("result"), dict) and "ready" in found["result"]:
-            self.told = {told["id"]: told["picture"] for told in found["result"]["ready"]}
+        for answer in found if isinstance(found, list) else [found]:
+            if isinstance(answer.get("result"), dict) and "ready" in answer["result"]:
+                self.told = {told["id"]: told["picture"] for told in answer["result"]["ready"]}
 
     def tell(self, found):
         """Holds a notification against the pictures that its unit may have and the one that was told last."""
@@ -233,10 +247,13 @@ def edges(program, workers):
     over = {"jsonrpc": "2.0", "id": None, "error": {"code": -32600, "message": "Invalid Request"}}
     unread = {"jsonrpc": "2.0", "id": None, "error": {"code": -32700, "message": "Parse error"}}
     shutdown = b'{"jsonrpc":"2.0","id":1,"method":"shutdown"}\n'
+    untold, ended = call.replace(b'"id":1,', b""), nothing | {"result": None}
     rows = [(call, [nothing]), (call + b"\r\n", [nothing]), (b"", []),
             (call.ljust(serve_model.MOST_LINE) + b"\n" + call, [nothing, nothing]),
             (call.ljust(serve_model.MOST_LINE + 1) + b"\n" + call, [over, nothing]),
-            (shutdown + call, [nothing | {"result": None}]),
+            (shutdown + call, [ended]), (b"[]\n" + call, [over, nothing]), (b"[" + untold + b"," + untold + b"]\n" + call, [nothing]),
+            (b"[1,[" + call + b"]," + untold + b"," + call + b"]", [[over, over, nothing]]),
+            (b"[" + call + b"," + shutdown.strip() + b"," + call + b"]\n" + call, [[nothing, ended, nothing]]),
             (b"[" * DEEP + b"]" * DEEP + b"\n" + call, [unread, nothing]), (b"\xff\n\n" + call, [unread, unread, nothing])]
     for text, wanted in rows:
         if (found := replies(program, workers, text)) != (wanted, 0):

@@ -16,9 +16,36 @@ from cupdaisy.fold import Empty, Plan
 MOST_LINE, MOST_TOLD, MOST_WANTED, MOST_NUMBER, MOST_DEPTH = 64 << 20, 1000, 64, 1 << 64, 127
 MESSAGES = {-32700: "Parse error", -32600: "Invalid Request", -32601: "Method not found", -32602: "Invalid params"}
 JOBS = "take", "land", "give_back"
-FIRST = {"load": "path", "insert": "after", "delete": "id", "replace": "id", "group": "edits", "units": "from",
-         "find": "position", "show": "id", "want": "ids", "drop": "id", "take": "id", "land": "job", "give_back": "job",
-         "stats": None, "shutdown": None}
+FIRST = {"initialize": None, "load": "path", "insert": "after", "delete": "id", "replace": "id", "group": "edits", "mark": None,
+         "units": "from", "text": "id", "find": "position", "show": "id", "want": "ids", "drop": "id", "take": "id", "land": "job",
+         "give_back": "job", "journal": "from", "stats": None, "shutdown": None}
+LIMITS = {"units": session.MOST_UNITS, "unit_bytes": 4194304, "slices": 256, "group": session.MOST_EDITS, "wanted": MOST_WANTED,
+          "count": MOST_TOLD, "message_bytes": MOST_LINE}
+REASONS = {
+    1: "the bytes don't begin with a start code, or a NAL unit is empty or has bytes that none may have (B.1, 7.4.1)",
+    2: "a NAL unit is of a type that isn't read: data partitions, a subset SPS, a prefix, or slices of other views or layers "
+       "(table 7-1)",
+    3: "forbidden_zero_bit of a NAL unit is 1: it is damaged (7.4.1)",
+    4: "a sequence parameter set can't be read (7.3.2.1.1)",
+    5: "a picture parameter set can't be read (7.3.2.2)",
+    6: "a slice is of type SP or SI, which the Extended profile alone has (7.4.3)",
+    7: "slices of an IDR picture and of another one stand in one access unit (7.4.1.2.4)",
+    8: "an IDR picture has a P or B slice (7.4.3)",
+    9: "an IDR picture has nal_ref_idc 0 (7.4.1)",
+    10: "nal_ref_idc is 0 in a slice of an access unit and not in another (7.4.1)",
+    11: "a NAL unit stands behind a slice that belongs before it (7.4.1.2.3)",
+    13: "a second picture begins in one access unit (7.4.1.2.3)",
+    14: "an access unit has more than 4,194,304 bytes or 256 slices",
+    15: "out of memory",
+    16: "no unit has the id",
+    17: "the stream has no room: 65,536 units are the most",
+    18: "all 4,294,967,295 ids were given",
+    20: "the group has no edit",
+    21: "the group has more than 1,024 edits",
+    22: "more than 64 ids are wanted",
+    23: "the file can't be read",
+    24: "all numbers of jobs were given",
+}
 NUMBER = re.compile(r"-?(0|[1-9][0-9]*)(\.[0-9]+)?([eE][+-]?[0-9]+)?")
 
 
@@ -27,6 +54,7 @@ class Failed(Exception):
 
     def __init__(self, code, name=None, data=None):
         super().__init__(name)
+        data = data if code < 0 else (data or {}) | {"reason": REASONS[code]}
         self.error = {"code": code, "message": name or MESSAGES[code]} | ({} if data is None else {"data": data})
 
 
@@ -141,7 +169,7 @@ class Server:
 
     def __init__(self, workers, room=4096):
         self.workers, self.session, self.wanted, self.is_over = workers, session.Session(room), {}, False
-        self.bytes, self.steps = 0, 0
+        self.texts, self.entries, self.bytes = {}, [], 0
 
     def line(self, line):
         """What comes of a line: its answer, or None where it isn't answered, and the notifications behind it."""
@@ -155,6 +183,12 @@ class Server:
             value = value_of(line)
         except (ValueError, RecursionError):
             return failed(None, Failed(-32700))
+        if isinstance(value, list) and value:
+            return [answer for answer in map(self.message, value) if answer is not None] or None
+        return self.message(value)
+
+    def message(self, value):
+        """The answer to a message, or None where it isn't answered."""
         number = value.get("id") if isinstance(value, dict) else None
         may_be = number is None or isinstance(number, (str, int, Float)) and not isinstance(number, bool)
         if not isinstance(value, dict) or not may_be or value.get("jsonrpc") != "2.0" \
@@ -170,9 +204,9 @@ class Server:
         """The result of a call."""
         if name not in FIRST or self.workers and name in JOBS:
             raise Failed(-32601)
-        if isinstance(parameters, list):
+        if isinstance(parameters, list) and parameters and name != "initialize":
             raise Failed(-32602, data=FIRST[name])
-        parameters = Parameters(parameters)
+        parameters = Parameters(parameters if isinstance(parameters, dict) else {})
         if name in ("insert", "delete", "replace"):
             return self.edit(edit_of(name, parameters))
         if name == "want":
@@ -184,8 +218,35 @@ class Server:
             number = self.session.edit(edit)
         except streams.Refused as refusal:
             raise refused(refusal) from None
-        self.bytes += size_of(edit)
+        self.keep(edit, number)
+        self.entries.append([edit])
         return {"edit": self.session.edits, "id": number, "steps": ANY, "changed": self.changed()}
+
+    def keep(self, edit, number):
+        """Keeps the text of an accepted edit, which is about the unit of an id."""
+        self.bytes += size_of(edit)
+        if edit[0] == "delete":
+            del self.texts[number]
+        else:
+            self.texts[number] = edit[-1]
+
+    def initialize(self, _):
+        methods = [name for name in FIRST if not (self.workers and name in JOBS)]
+        return {"name": "cupdaisy", "version": ANY, "methods": methods, "limits": LIMITS}
+
+    def mark(self, _):
+        self.session.mark()
+        return "marked"
+
+    def text(self, parameters):
+        number = parameters.number("id")
+        if number not in self.texts:
+            raise Failed(16, "NoSuchUnit")
+        return {"bytes": base64.b64encode(self.texts[number]).decode()}
+
+    def journal(self, parameters):
+        begin, count = parameters.number("from"), parameters.read("count", lambda value: is_number(value) and value <= MOST_TOLD)
+        return [{"edits": [*map(told_edit, entry)]} for entry in self.entries[begin:begin + count]]
 
     def group(self, parameters):
         edits = parameters.read("edits", lambda value: isinstance(value, list))
@@ -199,7 +260,9 @@ class Server:
             words = str(refusal).split(" ")
             data = {"index": int(words[1])} if words[0] == "at" else None
             raise Failed(int(words[-2]), words[-1], data) from None
-        self.bytes += sum(map(size_of, edits))
+        for edit, number in zip(edits, about):
+            self.keep(edit, number)
+        self.entries.append(edits)
         return {"edit": self.session.edits, "ids": about, "steps": ANY, "changed": self.changed()}
 
     def load(self, parameters):
@@ -253,7 +316,7 @@ class Server:
         top, bottom = outcome.counts
         return {"unit": number, "position": position, "begins_period": outcome.begins_period,
                 "counts": {"top": top, "bottom": bottom}} | following | ({"in_doubt": True} if in_doubt else {}) \
-            | ({"requests": ANY} if controls else {})
+            | ({"altered": True} if self.session.altered(number) else {}) | ({"requests": ANY} if controls else {})
 
     def find(self, parameters):
         position = parameters.number("position")
@@ -342,6 +405,15 @@ class Server:
 
     def shutdown(self, _):
         self.is_over = True
+
+
+def told_edit(edit):
+    """An accepted edit, as an object of a group has it."""
+    if edit[0] == "delete":
+        return {"delete": {"id": edit[1]}}
+    text = base64.b64encode(edit[-1]).decode()
+    return {"replace": {"id": edit[1], "bytes": text}} if edit[0] == "replace" \
+        else {"insert": {"after": edit[1] if edit[0] == "after" else None, "bytes": text}}
 
 
 def size_of(edit):

@@ -1,3 +1,5 @@
+mod Altered
+mod EditsAfter
 mod Listing
 mod Numbered
 mod Pages

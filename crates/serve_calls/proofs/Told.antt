@@ -8,7 +8,7 @@ use Rattle.edit_engine.specs.Showing.{Shown}
 use Rattle.edit_engine.specs.Machines.{Machine}
 use Rattle.edit_engine.specs.Showing.{Shows}
 use Rattle.serve_calls.specs.declared.wanted_units.WantedUnit.{WantedUnit}
-use Rattle.serve_messages.specs.declared.answer.Picked.{Picked}
+use Rattle.serve_answers.specs.declared.answer.Picked.{Picked}
 use Rattle.serve_calls.specs.declared.wanting.ToldNow.{ToldNow}
 use Rattle.serve_calls.specs.Lists.{listed}
 use Rattle.serve_calls.specs.Wanting.{IsTold, Seen, TellsOf, TellsOne, not_now_of, picture_of, ready_of, told_of}

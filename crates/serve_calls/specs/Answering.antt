@@ -1,22 +1,24 @@
 -- What a session is asked, and the results.
-use Rattle.std.specs.Prelude.{◌≡◌, ◌⊎◌, ℕ, ◌<◌, ◌≤◌, Bool, List, length, take, drop, slice_get, filter_map, option_and_then, option_map, Option, Some, None, Result, Ok, Err}
+use Rattle.std.specs.Prelude.{◌≡◌, ◌⊎◌, ◌↔◌, ℕ, ◌+◌, ◌<◌, ◌≤◌, Bool, IsTrue, List, length, slice_index_or, take, drop, slice_get, filter_map, option_and_then, option_map, Option, Some, None, Result, Ok, Err}
 use Rattle.std.specs.List.{zip}
-use Rattle.doubts.specs.InDoubt.{AreDoubts}
-use Rattle.doubts.specs.declared.doubt.Doubt.{Doubt}
+use Rattle.doubts.specs.InDoubt.{IsDoubt}
 use Rattle.stream_edits.specs.Streams.{Stream, ids_of}
 use Rattle.edit_script.specs.Words.{id_of}
 use Rattle.edit_engine.specs.Showing.{Shown, Shows}
 use Rattle.edit_engine.specs.Machines.{Machine}
+use Rattle.stream_session.specs.Altered.{IsAltered}
 use Rattle.stream_session.specs.Doubting.{seen_in}
 use Rattle.stream_session.specs.Streams.{outcome_in, position_in}
-use Rattle.serve_messages.specs.declared.failure.Failure.{Failure}
-use Rattle.serve_messages.specs.declared.answer.Answer.{Answer}
-use Rattle.serve_messages.specs.declared.answer.Answer.TheVariants as answer
-use Rattle.serve_messages.specs.declared.answer.Found.{Found}
-use Rattle.serve_messages.specs.declared.answer.Stats.{Stats}
-use Rattle.serve_messages.specs.declared.unit_answers.UnitAnswer.{UnitAnswer}
-use Rattle.serve_messages.specs.Replies.{show_answer}
-use Rattle.serve_messages.specs.UnitAnswers.{unit_answer}
+use Rattle.serve_requests.specs.declared.failure.Failure.{Failure}
+use Rattle.serve_answers.specs.declared.answer.Answer.{Answer}
+use Rattle.serve_answers.specs.declared.answer.Answer.TheVariants as answer
+use Rattle.serve_answers.specs.declared.answer.Found.{Found}
+use Rattle.serve_answers.specs.declared.answer.Stats.{Stats}
+use Rattle.serve_answers.specs.Introductions.{introduction}
+use Rattle.serve_answers.specs.declared.unit_answers.Told.{Told}
+use Rattle.serve_answers.specs.declared.unit_answers.UnitAnswer.{UnitAnswer}
+use Rattle.serve_answers.specs.Replies.{show_answer}
+use Rattle.serve_answers.specs.UnitAnswers.{unit_answer}
 use Rattle.serve_calls.specs.declared.sums.Sums.{Sums}
 use Rattle.serve_calls.specs.Failing.{IsUnlessMemory, out_of_memory}
 use Rattle.serve_calls.specs.Sessions.{Asks}
@@ -27,17 +29,29 @@ ids_in stream from count = take count (drop from (ids_of stream))
 
 -- the outcome of the unit of the id as a result, with what is told of it, and with its controls or
 -- without, if there is such a unit
-abbrev pub unit_in : Stream → Bool → ℕ × Doubt → Option UnitAnswer
+abbrev pub unit_in : Stream → Bool → ℕ × Told → Option UnitAnswer
 unit_in stream controls it =
     option_and_then (λ outcome. option_map (λ position. unit_answer it.0 position outcome it.1 controls) (position_in stream it.0))
     (outcome_in stream it.0)
 
--- the outcomes of so many units from a place on, each with the break that it follows and whether it is
--- in doubt
-pub record AreUnitsIn (stream : Stream) (from count : ℕ) (controls : Bool) (answers : List UnitAnswer) : Type 0 where
-  pub told : List Doubt
-  pub are_told : AreDoubts (seen_in stream) from (length (ids_in stream from count)) told
-  pub are : answers ≡ filter_map (unit_in stream controls) (zip (ids_in stream from count) told)
+-- what is told of the unit of an id, at a place, is so
+pub record IsToldAt (machine : Machine) (at id : ℕ) (told : Told) : Type 0 where
+  pub doubt : IsDoubt (seen_in machine.register.stream) at told.doubt
+  pub altered : IsTrue told.altered ↔ IsAltered machine id
+
+-- what is told of so many of these units, which stand from a place on, is so
+pub record AreToldFrom (machine : Machine) (from count : ℕ) (ids : List ℕ) (told : List Told) : Type 0 where
+  pub long : length told ≡ count
+  pub each : (k : ℕ) (unknown : Told) → k < count
+      → IsToldAt machine (from + k) (slice_index_or ids k 0) (slice_index_or told k unknown)
+
+-- the outcomes of so many units from a place on, each with the break that it follows, whether it is in
+-- doubt and whether it is altered
+pub record AreUnitsIn (machine : Machine) (from count : ℕ) (controls : Bool) (answers : List UnitAnswer) : Type 0 where
+  pub told : List Told
+  pub are_told : AreToldFrom machine from (length (ids_in machine.register.stream from count))
+      (ids_in machine.register.stream from count) told
+  pub are : answers ≡ filter_map (unit_in machine.register.stream controls) (zip (ids_in machine.register.stream from count) told)
 
 -- the unit of the id has the position
 abbrev pub HasPosition : Stream → ℕ → ℕ → Type 0
@@ -71,14 +85,14 @@ stats_of machine sums = record {
 }
 
 -- the result of a question for so many units from a place on: their outcomes, or that memory ran out
-abbrev pub IsUnitsAnswer : Stream → ℕ → ℕ → Bool → Result Answer Failure → Type 0
-IsUnitsAnswer stream from count controls result =
-    ((answers : List UnitAnswer) × AreUnitsIn stream from count controls answers × (result ≡ Ok (answer.Units answers)))
+abbrev pub IsUnitsAnswer : Machine → ℕ → ℕ → Bool → Result Answer Failure → Type 0
+IsUnitsAnswer machine from count controls result =
+    ((answers : List UnitAnswer) × AreUnitsIn machine from count controls answers × (result ≡ Ok (answer.Units answers)))
     ⊎ (result ≡ Err out_of_memory)
 
 abbrev pub TellsUnits : (Machine → Type 0) → ℕ → ℕ → Bool → Result Answer Failure → Type 0
 TellsUnits is_session from count controls result =
-    Asks is_session (λ machine. IsUnitsAnswer machine.register.stream from count controls result)
+    Asks is_session (λ machine. IsUnitsAnswer machine from count controls result)
 
 -- the result of a question for the unit at a position
 abbrev pub TellsFound : (Machine → Type 0) → ℕ → Result Answer Failure → Type 0
@@ -95,3 +109,7 @@ TellsShown is_session number result =
 -- the result of a question for how much there is
 abbrev pub TellsStats : (Machine → Type 0) → Sums → Result Answer Failure → Type 0
 TellsStats is_session sums result = Asks is_session (λ machine. result ≡ Ok (answer.Stats (stats_of machine sums)))
+
+-- the result of a question for what the server is, which has methods about jobs or none
+abbrev pub Introduces : Bool → Result Answer Failure → Type 0
+Introduces has_jobs result = IsUnlessMemory (Ok (answer.Initialized (introduction has_jobs))) result

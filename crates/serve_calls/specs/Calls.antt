@@ -2,16 +2,17 @@
 use Rattle.std.specs.Prelude.{◌≡◌, ℕ, Bool, true, false, List, Option, option_map, Result, Ok, Err}
 use Rattle.edit_script.specs.Words.{id_of}
 use Rattle.edit_engine.specs.Machines.{Machine}
-use Rattle.serve_messages.specs.declared.call.Call.{Call}
-use Rattle.serve_messages.specs.declared.call.Call.TheVariants as call
-use Rattle.serve_messages.specs.declared.failure.Failure.{Failure}
-use Rattle.serve_messages.specs.declared.failure.Failure.TheVariants.{NoMethod}
-use Rattle.serve_messages.specs.declared.answer.Answer.{Answer}
-use Rattle.serve_messages.specs.declared.answer.Answer.TheVariants.{Nothing}
+use Rattle.serve_requests.specs.declared.call.Call.{Call}
+use Rattle.serve_requests.specs.declared.call.Call.TheVariants as call
+use Rattle.serve_requests.specs.declared.failure.Failure.{Failure}
+use Rattle.serve_requests.specs.declared.failure.Failure.TheVariants.{NoMethod}
+use Rattle.serve_answers.specs.declared.answer.Answer.{Answer}
+use Rattle.serve_answers.specs.declared.answer.Answer.TheVariants.{Nothing}
 use Rattle.serve_calls.specs.declared.server.Server.{Server}
 use Rattle.serve_calls.specs.declared.wanted_units.WantedUnit.{WantedUnit}
-use Rattle.serve_calls.specs.Answering.{TellsFound, TellsShown, TellsStats, TellsUnits}
-use Rattle.serve_calls.specs.Editing.{DropsAs, EditsAs, GroupsAs}
+use Rattle.serve_calls.specs.Answering.{Introduces, TellsFound, TellsShown, TellsStats, TellsUnits}
+use Rattle.serve_calls.specs.Editing.{DropsAs, EditsAs, GroupsAs, MarksAs}
+use Rattle.serve_calls.specs.Texts.{TellsJournal, TellsText}
 use Rattle.serve_calls.specs.Jobs.{GivesBackAs, LandsAs, TakesAs}
 use Rattle.serve_calls.specs.Loading.{LoadsAs}
 use Rattle.serve_calls.specs.Sessions.{Steps}
@@ -27,14 +28,17 @@ IsOfJobs is_session lends_jobs old step result new =
     × (lends_jobs old.backend ≡ false → (result ≡ Err NoMethod) × (new.backend ≡ old.backend))
     × (new.sums ≡ old.sums) × (new.source ≡ old.source)
 
--- the result of a call other than a want
+-- the result of a call that leaves the units that are wanted
 abbrev pub IsAnswered : {B S : Type 0} → (B → Machine → Type 0) → (B → Bool) → (S → List ℕ → Option (List ℕ)) → Server B S
     → Call → Result Answer Failure → Server B S → Type 0
+IsAnswered is lends file old call.Initialize result new = Introduces (lends old.backend) result × (new ≡ old)
 IsAnswered is lends file old (call.Load loaded) result new = LoadsAs is file old loaded result new
 IsAnswered is lends file old (call.Edit edit) result new = EditsAs is old edit result new
 IsAnswered is lends file old (call.Group edits) result new = GroupsAs is old edits result new
+IsAnswered is lends file old call.Mark result new = MarksAs is old result new
 IsAnswered is lends file old (call.Units from count controls) result new =
     TellsUnits (is old.backend) from count controls result × (new ≡ old)
+IsAnswered is lends file old (call.Text number) result new = TellsText (is old.backend) number result × (new ≡ old)
 IsAnswered is lends file old (call.Find position) result new = TellsFound (is old.backend) position result × (new ≡ old)
 IsAnswered is lends file old (call.Show number) result new = TellsShown (is old.backend) number result × (new ≡ old)
 IsAnswered is lends file old (call.Want ids rest) result new = ⊥
@@ -43,6 +47,7 @@ IsAnswered is lends file old (call.Take number) result new =
     IsOfJobs is lends old (TakesAs (option_map id_of number)) result new
 IsAnswered is lends file old (call.Land number) result new = IsOfJobs is lends old (LandsAs number) result new
 IsAnswered is lends file old (call.GiveBack number) result new = IsOfJobs is lends old (GivesBackAs number) result new
+IsAnswered is lends file old (call.Journal from count) result new = TellsJournal (is old.backend) from count result × (new ≡ old)
 IsAnswered is lends file old call.Stats result new = TellsStats (is old.backend) old.sums result × (new ≡ old)
 IsAnswered is lends file old call.Shutdown result new = (result ≡ Ok Nothing) × (new ≡ old)
 

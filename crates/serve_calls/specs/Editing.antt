@@ -1,5 +1,6 @@
--- Edits, groups and drops by a server, and their results.
+-- Edits, groups, marks and drops by a server, and their results.
 use Rattle.std.specs.Prelude.{◌≡◌, ◌⊎◌, ℕ, List, Option, None, Some, Result, Ok, Err}
+use Rattle.std.specs.declared.alloc.AllocError.{AllocError}
 use Rattle.stream_edits.specs.declared.edits.Edit.{Edit}
 use Rattle.stream_edits.specs.declared.group_refused.GroupRefused.{GroupRefused}
 use Rattle.stream_edits.specs.declared.receipts.GroupReceipt.{GroupReceipt}
@@ -14,14 +15,15 @@ use Rattle.stream_session.specs.Grouping.{AnswersGroup}
 use Rattle.edit_engine.specs.Machines.{Machine}
 use Rattle.stream_session.specs.Machines.{AnswersEdit}
 use Rattle.edit_engine.specs.Needing.{AnswersDrop}
-use Rattle.serve_messages.specs.declared.failure.Failure.{Failure}
-use Rattle.serve_messages.specs.declared.answer.Answer.{Answer}
-use Rattle.serve_messages.specs.declared.answer.Answer.TheVariants.{Word}
-use Rattle.serve_messages.specs.declared.words.Word.TheVariants as word
-use Rattle.serve_messages.specs.Replies.{drop_answer, edit_answer, group_answer}
+use Rattle.serve_requests.specs.declared.failure.Failure.{Failure}
+use Rattle.serve_answers.specs.declared.answer.Answer.{Answer}
+use Rattle.serve_answers.specs.declared.answer.Answer.TheVariants.{Word}
+use Rattle.serve_answers.specs.declared.words.Word.TheVariants as word
+use Rattle.serve_answers.specs.Replies.{drop_answer, edit_answer, group_answer}
 use Rattle.serve_calls.specs.declared.server.Server.{Server}
 use Rattle.serve_calls.specs.declared.sums.Sums.{Sums}
-use Rattle.serve_calls.specs.Sessions.{Clears, Steps}
+use Rattle.serve_calls.specs.Failing.{out_of_memory}
+use Rattle.serve_calls.specs.Sessions.{Clears, Marks, Steps}
 use Rattle.serve_calls.specs.Sums.{bytes_of, bytes_of_edit, with_edit}
 
 -- the sums after an edit is answered
@@ -63,6 +65,17 @@ GroupsAs is_session old edits result new =
     × (result ≡ group_answer answer))
     ⊎ ((refused : GroupRefused) × ((register : Register) → IsGroupRefused register edits refused)
     × (result ≡ group_answer (Err refused)) × (new ≡ old))
+
+-- the result of a mark: that the stream is marked as it is, or that memory ran out and nothing
+-- changed
+abbrev pub mark_answer : Result (Unit {0}) AllocError → Result Answer Failure
+mark_answer (Ok it) = Ok (Word word.Marked)
+mark_answer (Err error) = Err out_of_memory
+
+abbrev pub MarksAs : {B S : Type 0} → (B → Machine → Type 0) → Server B S → Result Answer Failure → Server B S → Type 0
+MarksAs is_session old result new =
+    ((answer : Result (Unit {0}) AllocError) × Marks (is_session old.backend) answer (is_session new.backend)
+    × (result ≡ mark_answer answer)) × (new.sums ≡ old.sums) × (new.source ≡ old.source)
 
 -- the result of a drop is the session's answer, or that its cache is cleared
 abbrev pub DropsAs : {B S : Type 0} → (B → Machine → Type 0) → Server B S → Option ℕ → Result Answer Failure → Server B S → Type 0

@@ -10,13 +10,13 @@ use Rattle.edit_engine.specs.declared.replies.TakenJob.{TakenJob}
 use Rattle.edit_engine.specs.Machines.{Machine}
 use Rattle.edit_engine.specs.Runs.{TakesJob, TakesJobFor, LandsJob, GivesJobBack}
 use Rattle.stream_session.specs.Taken.{input_of}
-use Rattle.serve_messages.specs.declared.failure.Failure.{Failure}
-use Rattle.serve_messages.specs.declared.failure.Failure.TheVariants.{Refused}
-use Rattle.serve_messages.specs.declared.failure.Refusal.TheVariants as refusal
-use Rattle.serve_messages.specs.declared.answer.Answer.{Answer}
-use Rattle.serve_messages.specs.declared.answer.Answer.TheVariants.{Job}
-use Rattle.serve_messages.specs.JobAnswers.{job_answer}
-use Rattle.serve_messages.specs.Replies.{give_back_answer, land_answer}
+use Rattle.serve_requests.specs.declared.failure.Failure.{Failure}
+use Rattle.serve_requests.specs.declared.failure.Failure.TheVariants.{Refused}
+use Rattle.serve_requests.specs.declared.failure.Refusal.TheVariants as refusal
+use Rattle.serve_answers.specs.declared.answer.Answer.{Answer}
+use Rattle.serve_answers.specs.declared.answer.Answer.TheVariants.{Job}
+use Rattle.serve_answers.specs.JobAnswers.{job_answer}
+use Rattle.serve_answers.specs.Replies.{give_back_answer, land_answer}
 use Rattle.serve_calls.specs.Failing.{out_of_memory}
 
 -- an answer to one who asks for a job: for the unit of an id, or for any
@@ -25,13 +25,12 @@ TakesOne (Some id) old answer new = TakesJobFor old id answer new
 TakesOne None old answer new = TakesJob old answer new
 
 -- the result of a job that is taken: the job with what it is made of; or there is no memory to tell
--- it, and it is given back then, unless there is none for that either
+-- it, and it is given back then
 abbrev pub TellsJob : TakenJob → Machine → Result Answer Failure → Machine → Type 0
 TellsJob taken old result new =
     ((input : InputValue) × (input_of old taken.number ≡ Some input) × (new ≡ old)
     × (result ≡ Ok (Job (Some (job_answer taken.number taken.unit input)))))
     ⊎ ((answer : Result Returning NotOut) × GivesJobBack old taken.number answer new × (result ≡ Err out_of_memory))
-    ⊎ ((new ≡ old) × (result ≡ Err out_of_memory))
 
 -- the result of one who asks for a job: the job; null where no picture is due; that all numbers
 -- were given; or that memory ran out and nothing changed
@@ -49,9 +48,7 @@ LandsAs number old result new =
     ((answer : Result Landing NotOut) × LandsJob old number answer new × (result ≡ Ok (land_answer answer)))
     ⊎ ((new ≡ old) × (result ≡ Err out_of_memory))
 
--- the result of the job of the number that is given back, or that memory ran out and nothing
--- changed
+-- the result of the job of the number that is given back
 abbrev pub GivesBackAs : ℕ → Machine → Result Answer Failure → Machine → Type 0
 GivesBackAs number old result new =
-    ((answer : Result Returning NotOut) × GivesJobBack old number answer new × (result ≡ Ok (give_back_answer answer)))
-    ⊎ ((new ≡ old) × (result ≡ Err out_of_memory))
+    (answer : Result Returning NotOut) × GivesJobBack old number answer new × (result ≡ Ok (give_back_answer answer))

@@ -9,5 +9,6 @@ pub mod Requests
 pub mod Sessions
 pub mod Sums
 pub mod Taking
+pub mod Texts
 pub mod WantedUnits
 pub mod Wanting

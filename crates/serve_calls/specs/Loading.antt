@@ -10,13 +10,13 @@ use Rattle.stream_edits.specs.declared.refusals.EditRefused.{EditRefused}
 use Rattle.stream_edits.specs.declared.refusals.EditRefused.TheVariants as refusals
 use Rattle.stream_edits.specs.Streams.{last_of, place_after}
 use Rattle.edit_engine.specs.Machines.{Machine}
-use Rattle.serve_messages.specs.declared.call.Loaded.{Loaded}
-use Rattle.serve_messages.specs.declared.call.Loaded.TheVariants as loaded
-use Rattle.serve_messages.specs.declared.failure.Failure.{Failure}
-use Rattle.serve_messages.specs.declared.failure.Failure.TheVariants.{Refused}
-use Rattle.serve_messages.specs.declared.failure.Refusal.TheVariants as refusal
-use Rattle.serve_messages.specs.declared.answer.Answer.{Answer}
-use Rattle.serve_messages.specs.declared.answer.Answer.TheVariants as answer
+use Rattle.serve_requests.specs.declared.call.Loaded.{Loaded}
+use Rattle.serve_requests.specs.declared.call.Loaded.TheVariants as loaded
+use Rattle.serve_requests.specs.declared.failure.Failure.{Failure}
+use Rattle.serve_requests.specs.declared.failure.Failure.TheVariants.{Refused}
+use Rattle.serve_requests.specs.declared.failure.Refusal.TheVariants as refusal
+use Rattle.serve_answers.specs.declared.answer.Answer.{Answer}
+use Rattle.serve_answers.specs.declared.answer.Answer.TheVariants as answer
 use Rattle.serve_calls.specs.declared.loading.Inserted.{Inserted}
 use Rattle.serve_calls.specs.declared.server.Server.{Server}
 use Rattle.serve_calls.specs.Editing.{MakesEdit}

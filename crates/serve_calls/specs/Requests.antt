@@ -1,14 +1,14 @@
 -- What a request is answered.
 use Rattle.std.specs.Prelude.{◌≡◌, ℕ, Bool, true, false, List, Option, None, Some, Result, Ok, Err}
 use Rattle.edit_engine.specs.Machines.{Machine}
-use Rattle.serve_messages.specs.declared.call.Call.{Call}
-use Rattle.serve_messages.specs.declared.call.Call.TheVariants as call
-use Rattle.serve_messages.specs.declared.failure.Failure.{Failure}
-use Rattle.serve_messages.specs.declared.failure.Failure.TheVariants.{NotRequest}
-use Rattle.serve_messages.specs.declared.message.Message.{Message}
-use Rattle.serve_messages.specs.declared.message.Message.TheVariants as message
-use Rattle.serve_messages.specs.Messages.{Parts, parts_of}
-use Rattle.serve_messages.specs.Requests.{IsRequestAnswer, called}
+use Rattle.serve_requests.specs.declared.call.Call.{Call}
+use Rattle.serve_requests.specs.declared.call.Call.TheVariants as call
+use Rattle.serve_requests.specs.declared.failure.Failure.{Failure}
+use Rattle.serve_requests.specs.declared.failure.Failure.TheVariants.{NotRequest}
+use Rattle.serve_requests.specs.declared.message.Message.{Message}
+use Rattle.serve_requests.specs.declared.message.Message.TheVariants as message
+use Rattle.serve_requests.specs.Messages.{Parts, parts_of}
+use Rattle.serve_requests.specs.Requests.{IsRequestAnswer, called}
 use Rattle.serve_calls.specs.declared.requests.Served.{Served}
 use Rattle.serve_calls.specs.declared.server.Server.{Server}
 use Rattle.serve_calls.specs.declared.wanted_units.WantedUnit.{WantedUnit}

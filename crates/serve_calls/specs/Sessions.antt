@@ -1,9 +1,12 @@
 -- The session that answers a server's calls: one that may be what the server keeps. A session alone
 -- is the only one that may be; of a desk's, which lies under a lock, no clause knows which one it
 -- is.
+use Rattle.std.specs.Prelude.{Result, Ok, Err}
+use Rattle.std.specs.declared.alloc.AllocError.{AllocError}
 use Rattle.stream_edits.specs.Edits.{no_units, Replays}
 use Rattle.stream_edits.specs.Journals.{edits_of}
 use Rattle.edit_engine.specs.Machines.{Machine}
+use Rattle.stream_session.specs.Altered.{with_mark}
 use Rattle.stream_session.specs.Machines.{uncached}
 
 -- a session that may be the one answers so; its stream is what its journal leads to
@@ -25,3 +28,9 @@ Stays before after = (machine : Machine) → before machine → after machine
 -- that it has cached
 abbrev pub Clears : (Machine → Type 0) → (Machine → Type 0) → Type 0
 Clears before after = (machine : Machine) → before machine → after (uncached machine)
+
+-- whichever session may be the one before a call may be it after the call, its stream marked as it
+-- is; or memory ran out, and it stays
+abbrev pub Marks : (Machine → Type 0) → Result (Unit {0}) AllocError → (Machine → Type 0) → Type 0
+Marks before (Ok it) after = (machine : Machine) → before machine → after (with_mark machine)
+Marks before (Err error) after = Stays before after

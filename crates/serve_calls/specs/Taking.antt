@@ -6,9 +6,9 @@ use Rattle.edit_engine.specs.declared.replies.Reply.{Reply}
 use Rattle.edit_engine.specs.declared.replies.Reply.TheVariants as replies
 use Rattle.edit_engine.specs.declared.replies.TakenJob.{TakenJob}
 use Rattle.edit_engine.specs.Machines.{Machine}
-use Rattle.serve_messages.specs.declared.failure.Failure.{Failure}
-use Rattle.serve_messages.specs.declared.failure.Failure.TheVariants.{Refused}
-use Rattle.serve_messages.specs.declared.failure.Refusal.TheVariants as refusal
+use Rattle.serve_requests.specs.declared.failure.Failure.{Failure}
+use Rattle.serve_requests.specs.declared.failure.Failure.TheVariants.{Refused}
+use Rattle.serve_requests.specs.declared.failure.Refusal.TheVariants as refusal
 use Rattle.serve_calls.specs.Failing.{out_of_memory}
 use Rattle.serve_calls.specs.Jobs.{TakesOne}
 

@@ -6,12 +6,12 @@ use Rattle.edit_script.specs.Words.{id_of}
 use Rattle.edit_engine.specs.Showing.{Shown, Shows}
 use Rattle.stream_session.specs.declared.showing.Shown.TheVariants as shown
 use Rattle.edit_engine.specs.Machines.{Machine}
-use Rattle.serve_messages.specs.declared.failure.Failure.{Failure}
-use Rattle.serve_messages.specs.declared.failure.Failure.TheVariants.{Refused}
-use Rattle.serve_messages.specs.declared.failure.Refusal.TheVariants as refusal
-use Rattle.serve_messages.specs.declared.answer.Answer.{Answer}
-use Rattle.serve_messages.specs.declared.answer.Answer.TheVariants.{Wanted}
-use Rattle.serve_messages.specs.declared.answer.Picked.{Picked}
+use Rattle.serve_requests.specs.declared.failure.Failure.{Failure}
+use Rattle.serve_requests.specs.declared.failure.Failure.TheVariants.{Refused}
+use Rattle.serve_requests.specs.declared.failure.Refusal.TheVariants as refusal
+use Rattle.serve_answers.specs.declared.answer.Answer.{Answer}
+use Rattle.serve_answers.specs.declared.answer.Answer.TheVariants.{Wanted}
+use Rattle.serve_answers.specs.declared.answer.Picked.{Picked}
 use Rattle.serve_calls.specs.declared.server.Server.{Server}
 use Rattle.serve_calls.specs.declared.wanted_units.WantedUnit.{WantedUnit}
 use Rattle.serve_calls.specs.declared.wanting.ToldNow.{ToldNow}

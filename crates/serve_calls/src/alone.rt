@@ -5,7 +5,7 @@ ghost use Rattle.picture_cache.specs.Bounded.{most_room};
 ghost use Rattle.stand_in_device.specs.Inputs.{InputValue};
 ghost use Rattle.stream_session.specs.Machines.{empty};
 ghost use Rattle.stream_session.specs.Taken.{input_of};
-ghost use Rattle.serve_messages.specs.JobAnswers.{job_answer};
+ghost use Rattle.serve_answers.specs.JobAnswers.{job_answer};
 ghost use Rattle.serve_calls.specs.Failing.{out_of_memory};
 ghost use Rattle.serve_calls.specs.Jobs.{TellsJob};
 ghost use Rattle.serve_calls.specs.Taking.{TakesReply, taken_in, taken_of};
@@ -17,7 +17,8 @@ use edit_engine::{
     ReadGroup, Receipt, Reply, Runner, Session, TakeRefused, TakenJob,
 };
 use pictures::AuId;
-use serve_messages::{Answer, Failure, JobAnswer, Refusal, of_give_back, of_land};
+use serve_answers::{Answer, JobAnswer, of_give_back, of_land};
+use serve_requests::{Failure, Refusal};
 use std::alloc::{AllocError, Global};
 
 /// A session alone.
@@ -55,7 +56,7 @@ impl Alone {
         match self.answer_of(alloc, taken) {
             Some(job) => Ok(Answer::Job(Some(job))),
             None => {
-                let _ = self.runner.step(Command::GiveBack(number));
+                let _ = self.runner.give_back(number);
                 Err(OUT_OF_MEMORY)
             }
         }
@@ -136,6 +137,10 @@ impl Backend for Alone {
         self.runner.clear_cache();
     }
 
+    fn mark(&mut self) -> Result<(), AllocError> {
+        self.runner.mark()
+    }
+
     // Nobody decodes but by a call.
     fn want(&mut self, _ids: &[AuId], _rest: bool) {}
 
@@ -163,10 +168,6 @@ impl Backend for Alone {
 
     fn give_back(&mut self, number: u64) -> Result<Answer, Failure> {
         let _ = self.runner.session().journal();
-        match self.runner.step(Command::GiveBack(number)) {
-            Ok(Reply::GiveBack(answer)) => Ok(of_give_back(answer)),
-            Ok(_) => unreachable!(),
-            Err(_) => Err(OUT_OF_MEMORY),
-        }
+        Ok(of_give_back(self.runner.give_back(number)))
     }
 }

@@ -7,14 +7,15 @@ ghost use Rattle.stream_session.specs.Machines.{AnswersEdit};
 ghost use Rattle.stream_session.specs.Grouping.{AnswersGroup};
 ghost use Rattle.edit_engine.specs.Needing.{AnswersDrop};
 ghost use Rattle.serve_calls.specs.Jobs.{GivesBackAs, LandsAs, TakesAs};
-ghost use Rattle.serve_calls.specs.Sessions.{Asks, Clears, Stays, Steps};
+ghost use Rattle.serve_calls.specs.Sessions.{Asks, Clears, Marks, Stays, Steps};
 
 use edit_engine::{
     Dropping, EditRefused, GroupReceipt, GroupRefused, ReadEdit, ReadGroup, Receipt, Session,
 };
 use pictures::AuId;
-use serve_messages::{Answer, Failure};
-use std::alloc::Global;
+use serve_answers::Answer;
+use serve_requests::Failure;
+use std::alloc::{AllocError, Global};
 
 /// One who lends a session to be asked.
 pub trait Asked {
@@ -51,6 +52,10 @@ pub trait Backend: Asked {
     /// Drops the pictures that are cached.
     fn clear_cache(&mut self)
         ensures { Clears (Self.is_session self.old) (Self.is_session self.new) };
+
+    /// Marks the stream as it is, by which units are altered from then on.
+    fn mark(&mut self) -> Result<(), AllocError>
+        ensures { Marks (Self.is_session self.old) result (Self.is_session self.new) };
 
     /// Has the pictures of these units made first, of which there are 64 at most, and those of all
     /// others too or not.

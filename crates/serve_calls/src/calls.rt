@@ -11,7 +11,8 @@ use crate::wanted_units::WantedUnit;
 use console_io::Source;
 use edit_script::id_of_number;
 use pictures::AuId;
-use serve_messages::{Answer, Call, Failure};
+use serve_answers::Answer;
+use serve_requests::{Call, Failure};
 use std::thread::Threads;
 
 impl<B: Backend, S: Source> Server<B, S> {
@@ -27,14 +28,17 @@ impl<B: Backend, S: Source> Server<B, S> {
             is_answered result self.new wanted.new.items }
     {
         match call {
+            Call::Initialize => self.introduce(),
             Call::Load(loaded) => self.load(rt, loaded),
             Call::Edit(edit) => self.edit(edit),
             Call::Group(edits) => self.group(edits),
+            Call::Mark => self.mark(),
             Call::Units {
                 from,
                 count,
                 controls,
             } => self.units(from, count, controls),
+            Call::Text(number) => self.text(number),
             Call::Find(position) => self.find(position),
             Call::Show(number) => self.show(number),
             Call::Want { ids, rest } => self.want(wanted, ids, rest, is_answered),
@@ -42,6 +46,7 @@ impl<B: Backend, S: Source> Server<B, S> {
             Call::Take(number) => self.take(number),
             Call::Land(number) => self.land(number),
             Call::GiveBack(number) => self.give_back(number),
+            Call::Journal { from, count } => self.journal(from, count),
             Call::Stats => self.stats(),
             Call::Shutdown => Ok(Answer::Nothing),
         }

@@ -2,8 +2,8 @@
 //!
 //! A `Server` keeps a session by a `Backend`, of its own (`Alone`) or at a desk (serve_run).
 //! `Server::serve` takes a message: its answer is made of what the session answers to the call that
-//! the message asks for, and one that is refused changes nothing. Below are serve_messages, which
-//! reads requests, and serve_messages, which makes results; above is serve_run, which reads and
+//! the message asks for, and one that is refused changes nothing. Below are serve_requests, which
+//! reads requests, and serve_answers, which makes results; above is serve_run, which reads and
 //! writes lines.
 #![tactic(auto)]
 
@@ -17,6 +17,7 @@ mod questions;
 mod requests;
 mod server;
 mod sums;
+mod texts;
 mod wanted_units;
 mod wanting;
 

@@ -13,7 +13,8 @@ use console_io::{InputFault, Source};
 use edit_engine::{EditRefused, Last, ReadEdit, Receipt};
 use picture_keys::{HashedUnit, hash_units};
 use pictures::AuId;
-use serve_messages::{Answer, Failure, Loaded, Refusal, Stretch};
+use serve_answers::{Answer, Stretch};
+use serve_requests::{Failure, Loaded, Refusal};
 use std::alloc::Global;
 use std::thread::Threads;
 

@@ -1,8 +1,11 @@
 //! Questions to a session, and their answers.
 
-ghost use Rattle.std.specs.Prelude.{◌≡◌, ◌+◌, ◌≤◌, ◌↔◌, IfOk, IsTrue, MatchOption, drop, filter_map, length, take};
+ghost use Rattle.std.specs.Prelude.{◌≡◌, ◌+◌, ◌≤◌, ◌↔◌, ℕ, IfOk, IsTrue, MatchOption, drop, filter_map, length, take};
 ghost use Rattle.std.specs.List.{zip};
-ghost use Rattle.serve_calls.specs.Answering.{AreUnitsIn, HasPosition, IsAt, IsFound, IsNoneAmong, TellsFound, TellsShown, TellsStats, TellsUnits, stats_of, unit_in};
+ghost use Rattle.doubts.specs.InDoubt.{AreDoubts};
+ghost use Rattle.stream_session.specs.Altered.{IsAltered};
+ghost use Rattle.stream_session.specs.Doubting.{seen_in};
+ghost use Rattle.serve_calls.specs.Answering.{AreToldFrom, AreUnitsIn, HasPosition, Introduces, IsAt, IsFound, IsNoneAmong, TellsFound, TellsShown, TellsStats, TellsUnits, stats_of, unit_in};
 
 use crate::backend::Backend;
 use crate::failing::OUT_OF_MEMORY;
@@ -12,13 +15,24 @@ use crate::sums::Sums;
 use edit_engine::{Doubt, NoSuchUnit, Session};
 use edit_script::id_of_number;
 use pictures::AuId;
-use serve_messages::{Answer, Failure, Found, Listed, Stats, UnitAnswer, of_show};
+use serve_answers::{Answer, Found, Introduction, Stats, Told, UnitAnswer, of_show};
+use serve_requests::{Failure, Listed};
 use std::alloc::{AllocError, Global};
 
 /// How far a unit may stand before the place of its position, where it is looked for first.
 const MOST_REORDERED: usize = 64;
 
 impl<B: Backend, S> Server<B, S> {
+    /// What the server is, and what it takes.
+    pub(crate) fn introduce(&self) -> Result<Answer, Failure>
+        ensures { Introduces (B.lends_jobs self.now.backend) result }
+    {
+        match Introduction::of(self.alloc, self.backend.has_jobs()) {
+            Ok(introduction) => Ok(Answer::Initialized(introduction)),
+            Err(_) => Err(OUT_OF_MEMORY),
+        }
+    }
+
     /// What becomes of so many units from a place on, with their controls or without.
     pub(crate) fn units(&self, from: u64, count: u64, controls: bool) -> Result<Answer, Failure>
         ensures { TellsUnits (B.is_session self.now.backend) from count controls result }
@@ -73,11 +87,13 @@ fn units(
     count: u64,
     controls: bool,
 ) -> Result<Listed<UnitAnswer>, AllocError>
-    ensures { IfOk result (AreUnitsIn session.now.register.stream from count controls) }
+    ensures { IfOk result (AreUnitsIn session.now from count controls) }
 {
     let (first, ids) = page(session.ids(), from, count);
     let doubts = session.doubts(first, ids.len())?;
-    Ok(Listed::new(told(alloc, session, ids, &doubts, controls)?))
+    let told = all_told(alloc, session, ids, &doubts)?;
+    let answers = answers(alloc, session, ids, told.as_slice(), controls)?;
+    Ok(Listed::new(answers))
 }
 
 /// The ids of so many units from a place on, and the place of the first of them.
@@ -93,41 +109,73 @@ fn page(ids: &[AuId], from: u64, count: u64) -> (usize, &[AuId])
     (from, page)
 }
 
-/// The outcomes of the units of these ids, of which this is told.
-fn told(
+/// What is told of the units of these ids beside their outcomes.
+fn all_told(
     alloc: Global,
     session: &Session,
     ids: &[AuId],
     doubts: &[Doubt],
+) -> Result<Vec<Told>, AllocError>
+    requires { length doubts.now ≡ length ids.now }
+    ensures { IfOk result (λ told. (from : ℕ)
+        → AreDoubts (seen_in session.now.register.stream) from (length ids.now) doubts.now
+        → AreToldFrom session.now from (length ids.now) ids.now told.items) }
+{
+    let mut told = Vec::with_capacity(alloc, ids.len())?;
+    for at in 0..ids.len() {
+        told.push(Told {
+            doubt: doubts[at],
+            altered: is_altered(session, ids[at]),
+        })?;
+    }
+    Ok(told)
+}
+
+/// Whether the unit of the id is altered.
+fn is_altered(session: &Session, id: AuId) -> bool
+    ensures { IsTrue result ↔ IsAltered session.now id }
+{
+    match session.is_altered(id) {
+        Some(altered) => altered,
+        None => false,
+    }
+}
+
+/// The outcomes of the units of these ids, of which this is told.
+fn answers(
+    alloc: Global,
+    session: &Session,
+    ids: &[AuId],
+    told: &[Told],
     controls: bool,
 ) -> Result<Vec<UnitAnswer>, AllocError>
-    requires { length doubts.now ≡ length ids.now }
+    requires { length told.now ≡ length ids.now }
     ensures { IfOk result (λ answers. answers.items
-        ≡ filter_map (unit_in session.now.register.stream controls) (zip ids.now doubts.now)) }
+        ≡ filter_map (unit_in session.now.register.stream controls) (zip ids.now told.now)) }
 {
     let mut answers = Vec::with_capacity(alloc, ids.len())?;
     for at in 0..ids.len() {
-        let answer = told_of(alloc, session, ids[at], doubts[at], controls)?;
+        let answer = answer_of(alloc, session, ids[at], told[at], controls)?;
         push_some(&mut answers, answer)?;
     }
     Ok(answers)
 }
 
 /// The outcome of the unit of the id, of which this is told.
-fn told_of(
+fn answer_of(
     alloc: Global,
     session: &Session,
     id: AuId,
-    doubt: Doubt,
+    told: Told,
     controls: bool,
 ) -> Result<Option<UnitAnswer>, AllocError>
     ensures { IfOk result (λ answer. answer
-        ≡ unit_in session.now.register.stream controls (id, doubt)) }
+        ≡ unit_in session.now.register.stream controls (id, told)) }
 {
     match (session.outcome(id), session.position(id)) {
         (Ok(outcome), Ok(position)) => {
-            let told = UnitAnswer::of(alloc, id, position, outcome, doubt, controls)?;
-            Ok(Some(told))
+            let answer = UnitAnswer::of(alloc, id, position, outcome, told, controls)?;
+            Ok(Some(answer))
         }
         _ => Ok(None),
     }

@@ -1,7 +1,7 @@
 //! What messages are answered.
 
 ghost use Rattle.std.specs.Prelude.{◌≡◌, false, Err};
-ghost use Rattle.serve_messages.specs.Messages.{lent, parts_of};
+ghost use Rattle.serve_requests.specs.Messages.{lent, parts_of};
 ghost use Rattle.serve_calls.specs.Requests.{IsServed, IsServedBy, IsServedIf, is_answered, is_last, parts_if};
 
 use crate::backend::Backend;
@@ -9,7 +9,8 @@ use crate::server::Server;
 use crate::wanted_units::WantedUnit;
 use console_io::Source;
 use serde_json::Value;
-use serve_messages::{Answer, Call, Failure, Message, Request};
+use serve_answers::Answer;
+use serve_requests::{Call, Failure, Message, Request};
 use std::thread::Threads;
 
 /// What became of a message.

@@ -1,15 +1,17 @@
 //! A server's state, and its edits.
 
 ghost use Rattle.std.specs.Prelude.{◌≡◌};
-ghost use Rattle.serve_calls.specs.Editing.{DropsAs, EditsAs, GroupsAs, MakesEdit, MakesGroup};
+ghost use Rattle.serve_calls.specs.Editing.{DropsAs, EditsAs, GroupsAs, MakesEdit, MakesGroup, MarksAs, mark_answer};
 ghost use Rattle.serve_calls.specs.Sums.{no_sums};
 
 use crate::backend::Backend;
+use crate::failing::OUT_OF_MEMORY;
 use crate::sums::{Sums, bytes_of, bytes_of_edit};
 use edit_engine::{EditRefused, GroupReceipt, GroupRefused, ReadEdit, ReadGroup, Receipt};
 use edit_script::id_of_number;
-use serve_messages::{Answer, Failure, Listed, Word, of_drop, of_edit, of_group};
-use std::alloc::Global;
+use serve_answers::{Answer, Word, of_drop, of_edit, of_group};
+use serve_requests::{Failure, Listed};
+use std::alloc::{AllocError, Global};
 use stream_edits::Edit;
 
 /// A server: what keeps its session, the files that are loaded, and what it adds up.
@@ -83,6 +85,13 @@ impl<B: Backend, S> Server<B, S> {
         Ok(receipt)
     }
 
+    /// Marks the stream as it is.
+    pub(crate) fn mark(&mut self) -> Result<Answer, Failure>
+        ensures { MarksAs B.is_session self.old result self.new }
+    {
+        of_mark(self.backend.mark())
+    }
+
     /// Drops the picture of the unit of this number, or without a number those that are cached.
     pub(crate) fn drop_picture(&mut self, number: Option<u64>) -> Result<Answer, Failure>
         ensures { DropsAs B.is_session self.old number result self.new }
@@ -94,5 +103,15 @@ impl<B: Backend, S> Server<B, S> {
                 Ok(Answer::Word(Word::Cleared))
             }
         }
+    }
+}
+
+/// The result of a mark.
+fn of_mark(answer: Result<(), AllocError>) -> Result<Answer, Failure>
+    ensures { result ≡ mark_answer answer }
+{
+    match answer {
+        Ok(()) => Ok(Answer::Word(Word::Marked)),
+        Err(_) => Err(OUT_OF_MEMORY),
     }
 }

@@ -14,7 +14,8 @@ use crate::wanted_units::{WantedUnit, wanted_units};
 use edit_engine::{Picture, Session, Shown};
 use edit_script::id_of_number;
 use pictures::AuId;
-use serve_messages::{Answer, Digits, Failure, Listed, Picked, Refusal};
+use serve_answers::{Answer, Digits, Picked};
+use serve_requests::{Failure, Listed, Refusal};
 use std::alloc::{AllocError, Global};
 
 /// How many units are wanted at once at most.

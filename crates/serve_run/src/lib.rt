@@ -3,10 +3,11 @@
 //! `serve` reads messages line by line, has serve_calls do what each asks for, and answers it
 //! before it reads the next one: with a session of its own in one thread, or at a desk beside
 //! workers that decode (decode_pool), while a thread of its own tells of wanted pictures as they
-//! become ready. Below are serve_messages, which reads requests, serve_calls, which does what they
-//! ask for, and serve_messages, which makes results; above is the program.
+//! become ready. Below are serve_requests, which reads requests, serve_calls, which does what they
+//! ask for, and serve_answers, which makes results; above is the program.
 #![tactic(auto)]
 
+mod answers;
 mod end;
 mod lines;
 mod office;

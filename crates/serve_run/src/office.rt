@@ -10,8 +10,9 @@ use edit_engine::{
     Session,
 };
 use pictures::AuId;
+use serve_answers::Answer;
 use serve_calls::{Asked, Backend};
-use serve_messages::{Answer, Failure};
+use serve_requests::Failure;
 use std::alloc::{AllocError, Global};
 use std::io::Write;
 use std::sync::{Mutex, Wait};
@@ -84,6 +85,10 @@ impl<'a, R: Wait> Backend for AtDesk<'a, R> {
 
     fn clear_cache(&mut self) {
         self.desk.clear_cache(self.rt);
+    }
+
+    fn mark(&mut self) -> Result<(), AllocError> {
+        self.desk.mark(self.rt)
     }
 
     fn want(&mut self, ids: &[AuId], rest: bool) {

@@ -1,9 +1,9 @@
 //! The writer of a server's lines.
 
+use crate::answers::Answers;
 use edit_script::id_of_number;
-use serde_json::Value;
+use serve_answers::notification_text;
 use serve_calls::{Asked, WantedUnit, picked};
-use serve_messages::{Answer, Failure, failure_line, notification_line, result_line};
 use std::alloc::{AllocError, Global};
 use std::io::Write;
 
@@ -43,17 +43,12 @@ impl<W: Write> Pen<W> {
         }
     }
 
-    /// Writes what answers the request of this id.
-    pub(crate) fn answer(
-        &mut self,
-        id: Option<&Value>,
-        answer: &Result<Answer, Failure>,
-    ) -> Result<(), Fault> {
-        let line = match answer {
-            Ok(answer) => result_line(self.alloc, id, answer)?,
-            Err(failure) => failure_line(self.alloc, id, *failure)?,
-        };
-        self.write(line.as_str())
+    /// Writes the answers to the messages of a line, if there are any.
+    pub(crate) fn answer(&mut self, answers: Answers) -> Result<(), Fault> {
+        match answers.into_text()? {
+            Some(text) => self.write(text),
+            None => Ok(()),
+        }
     }
 
     /// Writes of each wanted unit that is ready with another picture than was told of it last.
@@ -74,8 +69,8 @@ impl<W: Write> Pen<W> {
         let Some(picture) = unit.news(shown) else {
             return Ok(());
         };
-        let line = notification_line(self.alloc, "ready", &picked(self.alloc, number, picture)?)?;
-        self.write(line.as_str())?;
+        let text = notification_text(self.alloc, "ready", &picked(self.alloc, number, picture)?)?;
+        self.write(text)?;
         if let Some(unit) = self.wanted.get_mut(at) {
             *unit = WantedUnit {
                 number,
@@ -85,8 +80,10 @@ impl<W: Write> Pen<W> {
         Ok(())
     }
 
-    /// Writes a line at once.
-    fn write(&mut self, line: &str) -> Result<(), Fault> {
+    /// Writes a text as a line at once.
+    fn write(&mut self, text: String) -> Result<(), Fault> {
+        let mut line = text;
+        line.push('\n')?;
         self.has_failed = self.has_failed
             || self.output.write_all(line.as_bytes()).is_err()
             || self.output.flush().is_err();

@@ -1,23 +1,27 @@
 //! Messages served one after the other.
 
-ghost use Rattle.std.specs.Prelude.{◌≡◌, ◌⊎◌, List, false};
+ghost use Rattle.std.specs.Prelude.{◌≡◌, ◌⊎◌, ◌||◌, ◌<◌, List, [], ◌∷◌, length, false};
 ghost use Rattle.serde_json.specs.Errors.{IsMemory};
 ghost use Rattle.serve_calls.specs.declared.requests.Served.{Served};
 ghost use Rattle.serve_calls.specs.declared.wanted_units.WantedUnit.{WantedUnit};
 ghost use Rattle.serve_calls.specs.Failing.{out_of_memory};
-ghost use Rattle.serve_calls.specs.Requests.{IsServedIf, parts_if};
+ghost use Rattle.serde_json.specs.View.{items_view, view};
+ghost use Rattle.serve_requests.specs.Messages.{request_in};
+ghost use Rattle.serve_calls.specs.Requests.{IsServedIf};
 ghost use Rattle.serve_run.specs.Ends.{end_of};
-ghost use Rattle.serve_run.specs.Serving.{GoesOn, GoesOnAfter};
+ghost use Rattle.serve_run.specs.Serving.{GoesOn, GoesOnAfter, ServesAll, end_any, messages_in};
 
+use crate::answers::Answers;
 use crate::end::ServeEnd;
 use crate::lines::{Line, Lines, MOST_BYTES};
 use crate::pen::{Fault, Pen};
 use console_io::Source;
 use serde_json::{Category, Error, Value};
-use serve_calls::{Alone, Backend, OUT_OF_MEMORY, Served, Server};
-use serve_messages::{Failure, Message};
+use serve_calls::{Alone, Backend, OUT_OF_MEMORY, Server, WantedUnit};
+use serve_requests::{Failure, Message};
 use std::alloc::Global;
 use std::io::{ErrorKind, Read, Write};
+use std::slice;
 use std::thread::Threads;
 
 /// Serves the messages of an input with a session alone, in this thread. The files that are loaded
@@ -68,8 +72,8 @@ pub(crate) fn serve_line<R: Threads + Sync, B: Backend, S: Source, W: Write>(
 ) -> Result<(), ServeEnd> {
     match line {
         Line::Text(text) => serve_text(rt, server, pen, text.as_slice()),
-        Line::TooLong => refuse(pen, Failure::NotRequest),
-        Line::Memory => refuse(pen, OUT_OF_MEMORY),
+        Line::TooLong => refuse(server.alloc, pen, Failure::NotRequest),
+        Line::Memory => refuse(server.alloc, pen, OUT_OF_MEMORY),
         Line::End => Err(ServeEnd::Done),
     }
 }
@@ -85,35 +89,125 @@ fn serve_text<R: Threads + Sync, B: Backend, S: Source, W: Write>(
         result server.new }
 {
     match Value::from_slice(server.alloc, text) {
-        Ok(value) => {
-            let message = Message::of(&value);
-            let end = serve_message(rt, server, pen, &message);
-            let_go(message);
-            end
-        }
-        Err(error) => refuse(pen, why_no_value(&error)),
+        Ok(value) => serve_value(rt, server, pen, &value),
+        Err(error) => refuse(server.alloc, pen, why_no_value(&error)),
     }
 }
 
-/// Serves a message; or how the server ends.
-fn serve_message<R: Threads + Sync, B: Backend, S: Source, W: Write>(
+/// Serves the messages of a value and answers them; or how the server ends.
+fn serve_value<R: Threads + Sync, B: Backend, S: Source, W: Write>(
     rt: &R,
     server: &mut Server<B, S>,
     pen: &mut Pen<W>,
-    message: &Message<'_>,
+    value: &Value,
 ) -> Result<(), ServeEnd>
-    ensures { (served : Served) × (wants : List WantedUnit)
-        × IsServedIf B.is_session B.lends_jobs S.file server.old pen.old.wanted.items
-        (parts_if message.now) served server.new wants
-        × GoesOn served.is_last result }
+    ensures { (served : List Served) × (wants : List WantedUnit)
+        × ServesAll B.is_session B.lends_jobs S.file server.old pen.old.wanted.items
+        (messages_in (view value.now)) served server.new wants
+        × GoesOn (end_any served) result }
 {
-    let served = server.serve(rt, &mut pen.wanted, message);
-    answer_message(pen, message, &served)?;
-    if served.is_last {
+    let mut answers = Answers::new(server.alloc, is_batch(value));
+    let messages = messages_in(value);
+    let is_last = serve_all(rt, server, &mut pen.wanted, messages, &mut answers);
+    go_on(server, pen, answers, is_last)
+}
+
+/// Writes answers and goes on: the wanted units are told of, unless the end was asked for.
+fn go_on<B: Backend, S: Source, W: Write>(
+    server: &Server<B, S>,
+    pen: &mut Pen<W>,
+    answers: Answers,
+    is_last: bool,
+) -> Result<(), ServeEnd>
+    ensures { GoesOn is_last result }
+{
+    pen.answer(answers)?;
+    if is_last {
         return Err(ServeEnd::Done);
     }
     pen.tell(&server.backend)?;
     Ok(())
+}
+
+/// Whether a value is an array that isn't empty.
+fn is_batch(value: &Value) -> bool {
+    match value.as_array() {
+        Some(values) => !values.is_empty(),
+        None => false,
+    }
+}
+
+/// The messages of a value: those of an array that isn't empty, or itself as one.
+fn messages_in(value: &Value) -> &[Value]
+    ensures { items_view result.now ≡ messages_in (view value.now) }
+{
+    match value.as_array() {
+        Some(values) => some_or(values.as_slice(), value),
+        None => slice::from_ref(value),
+    }
+}
+
+/// Some values, or this one where there are none.
+fn some_or<'a>(values: &'a [Value], none: &'a Value) -> &'a [Value]
+    ensures none { values.now ≡ [] → result.now ≡ none.now ∷ [] }
+    ensures some { 0 < length values.now → result.now ≡ values.now }
+{
+    if values.is_empty() {
+        slice::from_ref(none)
+    } else {
+        values
+    }
+}
+
+/// Serves messages one after the other: whether one of them asks for the end. Their answers are
+/// added to those of the line.
+fn serve_all<R: Threads + Sync, B: Backend, S: Source>(
+    rt: &R,
+    server: &mut Server<B, S>,
+    wanted: &mut Vec<WantedUnit>,
+    values: &[Value],
+    answers: &mut Answers,
+) -> bool
+    ensures { (served : List Served)
+        × ServesAll B.is_session B.lends_jobs S.file server.old wanted.old.items
+        (items_view values.now) served server.new wanted.new.items
+        × (result ≡ end_any served) }
+{
+    let mut is_last = false;
+    for value in values {
+        let one_is = serve_one(rt, server, wanted, value, answers);
+        is_last = either(is_last, one_is);
+    }
+    is_last
+}
+
+/// Whether one of the two is so.
+fn either(first: bool, second: bool) -> bool
+    ensures { result ≡ (first || second) }
+{
+    first || second
+}
+
+/// Serves a message: whether it asks for the end. Its answer is added to those of the line.
+fn serve_one<R: Threads + Sync, B: Backend, S: Source>(
+    rt: &R,
+    server: &mut Server<B, S>,
+    wanted: &mut Vec<WantedUnit>,
+    value: &Value,
+    answers: &mut Answers,
+) -> bool
+    ensures { (served : Served)
+        × IsServedIf B.is_session B.lends_jobs S.file server.old wanted.old.items
+        (request_in (view value.now)) served server.new wanted.new.items
+        × (result ≡ served.is_last) }
+{
+    let message = Message::of(value);
+    let served = server.serve(rt, wanted, &message);
+    if let Some(id) = answered_id(&message) {
+        answers.add(id, &served.answer);
+    }
+    let_go(message);
+    served.is_last
 }
 
 /// Lets a message go that was served.
@@ -124,25 +218,24 @@ fn let_go(message: Message<'_>) {
 }
 
 /// Answers what is no request; or how the server ends.
-fn refuse<W: Write>(pen: &mut Pen<W>, failure: Failure) -> Result<(), ServeEnd>
+fn refuse<W: Write>(alloc: Global, pen: &mut Pen<W>, failure: Failure) -> Result<(), ServeEnd>
     ensures { GoesOn false result }
 {
-    pen.answer(None, &Err(failure))?;
+    let mut answers = Answers::new(alloc, false);
+    answers.add(None, &Err(failure));
+    pen.answer(answers)?;
     Ok(())
 }
 
-/// Answers a message, unless it is a request without an id.
-fn answer_message<W: Write>(
-    pen: &mut Pen<W>,
-    message: &Message<'_>,
-    served: &Served,
-) -> Result<(), Fault> {
+/// The id by which a message is answered, null where it has none that may be. A request without an
+/// id isn't answered.
+fn answered_id<'a>(message: &Message<'a>) -> Option<Option<&'a Value>> {
     match message {
         Message::Request(request) => match request.id {
-            Some(id) => pen.answer(Some(id), &served.answer),
-            None => Ok(()),
+            Some(id) => Some(Some(id)),
+            None => None,
         },
-        Message::Other { id } => pen.answer(*id, &served.answer),
+        Message::Other { id } => Some(*id),
     }
 }
 

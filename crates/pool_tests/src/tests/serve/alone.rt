@@ -42,7 +42,7 @@ const EDITS: [Row; 11] = [
     },
     Row {
         message: "{\"jsonrpc\":\"2.0\",\"id\":10,\"method\":\"show\",\"params\":{\"id\":2}}",
-        lines: "{\"jsonrpc\":\"2.0\",\"id\":10,\"error\":{\"code\":16,\"message\":\"NoSuchUnit\"}}\n",
+        lines: "{\"jsonrpc\":\"2.0\",\"id\":10,\"error\":{\"code\":16,\"message\":\"NoSuchUnit\",\"data\":{\"reason\":\"no unit has the id\"}}}\n",
     },
     Row {
         message: "{\"jsonrpc\":\"2.0\",\"id\":11,\"method\":\"load\",\"params\":{\"path\":\"one\"}}",

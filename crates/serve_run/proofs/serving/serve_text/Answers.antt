@@ -1,4 +1,5 @@
-use Rattle.std.proofs.Common.{Err, false, inl, inr, refl}
+use Rattle.std.proofs.Common.{Err, false, [], ◌∷◌, inl, inr, refl}
+use Rattle.serve_calls.specs.declared.requests.Served.{Served}
 use Rattle.serve_run.specs.Serving.{IsNoValue}
 use Rattle.serve_run.proofs.serving.serve_text.Goals as goal
 
@@ -10,4 +11,5 @@ returns-in-Err g c =
       | inl memory ↦ inr memory.1
       | inr text ↦ inl (text.1, c.in-Err.ensures.err text.0)
     ] in
-    (record { answer = Err failure; is_last = false }, c.args.pen.now.wanted.items, inr (failure, none, (refl, refl, refl, refl)), c.refuse.ensures)
+    let refused : Served = record { answer = Err failure; is_last = false } in
+    (refused ∷ [], c.args.pen.now.wanted.items, inr (failure, refused, none, (refl, refl, refl, refl), refl), c.refuse.ensures)

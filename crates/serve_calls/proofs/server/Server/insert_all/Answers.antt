@@ -1,6 +1,6 @@
 use Rattle.std.proofs.Common.{List, ℕ, Err, sym, subst, inl, inr, refl}
-use Rattle.serve_messages.specs.declared.failure.Failure.TheVariants.{Refused}
-use Rattle.serve_messages.specs.declared.failure.Refusal.TheVariants as refusal
+use Rattle.serve_requests.specs.declared.failure.Failure.TheVariants.{Refused}
+use Rattle.serve_requests.specs.declared.failure.Refusal.TheVariants as refusal
 use Rattle.serve_calls.specs.Loading.{InsertsAll}
 use Rattle.serve_calls.proofs.server.Server.insert_all.Goals as goal
 

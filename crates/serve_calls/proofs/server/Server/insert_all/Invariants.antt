@@ -1,7 +1,7 @@
 use Rattle.std.proofs.Common.{Result}
 use Rattle.std.specs.Vec.Iter.{into_iter_items}
-use Rattle.serve_messages.specs.declared.failure.Failure.{Failure}
-use Rattle.serve_messages.specs.declared.answer.Answer.{Answer}
+use Rattle.serve_requests.specs.declared.failure.Failure.{Failure}
+use Rattle.serve_answers.specs.declared.answer.Answer.{Answer}
 use Rattle.serve_calls.specs.declared.server.Server.{Server}
 use Rattle.serve_calls.specs.Loading.{InsertsAll, none_inserted}
 use Rattle.serve_calls.proofs.server.Server.insert_all.Given as goal

@@ -1,6 +1,6 @@
 use Rattle.std.proofs.Common.{Bool, subst}
-use Rattle.serve_messages.specs.Messages.{parts_of}
-use Rattle.serve_messages.specs.Requests.{IsRequestAnswer, called}
+use Rattle.serve_requests.specs.Messages.{parts_of}
+use Rattle.serve_requests.specs.Requests.{IsRequestAnswer, called}
 use Rattle.serve_calls.specs.Requests.{IsServedBy}
 use Rattle.serve_calls.proofs.server.Server.serve_request.Goals as goal
 

@@ -1,5 +1,5 @@
 use Rattle.std.proofs.Common.{List, Ok, ap₂, refl, subst, inl, inr}
-use Rattle.serve_messages.specs.declared.answer.Answer.TheVariants.{Wanted}
+use Rattle.serve_answers.specs.declared.answer.Answer.TheVariants.{Wanted}
 use Rattle.serve_calls.specs.declared.wanted_units.WantedUnit.{WantedUnit}
 use Rattle.serve_calls.specs.Sessions.{Asks}
 use Rattle.serve_calls.specs.Wanting.{TellsOf}

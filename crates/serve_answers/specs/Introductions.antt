@@ -1,0 +1,31 @@
+-- What a server is, and what it takes (docs/SERVER.md).
+use Rattle.std.specs.Prelude.{Bool, codes}
+use Rattle.access_unit.specs.Refusals.{most_bytes}
+use Rattle.access_unit.specs.Rooms.{most_units}
+use Rattle.stream_edits.specs.Groups.{most_edits}
+use Rattle.serve_requests.specs.Fields.{most_told}
+use Rattle.serve_requests.specs.Methods.{methods}
+use Rattle.serve_answers.specs.declared.introduction.Introduction.{Introduction}
+use Rattle.serve_answers.specs.declared.introduction.Limits.{Limits}
+
+-- how much a server takes at most: units of a stream, bytes and slices of a unit, edits of a group,
+-- ids that are wanted, units that are told at once, and bytes of a line
+abbrev pub limits : Limits
+limits = record {
+  units = most_units;
+  unit_bytes = most_bytes;
+  slices = 256;
+  group = most_edits;
+  wanted = 64;
+  count = most_told;
+  message_bytes = 67108864;
+}
+
+-- what a server is, whether it has methods about jobs or not
+abbrev pub introduction : Bool → Introduction
+introduction has_jobs = record {
+  name = codes "cupdaisy";
+  version = codes "0.3.0";
+  methods = methods has_jobs;
+  limits = limits;
+}

@@ -1,0 +1,5 @@
+pub mod Introductions
+pub mod JobAnswers
+pub mod JournalAnswers
+pub mod Replies
+pub mod UnitAnswers

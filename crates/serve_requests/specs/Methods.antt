@@ -1,0 +1,79 @@
+-- The methods of the server (docs/SERVER.md).
+use Rattle.std.specs.Prelude.{ℕ, List, [], ◌∷◌, codes, Bool, true, false, Option, Some, None, if◌then◌else◌}
+use Rattle.std.specs.Str.{bytes_eq}
+use Rattle.serve_requests.specs.declared.method.Method.{Method}
+use Rattle.serve_requests.specs.declared.method.Method.TheVariants.{Initialize, Load, Insert, Delete, Replace, Group, Mark, Units, Text, Find, Show, Want, Drop, Take, Land, GiveBack, Journal, Stats, Shutdown}
+use Rattle.serve_requests.specs.declared.parameter.Parameter.{Parameter}
+use Rattle.serve_requests.specs.declared.parameter.Parameter.TheVariants as parameter
+
+-- the method of a name, among those that bring pictures or tell of the server
+abbrev pub method_of_pictures : List ℕ → Option Method
+method_of_pictures name =
+    if bytes_eq name (codes "initialize") then Some Initialize
+    else if bytes_eq name (codes "want") then Some Want
+    else if bytes_eq name (codes "drop") then Some Drop
+    else if bytes_eq name (codes "take") then Some Take
+    else if bytes_eq name (codes "land") then Some Land
+    else if bytes_eq name (codes "give_back") then Some GiveBack
+    else if bytes_eq name (codes "journal") then Some Journal
+    else if bytes_eq name (codes "stats") then Some Stats
+    else if bytes_eq name (codes "shutdown") then Some Shutdown
+    else None
+
+-- the method of a name
+abbrev pub method_named : List ℕ → Option Method
+method_named name =
+    if bytes_eq name (codes "load") then Some Load
+    else if bytes_eq name (codes "insert") then Some Insert
+    else if bytes_eq name (codes "delete") then Some Delete
+    else if bytes_eq name (codes "replace") then Some Replace
+    else if bytes_eq name (codes "group") then Some Group
+    else if bytes_eq name (codes "mark") then Some Mark
+    else if bytes_eq name (codes "units") then Some Units
+    else if bytes_eq name (codes "text") then Some Text
+    else if bytes_eq name (codes "find") then Some Find
+    else if bytes_eq name (codes "show") then Some Show
+    else method_of_pictures name
+
+-- a method about jobs, which workers take where there are some
+abbrev pub is_of_jobs : Method → Bool
+is_of_jobs Take = true
+is_of_jobs Land = true
+is_of_jobs GiveBack = true
+is_of_jobs _ = false
+
+-- a method that takes any parameters, a list too
+abbrev pub takes_any : Method → Bool
+takes_any Initialize = true
+takes_any _ = false
+
+-- the methods that there are, where those about jobs are there or not
+abbrev pub methods : Bool → List Method
+methods true =
+    Initialize ∷ Load ∷ Insert ∷ Delete ∷ Replace ∷ Group ∷ Mark ∷ Units ∷ Text ∷ Find ∷ Show ∷ Want ∷ Drop ∷ Take ∷ Land
+    ∷ GiveBack ∷ Journal ∷ Stats ∷ Shutdown ∷ []
+methods false =
+    Initialize ∷ Load ∷ Insert ∷ Delete ∷ Replace ∷ Group ∷ Mark ∷ Units ∷ Text ∷ Find ∷ Show ∷ Want ∷ Drop ∷ Journal
+    ∷ Stats ∷ Shutdown ∷ []
+
+-- the first parameter of a method
+abbrev pub first_parameter : Method → Option Parameter
+first_parameter Initialize = None
+first_parameter Load = Some parameter.Path
+first_parameter Insert = Some parameter.After
+first_parameter Delete = Some parameter.Id
+first_parameter Replace = Some parameter.Id
+first_parameter Group = Some parameter.Edits
+first_parameter Mark = None
+first_parameter Units = Some parameter.From
+first_parameter Text = Some parameter.Id
+first_parameter Find = Some parameter.Position
+first_parameter Show = Some parameter.Id
+first_parameter Want = Some parameter.Ids
+first_parameter Drop = Some parameter.Id
+first_parameter Take = Some parameter.Id
+first_parameter Land = Some parameter.Job
+first_parameter GiveBack = Some parameter.Job
+first_parameter Journal = Some parameter.From
+first_parameter Stats = None
+first_parameter Shutdown = None

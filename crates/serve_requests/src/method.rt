@@ -1,0 +1,140 @@
+//! The methods of the server.
+
+ghost use Rattle.std.specs.Prelude.{◌≡◌, IfOk};
+ghost use Rattle.serve_requests.specs.Methods.{first_parameter, is_of_jobs, method_named, method_of_pictures, methods, takes_any};
+
+use crate::listed::Listed;
+use crate::parameter::Parameter;
+use serde::Serialize;
+use std::alloc::{AllocError, Global};
+
+/// A method.
+#[derive(Clone, Copy, Debug, PartialEq, Eq, Serialize)]
+#[serde(rename_all = "snake_case")]
+pub enum Method {
+    Initialize,
+    Load,
+    Insert,
+    Delete,
+    Replace,
+    Group,
+    Mark,
+    Units,
+    Text,
+    Find,
+    Show,
+    Want,
+    Drop,
+    Take,
+    Land,
+    GiveBack,
+    Journal,
+    Stats,
+    Shutdown,
+}
+
+impl Method {
+    /// The method of this name, if there is one.
+    pub fn named(name: &str) -> Option<Method>
+        ensures { result ≡ method_named name.now }
+    {
+        match name {
+            "load" => Some(Method::Load),
+            "insert" => Some(Method::Insert),
+            "delete" => Some(Method::Delete),
+            "replace" => Some(Method::Replace),
+            "group" => Some(Method::Group),
+            "mark" => Some(Method::Mark),
+            "units" => Some(Method::Units),
+            "text" => Some(Method::Text),
+            "find" => Some(Method::Find),
+            "show" => Some(Method::Show),
+            _ => Method::named_of_pictures(name),
+        }
+    }
+
+    /// The method of this name among those that bring pictures or tell of the server.
+    fn named_of_pictures(name: &str) -> Option<Method>
+        ensures { result ≡ method_of_pictures name.now }
+    {
+        match name {
+            "initialize" => Some(Method::Initialize),
+            "want" => Some(Method::Want),
+            "drop" => Some(Method::Drop),
+            "take" => Some(Method::Take),
+            "land" => Some(Method::Land),
+            "give_back" => Some(Method::GiveBack),
+            "journal" => Some(Method::Journal),
+            "stats" => Some(Method::Stats),
+            "shutdown" => Some(Method::Shutdown),
+            _ => None,
+        }
+    }
+
+    /// Whether it is about jobs, which workers take where there are some.
+    pub fn is_of_jobs(self) -> bool
+        ensures { result ≡ is_of_jobs self }
+    {
+        match self {
+            Method::Take | Method::Land | Method::GiveBack => true,
+            _ => false,
+        }
+    }
+
+    /// Whether it takes any parameters, a list too.
+    pub(crate) fn takes_any(self) -> bool
+        ensures { result ≡ takes_any self }
+    {
+        match self {
+            Method::Initialize => true,
+            _ => false,
+        }
+    }
+
+    /// The methods that there are, with those about jobs or without.
+    pub fn all(alloc: Global, has_jobs: bool) -> Result<Listed<Method>, AllocError>
+        ensures { IfOk result (λ them. them ≡ methods has_jobs) }
+    {
+        let mut methods = vec![in alloc;
+            Method::Initialize,
+            Method::Load,
+            Method::Insert,
+            Method::Delete,
+            Method::Replace,
+            Method::Group,
+            Method::Mark,
+            Method::Units,
+            Method::Text,
+            Method::Find,
+            Method::Show,
+            Method::Want,
+            Method::Drop,
+        ]?;
+        if has_jobs {
+            methods.push(Method::Take)?;
+            methods.push(Method::Land)?;
+            methods.push(Method::GiveBack)?;
+        }
+        methods.push(Method::Journal)?;
+        methods.push(Method::Stats)?;
+        methods.push(Method::Shutdown)?;
+        Ok(Listed::new(methods))
+    }
+
+    /// Its first parameter, if it has any.
+    pub(crate) fn first_parameter(self) -> Option<Parameter>
+        ensures { result ≡ first_parameter self }
+    {
+        match self {
+            Method::Load => Some(Parameter::Path),
+            Method::Insert => Some(Parameter::After),
+            Method::Group => Some(Parameter::Edits),
+            Method::Units | Method::Journal => Some(Parameter::From),
+            Method::Find => Some(Parameter::Position),
+            Method::Want => Some(Parameter::Ids),
+            Method::Land | Method::GiveBack => Some(Parameter::Job),
+            Method::Initialize | Method::Mark | Method::Stats | Method::Shutdown => None,
+            _ => Some(Parameter::Id),
+        }
+    }
+}

@@ -26,7 +26,7 @@ loop-value-preserved g c = λ rest new wants left.
       whole.0,
       whole.1,
       whole.2 ∙ or_assoc c.loop-value.is_last one.0.is_last (end_any rest)
-          ∙ ap (λ is. (c.loop-value.is_last || is) || end_any rest) (sym one.2) ∙ ap (λ is. is || end_any rest) (sym c.either.ensures),
+          ∙ ap (λ is. (c.loop-value.is_last || is) || end_any rest) (sym one.2) ∙ ap (λ is. is || end_any rest) (sym c.either-is_last.ensures),
     )
 
 pub returns : goal.returns

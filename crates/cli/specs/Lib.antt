@@ -1,4 +1,3 @@
 pub mod Bounds
 pub mod CommandLine
 pub mod Programs
-pub mod Reasons

@@ -14,7 +14,6 @@ mod marked;
 mod mending;
 mod needed;
 mod plans;
-mod reasons;
 mod refused;
 mod script_faults;
 mod scripts;

@@ -19,6 +19,3 @@ pub use edit_history::NotUndone;
 pub use prepared::{PreparedEdit, PreparedGroup, Step};
 pub use undo_redo::UndoRedo;
 pub use unit_texts::UnitTexts;
-
-#[cfg(test)]
-mod tests;

@@ -6,7 +6,6 @@ pub mod Jobs
 pub mod Lists
 pub mod Loading
 pub mod Requests
-pub mod Resetting
 pub mod Sessions
 pub mod Sums
 pub mod Taking

@@ -65,8 +65,6 @@ pub enum Call {
     },
     /// How much there is of what the server keeps.
     Stats,
-    /// That all is as at the beginning.
-    Reset,
     /// The end.
     Shutdown,
 }
@@ -130,7 +128,6 @@ pub(crate) fn call_with(
         Method::GiveBack => Ok(Call::GiveBack(number(parameters, Parameter::Job)?)),
         Method::Journal => Ok(journal(parameters)?),
         Method::Stats => Ok(Call::Stats),
-        Method::Reset => Ok(Call::Reset),
         Method::Shutdown => Ok(Call::Shutdown),
     }
 }

@@ -6,7 +6,7 @@
 //! picture. `serde` and `serde_json` write it, by the encoder `Json`; what prints lines is generic
 //! over the `Encoder`. `plan_json_for` reads a whole input, has its access units read in threads and
 //! folded by request_core, and writes the line of each, or that of the stream's refusal. Above are
-//! script_run, serve_messages and cli.
+//! script_run, serve_answers and cli.
 #![tactic(auto)]
 
 mod decode_mode;

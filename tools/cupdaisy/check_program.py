@@ -1,4 +1,5 @@
 """Checks the built program at its edge: statuses, streams, files, and what can fail there."""
+import errno
 import os
 import pathlib
 import re
@@ -221,11 +222,22 @@ def check_files(it):
     it.expect("plan of a picture without its sets", it.run("plan", "-", text=IDR), 0, b"unit 1 fault 1 MissingPps\n")
 
 
+# Names that can't be read, each with the error of the system.
+UNREAD = (("nowhere", errno.ENOENT), ("folder", errno.EISDIR), ("folder/nowhere", errno.ENOENT), ("clock.264/nowhere", errno.ENOTDIR),
+          ("no where", errno.ENOENT), ("n\u00f6where", errno.ENOENT), ("n" * 300, errno.ENAMETOOLONG))
+
+
+def unread(name, number, see=True):
+    """What is told of a file that can't be read, and why; of a script there is no check."""
+    words = f"{name}: {os.strerror(number)} (os error {number})" + (f"; see: preview check {name}" if see else "")
+    return f"cannot read {name}\n{words}\n".encode()
+
+
 def check_unread(it):
-    """Inputs that can't be read: a message with the name, status 1, and no lines but those of commands before."""
-    for name in ("nowhere", "folder", "folder/nowhere", "clock.264/nowhere", "no where", "n\u00f6where", "n" * 300):
+    """Inputs that can't be read: a message with the name and the reason, status 1, and no lines but those of commands before."""
+    for name, number in UNREAD:
         for command in ("plan", "draw", "run", "audit"):
-            it.expect(f"{command} {name}", it.run(command, name), 1, b"", f"cannot read {name}\n".encode())
+            it.expect(f"{command} {name}", it.run(command, name), 1, b"", unread(name, number, command in ("plan", "draw")))
         if " " not in name:
             script, told = f"load clock.264\nload {name}\nshow 1\n".encode(), f"cannot read {name}\n".encode()
             for words, lines in ((["run"], b"loaded 12\n"), (["run", "--workers", "2"], b"loaded 12\n"), (["audit"], b"")):
@@ -253,7 +265,42 @@ def check_permission(it):
         return
     for command in ("plan", "draw", "run"):
         ran = it.run(command, "secret", before=before)
-        it.expect(f"{command} of a file that may not be read", ran, 1, b"", b"cannot read secret\n")
+        it.expect(f"{command} of a file that may not be read", ran, 1, b"", unread("secret", errno.EACCES, command != "run"))
+
+
+# Files that are no streams, and what they are; scripts, what of them is no command, and why.
+OTHERS = (("text", "text"), ("film", "an MP4 or MOV file, a container"), ("empty", "an empty file"))
+FAULTS = (("run", "undone.script", 2, 'no command "undo"'), ("run", "want.script", 1, "want takes ids of units, and is for runs beside workers"),
+          ("audit", "mark.script", 1, "mark takes nothing, and is for run without workers"))
+
+
+def check_reasons(it):
+    """Behind a refusal of a file, and a fault of a script, standard error says why, where it can be read twice."""
+    for name, text in (("film", bytes((0, 0, 0, 24)) + b"ftypmp42" + bytes(12)), ("empty", b""), ("cut.264", CLOCK + bytes((0, 0, 1, 0xE7))),
+                       ("undone.script", b"load clock.264\nundo\n"), ("want.script", b"want 1\n"), ("mark.script", b"mark\n"),
+                       ("lost.script", b"load text\nload nowhere\nload film\n"),
+                       ("refused.script", b"load text\nload clock.264\nload cut.264\n")):
+        it.write(name, text)
+    for name, sentence in OTHERS:
+        told = f"{name}: {sentence}, not a byte stream of H.264 (Annex B); see: preview check {name}\n".encode()
+        for words, refused in ((["plan"], b"refused 1 Split\n"), (["draw"], b"refused 1 Split\n"),
+                               (["plan", "--json"], b'{"refused":{"number":1,"name":"Split"}}\n')):
+            it.expect(f"{words} {name}", it.run(*words, name), 1, refused, told)
+    cut = (b"cut.264: access unit at index 12: forbidden_zero_bit of a NAL unit is 1: it is damaged (7.4.1); "
+           b"see: preview check cut.264\n")
+    it.expect("plan cut.264", it.run("plan", "cut.264"), 1, b"unit 12 refused 3 ForbiddenBit\n", cut)
+    it.expect("plan of a pipe", it.run("plan", "/dev/stdin", text=b"stream"), 1, b"refused 1 Split\n")
+    for command, script, line, why in FAULTS:
+        told = f"script fault at line {line}\nline {line}: {why}\n".encode()
+        it.expect(f"{command} {script}", it.run(command, script), 1, b"", told)
+    told = b"script fault at line 1\nline 1: load takes the path of a file, and is no edit\n"
+    it.expect("draw after a script that loads", it.run("draw", "clock.264", "--edits", "lost.script"), 1, b"", told)
+    told = b"text: text, not a byte stream of H.264 (Annex B); see: preview check text\n"
+    ran = it.run("run", "lost.script")
+    missing, why = unread("nowhere", errno.ENOENT).split(b"\n", 1)
+    it.expect("run lost.script", ran, 1, b"refused 1 Split\n", missing + b"\n" + told + why)
+    ran = it.run("run", "refused.script")
+    it.expect("run refused.script", ran, 0, b"refused 1 Split\nloaded 12\nunit 12 refused 3 ForbiddenBit\n", told + cut)
 
 
 def check_scripts(it):
@@ -291,17 +338,18 @@ def check_scripts(it):
 
 
 def check_outputs(it):
-    """An output that can't be written: status 1, and no word."""
+    """An output that can't be written: status 1, and no word of that; why a file is refused is told all the same."""
     for words in (["plan", "clock.264"], ["run", "script"], ["run", "--workers", "2", "jobs.script"],
                   ["audit", "jobs.script"], ["plan", "text"], ["draw", "clock.264"], ["--help"], ["--version"]):
         what = " ".join(words)
+        told = b"text: text, not a byte stream of H.264 (Annex B); see: preview check text\n" if "text" in words else b""
         with open("/dev/full", "wb") as full:
-            it.expect(f"{what} to a full disk", it.run(*words, stdout=full), 1)
+            it.expect(f"{what} to a full disk", it.run(*words, stdout=full), 1, b"", told)
         reader, writer = os.pipe()
         os.close(reader)
-        it.expect(f"{what} to a closed pipe", it.run(*words, stdout=writer), 1)
+        it.expect(f"{what} to a closed pipe", it.run(*words, stdout=writer), 1, b"", told)
         os.close(writer)
-        it.expect(f"{what} with a closed output", it.run(*words, preexec_fn=lambda: os.close(1)), 1)
+        it.expect(f"{what} with a closed output", it.run(*words, preexec_fn=lambda: os.close(1)), 1, b"", told)
     expect_cut(it, "plan", "long.264")
     expect_cut(it, "run", "long.script")
     expect_cut(it, "run", "--workers", "4", "long.seat.script")
@@ -406,8 +454,8 @@ def main(doc):
                            ("memory.script", b"load zoom.264\nunit 1\n"),
                            ("jobs.script", b"load zoom.264\nsettle\nshow 1\n")):
             it.write(name, text)
-        for check in (check_command_line, check_completions, check_files, check_unread, check_permission, check_scripts, check_outputs,
-                      check_memory):
+        for check in (check_command_line, check_completions, check_files, check_unread, check_permission, check_scripts, check_reasons,
+                      check_outputs, check_memory):
             check(it)
     print(f"{it.runs} runs, {it.failures} failures")
     return 1 if it.failures else 0

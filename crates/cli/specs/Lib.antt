@@ -1,3 +1,4 @@
 pub mod Bounds
 pub mod CommandLine
 pub mod Programs
+pub mod Reasons

@@ -5,11 +5,13 @@
 //! them: help, the version, or what is wrong (docs/OUTPUT.md has the forms). `run` does what the
 //! process's words ask for, and `run_on` what given words ask for: a plan (plan_stream, unit_json),
 //! a stream mended (mend_run), a drawing (draw_run), a script in one thread (script_run) or
-//! beside workers (shared_run), an audit (shared_run), or a server (serve_run). What opens, is read
+//! beside workers (shared_run), an audit (shared_run), or a server (serve_run). `explain` says in
+//! words, behind a failure, why files and scripts weren't taken (failure_reasons). What opens, is read
 //! and is written is generic. Above is preview, which has the process's own.
 #![tactic(auto)]
 
 mod asked;
+mod explaining;
 mod named_texts;
 mod parsing;
 mod planning;
@@ -19,5 +21,6 @@ mod serving;
 mod serving_args;
 
 pub use asked::{Asked, MOST_WORKERS, Serving, Workers};
+pub use explaining::explain;
 pub use parsing::{parse, words};
 pub use running::{run, run_on};

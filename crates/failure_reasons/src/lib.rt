@@ -4,7 +4,7 @@
 //! one can't be read, or why its stream or its script isn't taken; where nothing is known, or there is
 //! no memory for it, they have no line. Files are opened by `Again`, which opens nothing that can't be
 //! read twice. `Watched` notes whether a refusal was printed, of which there is something to say.
-//! Below are file_reasons and script_reasons, which have the words; no program uses it yet.
+//! Below are file_reasons and script_reasons, which have the words; above is cli.
 #![tactic(auto)]
 
 mod again;

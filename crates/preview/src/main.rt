@@ -7,13 +7,17 @@
 //! and each question is answered, in one thread (script_run) or beside workers that decode
 //! (shared_run); `preview audit SCRIPT` says whether the book of such a run agrees with its journal
 //! (shared_run). docs/OUTPUT.md has the lines and the statuses. What the words ask for is read by
-//! cli and done by cli; this crate hands them the process's own words, files and streams.
+//! cli and done by cli, which says behind it why files weren't taken; this crate hands it the
+//! process's own words, files and streams.
 #![tactic(auto)]
 
+use console_io::Status;
+use failure_reasons::Watched;
+use std::io::Stderr;
 use std::process::ExitCode;
 
 fn main(rt: HostRuntime) -> ExitCode {
-    let (mut output, mut errors) = (rt.stdout(), rt.stderr());
+    let (mut output, mut errors) = (Watched::new(rt.stdout()), rt.stderr());
     let words = cli::words(&rt);
     let ended = cli::run(
         &rt,
@@ -24,5 +28,15 @@ fn main(rt: HostRuntime) -> ExitCode {
         &mut output,
         &mut errors,
     );
+    if ended.status == Status::Failure || output.has_refusal() {
+        explain(&rt, &mut errors);
+    }
     ended.status.exit_code()
+}
+
+/// Says why what the process's words name wasn't taken, where that is known.
+fn explain(rt: &HostRuntime, errors: &mut Stderr) {
+    if let Ok(words) = cli::words(rt) {
+        let _told = cli::explain(rt.alloc(), words.as_slice(), rt, errors);
+    }
 }

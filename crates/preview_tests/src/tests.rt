@@ -14,6 +14,7 @@ mod marked;
 mod mending;
 mod needed;
 mod plans;
+mod reasons;
 mod refused;
 mod script_faults;
 mod scripts;

@@ -1,12 +1,15 @@
 """Checks the built program at its edge: statuses, streams, files, and what can fail there."""
+import contextlib
 import errno
 import os
 import pathlib
+import pty
 import re
 import resource
 import shutil
 import subprocess
 import tempfile
+import tty
 
 from cupdaisy import processes
 from cupdaisy.command_line import parser_of
@@ -295,12 +298,17 @@ def check_reasons(it):
         it.expect(f"{command} {script}", it.run(command, script), 1, b"", told)
     told = b"script fault at line 1\nline 1: load takes the path of a file, and is no edit\n"
     it.expect("draw after a script that loads", it.run("draw", "clock.264", "--edits", "lost.script"), 1, b"", told)
-    told = b"text: text, not a byte stream of H.264 (Annex B); see: preview check text\n"
+    told = b"text: a text file, not a byte stream of H.264 (Annex B); see: preview check text\n"
     ran = it.run("run", "lost.script")
     missing, why = unread("nowhere", errno.ENOENT).split(b"\n", 1)
     it.expect("run lost.script", ran, 1, b"refused 1 Split\n", missing + b"\n" + told + why)
     ran = it.run("run", "refused.script")
     it.expect("run refused.script", ran, 0, b"refused 1 Split\nloaded 12\nunit 12 refused 3 ForbiddenBit\n", told + cut)
+    loads = b"".join(b'{"jsonrpc":"2.0","id":1,"method":"load","params":{"path":"%s"}}\n' % name
+                     for name in (b"text", b"clock.264", b"cut.264", b"nowhere"))
+    for workers in "0", "2":
+        it.expect(f"serve of loads, {workers} workers", it.run("serve", "--workers", workers, text=loads), 0,
+                  lambda text: [line.count(b'"error"') for line in text.splitlines()] == [1, 0, 1, 1], told + cut + why)
 
 
 def check_scripts(it):
@@ -342,7 +350,7 @@ def check_outputs(it):
     for words in (["plan", "clock.264"], ["run", "script"], ["run", "--workers", "2", "jobs.script"],
                   ["audit", "jobs.script"], ["plan", "text"], ["draw", "clock.264"], ["--help"], ["--version"]):
         what = " ".join(words)
-        told = b"text: text, not a byte stream of H.264 (Annex B); see: preview check text\n" if "text" in words else b""
+        told = b"text: a text file, not a byte stream of H.264 (Annex B); see: preview check text\n" if "text" in words else b""
         with open("/dev/full", "wb") as full:
             it.expect(f"{what} to a full disk", it.run(*words, stdout=full), 1, b"", told)
         reader, writer = os.pipe()
@@ -353,6 +361,30 @@ def check_outputs(it):
     expect_cut(it, "plan", "long.264")
     expect_cut(it, "run", "long.script")
     expect_cut(it, "run", "--workers", "4", "long.seat.script")
+
+
+def check_terminals(it):
+    """On a terminal the same is written as to a pipe, also where colour is asked for: there is none, so that NO_COLOR changes nothing."""
+    for words in (["check", "clock.264"], ["check", "text"], ["plan", "clock.264"], ["plan", "text"], ["run", "script"], ["--help"], ["bogus"]):
+        piped = it.run(*words)
+        for more in ({}, {"NO_COLOR": "1"}, {"TERM": "xterm-256color", "CLICOLOR_FORCE": "1"}):
+            it.expect(f"{words} on a terminal with {more}", on_terminal(it, words, more), piped.status, piped.output + piped.errors)
+
+
+def on_terminal(it, words, more):
+    """A run whose outputs are both a terminal that changes no byte, and what was written there."""
+    ours, theirs = pty.openpty()
+    tty.setraw(theirs)
+    child = subprocess.Popen([it.program, *words], cwd=it.folder, stdin=subprocess.DEVNULL, stdout=theirs, stderr=theirs,
+                             env={**os.environ, **more})
+    os.close(theirs)
+    written = b""
+    # (reading fails once the program has closed its side)
+    with contextlib.suppress(OSError):
+        while part := os.read(ours, STEP):
+            written += part
+    os.close(ours)
+    return Ran(child.wait(SECONDS), written, b"")
 
 
 def expect_cut(it, *words):
@@ -455,7 +487,7 @@ def main(doc):
                            ("jobs.script", b"load zoom.264\nsettle\nshow 1\n")):
             it.write(name, text)
         for check in (check_command_line, check_completions, check_files, check_unread, check_permission, check_scripts, check_reasons,
-                      check_outputs, check_memory):
+                      check_outputs, check_terminals, check_memory):
             check(it)
     print(f"{it.runs} runs, {it.failures} failures")
     return 1 if it.failures else 0

@@ -4,10 +4,12 @@
 //! one can't be read, or why its stream or its script isn't taken; where nothing is known, or there is
 //! no memory for it, they have no line. Files are opened by `Again`, which opens nothing that can't be
 //! read twice. `Watched` notes whether a refusal was printed, of which there is something to say.
-//! Below are file_reasons and script_reasons, which have the words; above is cli.
+//! `Explain` says why a file isn't taken while a server goes on.
+//! Below are file_reasons and script_reasons, which have the words; above are serve_run and cli.
 #![tactic(auto)]
 
 mod again;
+mod explain;
 mod loads;
 mod noted;
 mod scripts;
@@ -16,6 +18,7 @@ mod unread;
 mod watched;
 
 pub use again::Again;
+pub use explain::Explain;
 pub use script_reasons::ScriptKind;
 pub use scripts::{edited_lines, script_lines};
 pub use streams::stream_lines;

@@ -16,17 +16,19 @@ use crate::end::ServeEnd;
 use crate::lines::{Line, Lines, MOST_BYTES};
 use crate::pen::{Fault, Pen};
 use console_io::Source;
+use failure_reasons::Explain;
 use serde_json::{Category, Error, Value};
+use serve_answers::Answer;
 use serve_calls::{Alone, Backend, OUT_OF_MEMORY, Server, WantedUnit};
-use serve_requests::{Failure, Message};
+use serve_requests::{Failure, Message, Refusal, Request};
 use std::alloc::Global;
 use std::io::{ErrorKind, Read, Write};
 use std::slice;
 use std::thread::Threads;
 
 /// Serves the messages of an input with a session alone, in this thread. The files that are loaded
-/// are the source's.
-pub fn serve_alone<R: Threads + Sync, I: Read + Drop, S: Source + Drop, W: Write>(
+/// are the source's, which says beside the answer why it isn't taken of one that isn't.
+pub fn serve_alone<R: Threads + Sync, I: Read + Drop, S: Source + Explain + Drop, W: Write>(
     rt: &R,
     alloc: Global,
     cache: u16,
@@ -51,7 +53,7 @@ pub fn serve_alone<R: Threads + Sync, I: Read + Drop, S: Source + Drop, W: Write
 }
 
 /// Reads the next message and serves it; or how the server ends.
-fn serve_next<R: Threads + Sync, B: Backend, I: Read + Drop, S: Source, W: Write>(
+fn serve_next<R: Threads + Sync, B: Backend, I: Read + Drop, S: Source + Explain, W: Write>(
     rt: &R,
     server: &mut Server<B, S>,
     pen: &mut Pen<W>,
@@ -64,7 +66,7 @@ fn serve_next<R: Threads + Sync, B: Backend, I: Read + Drop, S: Source, W: Write
 }
 
 /// Serves a line; or how the server ends.
-pub(crate) fn serve_line<R: Threads + Sync, B: Backend, S: Source, W: Write>(
+pub(crate) fn serve_line<R: Threads + Sync, B: Backend, S: Source + Explain, W: Write>(
     rt: &R,
     server: &mut Server<B, S>,
     pen: &mut Pen<W>,
@@ -79,7 +81,7 @@ pub(crate) fn serve_line<R: Threads + Sync, B: Backend, S: Source, W: Write>(
 }
 
 /// Serves the message of this text; or how the server ends.
-fn serve_text<R: Threads + Sync, B: Backend, S: Source, W: Write>(
+fn serve_text<R: Threads + Sync, B: Backend, S: Source + Explain, W: Write>(
     rt: &R,
     server: &mut Server<B, S>,
     pen: &mut Pen<W>,
@@ -95,7 +97,7 @@ fn serve_text<R: Threads + Sync, B: Backend, S: Source, W: Write>(
 }
 
 /// Serves the messages of a value and answers them; or how the server ends.
-fn serve_value<R: Threads + Sync, B: Backend, S: Source, W: Write>(
+fn serve_value<R: Threads + Sync, B: Backend, S: Source + Explain, W: Write>(
     rt: &R,
     server: &mut Server<B, S>,
     pen: &mut Pen<W>,
@@ -161,7 +163,7 @@ fn some_or<'a>(values: &'a [Value], none: &'a Value) -> &'a [Value]
 
 /// Serves messages one after the other: whether one of them asks for the end. Their answers are
 /// added to those of the line.
-fn serve_all<R: Threads + Sync, B: Backend, S: Source>(
+fn serve_all<R: Threads + Sync, B: Backend, S: Source + Explain>(
     rt: &R,
     server: &mut Server<B, S>,
     wanted: &mut Vec<WantedUnit>,
@@ -189,7 +191,7 @@ fn either(first: bool, second: bool) -> bool
 }
 
 /// Serves a message: whether it asks for the end. Its answer is added to those of the line.
-fn serve_one<R: Threads + Sync, B: Backend, S: Source>(
+fn serve_one<R: Threads + Sync, B: Backend, S: Source + Explain>(
     rt: &R,
     server: &mut Server<B, S>,
     wanted: &mut Vec<WantedUnit>,
@@ -206,8 +208,37 @@ fn serve_one<R: Threads + Sync, B: Backend, S: Source>(
     if let Some(id) = answered_id(&message) {
         answers.add(id, &served.answer);
     }
+    if let Some(name) = untaken_file(&message, &served.answer) {
+        server.source.explain(server.alloc, name);
+    }
     let_go(message);
     served.is_last
+}
+
+/// The name of the file that a message asked to load, where it isn't taken as a stream.
+fn untaken_file<'a>(
+    message: &Message<'a>,
+    answer: &Result<Answer, Failure>,
+) -> Option<&'a str> {
+    match (message, answer) {
+        (Message::Request(request), Err(Failure::Refused(refusal))) if is_untaken(*refusal) => {
+            loaded_file(request)
+        }
+        _ => None,
+    }
+}
+
+/// Whether a file is refused so that can't be read, or isn't taken as a stream.
+fn is_untaken(refusal: Refusal) -> bool {
+    matches!(refusal, Refusal::CannotRead | Refusal::Stream(_))
+}
+
+/// The name of the file that a request asks to load, if it does.
+fn loaded_file<'a>(request: &Request<'a>) -> Option<&'a str> {
+    match (request.method, request.parameters) {
+        ("load", Some(parameters)) => parameters.get("path").and_then(Value::as_str),
+        _ => None,
+    }
 }
 
 /// Lets a message go that was served.

@@ -7,6 +7,7 @@ mod ends;
 mod errors;
 
 use console_io::{InputFault, Source};
+use failure_reasons::Explain;
 use serve_run::{ServeEnd, serve_alone};
 use std::alloc::{AllocError, Global};
 use std::process::Abort;
@@ -36,6 +37,11 @@ impl Source for OneFile {
         }
         Err(InputFault::Unread)
     }
+}
+
+impl Explain for OneFile {
+    // Nobody is told.
+    fn explain(&self, _alloc: Global, _name: &str) {}
 }
 
 /// The messages of rows, each on a line.

@@ -5,6 +5,7 @@ use super::{A, LINES_OF_A, P1, row_holds};
 use Status::{Failure, Success, Usage};
 use cli::{run, run_on};
 use console_io::{Directory, Ended, PrintFault, Status};
+use failure_reasons::Explain;
 use std::alloc::{AllocError, Global};
 use std::io;
 use std::io::{ErrorKind, Read};
@@ -49,6 +50,11 @@ impl Directory for Folder {
         };
         Ok(Text { left })
     }
+}
+
+impl Explain for Folder {
+    // Nobody is told.
+    fn explain(&self, _alloc: Global, _name: &str) {}
 }
 
 /// What a run on the words after the program's name writes on its output and on standard error.

@@ -59,7 +59,7 @@ const CUT: &[u8] = &[
 /// A script that loads a text, a stream, a file that isn't there, and the text once more.
 const LOADS: &[u8] = b"load text\nload a.264\nshow 1\nload nowhere\nload text\n";
 
-const OF_TEXT: &str = "text: text, not a byte stream of H.264 (Annex B); see: preview check text\n";
+const OF_TEXT: &str = "text: a text file, not a byte stream of H.264 (Annex B); see: preview check text\n";
 
 const OF_MARK: &str = "line 1: mark takes nothing, and is for run without workers\n";
 
@@ -107,7 +107,7 @@ see: preview check cut.264\n",
     (&["audit", "mark.script"], OF_MARK),
     (
         &["run", "loads.script"],
-        "text: text, not a byte stream of H.264 (Annex B); see: preview check text\n\
+        "text: a text file, not a byte stream of H.264 (Annex B); see: preview check text\n\
 nowhere: entity not found; see: preview check nowhere\n",
     ),
     (&["draw", "a.264", "--edits", "mark.script"], OF_MARK),

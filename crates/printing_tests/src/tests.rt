@@ -3,6 +3,7 @@ mod cropping;
 mod drawing;
 mod json;
 mod kinds;
+mod plan_lines;
 mod plans_json;
 mod reasons;
 mod window;

@@ -3,8 +3,8 @@
 
     preview_client.py PROGRAM STREAM
 
-It starts the server, loads the stream, shows where an edit leads, and waits for pictures that become ready. The messages are
-those of docs/SERVER.md.
+It starts the server, loads the stream without what no command reads, shows where an edit leads, and waits for pictures that
+become ready. The messages are those of docs/SERVER.md.
 """
 import base64
 import json
@@ -79,7 +79,9 @@ def main():
     program, stream = sys.argv[1:]
     with Preview(program, "--workers", "2") as preview:
         with open(stream, "rb") as file:
-            loaded = preview.call("load", bytes=text_of(file.read()))
+            loaded = preview.call("load", bytes=text_of(file.read()), mend=True)
+        for part in loaded["left_out"]:
+            print("byte {byte}: left out {bytes} bytes: {why}".format(**part))
         print(f"{loaded['units']} units")
         ids = list(range(loaded["first"], min(loaded["last"], loaded["first"] + 7) + 1))
         before = pictures_of(preview, ids)

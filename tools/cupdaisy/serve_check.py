@@ -7,7 +7,7 @@ import random
 import subprocess
 import threading
 
-from cupdaisy import processes, serve_model
+from cupdaisy import check_mend, processes, serve_model
 from cupdaisy.command_line import add_numbers, parser_of
 from cupdaisy.program import program
 from cupdaisy.session import Open
@@ -153,7 +153,9 @@ class Drawn:
 
     def load(self):
         units = self.texts[:self.rng.randint(1, 4)] if len(self.model.session.stream) < 40 else []
-        return {"bytes": text_of(b"".join(units))} if self.rng.random() < 0.7 else {"path": "missing"}
+        text = b"".join(units) if self.rng.random() < 0.5 else check_mend.drawn(self.rng.randrange(1 << 30), b"".join(units))
+        source = {"bytes": text_of(text)} if self.rng.random() < 0.8 else {"path": "missing"}
+        return source | self.rng.choice(({}, {}, {"mend": False}, {"mend": True}, {"mend": True}, {"mend": 1}))
 
     def wrong(self):
         return self.rng.choice(({"method": "sow"}, {"method": 1}, {"method": "find", "params": []}, {"method": "show", "params": [1]},

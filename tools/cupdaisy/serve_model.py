@@ -10,17 +10,17 @@ import re
 from typing import NamedTuple
 from unittest.mock import ANY
 
-from cupdaisy import doubts, session, streams, syntax
+from cupdaisy import doubts, mending, session, streams, syntax
 from cupdaisy.fold import Empty, Plan
 
-MOST_LINE, MOST_TOLD, MOST_WANTED, MOST_NUMBER, MOST_DEPTH = 64 << 20, 1000, 64, 1 << 64, 127
+MOST_LINE, MOST_TOLD, MOST_LEFT_OUT, MOST_WANTED, MOST_NUMBER, MOST_DEPTH = 64 << 20, 1000, 1000, 64, 1 << 64, 127
 MESSAGES = {-32700: "Parse error", -32600: "Invalid Request", -32601: "Method not found", -32602: "Invalid params"}
 JOBS = "take", "land", "give_back"
 FIRST = {"initialize": None, "load": "path", "insert": "after", "delete": "id", "replace": "id", "group": "edits", "mark": None,
          "units": "from", "text": "id", "find": "position", "show": "id", "want": "ids", "drop": "id", "take": "id", "land": "job",
          "give_back": "job", "journal": "from", "stats": None, "shutdown": None}
 LIMITS = {"units": session.MOST_UNITS, "unit_bytes": 4194304, "slices": 256, "group": session.MOST_EDITS, "wanted": MOST_WANTED,
-          "count": MOST_TOLD, "message_bytes": MOST_LINE}
+          "count": MOST_TOLD, "left_out": MOST_LEFT_OUT, "message_bytes": MOST_LINE}
 REASONS = {
     1: "the bytes don't begin with a start code, or a NAL unit is empty or has bytes that none may have (B.1, 7.4.1)",
     2: "a NAL unit is of a type that isn't read: data partitions, a subset SPS, a prefix, or slices of other views or layers "
@@ -46,6 +46,7 @@ REASONS = {
     23: "the file can't be read",
     24: "all numbers of jobs were given",
 }
+LEFT_OUT = re.compile(r"byte (\d+): left out (\d+) bytes: (.*)\n")
 NUMBER = re.compile(r"-?(0|[1-9][0-9]*)(\.[0-9]+)?([eE][+-]?[0-9]+)?")
 
 
@@ -268,15 +269,14 @@ class Server:
     def load(self, parameters):
         if ("path" in parameters.values) == ("bytes" in parameters.values):
             raise Failed(-32602, data="path")
-        if "bytes" in parameters.values:
-            return self.load_text(parameters.bytes("bytes"))
-        path = parameters.read("path", lambda value: isinstance(value, str))
-        try:
-            with open(path.encode(), "rb") as file:
-                text = file.read()
-        except (OSError, ValueError):
-            raise Failed(23, "CannotRead") from None
-        return self.load_text(text)
+        is_file = "path" in parameters.values
+        given = parameters.read("path", lambda value: isinstance(value, str)) if is_file else parameters.bytes("bytes")
+        mend = parameters.flag("mend", False)
+        text = whole_file(given) if is_file else given
+        if not mend:
+            return self.load_text(text)
+        stays, lines = mending.mended(text)
+        return self.load_text(stays) | {"left_out": left_out(lines)[:MOST_LEFT_OUT]}
 
     def load_text(self, text):
         try:
@@ -414,6 +414,19 @@ def told_edit(edit):
     text = base64.b64encode(edit[-1]).decode()
     return {"replace": {"id": edit[1], "bytes": text}} if edit[0] == "replace" \
         else {"insert": {"after": edit[1] if edit[0] == "after" else None, "bytes": text}}
+
+
+def whole_file(path):
+    try:
+        with open(path.encode(), "rb") as file:
+            return file.read()
+    except (OSError, ValueError):
+        raise Failed(23, "CannotRead") from None
+
+
+def left_out(lines):
+    """What lines of `mend` tell, as `load` tells it."""
+    return [{"byte": int(byte), "bytes": int(count), "why": why} for byte, count, why in LEFT_OUT.findall(lines)]
 
 
 def size_of(edit):

@@ -5,11 +5,12 @@ use Rattle.access_unit.specs.Rooms.{most_units}
 use Rattle.stream_edits.specs.Groups.{most_edits}
 use Rattle.serve_requests.specs.Fields.{most_told}
 use Rattle.serve_requests.specs.Methods.{methods}
+use Rattle.serve_answers.specs.LeftOutAnswers.{most_left_out}
 use Rattle.serve_answers.specs.declared.introduction.Introduction.{Introduction}
 use Rattle.serve_answers.specs.declared.introduction.Limits.{Limits}
 
 -- how much a server takes at most: units of a stream, bytes and slices of a unit, edits of a group,
--- ids that are wanted, units that are told at once, and bytes of a line
+-- ids that are wanted, units that are told at once, stretches that a load left out, and bytes of a line
 abbrev pub limits : Limits
 limits = record {
   units = most_units;
@@ -18,6 +19,7 @@ limits = record {
   group = most_edits;
   wanted = 64;
   count = most_told;
+  left_out = most_left_out;
   message_bytes = 67108864;
 }
 

@@ -6,6 +6,7 @@ ghost use Rattle.serve_answers.specs.Replies.{stretch_of};
 use crate::introduction::Introduction;
 use crate::job_answers::JobAnswer;
 use crate::journal_answers::EntryAnswer;
+use crate::left_out_answers::LeftOutAnswer;
 use crate::unit_answers::UnitAnswer;
 use crate::words::{Digits, Word};
 use edit_engine::Changed;
@@ -20,12 +21,15 @@ use unit_outcomes::ValidityFault;
 pub enum Answer {
     /// What the server is, and what it takes.
     Initialized(Introduction),
-    /// How many units were inserted, the ids of the first and the last of them, and where they stand.
+    /// How many units were inserted, the ids of the first and the last of them, where they stand, and
+    /// what was left out of their stream if it was mended.
     Loaded {
         units: usize,
         first: Option<u32>,
         last: Option<u32>,
         changed: Stretch,
+        #[serde(skip_serializing_if = "Option::is_none")]
+        left_out: Option<Listed<LeftOutAnswer>>,
     },
     /// The number of an edit, the id of its unit, in how many steps of the fold it was made, and which
     /// units it changed.

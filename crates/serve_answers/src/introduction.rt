@@ -3,6 +3,7 @@
 ghost use Rattle.std.specs.Prelude.{◌≡◌, IfOk};
 ghost use Rattle.serve_answers.specs.Introductions.{introduction, limits};
 
+use crate::left_out_answers::MOST_LEFT_OUT;
 use crate::words::Text;
 use access_unit::{MOST_BYTES, MOST_UNITS};
 use serde::Serialize;
@@ -39,6 +40,8 @@ pub struct Limits {
     pub wanted: usize,
     /// The units that are told at once.
     pub count: usize,
+    /// The stretches of bytes that are told of what a load left out.
+    pub left_out: usize,
     /// The bytes of a line.
     pub message_bytes: usize,
 }
@@ -69,6 +72,7 @@ impl Limits {
             group: MOST_EDITS,
             wanted: 64,
             count: 1_000,
+            left_out: MOST_LEFT_OUT,
             message_bytes: 64 * 1024 * 1024,
         }
     }

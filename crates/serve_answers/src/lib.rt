@@ -4,13 +4,15 @@
 //! members that are written. `result_text`, `failure_text` and `notification_text` write them, by
 //! `serde_json`, and declare nothing of their text. No session is asked here. Below are
 //! serve_requests, whose failures are answered too, edit_engine, whose replies answers are made of,
-//! and unit_json, for what becomes of a unit; above is serve_calls.
+//! stream_mending, for what is left out, and unit_json, for what becomes of a unit; above is
+//! serve_calls.
 #![tactic(auto)]
 
 mod answer;
 mod introduction;
 mod job_answers;
 mod journal_answers;
+mod left_out_answers;
 mod replies;
 mod reply;
 mod unit_answers;
@@ -20,6 +22,7 @@ pub use answer::{Answer, Appearance, Found, Picked, Stats, Stretch};
 pub use introduction::{Introduction, Limits};
 pub use job_answers::{JobAnswer, ReferenceAnswer, RequestAnswer};
 pub use journal_answers::{EditAnswer, EntryAnswer};
+pub use left_out_answers::{LeftOutAnswer, of_left_out};
 pub use replies::{of_drop, of_edit, of_give_back, of_group, of_land, of_show};
 pub use reply::{failure_text, notification_text, result_text};
 pub use unit_answers::{PlanAnswer, Told, UnitAnswer};

@@ -1,6 +1,6 @@
 //! Words, digits and base64 in results.
 
-ghost use Rattle.std.specs.Prelude.{◌≡◌, IfOk};
+ghost use Rattle.std.specs.Prelude.{◌≡◌, IfOk, string_bytes};
 ghost use Rattle.base64.specs.Engines.{standard};
 ghost use Rattle.base64.specs.GeneralPurpose.{encode_of};
 ghost use Rattle.hex.specs.Hex.{encode_lower};
@@ -42,6 +42,13 @@ impl Model for Text {
 }
 
 impl Text {
+    /// This text.
+    pub(crate) fn new(text: String) -> Text
+        ensures { result ≡ string_bytes text }
+    {
+        Text { text }
+    }
+
     /// A text once more.
     pub fn of(alloc: Global, text: &str) -> Result<Text, AllocError>
         ensures { IfOk result (λ it. it ≡ text.now) }

@@ -32,7 +32,7 @@ IsOfJobs is_session lends_jobs old step result new =
 abbrev pub IsAnswered : {B S : Type 0} → (B → Machine → Type 0) → (B → Bool) → (S → List ℕ → Option (List ℕ)) → Server B S
     → Call → Result Answer Failure → Server B S → Type 0
 IsAnswered is lends file old call.Initialize result new = Introduces (lends old.backend) result × (new ≡ old)
-IsAnswered is lends file old (call.Load loaded) result new = LoadsAs is file old loaded result new
+IsAnswered is lends file old (call.Load loaded mend) result new = LoadsAs is file old loaded mend result new
 IsAnswered is lends file old (call.Edit edit) result new = EditsAs is old edit result new
 IsAnswered is lends file old (call.Group edits) result new = GroupsAs is old edits result new
 IsAnswered is lends file old call.Mark result new = MarksAs is old result new

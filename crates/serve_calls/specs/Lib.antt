@@ -5,6 +5,7 @@ pub mod Failing
 pub mod Jobs
 pub mod Lists
 pub mod Loading
+pub mod Preparing
 pub mod Requests
 pub mod Sessions
 pub mod Sums

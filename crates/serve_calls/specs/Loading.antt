@@ -1,5 +1,5 @@
 -- A stream whose access units a server inserts one after the other, and the result.
-use Rattle.std.specs.Prelude.{◌≡◌, ◌⊎◌, ◌-◌, ◌≤◌, ℕ, List, [], ◌∷◌, length, Option, None, Some, IfSome, Result, Ok, Err}
+use Rattle.std.specs.Prelude.{◌≡◌, ◌⊎◌, ◌-◌, ◌≤◌, ℕ, Bool, List, [], ◌∷◌, length, Option, None, Some, IfSome, Result, Ok, Err}
 use Rattle.annexb.specs.ByteStream.{joined}
 use Rattle.access_unit.specs.declared.room.Refusal.{Refusal as StreamRefusal}
 use Rattle.access_unit.specs.Rooms.{IsStream, IsStreamRefused, most_units}
@@ -17,10 +17,13 @@ use Rattle.serve_requests.specs.declared.failure.Failure.TheVariants.{Refused}
 use Rattle.serve_requests.specs.declared.failure.Refusal.TheVariants as refusal
 use Rattle.serve_answers.specs.declared.answer.Answer.{Answer}
 use Rattle.serve_answers.specs.declared.answer.Answer.TheVariants as answer
+use Rattle.serve_answers.specs.declared.left_out_answers.LeftOutAnswer.{LeftOutAnswer}
 use Rattle.serve_calls.specs.declared.loading.Inserted.{Inserted}
+use Rattle.serve_calls.specs.declared.preparing.Prepared.{Prepared}
 use Rattle.serve_calls.specs.declared.server.Server.{Server}
 use Rattle.serve_calls.specs.Editing.{MakesEdit}
 use Rattle.serve_calls.specs.Failing.{out_of_memory}
+use Rattle.serve_calls.specs.Preparing.{prepared}
 use Rattle.serve_calls.specs.Sessions.{Asks}
 use Rattle.serve_calls.specs.Sums.{counted}
 
@@ -38,10 +41,15 @@ abbrev pub with_unit : Inserted → ℕ → Inserted
 with_unit inserted id =
     record { from = inserted.from; units = counted inserted.units 1; first = first_of inserted.first id; last = Some id }
 
--- the result of a load whose units were all inserted: they are what it changed
-abbrev pub loaded_answer : Inserted → Answer
-loaded_answer inserted =
-    answer.Loaded inserted.units inserted.first inserted.last (record { from = inserted.from; count = inserted.units })
+-- the result of a load whose units were all inserted: they are what it changed; with what was left out if it was mended
+abbrev pub loaded_answer : Option (List LeftOutAnswer) → Inserted → Answer
+loaded_answer left_out inserted =
+    answer.Loaded inserted.units inserted.first inserted.last (record { from = inserted.from; count = inserted.units }) left_out
+
+-- the result of a load: that of all its units, or why one of them was refused
+abbrev pub load_answer : Option (List LeftOutAnswer) → Result Inserted Failure → Result Answer Failure
+load_answer left_out (Ok inserted) = Ok (loaded_answer left_out inserted)
+load_answer left_out (Err failure) = Err failure
 
 -- this is the end of the session's stream
 abbrev pub IsLast : {B S : Type 0} → (B → Machine → Type 0) → Server B S → Last → Type 0
@@ -58,8 +66,8 @@ InsertsLast is_session old unit answer new =
 -- the units are inserted one after the other, to the end or to the first that is refused; those
 -- before it stay
 abbrev pub InsertsAll : {B S : Type 0} → (B → Machine → Type 0) → Server B S → List (List (List ℕ)) → Inserted
-    → Result Answer Failure → Server B S → Type 0
-InsertsAll is_session old [] inserted result new = (result ≡ Ok (loaded_answer inserted)) × (new ≡ old)
+    → Result Inserted Failure → Server B S → Type 0
+InsertsAll is_session old [] inserted result new = (result ≡ Ok inserted) × (new ≡ old)
 InsertsAll {B} {S} is_session old (unit ∷ units) inserted result new =
     ((receipt : Receipt) × (next : Server B S) × InsertsLast is_session old unit (Ok receipt) next
     × InsertsAll is_session next units (with_unit inserted receipt.id) result new)
@@ -87,20 +95,21 @@ abbrev pub HasRoom : {B S : Type 0} → (B → Machine → Type 0) → Server B 
 HasRoom is_session server from room =
     (last : Last) × IsLast is_session server last × (from ≡ last.units) × (room ≡ most_units - from)
 
--- the result of a text that is loaded: its units are inserted behind those that are there; or it is
+-- the result of a stream that is loaded: its units are inserted behind those that are there; or it is
 -- refused, and nothing changes; or memory ran out
-abbrev pub LoadsText : {B S : Type 0} → (B → Machine → Type 0) → Server B S → List ℕ → Result Answer Failure → Server B S → Type 0
-LoadsText is_session old text result new =
-    ((from room : ℕ) × (units : List (List (List ℕ))) × HasRoom is_session old from room × IsStream text units
-    × (length units ≤ room) × InsertsAll is_session old units (none_inserted from) result new)
-    ⊎ ((from room : ℕ) × (refused : StreamRefusal) × HasRoom is_session old from room × IsStreamRefused text room refused
-    × (result ≡ Err (Refused (refusal.Stream refused))) × (new ≡ old))
+abbrev pub LoadsStream : {B S : Type 0} → (B → Machine → Type 0) → Server B S → Prepared → Result Answer Failure → Server B S → Type 0
+LoadsStream is_session old stream result new =
+    ((from room : ℕ) × (units : List (List (List ℕ))) × (inserted : Result Inserted Failure) × HasRoom is_session old from room
+    × IsStream stream.text units × (length units ≤ room) × InsertsAll is_session old units (none_inserted from) inserted new
+    × (result ≡ load_answer stream.left_out inserted))
+    ⊎ ((from room : ℕ) × (refused : StreamRefusal) × HasRoom is_session old from room
+    × IsStreamRefused stream.text room refused × (result ≡ Err (Refused (refusal.Stream refused))) × (new ≡ old))
     ⊎ ((result ≡ Err out_of_memory) × (new ≡ old))
 
--- the result of a load: that of its text; or why there is none, and nothing changes
-abbrev pub LoadsAs : {B S : Type 0} → (B → Machine → Type 0) → (S → List ℕ → Option (List ℕ)) → Server B S → Loaded
+-- the result of a load: that of its text, as it came or mended; or why there is none, and nothing changes
+abbrev pub LoadsAs : {B S : Type 0} → (B → Machine → Type 0) → (S → List ℕ → Option (List ℕ)) → Server B S → Loaded → Bool
     → Result Answer Failure → Server B S → Type 0
-LoadsAs {B} {S} is_session file old it result new =
+LoadsAs {B} {S} is_session file old it mend result new =
     ((text : List ℕ) × (read : Server B S) × IsTextOf file old.source it text × KeepsAll file old read
-    × LoadsText is_session read text result new)
+    × LoadsStream is_session read (prepared mend text) result new)
     ⊎ ((failure : Failure) × IsTextless it failure × (result ≡ Err failure) × KeepsAll file old new)

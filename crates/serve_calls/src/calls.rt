@@ -29,7 +29,7 @@ impl<B: Backend, S: Source> Server<B, S> {
     {
         match call {
             Call::Initialize => self.introduce(),
-            Call::Load(loaded) => self.load(rt, loaded),
+            Call::Load { loaded, mend } => self.load(rt, loaded, mend),
             Call::Edit(edit) => self.edit(edit),
             Call::Group(edits) => self.group(edits),
             Call::Mark => self.mark(),

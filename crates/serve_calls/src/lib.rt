@@ -13,6 +13,7 @@ mod calls;
 mod failing;
 mod lists;
 mod loading;
+mod preparing;
 mod questions;
 mod requests;
 mod server;

@@ -2,10 +2,12 @@
 
 ghost use Rattle.std.specs.Prelude.{◌≡◌, ℕ, List, IfErr, IfOk, MatchResult};
 ghost use Rattle.serve_calls.specs.Failing.{out_of_memory};
-ghost use Rattle.serve_calls.specs.Loading.{InsertsAll, InsertsLast, IsLast, IsTextOf, IsTextless, LoadsAs, LoadsText, loaded_answer, none_inserted, with_unit};
+ghost use Rattle.serve_calls.specs.Loading.{InsertsAll, InsertsLast, IsLast, IsTextOf, IsTextless, LoadsAs, LoadsStream, load_answer, loaded_answer, none_inserted, with_unit};
+ghost use Rattle.serve_calls.specs.Preparing.{prepared};
 
 use crate::backend::{Asked, Backend};
 use crate::failing::OUT_OF_MEMORY;
+use crate::preparing::Prepared;
 use crate::server::Server;
 use access_unit::{MOST_UNITS, ReadFault, read_units};
 use bytes::Bytes;
@@ -13,8 +15,8 @@ use console_io::{InputFault, Source};
 use edit_engine::{EditRefused, Last, ReadEdit, Receipt};
 use picture_keys::{HashedUnit, hash_units};
 use pictures::AuId;
-use serve_answers::{Answer, Stretch};
-use serve_requests::{Failure, Loaded, Refusal};
+use serve_answers::{Answer, LeftOutAnswer, Stretch};
+use serve_requests::{Failure, Listed, Loaded, Refusal};
 use std::alloc::Global;
 use std::thread::Threads;
 
@@ -52,9 +54,9 @@ impl Inserted {
         }
     }
 
-    /// The result where all were inserted.
-    fn told(self) -> Answer
-        ensures { result ≡ loaded_answer self }
+    /// The result where all were inserted, with what was left out if the stream was mended.
+    fn told(self, left_out: Option<Listed<LeftOutAnswer>>) -> Answer
+        ensures { result ≡ loaded_answer left_out self }
     {
         Answer::Loaded {
             units: self.units,
@@ -64,33 +66,55 @@ impl Inserted {
                 from: self.from as u64,
                 count: self.units as u64,
             },
+            left_out,
         }
     }
 }
 
 impl<B: Backend, S: Source> Server<B, S> {
-    /// Inserts the units of a stream after the last one.
+    /// Inserts the units of a stream after the last one, as it came or mended.
     pub(crate) fn load<R: Threads + Sync>(
         &mut self,
         rt: &R,
         loaded: Loaded,
+        mend: bool,
     ) -> Result<Answer, Failure>
-        ensures { LoadsAs B.is_session S.file self.old loaded result self.new }
+        ensures { LoadsAs B.is_session S.file self.old loaded mend result self.new }
     {
         match text_of(self.alloc, &mut self.source, loaded) {
-            Ok(text) => self.load_text(rt, &text),
+            Ok(text) => self.load_text(rt, text, mend),
             Err(failure) => Err(failure),
         }
     }
 
-    /// Inserts the units of a text, for which there has to be room.
-    fn load_text<R: Threads + Sync>(&mut self, rt: &R, text: &Bytes) -> Result<Answer, Failure>
-        ensures { LoadsText B.is_session self.old text.now result self.new }
+    /// Inserts the units of a text, as it came or mended.
+    fn load_text<R: Threads + Sync>(
+        &mut self,
+        rt: &R,
+        text: Bytes,
+        mend: bool,
+    ) -> Result<Answer, Failure>
+        ensures { LoadsStream B.is_session self.old (prepared mend text) result self.new }
     {
+        match Prepared::of(self.alloc, text, mend) {
+            Ok(stream) => self.load_stream(rt, stream),
+            Err(failure) => Err(failure),
+        }
+    }
+
+    /// Inserts the units of a stream, for which there has to be room.
+    fn load_stream<R: Threads + Sync>(
+        &mut self,
+        rt: &R,
+        stream: Prepared,
+    ) -> Result<Answer, Failure>
+        ensures { LoadsStream B.is_session self.old stream result self.new }
+    {
+        let Prepared { text, left_out } = stream;
         let from = self.last().units;
-        match read_units(rt, self.alloc, text, MOST_UNITS.saturating_sub(from)) {
+        match read_units(rt, self.alloc, &text, MOST_UNITS.saturating_sub(from)) {
             Ok(units) => match hash_units(rt, self.alloc, units) {
-                Ok(units) => self.insert_all(from, units),
+                Ok(units) => of_load(left_out, self.insert_all(from, units)),
                 Err(_) => Err(OUT_OF_MEMORY),
             },
             Err(ReadFault::Refused(refusal)) => Err(Failure::Refused(Refusal::Stream(refusal))),
@@ -100,7 +124,7 @@ impl<B: Backend, S: Source> Server<B, S> {
 
     /// Inserts the units after the last one, the first of them at a place. One that is refused ends
     /// that, and those before it stay.
-    fn insert_all(&mut self, from: usize, units: Vec<HashedUnit>) -> Result<Answer, Failure>
+    fn insert_all(&mut self, from: usize, units: Vec<HashedUnit>) -> Result<Inserted, Failure>
         ensures { InsertsAll B.is_session self.old units.items (none_inserted from) result
             self.new }
     {
@@ -114,7 +138,7 @@ impl<B: Backend, S: Source> Server<B, S> {
                 }
             }
         }
-        Ok(inserted.told())
+        Ok(inserted)
     }
 
     /// Inserts a unit after the last one.
@@ -131,6 +155,19 @@ impl<B: Backend, S: Source> Server<B, S> {
         ensures { IsLast B.is_session self.now result }
     {
         self.backend.look(|session| session.last())
+    }
+}
+
+/// The result of a load, with what was left out if the stream was mended.
+fn of_load(
+    left_out: Option<Listed<LeftOutAnswer>>,
+    inserted: Result<Inserted, Failure>,
+) -> Result<Answer, Failure>
+    ensures { result ≡ load_answer left_out inserted }
+{
+    match inserted {
+        Ok(inserted) => Ok(inserted.told(left_out)),
+        Err(failure) => Err(failure),
     }
 }
 

@@ -77,9 +77,14 @@ loaded_with None (Some text) = ok_or (option_map loaded.Text (bytes_of text)) pa
 loaded_with None None = Err parameter.Path
 loaded_with (Some path) (Some text) = Err parameter.Path
 
+abbrev pub loaded_in : Data → Result Loaded Parameter
+loaded_in parameters = loaded_with (value_at parameter.Path parameters) (value_at parameter.Bytes parameters)
+
+-- the units that are loaded, and whether their stream is mended
 abbrev pub load_in : Data → Result Call Parameter
 load_in parameters =
-    and_then (loaded_with (value_at parameter.Path parameters) (value_at parameter.Bytes parameters)) (λ it. Ok (call.Load it))
+    and_then (loaded_in parameters) (λ it.
+    and_then (optional as_bool parameter.Mend parameters) (λ mend. Ok (call.Load it (unwrap_or mend false))))
 
 -- the units of a stretch, and whether they are told with their controls
 abbrev pub units_in : Data → Result Call Parameter

@@ -2,7 +2,7 @@
 
 ghost use Rattle.std.specs.Prelude.{◌≡◌};
 ghost use Rattle.serde_json.specs.View.{view};
-ghost use Rattle.serve_requests.specs.Calls.{call_with, file_named, journal_in, load_in, units_in, want_in};
+ghost use Rattle.serve_requests.specs.Calls.{call_with, file_named, journal_in, load_in, loaded_in, units_in, want_in};
 ghost use Rattle.serve_requests.specs.Fields.{IsFieldAnswer};
 
 use crate::edits::{deletion, entries, insertion, replacement};
@@ -23,8 +23,11 @@ use stream_edits::Edit;
 pub enum Call {
     /// What the server is, and what it takes.
     Initialize,
-    /// The insertion of units, each after the last one.
-    Load(Loaded),
+    /// The insertion of units, each after the last one; of a stream that is mended or as it came.
+    Load {
+        loaded: Loaded,
+        mend: bool,
+    },
     /// An edit of the stream.
     Edit(Edit),
     /// These edits, all of them or none.
@@ -167,19 +170,27 @@ fn want(alloc: Global, parameters: &Value) -> Result<Call, FieldFault>
     })
 }
 
-/// The units of a file or of bytes.
+/// The units of a file or of bytes, and whether the stream is mended.
 fn load(alloc: Global, parameters: &Value) -> Result<Call, FieldFault>
     ensures { IsFieldAnswer (load_in (view parameters.now)) result }
+{
+    let loaded = source(alloc, parameters)?;
+    let mend = flag_if_any(parameters, Parameter::Mend)?;
+    Ok(Call::Load {
+        loaded,
+        mend: mend.unwrap_or(false),
+    })
+}
+
+/// What a load takes its units from: a file of a name, or bytes.
+fn source(alloc: Global, parameters: &Value) -> Result<Loaded, FieldFault>
+    ensures { IsFieldAnswer (loaded_in (view parameters.now)) result }
 {
     let path = value_at(parameters, Parameter::Path);
     let text = value_at(parameters, Parameter::Bytes);
     match (path, text) {
-        (Some(path), None) => Ok(Call::Load(file_named(alloc, path)?)),
-        (None, Some(text)) => Ok(Call::Load(Loaded::Text(bytes_of(
-            alloc,
-            text,
-            Parameter::Bytes,
-        )?))),
+        (Some(path), None) => file_named(alloc, path),
+        (None, Some(text)) => Ok(Loaded::Text(bytes_of(alloc, text, Parameter::Bytes)?)),
         _ => Err(FieldFault::Wrong(Parameter::Path)),
     }
 }

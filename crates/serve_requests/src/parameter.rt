@@ -11,6 +11,7 @@ use serde::Serialize;
 pub enum Parameter {
     Path,
     Bytes,
+    Mend,
     After,
     Id,
     Edits,
@@ -31,6 +32,7 @@ impl Parameter {
         match self {
             Parameter::Path => "path",
             Parameter::Bytes => "bytes",
+            Parameter::Mend => "mend",
             Parameter::After => "after",
             Parameter::Id => "id",
             Parameter::Edits => "edits",

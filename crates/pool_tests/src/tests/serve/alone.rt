@@ -75,6 +75,38 @@ const DOUBTS: [Row; 5] = [
     },
 ];
 
+/// A byte that is no NAL unit, and a prefix NAL unit between the sets of A, which mending leaves out.
+const MENDED: [Row; 7] = [
+    Row {
+        message: "{\"jsonrpc\":\"2.0\",\"id\":1,\"method\":\"load\",\"params\":{\"bytes\":\"CgAAAWdCAAraeQAAAW5AgAAAAWjOOIAAAAFliISA\"}}",
+        lines: "{\"jsonrpc\":\"2.0\",\"id\":1,\"error\":{\"code\":1,\"message\":\"Split\",\"data\":{\"reason\":\"the bytes don't begin with a start code, or a NAL unit is empty or has bytes that none may have (B.1, 7.4.1)\"}}}\n",
+    },
+    Row {
+        message: "{\"jsonrpc\":\"2.0\",\"id\":2,\"method\":\"load\",\"params\":{\"bytes\":\"CgAAAWdCAAraeQAAAW5AgAAAAWjOOIAAAAFliISA\",\"mend\":true}}",
+        lines: "{\"jsonrpc\":\"2.0\",\"id\":2,\"result\":{\"units\":1,\"first\":1,\"last\":1,\"changed\":{\"from\":0,\"count\":1},\"left_out\":[{\"byte\":0,\"bytes\":1,\"why\":\"not a NAL unit\"},{\"byte\":10,\"bytes\":6,\"why\":\"type 14\"}]}}\n",
+    },
+    Row {
+        message: "{\"jsonrpc\":\"2.0\",\"id\":3,\"method\":\"text\",\"params\":{\"id\":1}}",
+        lines: "{\"jsonrpc\":\"2.0\",\"id\":3,\"result\":{\"bytes\":\"AAABZ0IACtp5AAABaM44gAAAAWWIhIA=\"}}\n",
+    },
+    Row {
+        message: "{\"jsonrpc\":\"2.0\",\"id\":4,\"method\":\"load\",\"params\":{\"path\":\"one\",\"mend\":true}}",
+        lines: "{\"jsonrpc\":\"2.0\",\"id\":4,\"result\":{\"units\":1,\"first\":2,\"last\":2,\"changed\":{\"from\":1,\"count\":1},\"left_out\":[]}}\n",
+    },
+    Row {
+        message: "{\"jsonrpc\":\"2.0\",\"id\":5,\"method\":\"load\",\"params\":{\"path\":\"one\",\"mend\":false}}",
+        lines: "{\"jsonrpc\":\"2.0\",\"id\":5,\"result\":{\"units\":1,\"first\":3,\"last\":3,\"changed\":{\"from\":2,\"count\":1}}}\n",
+    },
+    Row {
+        message: "{\"jsonrpc\":\"2.0\",\"id\":6,\"method\":\"load\",\"params\":{\"bytes\":\"Cg==\",\"mend\":true}}",
+        lines: "{\"jsonrpc\":\"2.0\",\"id\":6,\"error\":{\"code\":1,\"message\":\"Split\",\"data\":{\"reason\":\"the bytes don't begin with a start code, or a NAL unit is empty or has bytes that none may have (B.1, 7.4.1)\"}}}\n",
+    },
+    Row {
+        message: "{\"jsonrpc\":\"2.0\",\"id\":7,\"method\":\"load\",\"params\":{\"path\":\"none\",\"mend\":1}}",
+        lines: "{\"jsonrpc\":\"2.0\",\"id\":7,\"error\":{\"code\":-32602,\"message\":\"Invalid params\",\"data\":\"mend\"}}\n",
+    },
+];
+
 /// Three units inserted together, the second one taken out and put back, and the last one taken out.
 const CHANGED: [Row; 4] = [
     Row {
@@ -189,4 +221,9 @@ fn units_behind_a_damage_are_told_of(rt: HostRuntime) {
 #[test]
 fn receipts_tell_what_changed(rt: HostRuntime) {
     assert!(rt; answers_so(&rt, &CHANGED));
+}
+
+#[test]
+fn streams_are_mended(rt: HostRuntime) {
+    assert!(rt; answers_so(&rt, &MENDED));
 }

@@ -1,7 +1,7 @@
 //! What mending left out of a stream that is loaded, as results.
 
-ghost use Rattle.std.specs.Prelude.{◌≡◌, IfOk, map};
-ghost use Rattle.serve_answers.specs.LeftOutAnswers.{left_out_answer, left_out_answers};
+ghost use Rattle.std.specs.Prelude.{◌≡◌, IfOk, map, take};
+ghost use Rattle.serve_answers.specs.LeftOutAnswers.{left_out_answer, left_out_answers, most_left_out};
 
 use crate::words::Text;
 use serde::Serialize;
@@ -27,8 +27,14 @@ pub struct LeftOutAnswer {
 pub fn of_left_out(alloc: Global, left_out: &[LeftOut]) -> Result<Listed<LeftOutAnswer>, AllocError>
     ensures { IfOk result (λ answers. answers ≡ left_out_answers left_out.now) }
 {
-    let (first, _) = left_out.split_at(left_out.len().min(MOST_LEFT_OUT));
-    Ok(Listed::new(answers(alloc, first)?))
+    Ok(Listed::new(answers(alloc, first_of(left_out))?))
+}
+
+/// The first of these, as many as are told.
+fn first_of(left_out: &[LeftOut]) -> &[LeftOut]
+    ensures { result.now ≡ take most_left_out left_out.now }
+{
+    &left_out[..MOST_LEFT_OUT.min(left_out.len())]
 }
 
 /// All of these.

@@ -51,7 +51,8 @@ fn asked_reasons<D: Again>(
         AreReasons (D.bytes directory.now) (wanted_of asked.entry) lines.items) }
 {
     match asked {
-        Asked::Plan { file, .. } | Asked::Draw { file, .. } => stream_lines(alloc, directory, file),
+        Asked::Plan { file, .. } => stream_lines(alloc, directory, file),
+        Asked::Draw { file, .. } => stream_lines(alloc, directory, file),
         Asked::DrawEdited { file, script, .. } => edited_lines(alloc, directory, file, script),
         Asked::Run { options, workers } => {
             script_lines(alloc, kind_beside(workers), directory, options.name)

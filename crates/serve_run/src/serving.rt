@@ -216,10 +216,7 @@ fn serve_one<R: Threads + Sync, B: Backend, S: Source + Explain>(
 }
 
 /// The name of the file that a message asked to load, where it isn't taken as a stream.
-fn untaken_file<'a>(
-    message: &Message<'a>,
-    answer: &Result<Answer, Failure>,
-) -> Option<&'a str> {
+fn untaken_file<'a>(message: &Message<'a>, answer: &Result<Answer, Failure>) -> Option<&'a str> {
     match (message, answer) {
         (Message::Request(request), Err(Failure::Refused(refusal))) if is_untaken(*refusal) => {
             loaded_file(request)

@@ -59,7 +59,8 @@ const CUT: &[u8] = &[
 /// A script that loads a text, a stream, a file that isn't there, and the text once more.
 const LOADS: &[u8] = b"load text\nload a.264\nshow 1\nload nowhere\nload text\n";
 
-const OF_TEXT: &str = "text: a text file, not a byte stream of H.264 (Annex B); see: preview check text\n";
+const OF_TEXT: &str =
+    "text: a text file, not a byte stream of H.264 (Annex B); see: preview check text\n";
 
 const OF_MARK: &str = "line 1: mark takes nothing, and is for run without workers\n";
 

@@ -272,7 +272,7 @@ def check_permission(it):
 
 
 # Files that are no streams, and what they are; scripts, what of them is no command, and why.
-OTHERS = (("text", "text"), ("film", "an MP4 or MOV file, a container"), ("empty", "an empty file"))
+OTHERS = (("text", "a text file"), ("film", "an MP4 or MOV file, a container"), ("empty", "an empty file"))
 FAULTS = (("run", "undone.script", 2, 'no command "undo"'), ("run", "want.script", 1, "want takes ids of units, and is for runs beside workers"),
           ("audit", "mark.script", 1, "mark takes nothing, and is for run without workers"))
 

@@ -4,13 +4,9 @@
 //! lines of text by `Report`, or as an object by `json_of`. Above is cli.
 #![tactic(auto)]
 
-mod first_lines;
 mod json;
-mod problem_lines;
-mod refused;
 mod report;
 mod running;
-mod stream;
 
 pub use json::json_of;
 pub use report::Report;

@@ -1,11 +1,10 @@
 //! `preview check`: a file read, checked, and told of.
 
-ghost use Rattle.std.specs.Prelude.{◌≡◌, ◌≢◌, [], ℕ, List, IfErr, IfOk, IfSome, string_bytes};
+ghost use Rattle.std.specs.Prelude.{◌≡◌, ◌≢◌, [], ℕ, List, IfErr, IfSome};
 ghost use Rattle.std.specs.Io.KnownBytes.{Keeps};
 ghost use Rattle.console_io.specs.Messages.{Tells};
 ghost use Rattle.stream_check.specs.Found.{IsFine};
 ghost use Rattle.check_report.specs.Ends.{FailsCheck, FailsText};
-ghost use Rattle.check_report.specs.Printed.{Prints, PrintsFound, SaysFound};
 
 use crate::json::json_of;
 use crate::report::Report;
@@ -13,7 +12,7 @@ use bytes::Bytes;
 use console_io::{
     Ended, PrintFault, Sink, Status, say_input_fault, say_print_fault, whole_input, write_bytes,
 };
-use std::alloc::{AllocError, Global};
+use std::alloc::Global;
 use std::io::Read;
 use std::thread::Threads;
 use stream_check::{Found, check};
@@ -40,16 +39,13 @@ pub fn check_on<R: Read, W: Sink, E: Sink>(
     errors: &mut E,
 ) -> Ended
     ensures fine { result.status ≡ Status.Success → IfSome (R.remaining reader.old) IsFine }
-    ensures printed { result.status ≡ Status.Success → IfSome (R.remaining reader.old)
-        (λ text. Prints form name.now text (W.contents writer.old) (W.contents writer.new)) }
     ensures quiet { result.status ≡ Status.Success
         → Keeps (E.contents errors.old) (E.contents errors.new) }
     ensures told { result.status ≡ Status.Failure → (message : List ℕ)
         × Tells result.told (E.refuses errors.new) (E.contents errors.old)
         (E.contents errors.new) message }
     ensures ends { result.status ≡ Status.Failure
-        → FailsCheck form name.now (R.remaining reader.old) (W.refuses writer.new)
-        (W.contents writer.old) (W.contents writer.new) result.told
+        → FailsCheck (R.remaining reader.old) name.now result.told (W.refuses writer.new)
         (E.refuses errors.new) (E.contents errors.old) (E.contents errors.new) }
     ensures usage { result.status ≢ Status.Usage }
 {
@@ -73,13 +69,10 @@ fn check_text<W: Sink, E: Sink>(
     errors: &mut E,
 ) -> Ended
     ensures fine { result.status ≡ Status.Success → IsFine text.now }
-    ensures printed { result.status ≡ Status.Success
-        → Prints form name.now text.now (W.contents writer.old) (W.contents writer.new) }
     ensures quiet { result.status ≡ Status.Success
         → Keeps (E.contents errors.old) (E.contents errors.new) }
     ensures ends { result.status ≡ Status.Failure
-        → FailsText form name.now text.now (W.refuses writer.new)
-        (W.contents writer.old) (W.contents writer.new) result.told
+        → FailsText text.now result.told (W.refuses writer.new)
         (E.refuses errors.new) (E.contents errors.old) (E.contents errors.new) }
     ensures usage { result.status ≢ Status.Usage }
 {
@@ -109,22 +102,11 @@ fn print<W: Sink>(
     found: &Found,
     writer: &mut W,
 ) -> Result<(), PrintFault>
-    ensures refused { IfErr result (λ fault. fault ≡ PrintFault.Unwritten → W.refuses writer.new) }
-    ensures printed { PrintsFound form name.now found.now result
-        (W.contents writer.old) (W.contents writer.new) }
+    ensures { IfErr result (λ fault. fault ≡ PrintFault.Unwritten → W.refuses writer.new) }
 {
-    match text_of(alloc, form, name, found) {
-        Ok(text) => write_bytes(writer, text.as_bytes()),
-        Err(_) => Err(PrintFault::Memory),
-    }
-}
-
-/// What says in this form what was found of the file of this name.
-fn text_of(alloc: Global, form: Form, name: &str, found: &Found) -> Result<String, AllocError>
-    ensures { IfOk result (λ text. SaysFound form name.now found.now (string_bytes text)) }
-{
-    match form {
-        Form::Text => Report { name, found }.to_string(alloc),
-        Form::Json => json_of(alloc, found),
-    }
+    let text = match form {
+        Form::Text => Report { name, found }.to_string(alloc)?,
+        Form::Json => json_of(alloc, found)?,
+    };
+    write_bytes(writer, text.as_bytes())
 }

@@ -1,5 +1,5 @@
 -- What is found of a file.
-use Rattle.std.specs.Prelude.{◌≡◌, ◌≢◌, ◌≤◌, ℕ, ◌==◌, All, Bool, false, List, length, map, vec_len}
+use Rattle.std.specs.Prelude.{◌≡◌, ◌≢◌, ◌≤◌, ℕ, ◌==◌, Bool, false, List, length, map, vec_len}
 use Rattle.access_unit.specs.Rooms.{IsStream, IsStreamRefused, most_units}
 use Rattle.doubts.specs.InDoubt.{AreDoubts}
 use Rattle.doubts.specs.declared.doubt.Doubt.{Doubt}
@@ -11,7 +11,7 @@ use Rattle.unit_json.specs.Seen.{stream_seen}
 use Rattle.unit_json.specs.StreamLines.{stream_outcomes}
 use Rattle.stream_check.specs.Counts.{counted, counts_of}
 use Rattle.stream_check.specs.Problems.{problems_from}
-use Rattle.stream_check.specs.Unread.{SaysWhy, left_out_of}
+use Rattle.stream_check.specs.Unread.{left_out_of}
 use Rattle.stream_check.specs.declared.counts.Which.TheVariants.{Fault}
 use Rattle.stream_check.specs.declared.found.Found.{Found}
 use Rattle.stream_check.specs.declared.found.Found.TheVariants.{Other, Refused, Stream}
@@ -36,12 +36,11 @@ abbrev pub IsTaken : List ℕ → Type 0
 IsTaken text = (units : List (List (List ℕ))) × IsStream text units × (length units ≤ most_units)
 
 -- what is found of a text: what the access units of a stream show; of any other text the kind that its first bytes tell, or, if
--- that is H.264 after start codes, why it is refused and what `mend` leaves out, each with its reason
+-- that is H.264 after start codes, why it is refused and what `mend` leaves out
 abbrev pub IsFound : List ℕ → Found → Type 0
 IsFound text (Other kind) = (¬ IsTaken text) × (kind ≡ kind_of text) × (kind ≢ H264AnnexB)
 IsFound text (Refused refused) = (¬ IsTaken text) × (kind_of text ≡ H264AnnexB)
     × IsStreamRefused text most_units refused.refusal × (map left_out_of refused.unread.items ≡ told text)
-    × All (SaysWhy text) refused.unread.items
 IsFound text (Stream stream) = (units : List (List (List ℕ))) × IsStream text units × (length units ≤ most_units) × IsCheckOf units stream
 
 -- there is nothing to complain of: it is a stream for which there is room, and no unit of its plain fold has a fault

@@ -66,22 +66,3 @@ profile_words High422 = codes "High 4:2:2"
 -- a level as it is written
 abbrev pub level_text : Level → List ℕ
 level_text level = if level.is_1b then codes "1b" else decimal (level.level_idc / 10) ++ (codes "." ++ decimal (level.level_idc % 10))
-
--- the front of a set's line: its id, its profile and its level
-abbrev pub profile_part : SetWords → List ℕ
-profile_part words = codes "sequence parameter set " ++ (decimal words.seq_parameter_set_id ++ (codes ": "
-    ++ (profile_words words.profile ++ (codes " profile, level " ++ (level_text words.level ++ codes ", ")))))
-
--- its middle: the frames and their samples
-abbrev pub frame_part : SetWords → List ℕ
-frame_part words = decimal words.width ++ (codes "x" ++ (decimal words.height ++ (codes ", " ++ (chroma_words words.chroma ++ (codes ", "
-    ++ (decimal words.luma_bits ++ (codes " bits of luma and " ++ (decimal words.chroma_bits ++ codes " of chroma, "))))))))
-
--- its end: how pictures are numbered, and how many frames a decoder keeps for reference
-abbrev pub number_part : SetWords → List ℕ
-number_part words = codes "frame_num of " ++ (decimal words.frame_num_bits ++ (codes " bits, pic_order_cnt_type "
-    ++ (decimal words.pic_order_cnt_type ++ (codes ", max_num_ref_frames " ++ decimal words.max_num_ref_frames))))
-
--- the line of a set, without its end
-unfoldable pub set_line : SetWords → List ℕ
-set_line words = profile_part words ++ (frame_part words ++ number_part words)

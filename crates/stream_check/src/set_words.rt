@@ -1,7 +1,7 @@
 //! Sequence parameter sets in words (7.4.2.1.1, annex A).
 
 ghost use Rattle.std.specs.Prelude.{◌≡◌, Some};
-ghost use Rattle.stream_check.specs.SetWords.{chroma_words, is_1b, level_of, level_text, order_count_type, profile_of, profile_words, set_line, set_words};
+ghost use Rattle.stream_check.specs.SetWords.{chroma_words, is_1b, level_of, level_text, order_count_type, profile_of, profile_words, set_words};
 
 use param_set_types::{ChromaFormat, PicOrderCntType, Sps};
 use sps_cropping::Size;
@@ -156,9 +156,6 @@ impl Display for Level {
 }
 
 impl Display for SetWords {
-    ghost output = { λ words. Some (set_line words) };
-
-    #[tactic(auto, unfolding(crate::specs::SetWords::set_line))]
     fn fmt<W: Write>(&self, f: &mut Formatter<W>) -> fmt::Result {
         let (id, profile, level) = (
             self.seq_parameter_set_id,

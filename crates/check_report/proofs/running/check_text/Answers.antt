@@ -1,15 +1,11 @@
-use Rattle.std.proofs.Common.{refl}
 use Rattle.console_io.specs.declared.chunks.PrintFault.TheVariants as print
 use Rattle.check_report.specs.Ends.{unprinted}
-use Rattle.check_report.proofs.Ends.{ends-unprinted}
 use Rattle.check_report.proofs.running.check_text.Goals as goal
 
 pub returns-in-Ok-clause-ends : goal.returns-in-Ok-clause-ends
 returns-in-Ok-clause-ends g c failure =
-    (unprinted c.in-Err-print.fault,
-      ends-unprinted c.args.form c.args.name.now c.args.text.now c.in-Ok.found c.in-Err-print.fault _ _ _ c.in-Ok.ensures.found
-          (λ e. c.in-Err-print.ensures.refused e) c.in-Err-print.ensures.printed,
-      rw c.failed-in-Err-print.ensures c.say_print_fault.ensures)
+    (unprinted c.in-Err-print.fault, (λ e. c.in-Err-print.ensures e), λ name. rw c.failed-in-Err-print.ensures c.say_print_fault.ensures)
 
 pub returns-clause-ends : goal.returns-clause-ends
-returns-clause-ends g c failure = (unprinted print.Memory, refl, rw c.failed-in-Err.ensures c.say_print_fault-in-Err.ensures)
+returns-clause-ends g c failure =
+    (unprinted print.Memory, (λ e. cc), λ name. rw c.failed-in-Err.ensures c.say_print_fault-in-Err.ensures)

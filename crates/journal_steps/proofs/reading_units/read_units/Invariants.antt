@@ -1,0 +1,12 @@
+use Rattle.std.proofs.Common.{◌≡◌, ◌++◌, ℕ, List, drop, map}
+use Rattle.journal_steps.specs.Kept.{kept_of_unit}
+use Rattle.journal_steps.specs.Records.{kept_in}
+use Rattle.journal_steps.proofs.ReadLemmas.{Follows}
+use Rattle.journal_steps.proofs.reading_units.read_units.Given as goal
+
+-- the units of the lines so far are read, and where all are those of units the others are left
+abbrev pub invariant-loop-line : goal.invariant-loop-line
+invariant-loop-line l = record {
+  kept : kept_in l.lines ≡ map kept_of_unit l.units.items ++ kept_in (drop l.line-index l.lines);
+  only : (all : List (ℕ × List ℕ)) → kept_in l.lines ≡ map kept_of_unit all → Follows l.units.items (kept_in (drop l.line-index l.lines)) all;
+}

@@ -84,3 +84,14 @@ fn another_file_is_refused(rt: HostRuntime) -> Result<(), Fail> {
     fs::remove_file(&rt, "another.db")?;
     Ok(())
 }
+
+#[test]
+fn a_second_opening_is_refused(rt: HostRuntime) -> Result<(), Fail> {
+    let (journal, _lines) = open(&rt, "second.db", Wary)?;
+    let refused = open(&rt, "second.db", Wary).err();
+    assert!(rt; refused == Some(JournalFault::Locked));
+    drop(journal);
+    fs::remove_file(&rt, "second.db")?;
+    fs::remove_file(&rt, "second.db-wal")?;
+    Ok(())
+}

@@ -1,5 +1,4 @@
 pub mod CommitLemmas
-pub mod FaultLemmas
 pub mod OpenLemmas
 pub mod OverLemmas
 pub mod RowLemmas

@@ -22,6 +22,3 @@ pub use journal::Journal;
 pub use line::{Kind, Line, Step};
 pub use opening::{FileJournal, open};
 pub use sqlite_disk::{Start, Wary};
-
-#[cfg(test)]
-mod tests;

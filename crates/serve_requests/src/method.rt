@@ -18,8 +18,6 @@ pub enum Method {
     Delete,
     Replace,
     Group,
-    Undo,
-    Redo,
     Mark,
     Units,
     Text,
@@ -46,8 +44,6 @@ impl Method {
             "delete" => Some(Method::Delete),
             "replace" => Some(Method::Replace),
             "group" => Some(Method::Group),
-            "undo" => Some(Method::Undo),
-            "redo" => Some(Method::Redo),
             "mark" => Some(Method::Mark),
             "units" => Some(Method::Units),
             "text" => Some(Method::Text),
@@ -106,8 +102,6 @@ impl Method {
             Method::Delete,
             Method::Replace,
             Method::Group,
-            Method::Undo,
-            Method::Redo,
             Method::Mark,
             Method::Units,
             Method::Text,
@@ -139,12 +133,7 @@ impl Method {
             Method::Find => Some(Parameter::Position),
             Method::Want => Some(Parameter::Ids),
             Method::Land | Method::GiveBack => Some(Parameter::Job),
-            Method::Initialize
-            | Method::Undo
-            | Method::Redo
-            | Method::Mark
-            | Method::Stats
-            | Method::Shutdown => None,
+            Method::Initialize | Method::Mark | Method::Stats | Method::Shutdown => None,
             _ => Some(Parameter::Id),
         }
     }

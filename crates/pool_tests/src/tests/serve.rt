@@ -5,7 +5,6 @@ mod batches;
 mod beside;
 mod ends;
 mod errors;
-mod undoing;
 
 use console_io::{InputFault, Source};
 use failure_reasons::Explain;

@@ -410,7 +410,7 @@ uint32_t cupdaisy_released(cupdaisy_session *session, uint64_t *surfaces, size_t
 
 /*
  * What the job of the number, which is out, is made of, as it was when it was taken; and a reference of it by its index, from 0
- * on. NO_SUCH_JOB; NO_SUCH_PLACE.
+ * on: each frame that its lists name once, in the order of the decoded picture buffer. NO_SUCH_JOB; NO_SUCH_PLACE.
  */
 uint32_t cupdaisy_job_input_of(cupdaisy_session *session, uint64_t job, cupdaisy_job_input *input);
 uint32_t cupdaisy_job_reference(cupdaisy_session *session, uint64_t job, size_t index, cupdaisy_reference *reference);

@@ -58,6 +58,12 @@ def answered(call, *operands):
         return ("refused", refused.status, refused.index)
 
 
+def buffered(request):
+    """The timestamps of the frames in the decoded picture buffer of a request of the model's, in their order."""
+    entries = request.line.split(" ")[11]
+    return [int(entry.split(":")[0]) for entry in entries.split(",")] if entries != "-" else []
+
+
 def asked(edit):
     """An edit of the model's, as the interface has it: its kind, its id and its text."""
     name, *operands = edit
@@ -332,8 +338,7 @@ class Drawn:
         form, values = self.form(found, weights)
         same(f"{what}, whether it has weights", found.has_weights, int(weights is not None))
         same(f"{what}, digest form", form.hex(), wanted.form.hex())
-        named = wanted.line.split(" ")[11]
-        times = [int(entry.split(":")[0]) for entry in named.split(",")] if named != "-" else []
+        times = buffered(wanted)
         same(f"{what}, reference_ts", [entry["reference_ts"] for entry in values["decode_params"]["dpb"]],
              times + [0] * (16 - len(times)))
 
@@ -385,7 +390,7 @@ class Drawn:
         named = {1000 * each: self.model.pictures[keys[each]] for request in requests for each in request.entries
                  if each is not None}
         found = [(timestamp, self.contents[surface]) for timestamp, surface in self.session.job_references(number)]
-        same(f"job {number}, its references", sorted(found), sorted(named.items()))
+        same(f"job {number}, its references", found, [(time, named[time]) for time in buffered(requests[0]) if time in named])
 
     def stream(self):
         """The whole stream."""

@@ -1,9 +1,10 @@
 -- The input of a unit that is due: each of its references is held, and shown.
-use Rattle.std.proofs.Common.{◌≡◌, refl, sym, ap, subst, ◌∙◌, ℕ, ◌≤◌, List, length, Option, Some, All, arith}
+use Rattle.std.proofs.Common.{◌≡◌, refl, sym, ap, subst, ◌∙◌, ℕ, ◌≤◌, List, length, map, Option, Some, All, arith}
 use Rattle.std.proofs.lemmas.Option.{same_Some}
 use Rattle.std.proofs.lemmas.List.Elements.{All-weaker}
 use Rattle.h264_controls.specs.declared.request.Request.{Request}
 use Rattle.h264_controls.specs.declared.work.Work.{Work}
+use Rattle.h264_controls.specs.References.{timestamp}
 use Rattle.unit_outcomes.specs.declared.outcome.Outcome.{Outcome}
 use Rattle.unit_outcomes.specs.declared.outcome.Outcome.TheVariants as outcomes
 use Rattle.unit_outcomes.specs.declared.outcome.Plan.{Plan}
@@ -19,12 +20,14 @@ use Rattle.picture_store.specs.Places.{PlacesValue}
 use Rattle.picture_store.specs.Stores.{IsReady}
 use Rattle.picture_store.specs.Kept.{Trees, AreRight, keys_for}
 use Rattle.picture_store.specs.Due.{AreHeld}
-use Rattle.picture_store.specs.Naming.{AreCovered, AreThere, IsShown}
+use Rattle.picture_store.specs.Naming.{AreCovered, IsShown}
+use Rattle.picture_store.specs.Referenced.{AreInOrder, frames_named, frames_of, times_of}
 use Rattle.picture_store.specs.Inputs.{HasKnown, IsInputOf}
 use Rattle.picture_store.proofs.Ready.{are_held}
 use Rattle.key_slots.proofs.Entries.{entries_many}
 use Rattle.picture_store.proofs.Entries.{IsKnown, all_known, covered, of_unit}
 use Rattle.picture_store.proofs.Shown.{IsOfItsUnit, all_there, shows_known, whole}
+use Rattle.picture_store.proofs.Referring.{there_in_order}
 
 module _ (keys : Trees) (key : ℕ) (node : NodeOf (List Work)) (is_node : IsNodeOf keys key node) (outcome : Outcome)
     (plan : Plan) (plan_is : outcome ≡ outcomes.Plan plan) (known : Known) (has : HasKnown keys outcome key known) where
@@ -74,16 +77,20 @@ module _ (keys : Trees) (key : ℕ) (node : NodeOf (List Work)) (is_node : IsNod
           (subst (λ es. All (IsShown places units es) references) entries_are all))
 
       pub is_input : (references : List (Reference P)) (requests : List Request) (input : InputValue P)
-          → All (IsShown places units entries) references → AreThere references units → requests ≡ plan.requests
+          → All (IsShown places units entries) references
+          → times_of references ≡ map timestamp (frames_named (frames_of plan.requests) units) → requests ≡ plan.requests
           → input ≡ record { requests = requests; references = references } → IsInputOf IsOf known outcome input
-      is_input references requests input all there requests_are input_is =
+      is_input references requests input all times requests_are input_is =
           let whole_input : InputValue P = record { requests = plan.requests; references = references } in
           let same : input ≡ whole_input =
           input_is ∙ ap (λ rs. record { requests = rs; references = references }) requests_are in
-          let are = all_there references (named_by_all plan.requests) (subst (AreThere references) units_are there) in
+          let order : AreInOrder whole_input =
+          times ∙ ap (λ (us : List (Option ℕ)). map timestamp (frames_named (frames_of plan.requests) us)) units_are in
+          let are = all_there references (named_by_all plan.requests) (there_in_order plan.requests references order) in
           subst (λ o. IsInputOf IsOf known o input) (sym plan_is)
           (subst (IsInputOf IsOf known (outcomes.Plan plan)) (sym same) (
             refl,
             shows_known IsOf known references (of_units references all) (named_by_all plan.requests) known_all are,
             whole known references plan.requests can_decode are,
+            order,
           ))

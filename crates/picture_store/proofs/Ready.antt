@@ -1,16 +1,19 @@
 -- When the pictures of the keys at a key's own entries are held, by the numbers that a node names.
-use Rattle.std.proofs.Common.{◌≡◌, refl, sym, ap, subst, ◌∙◌, ℕ, List, [], ◌∷◌, map, Option, Some, None, IsSome, Contains, inl, inr, arith}
+use Rattle.std.proofs.Common.{◌≡◌, ◌≢◌, refl, sym, ap, subst, ◌∙◌, ℕ, zero, suc, ◌<◌, List, [], ◌∷◌, map, length, get_or, length-map, AllPairs, Option, Some, None, IsSome, Contains, inl, inr, arith}
 use Rattle.std.specs.Option.{unwrap_or}
+use Rattle.std.proofs.lemmas.List.{get_or-map}
+use Rattle.std.proofs.lemmas.List.Elements.{Contains-get_or}
 use Rattle.h264_controls.specs.declared.work.Work.{Work}
 use Rattle.dep_keys.specs.KeyMaps.{tree_at, tree_from, entered, AreLive}
 use Rattle.dep_keys.specs.Trees.Tree.{Bare}
 use Rattle.decode_jobs.specs.Keys.{Key}
 use Rattle.key_slots.specs.Places.{place_at, numbers_held}
+use Rattle.key_slots.specs.Going.{AreAbove, AreRising}
 use Rattle.picture_store.specs.Places.{PlacesValue}
 use Rattle.picture_store.specs.Stores.{IsReady}
 use Rattle.picture_store.specs.Kept.{Trees, AreRight, key_for, keys_for}
 use Rattle.picture_store.specs.Due.{IsHeld, AreHeld}
-use Rattle.key_slots.proofs.Held.{held_found, found_held}
+use Rattle.key_slots.proofs.Held.{held_found, found_held, held_rising}
 use Rattle.picture_store.proofs.Loops.{first_in, later_in, in_cases}
 use Rattle.decode_jobs.specs.Inputs.{InputValue}
 
@@ -33,6 +36,25 @@ of_map f (x ∷ xs) y there =
 
 key_of : (keys : Trees) (number : ℕ) (key : Key) → tree_at keys number ≡ Some key → key_for keys number ≡ key
 key_of keys number key there = ap (λ (tree : Option Key). unwrap_or tree (Bare [])) there
+
+-- of rising numbers a later one is greater
+above_at : (least : ℕ) (numbers : List ℕ) → AreAbove least numbers → (i d : ℕ) → i < length numbers → least < get_or numbers i d
+above_at least [] above i d within = absurd (omega arith)
+above_at least (number ∷ numbers) above zero d within = above.0
+above_at least (number ∷ numbers) above (suc i) d within =
+    let later : number < get_or numbers i d = above_at number numbers above.1 i d (omega arith) in
+    omega (arith, above.0, later)
+
+rising_rest : (number : ℕ) (numbers : List ℕ) → AreAbove number numbers → AreRising numbers
+rising_rest number [] above = tt
+rising_rest number (next ∷ numbers) above = above.1
+
+rising_at : (numbers : List ℕ) → AreRising numbers → (i j d : ℕ) → i < j → j < length numbers → get_or numbers i d < get_or numbers j d
+rising_at [] rising i j d less within = absurd (omega arith)
+rising_at (number ∷ numbers) rising i zero d less within = absurd (omega arith)
+rising_at (number ∷ numbers) rising zero (suc j) d less within = above_at number numbers rising j d (omega arith)
+rising_at (number ∷ numbers) rising (suc i) (suc j) d less within =
+    rising_at numbers (rising_rest number numbers rising) i j d (omega arith) (omega arith)
 
 module _ {P : Type 0} {IsDecoded : InputValue P → P → Type 0} {IsOf : Key → P → Type 0} (keys : Trees) (places : PlacesValue P) (right : AreRight IsDecoded IsOf keys places) where
   pub held_key : (number : ℕ) (key : Key) → tree_at keys number ≡ Some key → IsHeld places number
@@ -79,3 +101,23 @@ module _ {P : Type 0} {IsDecoded : InputValue P → P → Type 0} {IsOf : Key �
   are_held work (Some number ∷ entries) live ready =
       let r = entry_ready number (tree_at keys number) (tree_from keys work entries) refl live.0 ready in
       (r.0, are_held work entries live.1 r.1)
+
+  -- no key is held twice
+  pub held_once : AllPairs ◌≢◌ (keys_for keys (numbers_held places))
+  held_once = λ i j d less within. λ same.
+      let numbers : List ℕ = numbers_held places in
+      let second_in : j < length numbers = omega (arith, length-map (key_for keys) numbers) in
+      let first_in : i < length numbers = omega (arith, second_in, less) in
+      let first : ℕ = get_or numbers i 0 in
+      let second : ℕ = get_or numbers j 0 in
+      let first_held = held_found places first (Contains-get_or numbers i 0 first_in) in
+      let second_held = held_found places second (Contains-get_or numbers j 0 second_in) in
+      let first_of = right.held first first_held.0 first_held.1 in
+      let second_of = right.held second second_held.0 second_held.1 in
+      let one : second_of.0 ≡ first_of.0 =
+      sym (key_of keys second second_of.0 second_of.1) ∙ sym (get_or-map (key_for keys) numbers j 0 d second_in)
+      ∙ sym same ∙ get_or-map (key_for keys) numbers i 0 d first_in ∙ key_of keys first first_of.0 first_of.1 in
+      let numbers_same : first ≡ second =
+      right.one.trees first second first_of.0 first_of.1 (second_of.1 ∙ ap (λ k. Some k) one) in
+      let less_too : first < second = rising_at numbers (held_rising places) i j 0 less second_in in
+      omega (arith, numbers_same, less_too)

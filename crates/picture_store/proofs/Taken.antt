@@ -206,6 +206,7 @@ module _ {P : Type 0} {IsDecoded : InputValue P → P → Type 0} {IsOf : Key �
           number_is = next_is;
           requests_are = made.0;
           shows = made.1;
+          order = made.3;
           held = held;
           new_is =
               ap (λ (jobs : List (OutValue P)). record (viewed keys ids outcomes numbers places cached room out given released marked) { jobs_out = jobs; jobs_given = next })

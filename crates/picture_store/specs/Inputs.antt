@@ -8,6 +8,7 @@ use Rattle.picture_keys.specs.Known.{Known, key_of_outcome}
 use Rattle.picture_keys.specs.Decodable.{OutcomeCanDecode}
 use Rattle.picture_keys.specs.Referred.{ShowsKnown}
 use Rattle.picture_store.specs.Kept.{Trees}
+use Rattle.picture_store.specs.Referenced.{AreInOrder}
 use Rattle.decode_jobs.specs.Keys.{Key}
 
 -- after these known keys the unit that becomes so has the key of the number, and can be decoded
@@ -16,9 +17,10 @@ pub record HasKnown (keys : Trees) (outcome : Outcome) (number : ℕ) (known : K
   pub decodes : OutcomeCanDecode known outcome
 
 module _ {P : Type 0} (IsOf : Key → P → Type 0) where
-  -- the input is that of the unit: its requests, with the pictures of the keys that they name
+  -- the input is that of the unit: its requests, with the pictures of the keys that they name, each
+  -- once, in the order of the decoded picture buffer
   abbrev pub IsInputOf : Known → Outcome → InputValue P → Type 0
   IsInputOf known (outcomes.Plan plan) input =
-      (input.requests ≡ plan.requests) × ShowsKnown IsOf known input × IsTrue (is_whole input)
+      (input.requests ≡ plan.requests) × ShowsKnown IsOf known input × IsTrue (is_whole input) × AreInOrder input
   IsInputOf known (outcomes.Fault fault) input = ⊥
   IsInputOf known outcomes.Empty input = ⊥

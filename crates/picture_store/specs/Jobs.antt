@@ -17,6 +17,7 @@ use Rattle.picture_store.specs.declared.answers.Landing.TheVariants as landings
 use Rattle.picture_store.specs.declared.answers.Returning.{Returning}
 use Rattle.picture_store.specs.declared.answers.Returning.TheVariants as returnings
 use Rattle.picture_store.specs.Pictures.{HoldMore, ReferToHeld}
+use Rattle.picture_store.specs.Referenced.{AreInOrder}
 use Rattle.picture_store.specs.Stores.{OutValue, StoreValue, units_of, IsInUse, IsReady}
 
 -- how many numbers of jobs there are
@@ -38,7 +39,8 @@ module _ {P : Type 0} where
 
 module _ {P : Type 0} (IsOf : Key → P → Type 0) where
   -- the job of the unit at a place, which is due, is given: under the next number, with the requests
-  -- of that unit and the pictures of their references, each of which is held
+  -- of that unit and the pictures of their references, each once, in the order of the decoded
+  -- picture buffer, and each of which is held
   pub record Gives (old : StoreValue P) (at : ℕ) (job : JobValue P) (new : StoreValue P) : Type 0 where
     pub before : List (ℕ × Outcome)
     pub id : ℕ
@@ -50,6 +52,7 @@ module _ {P : Type 0} (IsOf : Key → P → Type 0) where
     pub number_is : job.number ≡ old.jobs_given + 1
     pub requests_are : job.input.requests ≡ plan.requests
     pub shows : ShowsKnown IsOf (known_after [] before) job.input
+    pub order : AreInOrder job.input
     pub held : ReferToHeld old.pictures job.input.references
     pub new_is : new ≡ record old {
       jobs_out = old.jobs_out ++ (record {

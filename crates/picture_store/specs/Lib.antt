@@ -8,6 +8,7 @@ pub mod Kept
 pub mod Marks
 pub mod Numbers
 pub mod Naming
+pub mod Referenced
 pub mod Filling
 pub mod Due
 pub mod Schedules

@@ -9,7 +9,7 @@ ghost use Rattle.key_slots.specs.Places.{numbers_held, pictures_held};
 ghost use Rattle.picture_store.specs.Kept.{keys_for, AreRight};
 ghost use Rattle.picture_store.specs.Inputs.{HasKnown, IsInputOf};
 
-use crate::naming::references_of;
+use crate::naming::{frames_of, references_of};
 use decode_jobs::{Decoded, Input};
 use dep_keys::{Fingerprint, KeyId, Keys};
 use h264_controls::Request;
@@ -18,8 +18,8 @@ use picture_keys::{Works, units_named};
 use std::alloc::{AllocError, Global};
 use unit_outcomes::Outcome;
 
-/// The requests of a unit with this key, and the pictures that they refer to, each of which is
-/// held.
+/// The requests of a unit with this key, and the pictures that their lists name, each once and in
+/// the order of the decoded picture buffer, each of which is held.
 pub(crate) fn input_of<F: Fingerprint<Works>, P: Decoded>(
     alloc: Global,
     keys: &Keys<Works, F>,
@@ -42,7 +42,8 @@ pub(crate) fn input_of<F: Fingerprint<Works>, P: Decoded>(
     };
     let requests = plan.requests.as_slice();
     let units = units_named(alloc, requests)?;
-    let references = references_of(alloc, places, &units, node.entries())?;
+    let frames = frames_of(alloc, requests)?;
+    let references = references_of(alloc, places, &frames, &units, node.entries())?;
     Ok(Input::new(copies(alloc, requests)?, references))
 }
 

@@ -1,21 +1,56 @@
 //! The pictures of the units that requests name.
 
-ghost use Rattle.std.specs.Prelude.{◌≡◌, ℕ, [], ◌∷◌, ◌++◌, ◌⊎◌, All, Option, None, IsSome, IfSome, is_some, ◌==◌, ◌≤◌, length, IfOk, OnOk};
+ghost use Rattle.std.specs.Prelude.{◌≡◌, ◌++◌, ◌∷◌, [], ◌≤◌, ℕ, List, All, None, Some, false, length, map, slice_get, IfOk, IfSome, OnOk};
+ghost use Rattle.std.specs.List.{list_any};
 ghost use Rattle.h264_controls.specs.References.{timestamp};
-ghost use Rattle.decode_jobs.specs.Inputs.{picture_at};
-ghost use Rattle.picture_store.specs.Naming.{AddsAtMostEntry, AreCovered, AreOnce, AreThere, IsShown, picture_in};
+ghost use Rattle.picture_store.specs.Naming.{AreCovered, IsShown, picture_in};
+ghost use Rattle.picture_store.specs.Referenced.{added, each_once, frames_named, frames_of, names, times_of};
 
 use decode_jobs::{Decoded, Reference};
 use dep_keys::KeyId;
+use h264_controls::Request;
 use key_slots::Places;
 use pictures::AuId;
 use std::alloc::{AllocError, Global};
 
-/// The pictures of the units that are named, each once, by the numbers of the keys that stand at
-/// the same entries.
+/// The frames in the decoded picture buffers that requests carry, each once, in their order.
+pub(crate) fn frames_of(alloc: Global, requests: &[Request]) -> Result<Vec<AuId>, AllocError>
+    ensures { IfOk result (λ frames. frames.items ≡ frames_of requests.now) }
+{
+    let mut frames = Vec::new(alloc);
+    for request in requests {
+        add_frames(&mut frames, request.references.as_slice())?;
+    }
+    Ok(frames)
+}
+
+/// Adds those frames that aren't there.
+fn add_frames(frames: &mut Vec<AuId>, more: &[AuId]) -> Result<(), AllocError>
+    ensures { OnOk result ((front : List ℕ) → frames.old.items ≡ each_once front
+        → frames.new.items ≡ each_once (front ++ more.now)) }
+{
+    for frame in more {
+        add_frame(frames, *frame)?;
+    }
+    Ok(())
+}
+
+/// Adds a frame, unless it is there.
+fn add_frame(frames: &mut Vec<AuId>, frame: AuId) -> Result<(), AllocError>
+    ensures { OnOk result (frames.new.items ≡ frames.old.items ++ added frame frames.old.items) }
+{
+    if !frames.contains(&frame) {
+        frames.push(frame)?;
+    }
+    Ok(())
+}
+
+/// The pictures of those of the frames that are named, in their order, by the numbers of the keys
+/// that stand at the same entries as the units that are named.
 pub(crate) fn references_of<P: Decoded>(
     alloc: Global,
     places: &Places<P>,
+    frames: &[AuId],
     units: &[Option<AuId>],
     entries: &[Option<KeyId>],
 ) -> Result<Vec<Reference<P>>, AllocError>
@@ -23,36 +58,53 @@ pub(crate) fn references_of<P: Decoded>(
     requires least { length units.now ≤ length entries.now }
     ensures shown { IfOk result (λ references.
         All (IsShown places.now units.now entries.now) references.items) }
-    ensures there { IfOk result (λ references. AreThere references.items units.now) }
-    ensures once { IfOk result (λ references. AreOnce references.items) }
+    ensures times { IfOk result (λ references.
+        times_of references.items ≡ map timestamp (frames_named frames.now units.now)) }
 {
     let mut references = Vec::new(alloc);
-    for at in 0..units.len() {
-        add_named(&mut references, places, units[at], entries[at])?;
+    for frame in frames {
+        add_named(&mut references, places, *frame, units, entries)?;
     }
     Ok(references)
 }
 
-/// Adds the picture of an entry for the unit that is named there, if one is.
+/// Adds the picture of a frame where it is named.
 fn add_named<P: Decoded>(
     references: &mut Vec<Reference<P>>,
     places: &Places<P>,
-    unit: Option<AuId>,
-    entry: Option<KeyId>,
+    frame: AuId,
+    units: &[Option<AuId>],
+    entries: &[Option<KeyId>],
 ) -> Result<(), AllocError>
-    requires { IfSome unit (λ _. IsSome (picture_in places.now entry)) }
-    ensures there { OnOk result (IfSome unit (λ unit. IsSome
-        (picture_at references.new.items (timestamp unit)))) }
-    ensures items { OnOk result
-        (AddsAtMostEntry references.old.items places.now unit entry references.new.items) }
+    requires covered { AreCovered places.now units.now entries.now }
+    requires least { length units.now ≤ length entries.now }
+    ensures shown { OnOk result (All (IsShown places.now units.now entries.now) references.old.items
+        → All (IsShown places.now units.now entries.now) references.new.items) }
+    ensures times { OnOk result (times_of references.new.items ≡ times_of references.old.items
+        ++ map timestamp (frames_named (frame ∷ []) units.now)) }
 {
-    match unit {
-        Some(unit) => match picture_in(places, entry) {
-            Some(picture) => add(references, unit, picture),
-            None => Ok(()),
-        },
-        None => Ok(()),
+    let Some(at) = entry_of(units, frame) else {
+        return Ok(());
+    };
+    let entry = entries[at];
+    if let Some(picture) = picture_in(places, entry) {
+        let timestamp = frame.timestamp();
+        references.push(Reference { timestamp, picture })?;
     }
+    Ok(())
+}
+
+/// The first entry that names the frame.
+fn entry_of(units: &[Option<AuId>], frame: AuId) -> Option<usize>
+    ensures named { IfSome result (λ at. slice_get units.now at ≡ Some (Some frame)) }
+    ensures unnamed { result ≡ None → list_any (names frame) units.now ≡ false }
+{
+    for (at, unit) in units.iter().enumerate() {
+        if *unit == Some(frame) {
+            return Some(at);
+        }
+    }
+    None
 }
 
 /// The picture of an entry, where it is held.
@@ -60,34 +112,4 @@ fn picture_in<P: Decoded>(places: &Places<P>, entry: Option<KeyId>) -> Option<P>
     ensures { result ≡ picture_in places.now entry }
 {
     places.get(entry?)?
-}
-
-/// Adds the picture of a unit, unless it is there.
-fn add<P: Decoded>(
-    references: &mut Vec<Reference<P>>,
-    unit: AuId,
-    picture: P,
-) -> Result<(), AllocError>
-    ensures there { OnOk result (IsSome (picture_at references.new.items (timestamp unit))) }
-    ensures items { OnOk result ((references.new.items ≡ references.old.items)
-        ⊎ ((picture_at references.old.items (timestamp unit) ≡ None) × (references.new.items
-        ≡ references.old.items ++
-        (record { timestamp = timestamp unit; picture = picture }) ∷ []))) }
-{
-    let timestamp = unit.timestamp();
-    if !has_picture(references, timestamp) {
-        references.push(Reference { timestamp, picture })?;
-    }
-    Ok(())
-}
-
-/// Whether the picture of a timestamp is there.
-fn has_picture<P: Decoded>(references: &[Reference<P>], timestamp: u64) -> bool
-    ensures { result ≡ is_some (picture_at references.now timestamp) }
-{
-    references.iter().any(
-        |reference| -> bool
-            ensures { result ≡ (reference.now.timestamp == timestamp) }
-        { reference.timestamp == timestamp },
-    )
 }

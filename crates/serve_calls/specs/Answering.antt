@@ -1,5 +1,5 @@
 -- What a session is asked, and the results.
-use Rattle.std.specs.Prelude.{◌≡◌, ◌⊎◌, ◌↔◌, ℕ, ◌+◌, ◌<◌, ◌≤◌, Bool, IsTrue, List, length, slice_index_or, take, drop, slice_get, filter_map, option_and_then, option_map, Option, Some, None, Result, Ok, Err}
+use Rattle.std.specs.Prelude.{◌≡◌, ◌≢◌, ◌⊎◌, ◌↔◌, ℕ, ◌+◌, ◌<◌, ◌≤◌, AllPairs, Bool, IsTrue, List, length, slice_index_or, take, drop, slice_get, filter_map, option_and_then, option_map, Option, Some, None, Result, Ok, Err}
 use Rattle.std.specs.List.{zip}
 use Rattle.doubts.specs.InDoubt.{IsDoubt}
 use Rattle.stream_edits.specs.Streams.{Stream, ids_of}
@@ -106,9 +106,10 @@ TellsShown is_session number result =
     (shown : Shown) × Asks is_session (λ machine. Shows machine (id_of number) shown)
     × IsUnlessMemory (show_answer shown) result
 
--- the result of a question for how much there is
+-- the result of a question for how much there is, where no key is held twice
 abbrev pub TellsStats : (Machine → Type 0) → Sums → Result Answer Failure → Type 0
-TellsStats is_session sums result = Asks is_session (λ machine. result ≡ Ok (answer.Stats (stats_of machine sums)))
+TellsStats is_session sums result =
+    Asks is_session (λ machine. (result ≡ Ok (answer.Stats (stats_of machine sums))) × AllPairs ◌≢◌ machine.held)
 
 -- the result of a question for what the server is, which has methods about jobs or none
 abbrev pub Introduces : Bool → Result Answer Failure → Type 0

@@ -1,6 +1,6 @@
 //! Questions to a session, and their answers.
 
-ghost use Rattle.std.specs.Prelude.{◌≡◌, ◌+◌, ◌≤◌, ◌↔◌, ℕ, IfOk, IsTrue, MatchOption, drop, filter_map, length, take};
+ghost use Rattle.std.specs.Prelude.{◌≡◌, ◌≢◌, ◌+◌, ◌≤◌, ◌↔◌, ℕ, AllPairs, IfOk, IsTrue, MatchOption, drop, filter_map, length, take};
 ghost use Rattle.std.specs.List.{zip};
 ghost use Rattle.doubts.specs.InDoubt.{AreDoubts};
 ghost use Rattle.stream_session.specs.Altered.{IsAltered};
@@ -227,7 +227,8 @@ fn has_position(session: &Session, id: AuId, position: u64) -> bool
 
 /// How much there is of what the session keeps, and what edits added up to.
 fn stats(session: &Session, sums: Sums) -> Stats
-    ensures { result ≡ stats_of session.now sums }
+    ensures value { result ≡ stats_of session.now sums }
+    ensures once { AllPairs ◌≢◌ session.now.held }
 {
     Stats {
         units: session.last().units,

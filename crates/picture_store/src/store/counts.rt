@@ -1,6 +1,6 @@
 //! How much a store has.
 
-ghost use Rattle.std.specs.Prelude.{◌≡◌, length};
+ghost use Rattle.std.specs.Prelude.{◌≡◌, ◌≢◌, AllPairs, length};
 
 use super::PictureStore;
 use decode_jobs::Decoded;
@@ -15,7 +15,8 @@ impl<P: Decoded> PictureStore<P> {
 
     /// How many keys there are whose pictures are held. The slot of each key is looked at.
     pub fn held_keys(&self) -> usize
-        ensures { result ≡ length self.now.held }
+        ensures count { result ≡ length self.now.held }
+        ensures once { AllPairs ◌≢◌ self.now.held }
     {
         self.places.held()
     }

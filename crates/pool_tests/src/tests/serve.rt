@@ -5,6 +5,7 @@ mod batches;
 mod beside;
 mod ends;
 mod errors;
+mod taken;
 
 use console_io::{InputFault, Source};
 use failure_reasons::Explain;

@@ -1,6 +1,6 @@
 //! What is asked of a session.
 
-ghost use Rattle.std.specs.Prelude.{◌≡◌, ◌+◌, ◌<◌, ◌≤◌, ◌↔◌, ℕ, length, slice_get, Contains, Some, None, IsTrue, IfOk, IfSome, MatchOption, MatchResult};
+ghost use Rattle.std.specs.Prelude.{◌≡◌, ◌≢◌, ◌+◌, ◌<◌, ◌≤◌, ◌↔◌, ℕ, length, slice_get, AllPairs, Contains, Some, None, IsTrue, IfOk, IfSome, MatchOption, MatchResult};
 ghost use Rattle.picture_store.specs.Stores.{AreOneToOne, IsNumberInUse};
 ghost use Rattle.stream_edits.specs.Streams.{end_of, ids_of, place_of, start_of};
 ghost use Rattle.stream_session.specs.Streams.{outcome_in, position_in};
@@ -141,7 +141,8 @@ impl<P: Decoded> Session<P> {
 
     /// How many keys there are whose pictures are held. It takes no memory.
     pub fn held_keys(&self) -> usize
-        ensures { result ≡ length self.now.held }
+        ensures count { result ≡ length self.now.held }
+        ensures once { AllPairs ◌≢◌ self.now.held }
     {
         self.store.held_keys()
     }

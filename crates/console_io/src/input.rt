@@ -1,6 +1,7 @@
 //! What a stream or a script is read from.
 
-ghost use Rattle.std.specs.Prelude.{◌≡◌, IfOk, IfSome, IsErr, codes, false};
+ghost use Rattle.std.specs.Prelude.{◌≡◌, ◌<◌, ◌≤◌, IfOk, IfSome, IsErr, OnErr, codes, false, length, take};
+ghost use Rattle.std.specs.Io.KnownBytes.{Consumes, IsAtEnd, Keeps};
 ghost use Rattle.std.specs.Str.{bytes_eq};
 ghost use Rattle.console_io.specs.declared.input.InputFault.TheVariants.{Memory};
 ghost use Rattle.console_io.specs.Inputs.{input_fault, is_standard, remaining_of, text_named};
@@ -82,4 +83,28 @@ pub fn whole_input<R: Read>(alloc: Global, reader: &mut R) -> Result<Vec<u8>, In
         Ok(_) => Ok(text),
         Err(error) => Err(InputFault::from(error.kind())),
     }
+}
+
+/// Reads once, and says how many bytes came: none at the end alone, where there is room for any. An
+/// interrupted read is made again; one that is interrupted 2^64 - 1 times is `Unread`.
+pub fn read_some<R: Read>(reader: &mut R, buffer: &mut [u8]) -> Result<usize, InputFault>
+    ensures within { IfOk result (λ count. count ≤ length buffer.new) }
+    ensures len { length buffer.new ≡ length buffer.old }
+    ensures some { IfOk result (λ count.
+        Consumes (R.remaining reader.old) (R.remaining reader.new) (take count buffer.new)) }
+    ensures end { 0 < length buffer.old
+        → IfOk result (λ count. count ≡ 0 → IsAtEnd (R.remaining reader.new)) }
+    ensures err { OnErr result (Keeps (R.remaining reader.old) (R.remaining reader.new)) }
+{
+    'tries: for turn in 0..u64::MAX {
+        match reader.read(buffer) {
+            Ok(count) => return Ok(count),
+            Err(error) => {
+                if error.kind() != ErrorKind::Interrupted {
+                    return Err(InputFault::from(error.kind()));
+                }
+            }
+        }
+    }
+    Err(InputFault::Unread)
 }

@@ -14,7 +14,7 @@ mod source;
 mod status;
 
 pub use chunks::{Chunks, PrintFault, write_bytes};
-pub use input::{InputFault, NamedInput, open_input, whole_input};
+pub use input::{InputFault, NamedInput, open_input, read_some, whole_input};
 pub use messages::{
     say_input_fault, say_line, say_not_text, say_out_of_memory, say_print_fault, say_unread,
 };

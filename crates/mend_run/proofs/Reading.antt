@@ -1,17 +1,10 @@
 -- What a reader has left, after reads.
 use Rattle.std.proofs.Common.{◌≡◌, ℕ, List, ◌++◌, Option, Some, None, ap, sym, ◌∙◌, append_assoc}
-use Rattle.std.specs.Io.KnownBytes.{Consumes, Keeps, prepend_known}
+use Rattle.std.specs.Io.KnownBytes.{Consumes, prepend_known}
 use Rattle.console_io.specs.declared.input.InputFault.{InputFault}
 use Rattle.console_io.specs.declared.input.InputFault.TheVariants as input
 use Rattle.mend_run.specs.Runs.{fault_of_input}
 use Rattle.mend_run.specs.declared.running.MendFault.TheVariants.{Unwritten}
-
--- what a read gives after reads that gave nothing
-pub consumed-after : (a b c : Option (List ℕ)) (bytes : List ℕ) → Keeps a b → Consumes b c bytes → Consumes a c bytes
-consumed-after None b c bytes keeps consumes = tt
-consumed-after (Some xs) None c bytes keeps consumes = absurd keeps
-consumed-after (Some xs) (Some ys) None bytes keeps consumes = absurd consumes
-consumed-after (Some xs) (Some ys) (Some zs) bytes keeps consumes = sym keeps ∙ consumes
 
 -- what was read is held, and what stays is left
 pub left-read : (held : List ℕ) (old new : Option (List ℕ)) (more left : List ℕ) → Consumes old new more

@@ -1,12 +1,12 @@
 //! What is read of a stream, by chunks.
 
-ghost use Rattle.std.specs.Prelude.{◌≡◌, ◌+◌, ◌<◌, ◌≤◌, ◌^◌, ℕ, List, false, true, length, take, IfOk};
-ghost use Rattle.std.specs.Io.KnownBytes.{Consumes, IsAtEnd};
+ghost use Rattle.std.specs.Prelude.{◌≡◌, ◌+◌, ◌<◌, ◌^◌, ℕ, List, false, true, length, IfOk};
+ghost use Rattle.std.specs.Io.KnownBytes.{IsAtEnd};
 ghost use Rattle.mend_run.specs.Runs.{AreLeft};
 
-use console_io::InputFault;
+use console_io::{InputFault, read_some};
 use std::alloc::{AllocError, Global};
-use std::io::{ErrorKind, Read};
+use std::io::Read;
 
 /// How many bytes are read at once at most, and as how many more at least.
 const SIZE: usize = 256 * 1024;
@@ -56,28 +56,6 @@ impl Input {
         self.count = sum(self.count, more as u64)?;
         Ok(true)
     }
-}
-
-/// Reads once. An interrupted read is made again.
-fn read_some<R: Read>(reader: &mut R, chunk: &mut [u8]) -> Result<usize, InputFault>
-    requires { 0 < length chunk.old }
-    ensures within { IfOk result (λ count. count ≤ length chunk.new) }
-    ensures len { length chunk.new ≡ length chunk.old }
-    ensures some { IfOk result (λ count.
-        Consumes (R.remaining reader.old) (R.remaining reader.new) (take count chunk.new)) }
-    ensures end { IfOk result (λ count. count ≡ 0 → IsAtEnd (R.remaining reader.new)) }
-{
-    'tries: for turn in 0..u64::MAX {
-        match reader.read(chunk) {
-            Ok(count) => return Ok(count),
-            Err(error) => {
-                if error.kind() != ErrorKind::Interrupted {
-                    return Err(InputFault::from(error.kind()));
-                }
-            }
-        }
-    }
-    Err(InputFault::Unread)
 }
 
 /// The sum. No stream has 2^64 bytes: its places couldn't be told.

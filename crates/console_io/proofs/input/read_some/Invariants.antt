@@ -1,9 +1,9 @@
 use Rattle.std.proofs.Common.{◌≡◌, length}
 use Rattle.std.specs.Io.KnownBytes.{Keeps}
-use Rattle.mend_run.proofs.input.read_some.Given as goal
+use Rattle.console_io.proofs.input.read_some.Given as goal
 
 abbrev pub invariant-tries : goal.invariant-tries
 invariant-tries g l = record {
   kept : Keeps (g.R.Read.remaining l.fn.reader) (g.R.Read.remaining l.reader);
-  long : length l.chunk ≡ length l.fn.chunk;
+  long : length l.buffer ≡ length l.fn.buffer;
 }

@@ -1,13 +1,13 @@
 //! The first bytes of an input, by which its kind is known before it is read.
 
-ghost use Rattle.std.specs.Prelude.{◌≡◌, ◌++◌, ℕ, List, Ok, IfOk, false};
+ghost use Rattle.std.specs.Prelude.{◌≡◌, ◌<◌, ◌++◌, ℕ, List, Ok, IfOk, false, length, true};
 ghost use Rattle.std.specs.Io.KnownBytes.{Consumes, IsAtEnd};
 ghost use Rattle.file_reasons.specs.Fronts.{IsFront};
 
-use console_io::InputFault;
+use console_io::{InputFault, read_some};
 use file_kinds::FIRST_BYTES;
 use std::alloc::Global;
-use std::io::{ErrorKind, Read};
+use std::io::Read;
 
 /// How many bytes are read at once.
 const CHUNK: usize = 8192;
@@ -19,31 +19,25 @@ pub(crate) fn first_bytes<R: Read>(alloc: Global, reader: &mut R) -> Result<Vec<
         front.items) }
 {
     let mut front = Vec::new(alloc);
-    'reads: for turn in 0..u64::MAX {
-        if front.len() >= FIRST_BYTES || !read_once(reader, &mut front)? {
+    while front.len() < FIRST_BYTES {
+        if !read_once(reader, &mut front)? {
             return Ok(front);
         }
     }
-    Err(InputFault::Unread)
+    Ok(front)
 }
 
-/// Reads once, if the read isn't interrupted, and adds what was read; says whether there may be
-/// more.
+/// Reads once and adds what was read; says whether there may be more.
 fn read_once<R: Read>(reader: &mut R, front: &mut Vec<u8>) -> Result<bool, InputFault>
     ensures read { IfOk result (λ more. (bytes : List ℕ)
         × (front.new.items ≡ front.old.items ++ bytes)
         × Consumes (R.remaining reader.old) (R.remaining reader.new) bytes) }
+    ensures longer { IfOk result (λ more. more ≡ true
+        → length front.old.items < length front.new.items) }
     ensures end { result ≡ Ok false → IsAtEnd (R.remaining reader.new) }
 {
     let mut chunk = [0; CHUNK];
-    match reader.read(chunk.as_mut_slice()) {
-        Ok(count) => {
-            front.extend_from_slice(&chunk[..count])?;
-            Ok(count > 0)
-        }
-        Err(error) => match error.kind() {
-            ErrorKind::Interrupted => Ok(true),
-            kind => Err(InputFault::from(kind)),
-        },
-    }
+    let count = read_some(reader, chunk.as_mut_slice())?;
+    front.extend_from_slice(&chunk[..count])?;
+    Ok(count > 0)
 }

@@ -12,5 +12,6 @@ pub mod Positions
 pub mod KeptTexts
 pub mod Gathers
 pub mod Windows
+pub mod Turns
 pub mod PlanEnds
 pub mod Pieces

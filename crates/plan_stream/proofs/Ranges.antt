@@ -2,8 +2,7 @@
 use Rattle.std.proofs.Common.{◌≡◌, ℕ, ◌+◌, ◌-◌, ◌≤◌, Bool, true, false, ltb, List, [], ◌++◌, length, take, drop, slice_range, Option, Some, None, Result, Ok, Err, IfOk, OnErr, refl, sym, ap, ◌∙◌, arith, append_assoc}
 use Rattle.std.proofs.lemmas.Bool.{false≢true}
 use Rattle.std.proofs.lemmas.List.{append-nil, take_at, drop_at, take-append-le, drop-append-le, drop-take, drop-drop, length-take-le, length-drop}
-use Rattle.std.specs.Io.{ReadsAtMost}
-use Rattle.std.specs.Io.KnownBytes.{Consumes, IsAtEnd, Keeps, ReadConsumes, prepend_known}
+use Rattle.std.specs.Io.KnownBytes.{Consumes, IsAtEnd, Keeps, prepend_known}
 use borrow.Rule.Slice.PartMut.{put_mid, post_of}
 use lib.Seq.{take-add}
 use Rattle.plan_stream.specs.declared.window.Window.{Window}
@@ -109,12 +108,12 @@ Shows-front old new (Some xs) left len is_some has parts len_is over found some 
 
 -- a read past the end
 module _ {E : Type 0} (known after : Option (List ℕ)) (xs ys : List ℕ) (start end k : ℕ) (ordered : start ≤ end) (within : end ≤ length xs) where
-  pub read-ok : (result : Result ℕ E) → ReadsAtMost result ys → ReadConsumes known after result ys
+  pub read-ok : (result : Result ℕ E) → IfOk result (λ n. n ≤ length ys) → IfOk result (λ n. Consumes known after (take n ys))
       → IfOk result (λ n. (more : List ℕ) × (slice_range (put_mid end k xs ys) start (end + n) ≡ slice_range xs start end ++ more) × Consumes known after more)
-  read-ok (Ok n) bound consumes = (take n ys, grown xs ys start end k n ordered within bound.0, consumes.0)
+  read-ok (Ok n) bound consumes = (take n ys, grown xs ys start end k n ordered within bound, consumes)
   read-ok (Err e) bound consumes = tt
 
-  pub read-err : (result : Result ℕ E) → ReadConsumes known after result ys
+  pub read-err : (result : Result ℕ E) → OnErr result (Keeps known after)
       → OnErr result ((slice_range (put_mid end k xs ys) start end ≡ slice_range xs start end) × Keeps known after)
-  read-err (Ok n) consumes = tt
-  read-err (Err e) consumes = (kept xs ys start end k ordered within, consumes)
+  read-err (Ok n) keeps = tt
+  read-err (Err e) keeps = (kept xs ys start end k ordered within, keeps)

@@ -1,6 +1,6 @@
 //! The search for the end of an access unit's text (7.4.1.2.3).
 
-ghost use Rattle.std.specs.Prelude.{◌≡◌, ◌≤◌, ◌&&◌, ◌++◌, ℕ, List, [], length, true, false, IfSome, IsTrue};
+ghost use Rattle.std.specs.Prelude.{◌≡◌, ◌≤◌, ◌&&◌, ◌++◌, ℕ, List, [], None, length, true, false, IfSome, IsTrue};
 ghost use Rattle.annexb.specs.AccessUnits.{begins_access_unit};
 ghost use Rattle.plan_stream.specs.Fronts.{front_len};
 ghost use Rattle.plan_stream.specs.Seen.{IsSeen};
@@ -14,6 +14,7 @@ pub(crate) fn front_len(bytes: &[u8], is_over: bool) -> Option<usize>
     ensures within { IfSome result (λ len. len ≤ length bytes.now) }
     ensures found { IfSome result (λ len. (more : List ℕ) → (is_over ≡ true → more ≡ [])
         → front_len false (bytes.now ++ more) ≡ len) }
+    ensures more { result ≡ None → is_over ≡ false }
 {
     let mut at = 0;
     let mut has_slice = false;
@@ -33,8 +34,9 @@ pub(crate) fn front_len(bytes: &[u8], is_over: bool) -> Option<usize>
 
 /// Whether what the bytes begin with is seen, whatever follows, or where nothing does.
 pub(crate) fn is_seen(nal: &[u8], is_over: bool) -> bool
-    ensures { IsTrue result → (more : List ℕ) → (is_over ≡ true → more ≡ [])
+    ensures seen { IsTrue result → (more : List ℕ) → (is_over ≡ true → more ≡ [])
         → IsSeen nal.now more }
+    ensures more { result ≡ false → is_over ≡ false }
 {
     is_over || nal.len() >= 2
 }

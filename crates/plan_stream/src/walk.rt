@@ -1,6 +1,6 @@
 //! The walk along the NAL units of an access unit, as far as bytes are there (7.4.1.2.3, B.1).
 
-ghost use Rattle.std.specs.Prelude.{◌≡◌, ℕ, List, [], IfSome, None, Some};
+ghost use Rattle.std.specs.Prelude.{◌≡◌, ℕ, List, [], IfSome, None, Some, false};
 ghost use Rattle.plan_stream.specs.Walks.{IsEnd, IsStep, IsWalked, IsWalkedOn};
 
 use crate::front::{front_len, has_boundary, is_seen};
@@ -65,6 +65,7 @@ impl Walk {
         requires { IsWalked bytes.now self.old }
         ensures end { IfSome result (IsEnd bytes.now is_over self.new.places.items) }
         ensures walked { result ≡ None → IsWalked bytes.now self.new }
+        ensures more { result ≡ None → is_over ≡ false }
     {
         match self.go_on(bytes, is_over) {
             Step::Ends(len) => Some(len),
@@ -79,7 +80,8 @@ impl Walk {
     /// Walks on along the bytes, whose front was walked along before.
     fn go_on(&mut self, bytes: &[u8], is_over: bool) -> Step
         requires { IsWalked bytes.now self.old }
-        ensures { IsWalkedOn bytes.now is_over self.new result }
+        ensures on { IsWalkedOn bytes.now is_over self.new result }
+        ensures more { result ≡ Step.Unseen → is_over ≡ false }
     {
         self.begin(bytes);
         while let Some(at) = self.next {
@@ -105,7 +107,8 @@ impl Walk {
     fn step(&mut self, bytes: &[u8], at: usize, is_over: bool) -> Step
         requires next { self.old.next ≡ Some at }
         requires walked { IsWalked bytes.now self.old }
-        ensures { IsStep bytes.now is_over at self.new result }
+        ensures step { IsStep bytes.now is_over at self.new result }
+        ensures more { result ≡ Step.Unseen → is_over ≡ false }
     {
         let rest = bytes.split_at(at).1;
         if !is_seen(rest, is_over) {

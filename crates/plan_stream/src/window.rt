@@ -4,10 +4,9 @@ ghost use Rattle.std.specs.Prelude.{◌≡◌, ◌+◌, ◌<◌, ◌≤◌, ◌+
 ghost use Rattle.std.specs.Io.KnownBytes.{Consumes, IsAtEnd, Keeps};
 
 use crate::walk::Walk;
-use console_io::InputFault;
+use console_io::{InputFault, read_some};
 use std::alloc::{AllocError, Global};
-use std::io;
-use std::io::{ErrorKind, Read};
+use std::io::Read;
 use std::ops::Range;
 
 /// How many bytes a window holds at first.
@@ -92,14 +91,13 @@ impl Window {
     {
         self.start = self.cut;
         self.walk.clear();
-        'turns: for turn in 0..u64::MAX {
+        loop {
             if let Some(len) = self.front_len() {
                 self.show(len);
                 return Ok(len > 0);
             }
             self.read_more(reader)?;
         }
-        Err(InputFault::Memory)
     }
 
     /// How many bytes the next access unit has, where nothing is shown and that is certain.
@@ -112,6 +110,7 @@ impl Window {
         ensures end { IfSome result
             (IsEnd (held_by self.new) self.new.is_over self.new.walk.places.items) }
         ensures walked { result ≡ None → IsWalkedAlong self.new }
+        ensures more { result ≡ None → self.new.is_over ≡ false }
     {
         self.walk
             .front_len(&self.buffer[self.cut..self.end], self.is_over)
@@ -138,6 +137,8 @@ impl Window {
         ensures walked { OnOk result (IsWalkedAlong self.new) }
         ensures left { (left : List ℕ) → HasLeft self.old (R.remaining reader.old) left
             → OnOk result (HasLeft self.new (R.remaining reader.new) left) }
+        ensures longer { OnOk result (self.new.is_over ≡ false
+            → length (held_by self.old) < length (held_by self.new)) }
     {
         self.move_to_front();
         self.grow()?;
@@ -184,41 +185,36 @@ impl Window {
         requires walked { IsWalkedAlong self.old }
         ensures filled { OnOk result
             (self.new.is_over ≡ false → self.new.end ≡ vec_len self.new.buffer) }
+        ensures cut { self.new.cut ≡ self.old.cut }
+        ensures len { vec_len self.new.buffer ≡ vec_len self.old.buffer }
         ensures none { self.new.start ≡ self.new.cut }
         ensures walked { IsWalkedAlong self.new }
         ensures left { (left : List ℕ) → HasLeft self.old (R.remaining reader.old) left
             → HasLeft self.new (R.remaining reader.new) left }
     {
-        'reads: for turn in 0..u64::MAX {
-            if self.is_filled() {
-                return Ok(());
-            }
+        while !self.is_filled() {
             self.read_once(reader)?;
         }
-        Err(InputFault::Unread)
+        Ok(())
     }
 
-    /// Reads once, if the read isn't interrupted.
+    /// Reads once, and notes whether the reader has no more.
     fn read_once<R: Read>(&mut self, reader: &mut R) -> Result<(), InputFault>
         requires none { self.old.start ≡ self.old.cut }
         requires room { self.old.end < vec_len self.old.buffer }
         requires more { self.old.is_over ≡ false }
         requires walked { IsWalkedAlong self.old }
+        ensures on { OnOk result (self.new.is_over ≡ false → self.old.end < self.new.end) }
+        ensures cut { self.new.cut ≡ self.old.cut }
+        ensures len { vec_len self.new.buffer ≡ vec_len self.old.buffer }
         ensures none { self.new.start ≡ self.new.cut }
         ensures walked { IsWalkedAlong self.new }
         ensures left { (left : List ℕ) → HasLeft self.old (R.remaining reader.old) left
             → HasLeft self.new (R.remaining reader.new) left }
     {
-        match self.read_some(reader) {
-            Ok(count) => {
-                self.is_over = count == 0;
-                Ok(())
-            }
-            Err(error) => match error.kind() {
-                ErrorKind::Interrupted => Ok(()),
-                kind => Err(InputFault::from(kind)),
-            },
-        }
+        let count = self.read_some(reader)?;
+        self.is_over = count == 0;
+        Ok(())
     }
 
     /// Whether the buffer is full, or the reader has no more.
@@ -231,10 +227,13 @@ impl Window {
         self.is_over || self.end >= self.buffer.len()
     }
 
-    /// Reads once, after what is held.
-    fn read_some<R: Read>(&mut self, reader: &mut R) -> io::Result<usize>
+    /// Reads once, after what is held, and says how many bytes came.
+    fn read_some<R: Read>(&mut self, reader: &mut R) -> Result<usize, InputFault>
         requires none { self.old.start ≡ self.old.cut }
         requires room { self.old.end < vec_len self.old.buffer }
+        ensures on { IfOk result (λ count. self.new.end ≡ self.old.end + count) }
+        ensures cut { self.new.cut ≡ self.old.cut }
+        ensures len { vec_len self.new.buffer ≡ vec_len self.old.buffer }
         ensures none { self.new.start ≡ self.new.cut }
         ensures over { self.new.is_over ≡ self.old.is_over }
         ensures walk { self.new.walk ≡ self.old.walk }
@@ -258,10 +257,11 @@ fn read_at<R: Read>(
     buffer: &mut [u8],
     start: usize,
     end: usize,
-) -> io::Result<usize>
+) -> Result<usize, InputFault>
     requires ordered { start ≤ end }
     requires room { end < length buffer.old }
     ensures within { IfOk result (λ count. end + count ≤ length buffer.new) }
+    ensures len { length buffer.new ≡ length buffer.old }
     ensures ok { IfOk result (λ count. (more : List ℕ)
         × (slice_range buffer.new start (end + count) ≡ slice_range buffer.old start end ++ more)
         × Consumes (R.remaining reader.old) (R.remaining reader.new) more) }
@@ -270,5 +270,5 @@ fn read_at<R: Read>(
         ((slice_range buffer.new start end ≡ slice_range buffer.old start end)
         × Keeps (R.remaining reader.old) (R.remaining reader.new)) }
 {
-    reader.read(&mut buffer[end..])
+    read_some(reader, &mut buffer[end..])
 }

@@ -247,7 +247,7 @@ const ACROSS: [(&[u8], Status, &str); 6] = [
 fn across_holds(alloc: Global, row: &(&[u8], Status, &str)) -> Result<bool, AllocError> {
     for len in 262_132..262_146 {
         let text = filled(alloc, len, row.0)?;
-        if !is_planned_by(alloc, &text, 4_096, row.1, row.2) {
+        if !is_planned_by(alloc, &text, 512, row.1, row.2) {
             return Ok(false);
         }
     }

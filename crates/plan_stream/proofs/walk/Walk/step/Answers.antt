@@ -5,14 +5,14 @@ use Rattle.plan_stream.proofs.Walks.{walked-at, walked-code, walked-place, end-b
 use Rattle.plan_stream.proofs.walk.Walk.step.Goals as goal
 use Rattle.plan_stream.proofs.walk.Walk.step.Goals.{else-is_none-via-then-is_none+else-not-is_over, else-is_none-via-else-is_none}
 
-pub returns-then-has_boundary : goal.returns-then-has_boundary
-returns-then-has_boundary c =
+pub returns-then-has_boundary-clause-step : goal.returns-then-has_boundary-clause-step
+returns-then-has_boundary-clause-step c =
     let bytes = c.args.bytes.now in
     let self = c.args.self.now in
     let walked = walked-at bytes self.places.items self.next self.has_slice c.args.at c.requires.next c.requires.walked in
     let there = rw c.split_at.ensures.back at (sym c.has_boundary.ensures ∙ c.if-has_boundary.true) in
     end-boundary bytes self.places.items c.args.at self.has_slice walked c.args.is_over
-    (λ more over. rw c.split_at.ensures.back at (c.is_seen.ensures c.if-not-is_seen.false more over)) there (c.args.at - 3)
+    (λ more over. rw c.split_at.ensures.back at (c.is_seen.ensures.seen c.if-not-is_seen.false more over)) there (c.args.at - 3)
     (omega (arith, walked-place bytes self.places.items c.args.at self.has_slice walked))
 
 pub unit_at-requires : goal.unit_at-requires
@@ -22,8 +22,8 @@ unit_at-requires c =
     let walked = walked-at bytes self.places.items self.next self.has_slice c.args.at c.requires.next c.requires.walked in
     walked-code bytes self.places.items c.args.at self.has_slice walked
 
-pub returns-in-Some : goal.returns-in-Some
-returns-in-Some c =
+pub returns-in-Some-clause-step : goal.returns-in-Some-clause-step
+returns-in-Some-clause-step c =
     let bytes = c.args.bytes.now in
     let self = c.args.self.now in
     let walked = walked-at bytes self.places.items self.next self.has_slice c.args.at c.requires.next c.requires.walked in
@@ -31,8 +31,8 @@ returns-in-Some c =
     rw (c.in-Ok-push.ensures.items, c.is_slice.ensures, c.bytes.ensures.value)
     (step-on bytes self.places.items c.args.at self.has_slice walked c.in-Ok.field-0.nal c.in-Ok.field-0.next c.in-Some.field-0 c.in-Some.is c.in-Ok.ensures.ok none)
 
-pub returns-in-None : goal.returns-in-None
-returns-in-None c =
+pub returns-in-None-clause-step : goal.returns-in-None-clause-step
+returns-in-None-clause-step c =
     let bytes = c.args.bytes.now in
     let self = c.args.self.now in
     let walked = walked-at bytes self.places.items self.next self.has_slice c.args.at c.requires.next c.requires.walked in

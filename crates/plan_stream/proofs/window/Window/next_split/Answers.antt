@@ -6,7 +6,7 @@ use Rattle.plan_stream.proofs.window.Window.next_split.Goals as goal
 pub returns-in-Some-clause-shown : goal.returns-in-Some-clause-shown
 returns-in-Some-clause-shown g c = λ left has.
     let old = c.front_len.new.self in
-    let here = HasLeft-same c.turns.self old _ left c.front_len.ensures.held c.front_len.ensures.over (c.turns.invariant.left left has) in
+    let here = HasLeft-same c.loop-len.self old _ left c.front_len.ensures.held c.front_len.ensures.over (c.loop-len.invariant.left left has) in
     Shows-front old c.show.new.self _ left c.in-Some.len _ here c.show.ensures.parts c.show.ensures.len c.show.ensures.over c.in-Some.ensures.end.found refl
 
 pub returns-in-Some-clause-known : goal.returns-in-Some-clause-known

@@ -1,6 +1,6 @@
 //! A stream read and folded, access unit after access unit, or its refusal.
 
-ghost use Rattle.std.specs.Prelude.{◌≡◌, ◌≢◌, ◌<◌, ◌+◌, [], List, ℕ, length, IfOk, IfErr, IfSome, OnOk};
+ghost use Rattle.std.specs.Prelude.{◌≡◌, ◌≢◌, ◌<◌, ◌+◌, ◌^◌, [], List, ℕ, length, IfOk, IfErr, IfSome, OnOk};
 ghost use Rattle.annexb.specs.ByteStream.{HasUnits, joined};
 ghost use Rattle.access_unit.specs.Answers.{IsAccepted};
 ghost use Rattle.access_unit.specs.Rooms.{IsStreamRefused, most_units};
@@ -44,14 +44,10 @@ pub fn gather<R: Read, F: UnitFold + Drop>(
     let mut window = Window::new(alloc)?;
     let mut gathering = StreamGathering::new(fold);
     let mut room = Room::new(alloc);
-    'units: for turn in 0..u64::MAX {
-        let is_some = window.next_split(reader)?;
-        if !is_some {
-            return Ok(gathering);
-        }
+    while window.next_split(reader)? {
         gathering.add(alloc, &mut room, window.text(), window.places())?;
     }
-    Err(InputFault::Memory)
+    Ok(gathering)
 }
 
 impl<F: UnitFold + Drop> StreamGathering<F> {
@@ -76,9 +72,11 @@ impl<F: UnitFold + Drop> StreamGathering<F> {
         places: &[Range<usize>],
     ) -> Result<(), AllocError>
         requires { AreKnown front.now places.now }
-        ensures { (first : F) (text left rest : List ℕ) → 0 < length left
+        ensures gathered { (first : F) (text left rest : List ℕ) → 0 < length left
             → IsFront left front.now rest → IsGathered (F.folds first) text left self.old
             → OnOk result (IsGathered (F.folds first) text rest self.new) }
+        ensures counted { OnOk result
+            ((self.old.count < self.new.count) × (self.new.count < 2 ^ 64)) }
     {
         if front.len() > MOST_BYTES {
             return self.take(alloc, read_front(alloc, front));
@@ -91,10 +89,12 @@ impl<F: UnitFold + Drop> StreamGathering<F> {
 
     /// Takes what the text of the next access unit is read as.
     fn take(&mut self, alloc: Global, read: Result<Unit, Refused>) -> Result<(), AllocError>
-        ensures { (first : F) (text left front rest : List ℕ) → 0 < length left
+        ensures gathered { (first : F) (text left front rest : List ℕ) → 0 < length left
             → IsFront left front rest → IsFrontReadAs front read
             → IsGathered (F.folds first) text left self.old
             → OnOk result (IsGathered (F.folds first) text rest self.new) }
+        ensures counted { OnOk result
+            ((self.old.count < self.new.count) × (self.new.count < 2 ^ 64)) }
     {
         match read {
             Ok(unit) => self.accept(alloc, &unit),
@@ -104,10 +104,12 @@ impl<F: UnitFold + Drop> StreamGathering<F> {
 
     /// Takes an access unit.
     fn accept(&mut self, alloc: Global, unit: &Unit) -> Result<(), AllocError>
-        ensures { (first : F) (text left front rest : List ℕ) → IsFront left front rest
+        ensures gathered { (first : F) (text left front rest : List ℕ) → IsFront left front rest
             → HasUnits front unit.now → IsAccepted (joined unit.now) unit.now
             → IsGathered (F.folds first) text left self.old
             → OnOk result (IsGathered (F.folds first) text rest self.new) }
+        ensures counted { OnOk result
+            ((self.old.count < self.new.count) × (self.new.count < 2 ^ 64)) }
     {
         let count = self.next_count()?;
         self.fold_unit(alloc, unit)?;
@@ -136,10 +138,12 @@ impl<F: UnitFold + Drop> StreamGathering<F> {
 
     /// Takes an access unit that is refused.
     fn refuse(&mut self, refused: Refused) -> Result<(), AllocError>
-        ensures { (first : F) (text left front rest : List ℕ) → 0 < length left
+        ensures gathered { (first : F) (text left front rest : List ℕ) → 0 < length left
             → IsFront left front rest → IsFrontRefused front refused
             → IsGathered (F.folds first) text left self.old
             → OnOk result (IsGathered (F.folds first) text rest self.new) }
+        ensures counted { OnOk result
+            ((self.old.count < self.new.count) × (self.new.count < 2 ^ 64)) }
     {
         match refused {
             Refused::Memory => Err(AllocError),
@@ -150,10 +154,12 @@ impl<F: UnitFold + Drop> StreamGathering<F> {
     /// Notes why an access unit is refused.
     fn note(&mut self, refused: Refused) -> Result<(), AllocError>
         requires { refused ≢ Refused.Memory }
-        ensures { (first : F) (text left front rest : List ℕ) → 0 < length left
+        ensures gathered { (first : F) (text left front rest : List ℕ) → 0 < length left
             → IsFront left front rest → IsFrontRefused front refused
             → IsGathered (F.folds first) text left self.old
             → OnOk result (IsGathered (F.folds first) text rest self.new) }
+        ensures counted { OnOk result
+            ((self.old.count < self.new.count) × (self.new.count < 2 ^ 64)) }
     {
         let count = self.next_count()?;
         self.refusal = refusal_with(self.refusal, self.count, refused);

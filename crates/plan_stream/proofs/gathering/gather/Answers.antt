@@ -1,20 +1,30 @@
+use Rattle.std.proofs.Common.{arith}
 use Rattle.plan_stream.proofs.Windows.{goes-first, goes-last, goes-more}
 use Rattle.plan_stream.proofs.gathering.gather.Goals as goal
 
-pub units-init : goal.units-init
-units-init g c =
-    goes-first (g.F.UnitFold.folds c.args.fold) _ c.in_ok-window.window c.new-gathering.result c.in_ok-window.ensures.held c.in_ok-window.ensures.over
-    c.new-gathering.ensures
+pub loop-room-init : goal.loop-room-init
+loop-room-init g c = record {
+  goes =
+      goes-first (g.F.UnitFold.folds c.args.fold) _ c.in_ok-window.window c.new-gathering.result c.in_ok-window.ensures.held c.in_ok-window.ensures.over
+      c.new-gathering.ensures;
+}
 
-pub returns-then-not-is_some : goal.returns-then-not-is_some
-returns-then-not-is_some g c =
-    goes-last (g.F.UnitFold.folds c.args.fold) _ _ _ c.units.window _ c.units.gathering c.in_ok-is_some.is_some c.if-not-is_some.true
-    c.in_ok-is_some.ensures.shown c.units.invariant
+pub returns : goal.returns
+returns g c =
+    goes-last (g.F.UnitFold.folds c.args.fold) _ _ _ c.loop-room.window _ c.loop-room.gathering _ c.if-branch.false
+    c.in_ok-next_split.ensures.shown c.loop-room.invariant.goes
 
-pub units-preserved : goal.units-preserved
-units-preserved g c =
-    goes-more (g.F.UnitFold.folds c.args.fold) _ _ _ c.units.window c.next_split.new.self c.units.gathering _ c.in_ok-is_some.is_some
-    c.if-not-is_some.false c.in_ok-is_some.ensures.shown (rw c.text.ensures at (c.in_ok-add.ensures c.args.fold)) c.units.invariant
+pub loop-room-preserved : goal.loop-room-preserved
+loop-room-preserved g c = record {
+  goes =
+      goes-more (g.F.UnitFold.folds c.args.fold) _ _ _ c.loop-room.window c.next_split.new.self c.loop-room.gathering _ _
+      c.if-branch.true c.in_ok-next_split.ensures.shown (rw c.text.ensures at (c.in_ok-add.ensures.gathered c.args.fold)) c.loop-room.invariant.goes;
+}
 
 pub add-requires : goal.add-requires
-add-requires g c = rw (c.text.ensures, c.places.ensures) c.in_ok-is_some.ensures.known
+add-requires g c = rw (c.text.ensures, c.places.ensures) c.in_ok-next_split.ensures.known
+
+pub loop-room-smaller : goal.loop-room-smaller
+loop-room-smaller g c =
+    let more = c.in_ok-add.ensures.counted in
+    omega (arith, more.0, more.1)

@@ -1,9 +1,8 @@
 -- Units that stand in the place of others, and those that were there.
-use Rattle.std.proofs.Common.{◌≡◌, refl, ap, sym, ◌∙◌, subst, ℕ, ◌+◌, ◌<◌, ◌↔◌, ◌⊎◌, inl, inr, List, [], ◌∷◌, ◌++◌, length, Some, arith, append_assoc}
+use Rattle.std.proofs.Common.{◌≡◌, sym, ◌∙◌, subst, ℕ, ◌+◌, ◌↔◌, inl, inr, List, ◌++◌, length, Some, arith, append_assoc}
 use Rattle.std.specs.Prelude.{Contains, slice_get}
 use Rattle.std.proofs.lemmas.List.Elements.{Contains-append_cases, Contains-append_left, Contains-append_right}
 use Rattle.std.proofs.lemmas.Option.{slice_get_within}
-use Rattle.changed_units.specs.Units.{ComparedUnit}
 use Rattle.changed_units.proofs.Lists.{at_behind, at_front, place_of}
 
 module _ {X : Type 0} where

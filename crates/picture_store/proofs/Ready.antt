@@ -1,7 +1,7 @@
 -- When the pictures of the keys at a key's own entries are held, by the numbers that a node names.
-use Rattle.std.proofs.Common.{◌≡◌, ◌≢◌, refl, sym, ap, subst, ◌∙◌, ℕ, zero, suc, ◌<◌, List, [], ◌∷◌, map, length, get_or, length-map, AllPairs, Option, Some, None, IsSome, Contains, inl, inr, arith}
+use Rattle.std.proofs.Common.{◌≡◌, ◌≢◌, refl, sym, ap, subst, ◌∙◌, ℕ, zero, suc, ◌<◌, List, [], ◌∷◌, map, length, get_or, AllPairs, Option, Some, None, IsSome, Contains, inl, inr, arith}
 use Rattle.std.specs.Option.{unwrap_or}
-use Rattle.std.proofs.lemmas.List.{get_or-map}
+use Rattle.std.proofs.lemmas.List.{get_or-map, length-map}
 use Rattle.std.proofs.lemmas.List.Elements.{Contains-get_or}
 use Rattle.h264_controls.specs.declared.work.Work.{Work}
 use Rattle.dep_keys.specs.KeyMaps.{tree_at, tree_from, entered, AreLive}
@@ -106,7 +106,7 @@ module _ {P : Type 0} {IsDecoded : InputValue P → P → Type 0} {IsOf : Key �
   pub held_once : AllPairs ◌≢◌ (keys_for keys (numbers_held places))
   held_once = λ i j d less within. λ same.
       let numbers : List ℕ = numbers_held places in
-      let second_in : j < length numbers = omega (arith, length-map (key_for keys) numbers) in
+      let second_in : j < length numbers = omega (arith, length-map numbers (key_for keys)) in
       let first_in : i < length numbers = omega (arith, second_in, less) in
       let first : ℕ = get_or numbers i 0 in
       let second : ℕ = get_or numbers j 0 in

@@ -1,4 +1,4 @@
-use Rattle.std.proofs.Common.{◌≡◌, ℕ, ◌+◌, ◌-◌, ◌≤◌, length, cond, eqb, drop, arith}
+use Rattle.std.proofs.Common.{◌≡◌, ◌-◌, length, cond, eqb, drop, arith}
 use Rattle.std.proofs.lemmas.List.Sums.{sum_by-take-drop, sum_by-take-le}
 use Rattle.picture_store.proofs.WithStretch.{least_found}
 use Rattle.picture_store.proofs.changing.changed_by.Goals as goal

@@ -111,24 +111,31 @@ impl Plain {
         true
     }
 
-    /// The requests, with the pictures of the units that they name, each once.
+    /// The requests, with the pictures of the units that they name, each once, in the order of the
+    /// decoded picture buffer.
     fn input_of(&self, alloc: Global, requests: &[Request]) -> Result<Input, AllocError> {
-        let (mut copies, mut references) = (Vec::new(alloc), Vec::new(alloc));
+        let (mut copies, mut names) = (Vec::new(alloc), Vec::new(alloc));
         for request in requests {
             copies.push(request.copy()?)?;
-            self.add(&mut references, &named(alloc, request)?)?;
+            names.extend_from_slice(&named(alloc, request)?)?;
+        }
+        let mut references = Vec::new(alloc);
+        for request in requests {
+            self.add(&mut references, request.references.as_slice(), &names)?;
         }
         Ok(Input::new(copies, references))
     }
 
-    /// Adds the pictures of units.
+    /// Adds the pictures of those frames of a decoded picture buffer that are named.
     fn add(
         &self,
         references: &mut Vec<Reference>,
-        units: &[Option<AuId>],
+        frames: &[AuId],
+        names: &[Option<AuId>],
     ) -> Result<(), AllocError> {
-        for unit in units {
-            if let Some(reference) = self.reference(*unit)
+        for frame in frames {
+            if names.contains(&Some(*frame))
+                && let Some(reference) = self.reference(Some(*frame))
                 && !references.iter().any(|there| is_same(there, &reference))
             {
                 references.push(reference)?;

@@ -1,5 +1,6 @@
 -- What a commit, a failure and a rollback make of lines.
 use Rattle.std.proofs.Common.{◌≡◌, ◌⊎◌, ℕ, ◌+◌, ◌≤◌, List, [], ◌∷◌, ◌++◌, length, Bool, true, false, IsTrue, refl, sym, ap, subst, ◌∙◌, inl, inr, arith, length-append}
+use Rattle.sqlite_disk.specs.Disk.{MoreFaults}
 use Rattle.sqlite_trees.specs.Tree.{Trees}
 use Rattle.sqlite_trees.specs.View.{View, doubt, IsClean, IsFailure, IsRolledBack, Commits, OnlyWrites}
 use Rattle.sqlite_trees.specs.declared.error.StoreError.{StoreError}
@@ -36,7 +37,18 @@ stands_again old mid new rows lines clean keeps rolled is_open stands =
       committed = ap (λ (t : Trees). t edit_tree) (back.committed is_open ∙ was) ∙ stands.committed;
     }
 
+closes_then : {A B : Type 0} (old mid new : ℕ) → old ≤ mid → mid ≤ new → A ⊎ MoreFaults old mid → (A → B ⊎ MoreFaults mid new) → B ⊎ MoreFaults old new
+closes_then old mid new first second (inl still) then = elim (then still) [ inl now ↦ inl now | inr fault ↦ inr (omega (arith, first)) ]
+closes_then old mid new first second (inr fault) then = inr (omega (arith, second))
+
 module _ {S : Type 0} (g : Ghosts S) where
+  -- and a crash leaves it
+  pub lasts_again : (old mid : View) (new : S) (rows : ℕ) (lines : List Line) → IsClean (g.view new) → KeepsCommit old mid → IsRolledBack mid (g.view new) → IsTrue (g.view new).is_open
+      → ((db : Trees) → IsTrue (g.view new).is_open → g.recovers new db → db ≡ (g.view new).committed) → Stands old rows lines → Lasts g new rows lines
+  lasts_again old mid new rows lines clean keeps rolled is_open settled stands =
+      let again = stands_again old mid (g.view new) rows lines clean keeps rolled is_open stands in
+      record { stands = again; leaves = λ db may. ap (λ (t : Trees). t edit_tree) (settled db is_open may) ∙ again.committed }
+
   -- what is committed lasts
   pub commit_lasts : (mid new : S) (rows : ℕ) (lines : List Line) → Commits (g.view mid) (g.view new) → Keeps (g.view mid).trees lines → rows ≡ length lines
       → ((g.view new).is_open ≡ false → IsTrue (g.view new).is_broken) → ((db : Trees) → IsTrue (g.view new).is_open → g.recovers new db → db ≡ (g.view new).committed)
@@ -51,14 +63,16 @@ module _ {S : Type 0} (g : Ghosts S) where
 
   module _ (P : Trees → Type 0) where
     pub survives_quiet : (old new : S) → Quiet g old new → Survives g old new P
-    survives_quiet old new quiet = record { clean = quiet.clean; counts = quiet.counts; crash = λ _ db may. inl (quiet.outcomes db may) }
+    survives_quiet old new quiet = record { clean = quiet.clean; counts = quiet.counts; closes = quiet.closes; crash = λ _ db may. inl (quiet.outcomes db may) }
 
     pub survives_commit : (old mid new : S) → Quiet g old mid → doubt (g.view mid).is_clean ≤ doubt (g.view new).is_clean → g.faults mid ≤ g.faults new
+        → (IsClean (g.view new) → IsTrue (g.view mid).is_open → IsTrue (g.view new).is_open ⊎ MoreFaults (g.faults mid) (g.faults new))
         → ((db : Trees) → g.recovers new db → (((g.view mid).is_broken ≡ false) × (db ≡ (g.view mid).trees)) ⊎ g.recovers mid db) → (IsClean (g.view mid) → P (g.view mid).trees)
         → Survives g old new P
-    survives_commit old mid new quiet clean counts crash holds = record {
+    survives_commit old mid new quiet clean counts closes crash holds = record {
       clean = omega (arith, quiet.clean, clean);
       counts = omega (arith, quiet.counts, counts);
+      closes = λ now was. closes_then (g.faults old) (g.faults mid) (g.faults new) quiet.counts counts (quiet.closes (omega (arith, now, clean)) was) (closes now);
       crash = λ now db may. elim (crash db may) [ inl done ↦ inr (subst P (sym done.1) (holds (omega (arith, now, clean)))) | inr before ↦ inl (quiet.outcomes db before) ];
     }
 
@@ -66,6 +80,7 @@ module _ {S : Type 0} (g : Ghosts S) where
     survives_before Q old mid new quiet later weaker = record {
       clean = omega (arith, quiet.clean, later.clean);
       counts = omega (arith, quiet.counts, later.counts);
+      closes = λ now was. closes_then (g.faults old) (g.faults mid) (g.faults new) quiet.counts later.counts (quiet.closes (omega (arith, now, later.clean)) was) (later.closes now);
       crash = λ now db may. elim (later.crash now db may) [ inl before ↦ inl (quiet.outcomes db before) | inr done ↦ inr (weaker (omega (arith, now, later.clean)) db done) ];
     }
 
@@ -73,5 +88,6 @@ module _ {S : Type 0} (g : Ghosts S) where
     survives_after old mid new first quiet = record {
       clean = omega (arith, first.clean, quiet.clean);
       counts = omega (arith, first.counts, quiet.counts);
+      closes = λ now was. closes_then (g.faults old) (g.faults mid) (g.faults new) first.counts quiet.counts (first.closes (omega (arith, now, quiet.clean)) was) (quiet.closes now);
       crash = λ now db may. first.crash (omega (arith, now, quiet.clean)) db (quiet.outcomes db may);
     }

@@ -1,4 +1,5 @@
 pub mod CommitLemmas
+pub mod FaultLemmas
 pub mod OpenLemmas
 pub mod OverLemmas
 pub mod RowLemmas

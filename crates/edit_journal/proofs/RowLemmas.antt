@@ -11,7 +11,7 @@ use Rattle.sqlite_trees.specs.Tree.{put_row, without_rowid, has_rowid, from_key}
 use Rattle.edit_journal.specs.declared.line.Line.{Line}
 use Rattle.edit_journal.specs.declared.line.Step.{Step}
 use Rattle.edit_journal.specs.declared.line.Kind.{Kind}
-use Rattle.edit_journal.specs.declared.line.Kind.TheVariants.{Insert, Delete, Replace, Unit as UnitKind, Given}
+use Rattle.edit_journal.specs.declared.line.Kind.TheVariants.{Insert, Delete, Replace, Unit as UnitKind, Given, Load}
 use Rattle.edit_journal.specs.Lines.{row_of, rows_from, lines_from, name_of}
 
 -- a row of seven columns is the list of them
@@ -75,7 +75,7 @@ from_no_key o (row ∷ rows) = refl
 
 abbrev kind_in : List ℕ → Kind
 kind_in [] = Insert
-kind_in (letter ∷ word) = if letter == 105 then Insert else (if letter == 100 then Delete else (if letter == 114 then Replace else (if letter == 117 then UnitKind else Given)))
+kind_in (letter ∷ word) = if letter == 105 then Insert else (if letter == 100 then Delete else (if letter == 114 then Replace else (if letter == 117 then UnitKind else (if letter == 108 then Load else Given))))
 
 kind_named : (kind : Kind) → kind_in (name_of kind) ≡ kind
 kind_named Insert = refl
@@ -83,6 +83,7 @@ kind_named Delete = refl
 kind_named Replace = refl
 kind_named UnitKind = refl
 kind_named Given = refl
+kind_named Load = refl
 
 line_is : (a b : Line) → a.entry ≡ b.entry → a.place ≡ b.place → a.step.kind ≡ b.step.kind → a.step.id ≡ b.step.id → a.step.named ≡ b.step.named → a.step.text ≡ b.step.text → a ≡ b
 line_is a b entry place kind id named text =

@@ -4,7 +4,7 @@ use Rattle.sqlite_value.specs.declared.value.Value.TheVariants.{Int, Text, Blob}
 use Rattle.sqlite_value.specs.Order.{Row}
 use Rattle.sqlite_trees.specs.Tree.{Trees}
 use Rattle.edit_journal.specs.declared.line.Kind.{Kind}
-use Rattle.edit_journal.specs.declared.line.Kind.TheVariants.{Insert, Delete, Replace, Unit as UnitKind, Given}
+use Rattle.edit_journal.specs.declared.line.Kind.TheVariants.{Insert, Delete, Replace, Unit as UnitKind, Given, Load}
 use Rattle.edit_journal.specs.declared.line.Step.{Step}
 use Rattle.edit_journal.specs.declared.line.Line.{Line}
 
@@ -15,6 +15,7 @@ name_of Delete = codes "delete"
 name_of Replace = codes "replace"
 name_of UnitKind = codes "unit"
 name_of Given = codes "given"
+name_of Load = codes "load"
 
 -- the row of a line, the number of the row first
 abbrev pub row_of : ℕ → Line → Row

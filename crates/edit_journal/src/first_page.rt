@@ -1,13 +1,20 @@
 //! The first page of a new journal's file.
 
 use crate::fault::JournalFault;
+use os::RangeLock;
 use std::alloc::{AllocError, Global};
 use std::fs::File;
 use std::io::{self, ErrorKind, Read};
+use std::os::fd::AsRawFd;
 use std::os::unix::fs::FileExt;
 
 /// How many bytes a page has.
 const PAGE: usize = 4096;
+
+/// Where SQLite's locks begin in a file, and how many bytes they have.
+const LOCKS: u64 = 1 << 30;
+
+const LOCK_BYTES: u64 = 512;
 
 /// What the page begins with: the header of a database without tables, with application_id and user_version.
 const HEAD: [u8; 108] = [
@@ -41,6 +48,7 @@ fn is_marked(head: &[u8]) -> bool {
 
 fn fault_of(error: io::Error) -> JournalFault {
     match error.kind() {
+        ErrorKind::WouldBlock => JournalFault::Locked,
         ErrorKind::OutOfMemory => JournalFault::Memory,
         ErrorKind::StorageFull => JournalFault::Full,
         _ => JournalFault::Failed,
@@ -60,6 +68,15 @@ fn open_file(rt: &HostRuntime, path: &str) -> Result<File, JournalFault> {
     }
 }
 
+/// Takes SQLite's locks of the file, which hold until it is closed.
+fn lock(file: &File) -> Result<(), JournalFault> {
+    if os::try_lock_range(file.as_raw_fd(), RangeLock::Exclusive, LOCKS, LOCK_BYTES) == 0 {
+        Ok(())
+    } else {
+        Err(fault_of(io::Error::from_raw_os_error(os::errno())))
+    }
+}
+
 /// The first bytes of the file, at most those of a page.
 fn head_of(alloc: Global, file: &mut File) -> Result<Vec<u8>, JournalFault> {
     let mut head = Vec::new(alloc);
@@ -74,10 +91,12 @@ fn write_page(file: &File, page: &[u8]) -> io::Result<()> {
     file.sync_all()
 }
 
-/// Writes the first page where the file ends within it, and refuses a file that is no journal.
+/// Writes the first page where the file ends within it, and refuses a file that is no journal, or that another process
+/// has open. What is read and written is so under SQLite's locks.
 pub(crate) fn prepare(rt: &HostRuntime, path: &str) -> Result<(), JournalFault> {
     let page = first_page(rt.alloc())?;
     let mut file = open_file(rt, path)?;
+    lock(&file)?;
     let head = head_of(rt.alloc(), &mut file)?;
     if head.len() < PAGE && page.starts_with(&head) {
         match write_page(&file, &page) {

@@ -1,10 +1,10 @@
 //! A journal over a store.
 
-ghost use Rattle.std.specs.Prelude.{◌≡◌, ◌+◌, ◌≤◌, ◌++◌, List, IfOk, IsTrue, OnErr, OnOk};
+ghost use Rattle.std.specs.Prelude.{◌≡◌, ◌+◌, ◌≤◌, ◌++◌, List, length, min, IfErr, IfOk, IsTrue, OnErr, OnOk};
 ghost use Rattle.sqlite_trees.specs.View.{IsClean, doubt};
 ghost use Rattle.edit_journal.specs.declared.line.Line.{Line as LineValue};
-ghost use Rattle.edit_journal.specs.Journals.{Lasts, Shows, Stands, Survives};
-ghost use Rattle.edit_journal.specs.Lines.{Keeps, lines_of};
+ghost use Rattle.edit_journal.specs.Journals.{Fails, Fits, Lasts, Shows, Stands, Survives};
+ghost use Rattle.edit_journal.specs.Lines.{Keeps, edit_tree, lines_of};
 ghost use Rattle.edit_journal.specs.Tables.{IsJournal};
 
 use crate::fault::JournalFault;
@@ -14,6 +14,13 @@ use crate::table::find_table;
 use crate::writing::{commit_record, replace_records};
 use sqlite_trees::store::Alter;
 use std::alloc::Global;
+
+/// How many records the steps are: a record without steps is none.
+fn records_in(steps: &[Step]) -> u32
+    ensures { result ≡ min 1 (length steps.now) }
+{
+    u32::from(!steps.is_empty())
+}
 
 /// A journal, open.
 pub struct Journal<S: Alter> {
@@ -43,11 +50,13 @@ impl<S: Alter> Journal<S> {
         ensures added { IsClean (S.Store.view self.new.store) → OnOk result ((lines : List LineValue)
             → Stands (S.Store.view self.old.store) self.old.rows lines
             → Lasts S.Store self.new.store self.new.rows (lines ++ lines_of (self.old.entries + 1) steps.now)) }
-        ensures entries { OnOk result (self.new.entries ≡ self.old.entries + 1) }
+        ensures entries { OnOk result (self.new.entries ≡ self.old.entries + min 1 (length steps.now)) }
         ensures stays { IsClean (S.Store.view self.new.store) → OnErr result ((lines : List LineValue)
             → Stands (S.Store.view self.old.store) self.old.rows lines → IsTrue (S.Store.view self.new.store).is_open
-            → Stands (S.Store.view self.new.store) self.new.rows lines) }
+            → Lasts S.Store self.new.store self.new.rows lines) }
         ensures number { OnErr result (self.new.entries ≡ self.old.entries) }
+        ensures fails { IsClean (S.Store.view self.new.store) → IfErr result (Fails S.Store self.old.store self.new.store
+            (¬ Fits ((S.Store.view self.old.store).reals edit_tree) self.old.rows (self.old.entries + 1) steps.now)) }
         ensures survives { Survives S.Store self.old.store self.new.store (λ db. (lines : List LineValue)
             → Stands (S.Store.view self.old.store) self.old.rows lines
             → Keeps db (lines ++ lines_of (self.old.entries + 1) steps.now)) }
@@ -58,7 +67,7 @@ impl<S: Alter> Journal<S> {
         match commit_record(self.alloc, &mut self.store, self.rows, entry, steps) {
             Ok(rows) => {
                 self.rows = rows;
-                self.entries = entry;
+                self.entries += records_in(steps);
                 Ok(())
             }
             Err(fault) => {
@@ -74,18 +83,20 @@ impl<S: Alter> Journal<S> {
         ensures replaced { IsClean (S.Store.view self.new.store) → OnOk result ((lines : List LineValue)
             → Stands (S.Store.view self.old.store) self.old.rows lines
             → Lasts S.Store self.new.store self.new.rows (lines_of 1 steps.now)) }
-        ensures entries { OnOk result (self.new.entries ≡ 1) }
+        ensures entries { OnOk result (self.new.entries ≡ min 1 (length steps.now)) }
         ensures stays { IsClean (S.Store.view self.new.store) → OnErr result ((lines : List LineValue)
             → Stands (S.Store.view self.old.store) self.old.rows lines → IsTrue (S.Store.view self.new.store).is_open
-            → Stands (S.Store.view self.new.store) self.new.rows lines) }
+            → Lasts S.Store self.new.store self.new.rows lines) }
         ensures number { OnErr result (self.new.entries ≡ self.old.entries) }
+        ensures fails { IsClean (S.Store.view self.new.store) → IfErr result (Fails S.Store self.old.store self.new.store
+            (¬ Fits ((S.Store.view self.old.store).reals edit_tree) 0 1 steps.now)) }
         ensures survives { Survives S.Store self.old.store self.new.store (λ db. (lines : List LineValue)
             → Stands (S.Store.view self.old.store) self.old.rows lines → Keeps db (lines_of 1 steps.now)) }
     {
         match replace_records(self.alloc, &mut self.store, self.rows, steps) {
             Ok(rows) => {
                 self.rows = rows;
-                self.entries = 1;
+                self.entries = records_in(steps);
                 Ok(())
             }
             Err(fault) => {

@@ -18,6 +18,8 @@ pub enum Kind {
     Unit,
     /// So many ids were given as the number of the id says.
     Given,
+    /// The steps behind it in the record are those of a load: each was made by itself.
+    Load,
 }
 
 impl Kind {
@@ -31,6 +33,7 @@ impl Kind {
             Kind::Replace => "replace",
             Kind::Unit => "unit",
             Kind::Given => "given",
+            Kind::Load => "load",
         }
     }
 
@@ -45,6 +48,7 @@ impl Kind {
             b"replace" => Some(Kind::Replace),
             b"unit" => Some(Kind::Unit),
             b"given" => Some(Kind::Given),
+            b"load" => Some(Kind::Load),
             _ => None,
         }
     }

@@ -1,10 +1,10 @@
 //! Rows are written, and committed.
 
-ghost use Rattle.std.specs.Prelude.{◌≡◌, ◌+◌, List, ◌++◌, [], length, IfOk, OnErr, OnOk};
-ghost use Rattle.sqlite_trees.specs.View.{IsClean, IsQuiet, KeepsSchema, OnlyWrites};
+ghost use Rattle.std.specs.Prelude.{◌≡◌, ◌+◌, List, ◌++◌, [], length, IfErr, IfOk, OnErr, OnOk};
+ghost use Rattle.sqlite_trees.specs.View.{IsClean, IsQuiet, IsStorableRow, KeepsSchema, OnlyWrites};
 ghost use Rattle.edit_journal.specs.declared.line.Line.{Line};
 ghost use Rattle.edit_journal.specs.Lines.{Keeps, edit_tree, lines_of, row_of};
-ghost use Rattle.edit_journal.specs.Journals.{KeepsCommit, Lasts, PutsRow, Shows, Survives};
+ghost use Rattle.edit_journal.specs.Journals.{Fails, Fits, KeepsCommit, Lasts, PutsRow, Shows, Survives};
 
 use crate::fault::JournalFault;
 use crate::line::Step;
@@ -27,6 +27,8 @@ fn put_step<S: Alter>(
     ensures puts { OnOk result (IsClean (S.Store.view store.new) → PutsRow (S.Store.view store.old) (S.Store.view store.new)
         (row_of number (record { entry = entry; place = place; step = step.now }))) }
     ensures keeps { OnErr result (KeepsCommit (S.Store.view store.old) (S.Store.view store.new)) }
+    ensures fails { IsClean (S.Store.view store.new) → IfErr result (Fails S.Store store.old store.new
+        (¬ IsStorableRow ((S.Store.view store.old).reals edit_tree) (row_of number (record { entry = entry; place = place; step = step.now })))) }
     ensures schema { KeepsSchema (S.Store.view store.old) (S.Store.view store.new) }
     ensures quiet { IsQuiet S.Store.view S.Store.faults S.Store.recovers S.Store.is_shielded store.old store.new }
 {
@@ -49,6 +51,8 @@ fn put_steps<S: Alter>(
     ensures count { IfOk result (λ after. after ≡ rows + length steps.now) }
     ensures writes { IsClean (S.Store.view store.new) → OnOk result (OnlyWrites (S.Store.view store.old) (S.Store.view store.new)) }
     ensures keeps { IsClean (S.Store.view store.new) → OnErr result (KeepsCommit (S.Store.view store.old) (S.Store.view store.new)) }
+    ensures fails { IsClean (S.Store.view store.new) → IfErr result (Fails S.Store store.old store.new
+        (¬ Fits ((S.Store.view store.old).reals edit_tree) rows entry steps.now)) }
     ensures quiet { IsQuiet S.Store.view S.Store.faults S.Store.recovers S.Store.is_shielded store.old store.new }
 {
     let mut row = Row::new(alloc);
@@ -71,6 +75,7 @@ fn delete_rows<S: Alter>(store: &mut S, rows: u32) -> Result<(), JournalFault>
         → rows ≡ length lines → Keeps (S.Store.view store.new).trees []) }
     ensures writes { IsClean (S.Store.view store.new) → OnOk result (OnlyWrites (S.Store.view store.old) (S.Store.view store.new)) }
     ensures keeps { IsClean (S.Store.view store.new) → OnErr result (KeepsCommit (S.Store.view store.old) (S.Store.view store.new)) }
+    ensures fails { IsClean (S.Store.view store.new) → IfErr result (Fails S.Store store.old store.new ⊥) }
     ensures schema { KeepsSchema (S.Store.view store.old) (S.Store.view store.new) }
     ensures quiet { IsQuiet S.Store.view S.Store.faults S.Store.recovers S.Store.is_shielded store.old store.new }
 {
@@ -91,6 +96,8 @@ pub(crate) fn commit_record<S: Alter>(
     ensures adds { IsClean (S.Store.view store.new) → IfOk result (λ after. (lines : List Line)
         → Shows (S.Store.view store.old) rows lines → Lasts S.Store store.new after (lines ++ lines_of entry steps.now)) }
     ensures keeps { IsClean (S.Store.view store.new) → OnErr result (KeepsCommit (S.Store.view store.old) (S.Store.view store.new)) }
+    ensures fails { IsClean (S.Store.view store.new) → IfErr result (Fails S.Store store.old store.new
+        (¬ Fits ((S.Store.view store.old).reals edit_tree) rows entry steps.now)) }
     ensures survives { Survives S.Store store.old store.new (λ db. (lines : List Line) → Shows (S.Store.view store.old) rows lines
         → Keeps db (lines ++ lines_of entry steps.now)) }
 {
@@ -112,6 +119,8 @@ pub(crate) fn replace_records<S: Alter>(
     ensures replaces { IsClean (S.Store.view store.new) → IfOk result (λ after. (lines : List Line)
         → Shows (S.Store.view store.old) rows lines → Lasts S.Store store.new after (lines_of 1 steps.now)) }
     ensures keeps { IsClean (S.Store.view store.new) → OnErr result (KeepsCommit (S.Store.view store.old) (S.Store.view store.new)) }
+    ensures fails { IsClean (S.Store.view store.new) → IfErr result (Fails S.Store store.old store.new
+        (¬ Fits ((S.Store.view store.old).reals edit_tree) 0 1 steps.now)) }
     ensures survives { Survives S.Store store.old store.new (λ db. (lines : List Line) → Shows (S.Store.view store.old) rows lines
         → Keeps db (lines_of 1 steps.now)) }
 {

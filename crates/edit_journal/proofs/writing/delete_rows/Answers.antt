@@ -1,9 +1,11 @@
-use Rattle.std.proofs.Common.{◌≡◌, ◌+◌, [], List, length, refl, sym, subst, arith, rules}
-use Rattle.sqlite_trees.specs.View.{IsClean, IsFailure}
+use Rattle.std.proofs.Common.{◌≡◌, ◌+◌, [], List, length, refl, sym, ap, subst, arith, rules}
+use Rattle.std.proofs.lemmas.Result.{err_from_is_err_and}
+use Rattle.sqlite_trees.specs.View.{IsClean, IsFailure, View}
 use Rattle.edit_journal.specs.Journals.{KeepsCommit}
 use Rattle.edit_journal.specs.Lines.{Keeps}
 use Rattle.edit_journal.proofs.ViewLemmas.{Deletes, deletes_nothing, deletes_more, deletes_all, quiet_same, quiet_then, writes_keep, on_err}
 use Rattle.edit_journal.proofs.CommitLemmas.{failed_keeps}
+use Rattle.edit_journal.proofs.FaultLemmas.{fails_later, fails_of}
 use Rattle.edit_journal.proofs.writing.delete_rows.Goals as goal
 
 pub loop-deleted-init : goal.loop-deleted-init
@@ -19,6 +21,15 @@ returns-in_err-delete-clause-keeps g c clean =
     on_err c.from_residual.result _
     (writes_keep (g.S.Store.view c.args.store.now) (g.S.Store.view c.loop-deleted.store) (g.S.Store.view c.delete.new.self) (c.loop-deleted.invariant.deletes early).writes
     (failed_keeps (g.S.Store.view c.loop-deleted.store) (g.S.Store.view c.delete.new.self) _ c.in_err-delete.ensures.err))
+
+pub returns-in_err-delete-clause-fails : goal.returns-in_err-delete-clause-fails
+returns-in_err-delete-clause-fails g c clean =
+    let p = err_from_is_err_and c.from_residual.result c.from_residual.ensures.1 in
+    let l = c.loop-deleted in
+    let early : IsClean (g.S.Store.view l.store) = omega (arith, c.delete.ensures.quiet.clean, clean) in
+    let writes = (l.invariant.deletes early).writes in
+    let failed = fails_of g.S.Store l.store c.delete.new.self _ _ (c.in_err-delete.ensures.cause clean) c.in_err-delete.ensures.told in
+    rw (p.1, p.2) (fails_later g.S.Store c.args.store.now l.store c.delete.new.self _ _ _ l.invariant.quiet.counts (ap (λ (v : View). v.shape) writes) (ap (λ (v : View). v.is_broken) writes) (λ h. h) failed)
 
 pub loop-deleted-preserved : goal.loop-deleted-preserved
 loop-deleted-preserved g c =

@@ -1,8 +1,32 @@
-use Rattle.std.proofs.Common.{[], arith, refl}
-use Rattle.sqlite_trees.specs.View.{IsClean}
+use Rattle.std.proofs.Common.{◌≡◌, [], ap, ◌∙◌, subst, arith, refl}
+use Rattle.std.proofs.lemmas.Result.{IfErr-weaker, err_from_is_err_and}
+use Rattle.sqlite_trees.specs.View.{IsClean, View}
+use Rattle.edit_journal.specs.Journals.{Fits}
+use Rattle.edit_journal.specs.Lines.{edit_tree}
 use Rattle.edit_journal.proofs.ViewLemmas.{quiet_same, writes_keep, if_ok, on_err, on_err_then}
 use Rattle.edit_journal.proofs.CommitLemmas.{keeps_itself, survives_quiet, survives_before}
+use Rattle.edit_journal.proofs.FaultLemmas.{fails_later, fails_table}
 use Rattle.edit_journal.proofs.writing.replace_records.Goals as goal
+
+pub returns-in_default-clause-fails : goal.returns-in_default-clause-fails
+returns-in_default-clause-fails g c clean = fails_table g.S.Store c.args.store.now c.args.store.now _ (λ is. c.in_default.not-Table (c.shape.ensures ∙ is))
+
+pub returns-in_err-delete_rows-clause-fails : goal.returns-in_err-delete_rows-clause-fails
+returns-in_err-delete_rows-clause-fails g c clean =
+    let p = err_from_is_err_and c.from_residual.result c.from_residual.ensures.1 in
+    rw (p.1, p.2) (fails_later g.S.Store c.args.store.now c.args.store.now c.delete_rows.new.store _ _ _ (omega arith) refl refl (λ h. absurd h) (c.in_err-delete_rows.ensures.fails clean))
+
+pub returns-clause-fails : goal.returns-clause-fails
+returns-clause-fails g c clean =
+    let old = g.S.Store.view c.args.store.now in
+    let mid = g.S.Store.view c.delete_rows.new.store in
+    let early : IsClean mid = omega (arith, c.commit_record.ensures.survives.clean, clean) in
+    let writes = c.in_ok-delete_rows.ensures.writes early in
+    let reals : mid.reals edit_tree ≡ old.reals edit_tree = ap (λ (v : View). v.reals edit_tree) writes in
+    IfErr-weaker c.commit_record.result _ _
+    (λ fault fails. fails_later g.S.Store c.args.store.now c.delete_rows.new.store c.commit_record.new.store _ _ fault c.delete_rows.ensures.quiet.counts (ap (λ (v : View). v.shape) writes)
+    (ap (λ (v : View). v.is_broken) writes) (λ too_large fits. too_large (rw reals fits)) fails)
+    (c.commit_record.ensures.fails clean)
 
 pub returns-in_default-clause-keeps : goal.returns-in_default-clause-keeps
 returns-in_default-clause-keeps g c clean = keeps_itself (g.S.Store.view c.args.store.now)

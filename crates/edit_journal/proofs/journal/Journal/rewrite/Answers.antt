@@ -1,8 +1,17 @@
 use Rattle.std.proofs.Common.{arith}
 use Rattle.sqlite_trees.specs.View.{IsClean}
 use Rattle.edit_journal.proofs.ViewLemmas.{quiet_same}
-use Rattle.edit_journal.proofs.CommitLemmas.{stands_again, survives_before, survives_after}
+use Rattle.edit_journal.proofs.CommitLemmas.{lasts_again, survives_before, survives_after}
+use Rattle.edit_journal.proofs.FaultLemmas.{fails_rolled}
 use Rattle.edit_journal.proofs.journal.Journal.rewrite.Goals as goal
+
+pub returns-in-Err-clause-fails : goal.returns-in-Err-clause-fails
+returns-in-Err-clause-fails g c clean =
+    let old = c.args.self.now in
+    let mid = c.replace_records.new.store in
+    let new = c.rollback.new.self in
+    let early : IsClean (g.S.Store.view mid) = omega (arith, c.rollback.ensures.quiet.clean, clean) in
+    fails_rolled g.S.Store old.store mid new _ _ _ c.rollback.ensures.quiet.counts c.rollback.ensures.blame (λ h. h) (c.in-Err.ensures.fails early)
 
 pub returns-in-Ok-clause-replaced : goal.returns-in-Ok-clause-replaced
 returns-in-Ok-clause-replaced g c clean lines stands =
@@ -20,7 +29,8 @@ returns-in-Err-clause-stays g c clean lines stands is_open =
     let mid = c.replace_records.new.store in
     let new = c.rollback.new.self in
     let early : IsClean (g.S.Store.view mid) = omega (arith, c.rollback.ensures.quiet.clean, clean) in
-    stands_again (g.S.Store.view old.store) (g.S.Store.view mid) (g.S.Store.view new) old.rows lines clean (c.in-Err.ensures.keeps early) c.rollback.ensures.undone is_open stands
+    lasts_again g.S.Store (g.S.Store.view old.store) (g.S.Store.view mid) new old.rows lines clean (c.in-Err.ensures.keeps early) c.rollback.ensures.undone is_open
+    (λ db. g.met.S.Store.settled new db) stands
 
 pub returns-in-Err-clause-survives : goal.returns-in-Err-clause-survives
 returns-in-Err-clause-survives g c =

@@ -1,0 +1,6 @@
+//! Tests of a journal in a file: what is read back, and which files are opened. They call public
+//! functions alone, so what they test is proved once.
+#![tactic(auto)]
+
+#[cfg(test)]
+mod tests;

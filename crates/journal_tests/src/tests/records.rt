@@ -1,0 +1,84 @@
+//! Records of a journal in a file, read back.
+
+use super::{Row, holds};
+use bytes::Bytes;
+use edit_journal::{FileJournal, JournalFault, Kind, Step, Wary, open};
+use std::fs::{self, File};
+use std::io;
+use std::test::Fail;
+
+const GROUP: [Row; 2] = [(1, 0, Kind::Insert, 1, 0, 2), (1, 1, Kind::Insert, 2, 1, 1)];
+
+const GROUP_AND_LOAD: [Row; 4] = [
+    (1, 0, Kind::Insert, 1, 0, 2),
+    (1, 1, Kind::Insert, 2, 1, 1),
+    (2, 0, Kind::Load, 0, 0, 0),
+    (2, 1, Kind::Delete, 1, 0, 0),
+];
+
+const REWRITTEN: [Row; 2] = [(1, 0, Kind::Unit, 2, 0, 1), (1, 1, Kind::Given, 2, 0, 0)];
+
+fn step(kind: Kind, id: u32, named: u32, text: &'static [u8]) -> Step {
+    Step {
+        kind,
+        id,
+        named,
+        text: Bytes::from_static(text),
+    }
+}
+
+fn append(journal: &mut FileJournal<Wary>) -> Result<(), JournalFault> {
+    journal.append(&[
+        step(Kind::Insert, 1, 0, &[1, 2]),
+        step(Kind::Insert, 2, 1, &[3]),
+    ])?;
+    journal.append(&[step(Kind::Load, 0, 0, &[]), step(Kind::Delete, 1, 0, &[])])
+}
+
+/// Appends a group and a load to the journal in the file.
+fn append_to(rt: &HostRuntime, path: &str) -> bool {
+    match open(rt, path, Wary) {
+        Ok((mut journal, _lines)) => append(&mut journal).is_ok(),
+        Err(_) => false,
+    }
+}
+
+fn rewrite(journal: &mut FileJournal<Wary>) -> Result<(), JournalFault> {
+    journal.rewrite(&[step(Kind::Unit, 2, 0, &[3]), step(Kind::Given, 2, 0, &[])])
+}
+
+/// Puts the record of a stream in the place of what the file has.
+fn rewrite_in(rt: &HostRuntime, path: &str) -> bool {
+    match open(rt, path, Wary) {
+        Ok((mut journal, _lines)) => rewrite(&mut journal).is_ok(),
+        Err(_) => false,
+    }
+}
+
+#[test]
+fn records_are_read_back(rt: HostRuntime) -> Result<(), Fail> {
+    assert!(rt; append_to(&rt, "back.db"));
+    assert!(rt; holds(&rt, "back.db", &GROUP_AND_LOAD));
+    assert!(rt; rewrite_in(&rt, "back.db"));
+    assert!(rt; holds(&rt, "back.db", &REWRITTEN));
+    fs::remove_file(&rt, "back.db")?;
+    fs::remove_file(&rt, "back.db-wal")?;
+    Ok(())
+}
+
+/// Cuts the last thousand bytes off the file.
+fn cut(rt: &HostRuntime, path: &str) -> io::Result<()> {
+    let file = File::options().write(true).open(rt, path)?;
+    let length = file.metadata()?.len();
+    file.set_len(length.saturating_sub(1000))
+}
+
+#[test]
+fn a_torn_record_is_not_read(rt: HostRuntime) -> Result<(), Fail> {
+    assert!(rt; append_to(&rt, "torn.db"));
+    cut(&rt, "torn.db-wal")?;
+    assert!(rt; holds(&rt, "torn.db", &GROUP));
+    fs::remove_file(&rt, "torn.db")?;
+    fs::remove_file(&rt, "torn.db-wal")?;
+    Ok(())
+}

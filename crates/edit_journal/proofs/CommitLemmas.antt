@@ -1,13 +1,13 @@
 -- What a commit, a failure and a rollback make of lines.
-use Rattle.std.proofs.Common.{◌≡◌, ◌⊎◌, ℕ, ◌+◌, ◌≤◌, List, [], ◌∷◌, ◌++◌, length, Bool, true, false, IsTrue, refl, sym, ap, subst, ◌∙◌, inl, inr, arith, length-append}
+use Rattle.std.proofs.Common.{◌≡◌, ◌⊎◌, ℕ, ◌≤◌, List, length, Bool, true, false, IsTrue, refl, sym, ap, subst, ◌∙◌, inl, inr, arith}
 use Rattle.sqlite_disk.specs.Disk.{MoreFaults}
 use Rattle.sqlite_trees.specs.Tree.{Trees}
-use Rattle.sqlite_trees.specs.View.{View, doubt, IsClean, IsFailure, IsRolledBack, Commits, OnlyWrites}
+use Rattle.sqlite_trees.specs.View.{View, doubt, IsClean, IsFailure, IsRolledBack, Commits}
 use Rattle.sqlite_trees.specs.declared.error.StoreError.{StoreError}
 use Rattle.sqlite_trees.specs.declared.store.Store.{Ghosts}
 use Rattle.edit_journal.specs.declared.line.Line.{Line}
 use Rattle.edit_journal.specs.Lines.{Keeps, edit_tree}
-use Rattle.edit_journal.specs.Journals.{KeepsCommit, Lasts, Shows, Stands, Survives}
+use Rattle.edit_journal.specs.Journals.{KeepsCommit, Lasts, Stands, Survives}
 use Rattle.edit_journal.proofs.ViewLemmas.{Quiet}
 
 pub keeps_itself : (v : View) → KeepsCommit v v

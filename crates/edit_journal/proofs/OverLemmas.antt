@@ -1,11 +1,11 @@
 -- What a journal over a store begins with.
-use Rattle.std.proofs.Common.{◌≡◌, ◌⊎◌, ℕ, List, length, false, IsTrue, refl, sym, ap, subst, ◌∙◌, inl, inr}
+use Rattle.std.proofs.Common.{◌≡◌, ℕ, List, length, false, IsTrue, sym, ap, subst, ◌∙◌, inl, inr}
 use Rattle.sqlite_trees.specs.Tree.{Trees}
 use Rattle.sqlite_trees.specs.View.{View, IsClean, IsRolledBack}
 use Rattle.edit_journal.specs.declared.line.Line.{Line}
 use Rattle.edit_journal.specs.Lines.{Keeps, edit_tree}
 use Rattle.edit_journal.specs.Journals.{OnlySeeks, Stands}
-use Rattle.edit_journal.specs.Tables.{Finds, IsJournal, Lists, Makes}
+use Rattle.edit_journal.specs.Tables.{Finds, IsJournal, Lists}
 use Rattle.edit_journal.proofs.RowLemmas.{rows_are}
 use Rattle.edit_journal.proofs.CommitLemmas.{open_if_sound}
 

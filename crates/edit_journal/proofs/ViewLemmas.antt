@@ -1,9 +1,9 @@
 -- What calls of a store come to together.
-use Rattle.std.proofs.Common.{◌≡◌, ℕ, ◌+◌, ◌<◌, ◌≤◌, List, [], ◌∷◌, ◌++◌, length, ℤ, pos, Some, None, Option, Result, Ok, Err, IfOk, OnErr, IsTrue, false, true, refl, sym, ap, subst, ◌∙◌, inl, inr, append_assoc, length-append, arith}
+use Rattle.std.proofs.Common.{◌≡◌, ℕ, ◌+◌, ◌<◌, List, [], ◌∷◌, ◌++◌, length, ℤ, pos, Some, None, Result, Ok, Err, IfOk, OnErr, false, refl, sym, ap, subst, ◌∙◌, inl, inr, append_assoc, length-append, arith}
 use Rattle.sqlite_value.specs.Order.{Row}
 use Rattle.sqlite_trees.specs.Tree.{Trees, with_tree, sought, order_of, put_row, without_rowid}
 use Rattle.sqlite_trees.specs.declared.store.Direction.TheVariants.{Forward}
-use Rattle.sqlite_trees.specs.View.{View, doubt, IsClean, IsQuiet, OnlyWrites, SetsTree, with_cursor}
+use Rattle.sqlite_trees.specs.View.{View, IsQuiet, OnlyWrites, SetsTree, with_cursor}
 use Rattle.sqlite_trees.specs.declared.store.Store.{Ghosts}
 use Rattle.edit_journal.specs.declared.line.Line.{Line}
 use Rattle.edit_journal.specs.declared.line.Step.{Step}

@@ -1,4 +1,4 @@
-use Rattle.std.proofs.Common.{◌≡◌, ◌+◌, ◌++◌, ◌∷◌, [], length, List, sym, subst, arith, rules}
+use Rattle.std.proofs.Common.{◌≡◌, [], List, sym, subst, arith, rules}
 use Rattle.sqlite_trees.specs.View.{IsClean}
 use Rattle.edit_journal.specs.declared.line.Line.{Line}
 use Rattle.edit_journal.specs.Journals.{Takes}

@@ -1,5 +1,5 @@
-use Rattle.std.proofs.Common.{◌≡◌, pos, sym, ap, ◌∙◌}
-use Rattle.sqlite_value.specs.declared.value.Value.TheVariants.{Int, Text, Blob}
+use Rattle.std.proofs.Common.{◌≡◌, sym, ap, ◌∙◌}
+use Rattle.sqlite_value.specs.declared.value.Value.TheVariants.{Text, Blob}
 use Rattle.sqlite_value.specs.Order.{column}
 use Rattle.edit_journal.specs.Lines.{name_of}
 use Rattle.edit_journal.proofs.RowLemmas.{seven}

@@ -1,8 +1,6 @@
-use Rattle.std.proofs.Common.{◌≡◌, ◌+◌, [], List, length, refl, sym, ap, subst, arith, rules}
+use Rattle.std.proofs.Common.{◌≡◌, refl, ap, subst, arith, rules}
 use Rattle.std.proofs.lemmas.Result.{err_from_is_err_and}
-use Rattle.sqlite_trees.specs.View.{IsClean, IsFailure, View}
-use Rattle.edit_journal.specs.Journals.{KeepsCommit}
-use Rattle.edit_journal.specs.Lines.{Keeps}
+use Rattle.sqlite_trees.specs.View.{IsClean, View}
 use Rattle.edit_journal.proofs.ViewLemmas.{Deletes, deletes_nothing, deletes_more, deletes_all, quiet_same, quiet_then, writes_keep, on_err}
 use Rattle.edit_journal.proofs.CommitLemmas.{failed_keeps}
 use Rattle.edit_journal.proofs.FaultLemmas.{fails_later, fails_of}

@@ -1,7 +1,6 @@
-use Rattle.std.proofs.Common.{◌≡◌, [], ap, ◌∙◌, subst, arith, refl}
+use Rattle.std.proofs.Common.{◌≡◌, [], ap, ◌∙◌, arith, refl}
 use Rattle.std.proofs.lemmas.Result.{IfErr-weaker, err_from_is_err_and}
 use Rattle.sqlite_trees.specs.View.{IsClean, View}
-use Rattle.edit_journal.specs.Journals.{Fits}
 use Rattle.edit_journal.specs.Lines.{edit_tree}
 use Rattle.edit_journal.proofs.ViewLemmas.{quiet_same, writes_keep, if_ok, on_err, on_err_then}
 use Rattle.edit_journal.proofs.CommitLemmas.{keeps_itself, survives_quiet, survives_before}

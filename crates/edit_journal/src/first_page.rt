@@ -1,20 +1,13 @@
 //! The first page of a new journal's file.
 
 use crate::fault::JournalFault;
-use os::RangeLock;
 use std::alloc::{AllocError, Global};
-use std::fs::File;
+use std::fs::{File, TryLockError};
 use std::io::{self, ErrorKind, Read};
-use std::os::fd::AsRawFd;
 use std::os::unix::fs::FileExt;
 
 /// How many bytes a page has.
 const PAGE: usize = 4096;
-
-/// Where SQLite's locks begin in a file, and how many bytes they have.
-const LOCKS: u64 = 1 << 30;
-
-const LOCK_BYTES: u64 = 512;
 
 /// What the page begins with: the header of a database without tables, with application_id and user_version.
 const HEAD: [u8; 108] = [
@@ -48,7 +41,6 @@ fn is_marked(head: &[u8]) -> bool {
 
 fn fault_of(error: io::Error) -> JournalFault {
     match error.kind() {
-        ErrorKind::WouldBlock => JournalFault::Locked,
         ErrorKind::OutOfMemory => JournalFault::Memory,
         ErrorKind::StorageFull => JournalFault::Full,
         _ => JournalFault::Failed,
@@ -68,12 +60,12 @@ fn open_file(rt: &HostRuntime, path: &str) -> Result<File, JournalFault> {
     }
 }
 
-/// Takes SQLite's locks of the file, which hold until it is closed.
+/// Takes the file's lock, which holds until it is closed.
 fn lock(file: &File) -> Result<(), JournalFault> {
-    if os::try_lock_range(file.as_raw_fd(), RangeLock::Exclusive, LOCKS, LOCK_BYTES) == 0 {
-        Ok(())
-    } else {
-        Err(fault_of(io::Error::from_raw_os_error(os::errno())))
+    match file.try_lock() {
+        Ok(()) => Ok(()),
+        Err(TryLockError::WouldBlock) => Err(JournalFault::Locked),
+        Err(TryLockError::Error(error)) => Err(fault_of(error)),
     }
 }
 
@@ -91,8 +83,8 @@ fn write_page(file: &File, page: &[u8]) -> io::Result<()> {
     file.sync_all()
 }
 
-/// Writes the first page where the file ends within it, and refuses a file that is no journal, or that another process
-/// has open. What is read and written is so under SQLite's locks.
+/// Writes the first page where the file ends within it, and refuses a file that is no journal, or whose first page another
+/// process reads or writes just now. What is read and written is so under the file's lock.
 pub(crate) fn prepare(rt: &HostRuntime, path: &str) -> Result<(), JournalFault> {
     let page = first_page(rt.alloc())?;
     let mut file = open_file(rt, path)?;

@@ -18,7 +18,7 @@ MESSAGES = {-32700: "Parse error", -32600: "Invalid Request", -32601: "Method no
 JOBS = "take", "land", "give_back"
 FIRST = {"initialize": None, "load": "path", "insert": "after", "delete": "id", "replace": "id", "group": "edits", "mark": None,
          "units": "from", "text": "id", "find": "position", "show": "id", "want": "ids", "drop": "id", "take": "id", "land": "job",
-         "give_back": "job", "journal": "from", "stats": None, "shutdown": None}
+         "give_back": "job", "journal": "from", "stats": None, "reset": None, "shutdown": None}
 LIMITS = {"units": session.MOST_UNITS, "unit_bytes": 4194304, "slices": 256, "group": session.MOST_EDITS, "wanted": MOST_WANTED,
           "count": MOST_TOLD, "left_out": MOST_LEFT_OUT, "message_bytes": MOST_LINE}
 REASONS = {
@@ -169,8 +169,11 @@ class Server:
     """A server beside so many workers."""
 
     def __init__(self, workers, room=4096):
-        self.workers, self.session, self.wanted, self.is_over = workers, session.Session(room), {}, False
-        self.texts, self.entries, self.bytes = {}, [], 0
+        self.workers, self.room, self.is_over = workers, room, False
+        self.begin()
+
+    def begin(self):
+        self.session, self.wanted, self.texts, self.entries, self.bytes = session.Session(self.room), {}, {}, [], 0
 
     def line(self, line):
         """What comes of a line: its answer, or None where it isn't answered, and the notifications behind it."""
@@ -248,6 +251,10 @@ class Server:
     def journal(self, parameters):
         begin, count = parameters.number("from"), parameters.read("count", lambda value: is_number(value) and value <= MOST_TOLD)
         return [{"edits": [*map(told_edit, entry)]} for entry in self.entries[begin:begin + count]]
+
+    def reset(self, _):
+        self.begin()
+        return "reset"
 
     def group(self, parameters):
         edits = parameters.read("edits", lambda value: isinstance(value, list))

@@ -12,6 +12,7 @@ use Rattle.serve_calls.specs.declared.server.Server.{Server}
 use Rattle.serve_calls.specs.declared.wanted_units.WantedUnit.{WantedUnit}
 use Rattle.serve_calls.specs.Answering.{Introduces, TellsFound, TellsShown, TellsStats, TellsUnits}
 use Rattle.serve_calls.specs.Editing.{DropsAs, EditsAs, GroupsAs, MarksAs}
+use Rattle.serve_calls.specs.Resetting.{ResetsAs}
 use Rattle.serve_calls.specs.Texts.{TellsJournal, TellsText}
 use Rattle.serve_calls.specs.Jobs.{GivesBackAs, LandsAs, TakesAs}
 use Rattle.serve_calls.specs.Loading.{LoadsAs}
@@ -49,12 +50,14 @@ IsAnswered is lends file old (call.Land number) result new = IsOfJobs is lends o
 IsAnswered is lends file old (call.GiveBack number) result new = IsOfJobs is lends old (GivesBackAs number) result new
 IsAnswered is lends file old (call.Journal from count) result new = TellsJournal (is old.backend) from count result × (new ≡ old)
 IsAnswered is lends file old call.Stats result new = TellsStats (is old.backend) old.sums result × (new ≡ old)
+IsAnswered is lends file old call.Reset result new = ⊥
 IsAnswered is lends file old call.Shutdown result new = (result ≡ Ok Nothing) × (new ≡ old)
 
--- the result of a call, of which only a want changes the units that are wanted
+-- the result of a call, of which a want and a reset change the units that are wanted
 abbrev pub AnswersCall : {B S : Type 0} → (B → Machine → Type 0) → (B → Bool) → (S → List ℕ → Option (List ℕ)) → Server B S
     → List WantedUnit → Call → Bool → Result Answer Failure → Server B S → List WantedUnit → Type 0
 AnswersCall is lends file old wanted (call.Want ids rest) is_answered result new wants =
     WantsAs is old wanted ids is_answered result new wants
+AnswersCall is lends file old wanted call.Reset is_answered result new wants = ResetsAs is old wanted result new wants
 AnswersCall is lends file old wanted it is_answered result new wants =
     IsAnswered is lends file old it result new × (wants ≡ wanted)

@@ -7,6 +7,7 @@ pub mod Lists
 pub mod Loading
 pub mod Preparing
 pub mod Requests
+pub mod Resetting
 pub mod Sessions
 pub mod Sums
 pub mod Taking

@@ -48,6 +48,7 @@ impl<B: Backend, S: Source> Server<B, S> {
             Call::GiveBack(number) => self.give_back(number),
             Call::Journal { from, count } => self.journal(from, count),
             Call::Stats => self.stats(),
+            Call::Reset => self.reset(wanted),
             Call::Shutdown => Ok(Answer::Nothing),
         }
     }

@@ -2,11 +2,13 @@
 
 ghost use Rattle.std.specs.Prelude.{◌≡◌};
 ghost use Rattle.serve_calls.specs.Editing.{DropsAs, EditsAs, GroupsAs, MakesEdit, MakesGroup, MarksAs, mark_answer};
+ghost use Rattle.serve_calls.specs.Resetting.{ResetsAs};
 ghost use Rattle.serve_calls.specs.Sums.{no_sums};
 
 use crate::backend::Backend;
 use crate::failing::OUT_OF_MEMORY;
 use crate::sums::{Sums, bytes_of, bytes_of_edit};
+use crate::wanted_units::WantedUnit;
 use edit_engine::{EditRefused, GroupReceipt, GroupRefused, ReadEdit, ReadGroup, Receipt};
 use edit_script::id_of_number;
 use serve_answers::{Answer, Word, of_drop, of_edit, of_group};
@@ -90,6 +92,21 @@ impl<B: Backend, S> Server<B, S> {
         ensures { MarksAs B.is_session self.old result self.new }
     {
         of_mark(self.backend.mark())
+    }
+
+    /// Begins anew.
+    pub(crate) fn reset(&mut self, wanted: &mut Vec<WantedUnit>) -> Result<Answer, Failure>
+        ensures { ResetsAs B.is_session self.old wanted.old.items result self.new
+            wanted.new.items }
+    {
+        match self.backend.reset(self.alloc) {
+            Ok(()) => {
+                self.sums = Sums::none();
+                *wanted = Vec::new(self.alloc);
+                Ok(Answer::Word(Word::Reset))
+            }
+            Err(_) => Err(OUT_OF_MEMORY),
+        }
     }
 
     /// Drops the picture of the unit of this number, or without a number those that are cached.

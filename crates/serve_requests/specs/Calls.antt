@@ -131,6 +131,7 @@ call_with method.Land parameters = and_then (required number_of parameter.Job pa
 call_with method.GiveBack parameters = and_then (required number_of parameter.Job parameters) (λ it. Ok (call.GiveBack it))
 call_with method.Journal parameters = journal_in parameters
 call_with method.Stats parameters = Ok call.Stats
+call_with method.Reset parameters = Ok call.Reset
 call_with method.Shutdown parameters = Ok call.Shutdown
 
 -- an answer for an entry of a group, whichever of its parameters is wrong

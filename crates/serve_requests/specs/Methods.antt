@@ -2,7 +2,7 @@
 use Rattle.std.specs.Prelude.{ℕ, List, [], ◌∷◌, codes, Bool, true, false, Option, Some, None, if◌then◌else◌}
 use Rattle.std.specs.Str.{bytes_eq}
 use Rattle.serve_requests.specs.declared.method.Method.{Method}
-use Rattle.serve_requests.specs.declared.method.Method.TheVariants.{Initialize, Load, Insert, Delete, Replace, Group, Mark, Units, Text, Find, Show, Want, Drop, Take, Land, GiveBack, Journal, Stats, Shutdown}
+use Rattle.serve_requests.specs.declared.method.Method.TheVariants.{Initialize, Load, Insert, Delete, Replace, Group, Mark, Units, Text, Find, Show, Want, Drop, Take, Land, GiveBack, Journal, Stats, Reset, Shutdown}
 use Rattle.serve_requests.specs.declared.parameter.Parameter.{Parameter}
 use Rattle.serve_requests.specs.declared.parameter.Parameter.TheVariants as parameter
 
@@ -17,6 +17,7 @@ method_of_pictures name =
     else if bytes_eq name (codes "give_back") then Some GiveBack
     else if bytes_eq name (codes "journal") then Some Journal
     else if bytes_eq name (codes "stats") then Some Stats
+    else if bytes_eq name (codes "reset") then Some Reset
     else if bytes_eq name (codes "shutdown") then Some Shutdown
     else None
 
@@ -51,10 +52,10 @@ takes_any _ = false
 abbrev pub methods : Bool → List Method
 methods true =
     Initialize ∷ Load ∷ Insert ∷ Delete ∷ Replace ∷ Group ∷ Mark ∷ Units ∷ Text ∷ Find ∷ Show ∷ Want ∷ Drop ∷ Take ∷ Land
-    ∷ GiveBack ∷ Journal ∷ Stats ∷ Shutdown ∷ []
+    ∷ GiveBack ∷ Journal ∷ Stats ∷ Reset ∷ Shutdown ∷ []
 methods false =
     Initialize ∷ Load ∷ Insert ∷ Delete ∷ Replace ∷ Group ∷ Mark ∷ Units ∷ Text ∷ Find ∷ Show ∷ Want ∷ Drop ∷ Journal
-    ∷ Stats ∷ Shutdown ∷ []
+    ∷ Stats ∷ Reset ∷ Shutdown ∷ []
 
 -- the first parameter of a method
 abbrev pub first_parameter : Method → Option Parameter
@@ -76,4 +77,5 @@ first_parameter Land = Some parameter.Job
 first_parameter GiveBack = Some parameter.Job
 first_parameter Journal = Some parameter.From
 first_parameter Stats = None
+first_parameter Reset = None
 first_parameter Shutdown = None

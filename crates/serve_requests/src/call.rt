@@ -68,6 +68,8 @@ pub enum Call {
     },
     /// How much there is of what the server keeps.
     Stats,
+    /// That all is as at the beginning.
+    Reset,
     /// The end.
     Shutdown,
 }
@@ -131,6 +133,7 @@ pub(crate) fn call_with(
         Method::GiveBack => Ok(Call::GiveBack(number(parameters, Parameter::Job)?)),
         Method::Journal => Ok(journal(parameters)?),
         Method::Stats => Ok(Call::Stats),
+        Method::Reset => Ok(Call::Reset),
         Method::Shutdown => Ok(Call::Shutdown),
     }
 }

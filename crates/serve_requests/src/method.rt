@@ -30,6 +30,7 @@ pub enum Method {
     GiveBack,
     Journal,
     Stats,
+    Reset,
     Shutdown,
 }
 
@@ -66,6 +67,7 @@ impl Method {
             "give_back" => Some(Method::GiveBack),
             "journal" => Some(Method::Journal),
             "stats" => Some(Method::Stats),
+            "reset" => Some(Method::Reset),
             "shutdown" => Some(Method::Shutdown),
             _ => None,
         }
@@ -117,6 +119,7 @@ impl Method {
         }
         methods.push(Method::Journal)?;
         methods.push(Method::Stats)?;
+        methods.push(Method::Reset)?;
         methods.push(Method::Shutdown)?;
         Ok(Listed::new(methods))
     }
@@ -133,7 +136,8 @@ impl Method {
             Method::Find => Some(Parameter::Position),
             Method::Want => Some(Parameter::Ids),
             Method::Land | Method::GiveBack => Some(Parameter::Job),
-            Method::Initialize | Method::Mark | Method::Stats | Method::Shutdown => None,
+            Method::Initialize | Method::Mark | Method::Stats | Method::Reset | Method::Shutdown =>
+                None,
             _ => Some(Parameter::Id),
         }
     }

@@ -1,7 +1,7 @@
 //! Messages and their answers, worked out by hand from docs/SERVER.md.
 
 mod alone;
-mod batches;
+mod anew;
 mod beside;
 mod ends;
 mod errors;

@@ -3,4 +3,5 @@ mod EditsAfter
 mod Listing
 mod Numbered
 mod Pages
+mod Remembered
 mod Told

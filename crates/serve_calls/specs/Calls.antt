@@ -17,6 +17,7 @@ use Rattle.serve_calls.specs.Texts.{TellsJournal, TellsText}
 use Rattle.serve_calls.specs.Jobs.{GivesBackAs, LandsAs, TakesAs}
 use Rattle.serve_calls.specs.Loading.{LoadsAs}
 use Rattle.serve_calls.specs.Sessions.{Steps}
+use Rattle.serve_calls.specs.Undoing.{RedoesAs, UndoesAs}
 use Rattle.serve_calls.specs.Wanting.{WantsAs}
 
 -- a call about jobs: the session answers it where there are such calls, and else no method has the
@@ -27,7 +28,7 @@ IsOfJobs is_session lends_jobs old step result new =
     (lends_jobs old.backend ≡ true
     → Steps (is_session old.backend) (λ before after. step before result after) (is_session new.backend))
     × (lends_jobs old.backend ≡ false → (result ≡ Err NoMethod) × (new.backend ≡ old.backend))
-    × (new.sums ≡ old.sums) × (new.source ≡ old.source)
+    × (new.sums ≡ old.sums) × (new.source ≡ old.source) × (new.history ≡ old.history)
 
 -- the result of a call that leaves the units that are wanted
 abbrev pub IsAnswered : {B S : Type 0} → (B → Machine → Type 0) → (B → Bool) → (S → List ℕ → Option (List ℕ)) → Server B S
@@ -36,6 +37,8 @@ IsAnswered is lends file old call.Initialize result new = Introduces (lends old.
 IsAnswered is lends file old (call.Load loaded mend) result new = LoadsAs is file old loaded mend result new
 IsAnswered is lends file old (call.Edit edit) result new = EditsAs is old edit result new
 IsAnswered is lends file old (call.Group edits) result new = GroupsAs is old edits result new
+IsAnswered is lends file old call.Undo result new = UndoesAs is old result new
+IsAnswered is lends file old call.Redo result new = RedoesAs is old result new
 IsAnswered is lends file old call.Mark result new = MarksAs is old result new
 IsAnswered is lends file old (call.Units from count controls) result new =
     TellsUnits (is old.backend) from count controls result × (new ≡ old)

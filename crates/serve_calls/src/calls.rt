@@ -32,6 +32,8 @@ impl<B: Backend, S: Source> Server<B, S> {
             Call::Load { loaded, mend } => self.load(rt, loaded, mend),
             Call::Edit(edit) => self.edit(edit),
             Call::Group(edits) => self.group(edits),
+            Call::Undo => self.undo(),
+            Call::Redo => self.redo(),
             Call::Mark => self.mark(),
             Call::Units {
                 from,

@@ -32,6 +32,10 @@ pub enum Call {
     Edit(Edit),
     /// These edits, all of them or none.
     Group(Listed<Edit>),
+    /// The last edit, group or load that isn't undone, taken back.
+    Undo,
+    /// The last of these that was taken back, done again.
+    Redo,
     /// The mark by which units are altered from then on.
     Mark,
     /// What becomes of so many units from a place on, with their controls if they are asked for.
@@ -121,6 +125,8 @@ pub(crate) fn call_with(
         Method::Delete => Ok(Call::Edit(deletion(parameters)?)),
         Method::Replace => Ok(Call::Edit(replacement(alloc, parameters)?)),
         Method::Group => Ok(Call::Group(entries(alloc, parameters)?)),
+        Method::Undo => Ok(Call::Undo),
+        Method::Redo => Ok(Call::Redo),
         Method::Mark => Ok(Call::Mark),
         Method::Units => Ok(units(parameters)?),
         Method::Text => Ok(Call::Text(number(parameters, Parameter::Id)?)),

@@ -18,6 +18,8 @@ pub enum Method {
     Delete,
     Replace,
     Group,
+    Undo,
+    Redo,
     Mark,
     Units,
     Text,
@@ -45,6 +47,8 @@ impl Method {
             "delete" => Some(Method::Delete),
             "replace" => Some(Method::Replace),
             "group" => Some(Method::Group),
+            "undo" => Some(Method::Undo),
+            "redo" => Some(Method::Redo),
             "mark" => Some(Method::Mark),
             "units" => Some(Method::Units),
             "text" => Some(Method::Text),
@@ -104,6 +108,8 @@ impl Method {
             Method::Delete,
             Method::Replace,
             Method::Group,
+            Method::Undo,
+            Method::Redo,
             Method::Mark,
             Method::Units,
             Method::Text,
@@ -136,8 +142,13 @@ impl Method {
             Method::Find => Some(Parameter::Position),
             Method::Want => Some(Parameter::Ids),
             Method::Land | Method::GiveBack => Some(Parameter::Job),
-            Method::Initialize | Method::Mark | Method::Stats | Method::Reset | Method::Shutdown =>
-                None,
+            Method::Initialize
+            | Method::Undo
+            | Method::Redo
+            | Method::Mark
+            | Method::Stats
+            | Method::Reset
+            | Method::Shutdown => None,
             _ => Some(Parameter::Id),
         }
     }

@@ -6,6 +6,7 @@ mod beside;
 mod ends;
 mod errors;
 mod taken;
+mod undoing;
 
 use console_io::{InputFault, Source};
 use failure_reasons::Explain;

@@ -58,7 +58,7 @@ const MARKS: [Row; 12] = [
 const RESETS: [Row; 10] = [
     Row {
         message: "{\"jsonrpc\":\"2.0\",\"id\":1,\"method\":\"initialize\",\"params\":[1]}",
-        lines: "{\"jsonrpc\":\"2.0\",\"id\":1,\"result\":{\"name\":\"cupdaisy\",\"version\":\"0.3.0\",\"methods\":[\"initialize\",\"load\",\"insert\",\"delete\",\"replace\",\"group\",\"mark\",\"units\",\"text\",\"find\",\"show\",\"want\",\"drop\",\"take\",\"land\",\"give_back\",\"journal\",\"stats\",\"reset\",\"shutdown\"],\"limits\":{\"units\":65536,\"unit_bytes\":4194304,\"slices\":256,\"group\":1024,\"wanted\":64,\"count\":1000,\"left_out\":1000,\"message_bytes\":67108864}}}\n",
+        lines: "{\"jsonrpc\":\"2.0\",\"id\":1,\"result\":{\"name\":\"cupdaisy\",\"version\":\"0.3.0\",\"methods\":[\"initialize\",\"load\",\"insert\",\"delete\",\"replace\",\"group\",\"undo\",\"redo\",\"mark\",\"units\",\"text\",\"find\",\"show\",\"want\",\"drop\",\"take\",\"land\",\"give_back\",\"journal\",\"stats\",\"reset\",\"shutdown\"],\"limits\":{\"units\":65536,\"unit_bytes\":4194304,\"slices\":256,\"group\":1024,\"wanted\":64,\"count\":1000,\"left_out\":1000,\"message_bytes\":67108864}}}\n",
     },
     Row {
         message: "{\"jsonrpc\":\"2.0\",\"method\":\"load\",\"params\":{\"path\":\"one\"}}",

@@ -172,6 +172,7 @@ impl<B: Backend, S> Server<B, S> {
         match self.backend.reset(self.alloc) {
             Ok(()) => {
                 self.sums = Sums::none();
+                self.history = UndoRedo::new(self.alloc);
                 *wanted = Vec::new(self.alloc);
                 Ok(Answer::Word(Word::Reset))
             }

@@ -34,7 +34,7 @@ impl<B: Backend, S> Server<B, S> {
         ensures { GoesBy B.is_session (self.old.history.history.done - 1) self.old edits.items
             result self.new }
     {
-        let group = ReadGroup::read(self.alloc, edits)?;
+        let group = ReadGroup::of_step(self.alloc, edits)?;
         let receipt = self.edit_together(group)?;
         self.history.undone(units);
         Ok(receipt)
@@ -63,7 +63,7 @@ impl<B: Backend, S> Server<B, S> {
         ensures { GoesBy B.is_session (min (self.old.history.history.done + 1)
             (length self.old.history.history.steps.items)) self.old edits.items result self.new }
     {
-        let group = ReadGroup::read(self.alloc, edits)?;
+        let group = ReadGroup::of_step(self.alloc, edits)?;
         let receipt = self.edit_together(group)?;
         self.history.redone(units);
         Ok(receipt)

@@ -1,5 +1,5 @@
 -- Edits, groups, marks and drops by a server, and their results.
-use Rattle.std.specs.Prelude.{◌≡◌, ◌⊎◌, ℕ, List, Option, None, Some, Result, Ok, Err}
+use Rattle.std.specs.Prelude.{◌≡◌, ◌⊎◌, ◌≤◌, ℕ, List, length, Option, None, Some, Result, Ok, Err}
 use Rattle.std.specs.declared.alloc.AllocError.{AllocError}
 use Rattle.stream_edits.specs.declared.edits.Edit.{Edit}
 use Rattle.stream_edits.specs.declared.group_refused.GroupRefused.{GroupRefused}
@@ -10,6 +10,7 @@ use Rattle.stream_edits.specs.declared.refusals.EditRefused.TheVariants as refus
 use Rattle.stream_edits.specs.declared.group_refused.GroupRefused.TheVariants as groups
 use Rattle.stream_edits.specs.Edits.{Register}
 use Rattle.stream_edits.specs.GroupRefusals.{IsGroupRefused}
+use Rattle.stream_edits.specs.Groups.{most_edits}
 use Rattle.stream_edits.specs.Refusals.{IsRefused}
 use Rattle.edit_script.specs.Words.{id_of}
 use Rattle.edit_engine.specs.declared.dropping.Dropping.{Dropping}
@@ -100,11 +101,11 @@ MakesGroup is_session old edits answer new =
     Steps (is_session old.backend) (λ before after. AnswersGroup before edits answer after) (is_session new.backend)
     × (new.sums ≡ sums_after_group old.sums edits answer) × (new.source ≡ old.source) × (new.history ≡ old.history)
 
--- the result of a group is the session's answer; or a refusal whatever the stream is: then nothing
--- is asked
+-- the result of a group that isn't too large is the session's answer; or a refusal whatever the stream is: then nothing is
+-- asked
 abbrev pub GroupsAs : {B S : Type 0} → (B → Machine → Type 0) → Server B S → List Edit → Result Answer Failure → Server B S → Type 0
 GroupsAs is_session old edits result new =
-    ((answer : Result GroupReceipt GroupRefused) × MakesStep is_session old edits answer new
+    ((answer : Result GroupReceipt GroupRefused) × (length edits ≤ most_edits) × MakesStep is_session old edits answer new
     × (result ≡ group_answer answer))
     ⊎ ((refused : GroupRefused) × ((register : Register) → IsGroupRefused register edits refused)
     × (result ≡ group_answer (Err refused)) × (new ≡ old))

@@ -10,15 +10,15 @@ import re
 from typing import NamedTuple
 from unittest.mock import ANY
 
-from cupdaisy import doubts, history, mending, session, streams, syntax
+from cupdaisy import doubts, mending, session, streams, syntax
 from cupdaisy.fold import Empty, Plan
 
 MOST_LINE, MOST_TOLD, MOST_LEFT_OUT, MOST_WANTED, MOST_NUMBER, MOST_DEPTH = 64 << 20, 1000, 1000, 64, 1 << 64, 127
 MESSAGES = {-32700: "Parse error", -32600: "Invalid Request", -32601: "Method not found", -32602: "Invalid params"}
 JOBS = "take", "land", "give_back"
-FIRST = {"initialize": None, "load": "path", "insert": "after", "delete": "id", "replace": "id", "group": "edits", "undo": None,
-         "redo": None, "mark": None, "units": "from", "text": "id", "find": "position", "show": "id", "want": "ids", "drop": "id",
-         "take": "id", "land": "job", "give_back": "job", "journal": "from", "stats": None, "reset": None, "shutdown": None}
+FIRST = {"initialize": None, "load": "path", "insert": "after", "delete": "id", "replace": "id", "group": "edits", "mark": None,
+         "units": "from", "text": "id", "find": "position", "show": "id", "want": "ids", "drop": "id", "take": "id", "land": "job",
+         "give_back": "job", "journal": "from", "stats": None, "shutdown": None}
 LIMITS = {"units": session.MOST_UNITS, "unit_bytes": 4194304, "slices": 256, "group": session.MOST_EDITS, "wanted": MOST_WANTED,
           "count": MOST_TOLD, "left_out": MOST_LEFT_OUT, "message_bytes": MOST_LINE}
 REASONS = {
@@ -45,8 +45,6 @@ REASONS = {
     22: "more than 64 ids are wanted",
     23: "the file can't be read",
     24: "all numbers of jobs were given",
-    26: "there is nothing to undo",
-    27: "there is nothing to redo",
 }
 LEFT_OUT = re.compile(r"byte (\d+): left out (\d+) bytes: (.*)\n")
 NUMBER = re.compile(r"-?(0|[1-9][0-9]*)(\.[0-9]+)?([eE][+-]?[0-9]+)?")
@@ -171,12 +169,8 @@ class Server:
     """A server beside so many workers."""
 
     def __init__(self, workers, room=4096):
-        self.workers, self.room, self.is_over = workers, room, False
-        self.begin()
-
-    def begin(self):
-        self.session, self.wanted = session.Session(self.room), {}
-        self.history, self.entries, self.bytes = history.History(), [], 0
+        self.workers, self.session, self.wanted, self.is_over = workers, session.Session(room), {}, False
+        self.texts, self.entries, self.bytes = {}, [], 0
 
     def line(self, line):
         """What comes of a line: its answer, or None where it isn't answered, and the notifications behind it."""
@@ -221,25 +215,21 @@ class Server:
         return getattr(self, name)(parameters)
 
     def edit(self, edit):
-        number = self.made(edit)
-        self.history.end()
-        return {"edit": self.session.edits, "id": number, "steps": ANY, "changed": self.changed()}
-
-    def made(self, edit):
-        """Makes an edit of a step: the id of its unit."""
         try:
             number = self.session.edit(edit)
         except streams.Refused as refusal:
             raise refused(refusal) from None
-        self.keep([edit], [number])
-        return number
+        self.keep(edit, number)
+        self.entries.append([edit])
+        return {"edit": self.session.edits, "id": number, "steps": ANY, "changed": self.changed()}
 
-    def keep(self, edits, about):
-        """Keeps edits that were accepted together, which are about the units of these ids."""
-        self.entries.append(edits)
-        for edit, number in zip(edits, about):
-            self.bytes += size_of(edit)
-            self.history.take_in(edit, number)
+    def keep(self, edit, number):
+        """Keeps the text of an accepted edit, which is about the unit of an id."""
+        self.bytes += size_of(edit)
+        if edit[0] == "delete":
+            del self.texts[number]
+        else:
+            self.texts[number] = edit[-1]
 
     def initialize(self, _):
         methods = [name for name in FIRST if not (self.workers and name in JOBS)]
@@ -251,18 +241,13 @@ class Server:
 
     def text(self, parameters):
         number = parameters.number("id")
-        text = self.history.text(number)
-        if text is None:
+        if number not in self.texts:
             raise Failed(16, "NoSuchUnit")
-        return {"bytes": base64.b64encode(text).decode()}
+        return {"bytes": base64.b64encode(self.texts[number]).decode()}
 
     def journal(self, parameters):
         begin, count = parameters.number("from"), parameters.read("count", lambda value: is_number(value) and value <= MOST_TOLD)
         return [{"edits": [*map(told_edit, entry)]} for entry in self.entries[begin:begin + count]]
-
-    def reset(self, _):
-        self.begin()
-        return "reset"
 
     def group(self, parameters):
         edits = parameters.read("edits", lambda value: isinstance(value, list))
@@ -270,34 +255,16 @@ class Server:
             edits = [entry_of(value) for value in edits]
         except Failed:
             raise Failed(-32602, data="edits") from None
-        answer = self.together(edits)
-        self.history.end()
-        return answer
-
-    def together(self, edits):
-        """Makes edits together."""
         try:
             about = self.session.group(edits)
         except session.GroupRefused as refusal:
             words = str(refusal).split(" ")
             data = {"index": int(words[1])} if words[0] == "at" else None
             raise Failed(int(words[-2]), words[-1], data) from None
-        self.keep(edits, about)
+        for edit, number in zip(edits, about):
+            self.keep(edit, number)
+        self.entries.append(edits)
         return {"edit": self.session.edits, "ids": about, "steps": ANY, "changed": self.changed()}
-
-    def undo(self, _):
-        if not self.history.done:
-            raise Failed(26, "NothingToUndo")
-        answer = self.together(self.history.edits(self.history.undoing(), self.session.ids))
-        self.history.move(self.history.done, self.history.undone)
-        return answer
-
-    def redo(self, _):
-        if not self.history.undone:
-            raise Failed(27, "NothingToRedo")
-        answer = self.together(self.history.edits(self.history.undone[-1], self.session.ids))
-        self.history.move(self.history.undone, self.history.done)
-        return answer
 
     def load(self, parameters):
         if ("path" in parameters.values) == ("bytes" in parameters.values):
@@ -326,8 +293,7 @@ class Server:
         first, begin = self.session.ids + 1, len(self.session.stream)
         for nals in units:
             text, stream = streams.text_of(nals), self.session.stream
-            self.made(("after", stream[-1][0], text) if stream else ("first", text))
-        self.history.end()
+            self.edit(("after", stream[-1][0], text) if stream else ("first", text))
         return {"units": len(units), "first": first, "last": self.session.ids, "changed": {"from": begin, "count": len(units)}}
 
     def changed(self):

@@ -24,7 +24,6 @@ pub enum Word {
     Stale,
     None,
     Back,
-    Reset,
 }
 
 /// A text. Clauses see its bytes.

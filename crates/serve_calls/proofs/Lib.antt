@@ -3,5 +3,4 @@ mod EditsAfter
 mod Listing
 mod Numbered
 mod Pages
-mod Remembered
 mod Told

@@ -6,13 +6,10 @@ pub mod Jobs
 pub mod Lists
 pub mod Loading
 pub mod Preparing
-pub mod Remembering
 pub mod Requests
-pub mod Resetting
 pub mod Sessions
 pub mod Sums
 pub mod Taking
 pub mod Texts
-pub mod Undoing
 pub mod WantedUnits
 pub mod Wanting

@@ -92,5 +92,5 @@ abbrev pub WantsAs : {B S : Type 0} → (B → Machine → Type 0) → Server B 
 WantsAs is_session old wanted ids is_answered result new wants =
     ((64 < length ids) × (result ≡ Err (Refused refusal.TooManyWanted)) × (new ≡ old) × (wants ≡ wanted))
     ⊎ ((length ids ≤ 64) × Wants is_session old.backend ids is_answered result wants new.backend
-    × (new.sums ≡ old.sums) × (new.source ≡ old.source) × (new.history ≡ old.history))
+    × (new.sums ≡ old.sums) × (new.source ≡ old.source))
     ⊎ ((length ids ≤ 64) × (result ≡ Err out_of_memory) × (new ≡ old) × (wants ≡ wanted))

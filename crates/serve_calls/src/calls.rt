@@ -32,8 +32,6 @@ impl<B: Backend, S: Source> Server<B, S> {
             Call::Load { loaded, mend } => self.load(rt, loaded, mend),
             Call::Edit(edit) => self.edit(edit),
             Call::Group(edits) => self.group(edits),
-            Call::Undo => self.undo(),
-            Call::Redo => self.redo(),
             Call::Mark => self.mark(),
             Call::Units {
                 from,
@@ -50,7 +48,6 @@ impl<B: Backend, S: Source> Server<B, S> {
             Call::GiveBack(number) => self.give_back(number),
             Call::Journal { from, count } => self.journal(from, count),
             Call::Stats => self.stats(),
-            Call::Reset => self.reset(wanted),
             Call::Shutdown => Ok(Answer::Nothing),
         }
     }

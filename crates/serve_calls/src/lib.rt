@@ -15,12 +15,10 @@ mod lists;
 mod loading;
 mod preparing;
 mod questions;
-mod remembering;
 mod requests;
 mod server;
 mod sums;
 mod texts;
-mod undoing;
 mod wanted_units;
 mod wanting;
 

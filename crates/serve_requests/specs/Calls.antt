@@ -119,8 +119,6 @@ call_with method.Insert parameters = edited (insertion_in parameters)
 call_with method.Delete parameters = edited (deletion_in parameters)
 call_with method.Replace parameters = edited (replacement_in parameters)
 call_with method.Group parameters = and_then (required entries_of parameter.Edits parameters) (λ edits. Ok (call.Group edits))
-call_with method.Undo parameters = Ok call.Undo
-call_with method.Redo parameters = Ok call.Redo
 call_with method.Mark parameters = Ok call.Mark
 call_with method.Units parameters = units_in parameters
 call_with method.Text parameters = and_then (required number_of parameter.Id parameters) (λ it. Ok (call.Text it))
@@ -133,7 +131,6 @@ call_with method.Land parameters = and_then (required number_of parameter.Job pa
 call_with method.GiveBack parameters = and_then (required number_of parameter.Job parameters) (λ it. Ok (call.GiveBack it))
 call_with method.Journal parameters = journal_in parameters
 call_with method.Stats parameters = Ok call.Stats
-call_with method.Reset parameters = Ok call.Reset
 call_with method.Shutdown parameters = Ok call.Shutdown
 
 -- an answer for an entry of a group, whichever of its parameters is wrong

@@ -38,8 +38,6 @@ number_of refusal.NoSuchUnit = 16
 number_of refusal.TooManyWanted = 22
 number_of refusal.CannotRead = 23
 number_of refusal.JobsSpent = 24
-number_of refusal.NothingToUndo = 26
-number_of refusal.NothingToRedo = 27
 number_of refusal.Memory = 15
 
 -- the name of a refusal
@@ -52,8 +50,6 @@ name_of refusal.NoSuchUnit = codes "NoSuchUnit"
 name_of refusal.TooManyWanted = codes "TooManyWanted"
 name_of refusal.CannotRead = codes "CannotRead"
 name_of refusal.JobsSpent = codes "JobsSpent"
-name_of refusal.NothingToUndo = codes "NothingToUndo"
-name_of refusal.NothingToRedo = codes "NothingToRedo"
 name_of refusal.Memory = codes "Memory"
 
 -- the index of the edit of a group, or of the unit of a stream, that is refused
@@ -77,8 +73,6 @@ index_in refusal.NoSuchUnit = None
 index_in refusal.TooManyWanted = None
 index_in refusal.CannotRead = None
 index_in refusal.JobsSpent = None
-index_in refusal.NothingToUndo = None
-index_in refusal.NothingToRedo = None
 index_in refusal.Memory = None
 
 -- how many units of a stream were inserted
@@ -91,8 +85,6 @@ units_in refusal.NoSuchUnit = None
 units_in refusal.TooManyWanted = None
 units_in refusal.CannotRead = None
 units_in refusal.JobsSpent = None
-units_in refusal.NothingToUndo = None
-units_in refusal.NothingToRedo = None
 units_in refusal.Memory = None
 
 -- why something is refused, with these two

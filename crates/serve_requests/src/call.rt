@@ -32,10 +32,6 @@ pub enum Call {
     Edit(Edit),
     /// These edits, all of them or none.
     Group(Listed<Edit>),
-    /// The last edit, group or load that isn't undone, taken back.
-    Undo,
-    /// The last of these that was taken back, done again.
-    Redo,
     /// The mark by which units are altered from then on.
     Mark,
     /// What becomes of so many units from a place on, with their controls if they are asked for.
@@ -72,8 +68,6 @@ pub enum Call {
     },
     /// How much there is of what the server keeps.
     Stats,
-    /// That all is as at the beginning.
-    Reset,
     /// The end.
     Shutdown,
 }
@@ -125,8 +119,6 @@ pub(crate) fn call_with(
         Method::Delete => Ok(Call::Edit(deletion(parameters)?)),
         Method::Replace => Ok(Call::Edit(replacement(alloc, parameters)?)),
         Method::Group => Ok(Call::Group(entries(alloc, parameters)?)),
-        Method::Undo => Ok(Call::Undo),
-        Method::Redo => Ok(Call::Redo),
         Method::Mark => Ok(Call::Mark),
         Method::Units => Ok(units(parameters)?),
         Method::Text => Ok(Call::Text(number(parameters, Parameter::Id)?)),
@@ -139,7 +131,6 @@ pub(crate) fn call_with(
         Method::GiveBack => Ok(Call::GiveBack(number(parameters, Parameter::Job)?)),
         Method::Journal => Ok(journal(parameters)?),
         Method::Stats => Ok(Call::Stats),
-        Method::Reset => Ok(Call::Reset),
         Method::Shutdown => Ok(Call::Shutdown),
     }
 }

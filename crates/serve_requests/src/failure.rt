@@ -45,10 +45,6 @@ pub enum Refusal {
     CannotRead,
     /// All numbers of jobs were given.
     JobsSpent,
-    /// No edit, group or load is there that isn't undone.
-    NothingToUndo,
-    /// None is there that was undone, and no other edit since.
-    NothingToRedo,
     /// A growth was refused.
     Memory,
 }
@@ -130,8 +126,6 @@ impl Refusal {
             Refusal::TooManyWanted => 22,
             Refusal::CannotRead => 23,
             Refusal::JobsSpent => 24,
-            Refusal::NothingToUndo => 26,
-            Refusal::NothingToRedo => 27,
             Refusal::Memory => 15,
         }
     }
@@ -149,8 +143,6 @@ impl Refusal {
             Refusal::TooManyWanted => "TooManyWanted",
             Refusal::CannotRead => "CannotRead",
             Refusal::JobsSpent => "JobsSpent",
-            Refusal::NothingToUndo => "NothingToUndo",
-            Refusal::NothingToRedo => "NothingToRedo",
             Refusal::Memory => "Memory",
         }
     }

@@ -18,8 +18,6 @@ pub enum Method {
     Delete,
     Replace,
     Group,
-    Undo,
-    Redo,
     Mark,
     Units,
     Text,
@@ -32,7 +30,6 @@ pub enum Method {
     GiveBack,
     Journal,
     Stats,
-    Reset,
     Shutdown,
 }
 
@@ -47,8 +44,6 @@ impl Method {
             "delete" => Some(Method::Delete),
             "replace" => Some(Method::Replace),
             "group" => Some(Method::Group),
-            "undo" => Some(Method::Undo),
-            "redo" => Some(Method::Redo),
             "mark" => Some(Method::Mark),
             "units" => Some(Method::Units),
             "text" => Some(Method::Text),
@@ -71,7 +66,6 @@ impl Method {
             "give_back" => Some(Method::GiveBack),
             "journal" => Some(Method::Journal),
             "stats" => Some(Method::Stats),
-            "reset" => Some(Method::Reset),
             "shutdown" => Some(Method::Shutdown),
             _ => None,
         }
@@ -108,8 +102,6 @@ impl Method {
             Method::Delete,
             Method::Replace,
             Method::Group,
-            Method::Undo,
-            Method::Redo,
             Method::Mark,
             Method::Units,
             Method::Text,
@@ -125,7 +117,6 @@ impl Method {
         }
         methods.push(Method::Journal)?;
         methods.push(Method::Stats)?;
-        methods.push(Method::Reset)?;
         methods.push(Method::Shutdown)?;
         Ok(Listed::new(methods))
     }
@@ -142,13 +133,7 @@ impl Method {
             Method::Find => Some(Parameter::Position),
             Method::Want => Some(Parameter::Ids),
             Method::Land | Method::GiveBack => Some(Parameter::Job),
-            Method::Initialize
-            | Method::Undo
-            | Method::Redo
-            | Method::Mark
-            | Method::Stats
-            | Method::Reset
-            | Method::Shutdown => None,
+            Method::Initialize | Method::Mark | Method::Stats | Method::Shutdown => None,
             _ => Some(Parameter::Id),
         }
     }

@@ -20,8 +20,6 @@ pub(crate) fn reason_of(refusal: Refusal) -> &'static str
         Refusal::TooManyWanted => "more than 64 ids are wanted",
         Refusal::CannotRead => "the file can't be read",
         Refusal::JobsSpent => "all numbers of jobs were given",
-        Refusal::NothingToUndo => "there is nothing to undo",
-        Refusal::NothingToRedo => "there is nothing to redo",
         Refusal::Memory => "out of memory",
     }
 }

@@ -3,8 +3,7 @@
 ghost use Rattle.std.specs.Prelude.{◌≡◌, ◌≤◌, length, IfErr, IfOk};
 ghost use Rattle.stream_edits.specs.Drafts.{IsDraft};
 ghost use Rattle.stream_edits.specs.GroupRefusals.{IsGroupRefused, IsRefusedAmong};
-ghost use Rattle.access_unit.specs.Rooms.{most_units};
-ghost use Rattle.stream_edits.specs.Groups.{IsForAll};
+ghost use Rattle.stream_edits.specs.Groups.{IsForAll, most_edits};
 ghost use Rattle.stream_edits.specs.Ids.{HasIds};
 ghost use Rattle.stream_edits.specs.Reading.{AreHashedFor};
 ghost use Rattle.stream_edits.specs.Streams.{ids_of};
@@ -49,7 +48,7 @@ pub fn change_of_group(
 
 /// How many bytes were hashed for these edits.
 fn hashed_for(read: &[ReadEdit]) -> usize
-    requires { length read.now ≤ most_units }
+    requires { length read.now ≤ most_edits }
     ensures { AreHashedFor read.now result }
 {
     let mut hashed = 0;

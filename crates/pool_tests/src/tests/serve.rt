@@ -1,12 +1,11 @@
 //! Messages and their answers, worked out by hand from docs/SERVER.md.
 
 mod alone;
-mod anew;
+mod batches;
 mod beside;
 mod ends;
 mod errors;
 mod taken;
-mod undoing;
 
 use console_io::{InputFault, Source};
 use failure_reasons::Explain;

@@ -388,7 +388,16 @@ class Server:
         taken = self.session.take(among)
         if taken is None:
             return None
-        return {"job": taken[0], "unit": taken[1], "requests": ANY, "references": ANY}
+        return {"job": taken[0], "unit": taken[1], "requests": ANY, "references": self.references(taken[1])}
+
+    def references(self, number):
+        """The frames that the lists of a unit's requests name, each once, in the order of the decoded picture buffer."""
+        rows = {each[0]: row for each, row in zip(self.session.stream, self.session.rows)}
+        requests = rows[number].outcome.requests
+        named = {f"{1000 * each}": each for request in requests for each in request.entries if each is not None}
+        buffered = [entry.split(":")[0] for entry in requests[0].line.split(" ")[11].split(",")]
+        return [{"timestamp": int(time), "picture": self.session.pictures[rows[named[time]].key].hex()}
+                for time in buffered if time in named]
 
     def land(self, parameters):
         return self.session.land(parameters.number("job"))

@@ -1,20 +1,25 @@
--- Jobs that are out, by their numbers.
-use Rattle.std.proofs.Common.{◌≡◌, ℕ, zero, suc, ◌<◌, ◌≤◌, ◌==◌, Bool, true, List, [], ◌∷◌, length, get_or, map, Option, None, Some, option_map, refl, ap, sym, ◌∙◌, inl, inr, arith}
+-- Jobs that are out: by their numbers, what is answered where a picture of one lands, and to which pictures none refers.
+use Rattle.std.proofs.Common.{◌≡◌, ℕ, zero, suc, ◌<◌, ◌≤◌, ◌==◌, Bool, true, List, [], ◌∷◌, length, get_or, map, Option, None, Some, option_map, refl, ap, sym, ◌∙◌, inl, inr, arith, subst}
 use Rattle.std.specs.Prelude.{All, Contains, position, slice_get, slice_index_or, option_and_then}
 use Rattle.std.specs.List.{position_or_len}
 use Rattle.std.proofs.lemmas.Bool.{cases_lt, eq-eqb, eqb-true, lt-ltb}
 use Rattle.std.proofs.lemmas.List.{length-map}
-use Rattle.std.proofs.lemmas.List.Elements.{All-map}
+use Rattle.std.proofs.lemmas.List.Elements.{All-map, All-contains, All-weaker}
 use Rattle.std.proofs.lemmas.List.Quantifiers.{position-Some}
-use Rattle.key_slots.proofs.Members.{All-from_contains}
 use Rattle.std.proofs.lemmas.List.Sums.{fails_before_first}
+use Rattle.std.proofs.lemmas.Option.{same_Some}
+use Rattle.key_slots.proofs.Members.{All-from_contains, among_map}
 use Rattle.decode_jobs.specs.Jobs.{JobValue}
 use Rattle.picture_store.specs.declared.job_out.JobOut.{JobOut}
-use Rattle.picture_store.specs.Jobs.{IsSameJob, input_of}
+use Rattle.picture_store.specs.Jobs.{IsSameJob, input_of, IsOut, LandsThere, AnswersLand, AnswersLandOf}
 use Rattle.picture_store.specs.Kept.{Trees, jobs_for}
-use Rattle.picture_store.specs.Stores.{OutValue}
+use Rattle.picture_store.specs.Stores.{OutValue, StoreValue}
 use Rattle.picture_store.proofs.Landed.{got_at}
 use Rattle.picture_store.proofs.Viewed.{seen}
+use Rattle.picture_store.specs.declared.answers.Landing.{Landing}
+use Rattle.picture_store.specs.declared.answers.Landing.TheVariants.{Taken, Stale, Foreign}
+use Rattle.picture_store.specs.Unreferred.{AreOthers, IsFree}
+use Rattle.picture_store.specs.Released.{IsUnreferred}
 
 -- the first that passes among what is made of a list
 pub position_map : {X Y : Type 0} (test : Y → Bool) (f : X → Y) (xs : List X) → position test (map f xs) ≡ position (λ x. test (f x)) xs
@@ -89,3 +94,43 @@ pub job_there : {P : Type 0} (keys : Trees) (out : List (JobOut P)) (at : ℕ) (
 job_there keys [] at job within number input = absurd (omega (arith, within))
 job_there keys (first ∷ out) zero job within number input = (seen keys first, refl, (number first, input first))
 job_there keys (first ∷ out) (suc at) job within number input = job_there keys out at job (omega (arith, within)) number input
+
+module _ {P : Type 0} (old : StoreValue P) (at : ℕ) (picture : P) where
+  module _ (job : JobValue P) (other : OutValue P) (there : slice_get old.jobs_out at ≡ Some other) (is : IsSameJob job other) where
+    out_at : (out : OutValue P) → slice_get old.jobs_out at ≡ Some out → IsOut old job at out
+    out_at out stands = record { stands = stands; is = subst (IsSameJob job) (same_Some other out (sym there ∙ stands)) is }
+
+    -- that of a job
+    pub job_lands : (landing : Landing) (new : StoreValue P) → LandsThere old at picture landing new
+        → AnswersLand old job picture landing new
+    job_lands Foreign new (out, stands, lands) = absurd lands
+    job_lands Stale new (out, stands, lands) = (at, out, out_at out stands, lands)
+    job_lands Taken new (out, stands, lands) = (at, out, out_at out stands, lands)
+
+  module _ (number : ℕ) (other : OutValue P) (there : slice_get old.jobs_out at ≡ Some other) (is : other.number ≡ number) where
+    number_of : (out : OutValue P) → slice_get old.jobs_out at ≡ Some out → out.number ≡ number
+    number_of out stands = subst (λ (job : OutValue P). job.number ≡ number) (same_Some other out (sym there ∙ stands)) is
+
+    -- that of the job of a number
+    pub number_lands : (landing : Landing) (new : StoreValue P) → LandsThere old at picture landing new
+        → AnswersLandOf old number picture landing new
+    number_lands Foreign new (out, stands, lands) = absurd lands
+    number_lands Stale new (out, stands, lands) = (at, out, stands, number_of out stands, lands)
+    number_lands Taken new (out, stands, lands) = (at, out, stands, number_of out stands, lands)
+
+module _ {P : Type 0} (keys : Trees) (out : List (JobOut P)) where
+  pub free_seen : (picture : P) → IsFree out picture → IsUnreferred (jobs_for keys out) picture
+  free_seen picture free = All-map (λ (job : OutValue P). AreOthers job.input.references picture) (seen keys) out free
+
+  pub seen_free : (picture : P) → IsUnreferred (jobs_for keys out) picture → IsFree out picture
+  seen_free picture free =
+      All-from_contains {P = λ (job : JobOut P). AreOthers job.input.references picture} out (λ job among.
+      All-contains (λ (job : OutValue P). AreOthers job.input.references picture) (jobs_for keys out) (seen keys job) free
+      (among_map (seen keys) out job among))
+
+  -- where a job refers to each picture, one that is seen does
+  pub none_free : (pictures : List P) → All (λ picture. IsFree out picture → ⊥) pictures
+      → All (λ picture. IsUnreferred (jobs_for keys out) picture → ⊥) pictures
+  none_free pictures none =
+      All-weaker (λ picture. IsFree out picture → ⊥) (λ picture. IsUnreferred (jobs_for keys out) picture → ⊥)
+      (λ picture not free. not (seen_free picture free)) pictures none

@@ -23,8 +23,7 @@ use Rattle.picture_store.specs.Kept.{Trees, key_for, keys_for, jobs_for, IsRight
 use Rattle.key_slots.proofs.Held.{held_found, found_held}
 use Rattle.picture_store.proofs.Among.{held_among}
 use Rattle.picture_store.proofs.Lifting.{for_contains, contains_for}
-use Rattle.picture_store.proofs.Tables.{none_not_some}
-use Rattle.picture_store.proofs.Viewed.{Marked, seen, viewed}
+use Rattle.picture_store.proofs.Viewed.{none_not_some, Marked, seen, viewed}
 use Rattle.picture_store.proofs.Stays.{key_is, stand_live, stand_number}
 use Rattle.decode_jobs.specs.Inputs.{InputValue}
 

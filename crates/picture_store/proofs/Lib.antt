@@ -1,4 +1,3 @@
-pub mod Tables
 pub mod Lifting
 pub mod Among
 pub mod Loops
@@ -19,9 +18,7 @@ pub mod Refitted
 pub mod Landed
 pub mod ByNumber
 pub mod Filled
-pub mod Landings
 pub mod Uncached
-pub mod Freed
 pub mod Taken
 pub mod Waiting
 pub mod Pended
@@ -38,6 +35,5 @@ pub mod TakenFor
 pub mod Flags
 pub mod Marked
 pub mod Same
-pub mod Parts
 pub mod Lifted
 pub mod WithStretch

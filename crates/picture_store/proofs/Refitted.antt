@@ -20,10 +20,9 @@ use Rattle.key_slots.specs.Places.{place_at, numbers_held}
 use Rattle.picture_store.specs.Places.{PlacesValue, carried, held_or, ArePlaced}
 use Rattle.picture_store.specs.Kept.{Trees, key_for, keys_for, IsRight, IsKept}
 use Rattle.key_slots.proofs.Members.{among_map, among_source, left_among, All-from_contains}
-use Rattle.picture_store.proofs.Tables.{none_not_some}
+use Rattle.picture_store.proofs.Viewed.{none_not_some, Marked, viewed}
 use Rattle.key_slots.proofs.Held.{held_found, found_held}
 use Rattle.picture_store.proofs.Lifting.{for_contains, contains_for, left_for, put_for}
-use Rattle.picture_store.proofs.Viewed.{Marked, viewed}
 use Rattle.picture_store.proofs.Numbered.{one_to_one}
 use Rattle.picture_store.proofs.Stays.{key_is, stand_live, stand_number}
 use Rattle.decode_jobs.specs.Inputs.{InputValue}

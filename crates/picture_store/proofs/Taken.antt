@@ -22,9 +22,8 @@ use Rattle.picture_store.specs.Due.{IsDueNumber, IsNotDue}
 use Rattle.picture_store.specs.Inputs.{HasKnown, IsInputOf}
 use Rattle.picture_store.specs.Kept.{Trees, key_for, keys_for, jobs_for, numbers_out, IsJobRight, IsKept}
 use Rattle.key_slots.proofs.Members.{among_map, among_source, All-from_contains}
-use Rattle.picture_store.proofs.Viewed.{Marked, seen, viewed}
+use Rattle.picture_store.proofs.Viewed.{Marked, seen, viewed, none_not_some}
 use Rattle.picture_store.proofs.Stays.{key_is, stand_live, stand_number}
-use Rattle.picture_store.proofs.Tables.{none_not_some}
 use Rattle.picture_store.proofs.Landed.{awaited_for, held_for, found_length, keyed, length-zip_same}
 use Rattle.key_slots.proofs.UnitAt.{IsAt, unit_at, second_at, stand_take}
 

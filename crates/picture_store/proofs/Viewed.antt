@@ -1,5 +1,5 @@
 -- A store as contracts see it, from what it stores.
-use Rattle.std.proofs.Common.{ℕ, List, Option, OnErr, Result, Ok, Err, rules}
+use Rattle.std.proofs.Common.{ℕ, List, Option, OnErr, Result, Ok, Err, rules, ◌≡◌, None, Some, IsSome}
 use Rattle.std.specs.Map.{keys_of as numbers_of, values_of}
 use Rattle.unit_outcomes.specs.declared.outcome.Outcome.{Outcome}
 use Rattle.decode_jobs.specs.Keys.{Key}
@@ -38,3 +38,8 @@ module _ {P : Type 0} where
 pub on_any_err : {T E Q : Type 0} (r : Result T E) → Q → OnErr r Q
 on_any_err (Ok x) p = search rules
 on_any_err (Err e) p = p
+
+-- where nothing is found, there is nothing
+pub none_not_some : {X : Type 0} (o : Option X) → o ≡ None → IsSome o → ⊥
+none_not_some None none some = cc
+none_not_some (Some x) none some = cc

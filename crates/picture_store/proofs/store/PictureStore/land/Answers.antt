@@ -1,9 +1,8 @@
 use Rattle.std.proofs.Common.{refl, sym, ap, subst, ◌∙◌}
 use Rattle.std.proofs.lemmas.Option.{same_Some}
 use Rattle.picture_store.specs.Stores.{OutValue}
-use Rattle.picture_store.proofs.ByNumber.{job_there}
+use Rattle.picture_store.proofs.ByNumber.{job_there, job_lands}
 use Rattle.picture_store.proofs.Landed.{foreign_for}
-use Rattle.picture_store.proofs.Landings.{job_lands}
 use Rattle.picture_store.proofs.store.PictureStore.land.Goals as goal
 
 pub land_at-requires-clause-decoded : goal.land_at-requires-clause-decoded

@@ -1,8 +1,7 @@
 use Rattle.std.proofs.Common.{refl, sym, subst, Option}
 use Rattle.std.specs.Prelude.{IfSome}
 use Rattle.decode_jobs.specs.Inputs.{InputValue}
-use Rattle.picture_store.proofs.ByNumber.{input_there, none_numbered, numbered_there}
-use Rattle.picture_store.proofs.Landings.{number_lands}
+use Rattle.picture_store.proofs.ByNumber.{input_there, none_numbered, numbered_there, number_lands}
 use Rattle.picture_store.proofs.store.PictureStore.land_number.Goals as goal
 
 pub land_at-requires-clause-decoded : goal.land_at-requires-clause-decoded

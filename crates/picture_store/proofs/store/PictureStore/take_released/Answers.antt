@@ -2,7 +2,7 @@ use Rattle.std.proofs.Common.{◌∷◌, List, refl, sym, subst}
 use Rattle.std.specs.Prelude.{IsPermutation}
 use Rattle.std.proofs.lemmas.List.Sorted.{IsPermutation-swap_remove}
 use Rattle.picture_store.specs.Unreferred.{IsFree}
-use Rattle.picture_store.proofs.Freed.{free_seen, none_free}
+use Rattle.picture_store.proofs.ByNumber.{free_seen, none_free}
 use Rattle.picture_store.proofs.store.PictureStore.take_released.Goals as goal
 
 pub returns-in_err-at : goal.returns-in_err-at

@@ -1,6 +1,5 @@
 """A stream that is open in an editor: its edits with what undoes them, what an edit would break, and the file."""
 import concurrent.futures
-import os
 import pathlib
 
 from access_units import access_units, sets_before
@@ -9,8 +8,8 @@ from stream import Stream
 
 
 class Document:
-    """Units' texts, undo, redo and save are kept here, as `preview serve` has no methods for them. An edit is a list of splices, each
-    (place, how many units go, the units that come), and so is what undoes it: a unit that comes back has a new id."""
+    """Units' texts, undo and redo are kept here, as a second session tries each step too. An edit is a list of splices, each (place,
+    how many units go, the units that come), and so is what undoes it: a unit that comes back has a new id."""
 
     def __init__(self, path, workers, is_copy):
         self.path, self.is_copy, self.undone_by, self.redone_by, self.is_saved = pathlib.Path(path), is_copy, [], [], True
@@ -72,13 +71,8 @@ class Document:
         return b"".join(unit.text for unit in self.shown.units)
 
     def save(self):
-        """Writes the stream beside its file, and puts it in that one's place: whoever reads it finds either whole."""
-        beside = self.path.with_name(self.path.name + ".new")
-        with open(beside, "wb") as file:
-            file.write(self.text())
-            file.flush()
-            os.fsync(file.fileno())
-        os.replace(beside, self.path)
+        """Has the server write the stream as the file: whoever reads that finds the old one or the new one whole."""
+        self.shown.server.call("save", path=str(self.path))
         self.is_saved = True
         self.shown.mark()
 

@@ -1,10 +1,10 @@
 #!/usr/bin/env python3
 """A client of `preview serve`, and what an editor does with it.
 
-    preview_client.py PROGRAM STREAM
+    preview_client.py PROGRAM STREAM [SAVED]
 
-It starts the server, loads the stream without what no command reads, shows where an edit leads, and waits for pictures that
-become ready. The messages are those of docs/SERVER.md.
+It starts the server, loads the stream without what no command reads, shows where an edit leads, waits for pictures that become
+ready, takes the edit back, and saves the stream as SAVED. The messages are those of docs/SERVER.md.
 """
 import base64
 import json
@@ -26,7 +26,7 @@ class Preview:
 
     def __init__(self, program, *options):
         self.process = subprocess.Popen([program, "serve", *options], stdin=subprocess.PIPE, stdout=subprocess.PIPE)
-        self.number, self.ready = 0, deque()
+        self.number, self.ready, self.changed = 0, deque(), deque()
 
     def __enter__(self):
         return self
@@ -50,14 +50,20 @@ class Preview:
         self.process.stdin.write(json.dumps(message).encode() + b"\n")
         self.process.stdin.flush()
         while "method" in (answer := self.receive()):
-            self.ready.append(answer["params"])
+            self.keep(answer)
         if "error" in answer:
             raise Refused(**answer["error"])
         return answer["result"]
 
+    def keep(self, told):
+        """Keeps a notification: of a picture that is ready, or of a unit that an edit changed."""
+        (self.ready if told["method"] == "ready" else self.changed).append(told["params"])
+
     def next_ready(self):
-        """Waits for the next notification: a wanted unit and its picture."""
-        return self.ready.popleft() if self.ready else self.receive()["params"]
+        """Waits for the next wanted unit that is ready, and gives it with its picture."""
+        while not self.ready:
+            self.keep(self.receive())
+        return self.ready.popleft()
 
 
 def text_of(data):
@@ -76,7 +82,7 @@ def pictures_of(preview, ids, rest=True):
 
 
 def main():
-    program, stream = sys.argv[1:]
+    program, stream, *saved = sys.argv[1:]
     with Preview(program, "--workers", "2") as preview:
         with open(stream, "rb") as file:
             loaded = preview.call("load", bytes=text_of(file.read()), mend=True)
@@ -93,6 +99,12 @@ def main():
         for unit in ids:
             print(f"unit {unit}", "has no picture" if unit not in after
                   else "keeps its picture" if after[unit] == before.get(unit) else "has another picture")
+        for told in preview.changed:
+            print("unit {id} was told to be {state}".format(**told))
+        back = preview.call("undo")
+        print(f"edit {back['edit']} takes that back: unit {edit['id']} is unit {back['ids'][0]} now")
+        for path in saved:
+            print("saved {units} units, {bytes} bytes".format(**preview.call("save", path=path)))
         preview.call("shutdown")
 
 

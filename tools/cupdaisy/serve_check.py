@@ -5,6 +5,7 @@ import pathlib
 import queue
 import random
 import subprocess
+import tempfile
 import threading
 
 from cupdaisy import check_mend, processes, serve_model
@@ -70,17 +71,19 @@ def text_of(data):
 class Drawn:
     """Messages drawn over the units of a stream."""
 
-    def __init__(self, seed, workers, texts, damage):
-        self.rng, self.texts, self.damage = random.Random(seed), texts, damage
-        self.model, self.number = serve_model.Server(workers), 0
+    def __init__(self, seed, workers, texts, damage, folder):
+        self.rng, self.texts, self.damage, self.folder = random.Random(seed), texts, damage, folder
+        self.model, self.number, self.saved = serve_model.Server(workers), 0, {}
         self.kinds = {"insert": 6, "delete": 3, "replace": 4, "group": 3, "units": 2, "find": 2, "show": 4, "want": 2, "drop": 2,
-                      "stats": 1, "load": 1, "wrong": 2, "mark": 1, "text": 2, "journal": 1, "initialize": 0.3} | ({} if workers else {"take": 10, "land": 8, "give_back": 2})
+                      "stats": 1, "load": 1, "save": 2, "undo": 5, "redo": 4, "wrong": 2, "mark": 1, "text": 2, "journal": 1, "initialize": 0.3,
+                      "reset": 0.3} | ({} if workers else {"take": 10, "land": 8, "give_back": 2})
 
     def line(self):
         """The next message or batch, damaged now and then."""
         value = self.message() if self.rng.random() < 0.9 else [self.message() for _ in range(self.rng.randint(1, 4))]
         line = json.dumps(value).encode()
-        return self.damaged(line) if self.rng.random() * 100 < self.damage else line
+        # Nothing is saved but in the folder.
+        return self.damaged(line) if self.rng.random() * 100 < self.damage and b'"save"' not in line else line
 
     def message(self):
         kind = self.rng.choices(list(self.kinds), list(self.kinds.values()))[0]
@@ -149,13 +152,16 @@ class Drawn:
     def stats(self):
         return self.rng.choice(({}, []))
 
-    initialize = mark = stats
+    initialize = mark = reset = undo = redo = stats
 
     def load(self):
         units = self.texts[:self.rng.randint(1, 4)] if len(self.model.session.stream) < 40 else []
         text = b"".join(units) if self.rng.random() < 0.5 else check_mend.drawn(self.rng.randrange(1 << 30), b"".join(units))
         source = {"bytes": text_of(text)} if self.rng.random() < 0.8 else {"path": "missing"}
         return source | self.rng.choice(({}, {}, {"mend": False}, {"mend": True}, {"mend": True}, {"mend": 1}))
+
+    def save(self):
+        return {"path": f"{self.folder}/{self.rng.choice(('one', 'two', 'two', '', 'none/one'))}"}
 
     def wrong(self):
         return self.rng.choice(({"method": "sow"}, {"method": 1}, {"method": "find", "params": []}, {"method": "show", "params": [1]},
@@ -169,6 +175,8 @@ class Run:
         self.client, self.drawn, self.model, self.told = client, drawn, drawn.model, {}
         # The pictures that wanted units may have, after each message since the last one that was answered.
         self.may_be = [{}]
+        # The notifications that are due beside workers, whatever these have done.
+        self.due = []
 
     def message(self, line):
         """Sends a line, and holds what comes of it against the model."""
@@ -176,15 +184,27 @@ class Run:
         self.client.send(line + b"\n")
         if self.model.workers and wanted is not None:
             self.tell_until_answer(line, wanted)
+            if self.due:
+                raise Wrong(f"{self.due} isn't told")
         elif not self.model.workers:
             for each in ([] if wanted is None else [wanted]) + news:
                 self.compare(line, each, self.client.receive())
+        self.due += news if self.model.workers else []
+        if wanted is not None:
+            self.compare_files()
         pictures = {number: self.model.picture(number) for number in self.model.wanted}
         self.may_be = [pictures] if wanted is not None else self.may_be + [pictures]
 
     def compare(self, line, wanted, found):
         if opened(wanted) != found:
             raise Wrong(f"{line[:300]!r}: {found}, not {wanted}")
+
+    def compare_files(self):
+        """Holds the files that were saved against the texts of the stream as it was, and nothing else stands there."""
+        found = {str(file): file.read_bytes() for file in pathlib.Path(self.drawn.folder).iterdir()}
+        if found != self.drawn.saved | self.model.saved:
+            raise Wrong(f"files: {[*found]}")
+        self.drawn.saved |= self.model.saved
 
     def tell_until_answer(self, line, wanted):
         """Reads notifications, which are of the stream before a message, and its answer."""
@@ -197,13 +217,27 @@ class Run:
 
     def tell(self, found):
         """Holds a notification against the pictures that its unit may have and the one that was told last."""
-        number, picture = found["params"]["id"], found["params"]["picture"]
+        number = found["params"]["id"]
+        if found["method"] == "changed":
+            return self.tell_change(number, found)
+        picture = found["params"]["picture"]
         is_right = found == {"jsonrpc": "2.0", "method": "ready", "params": {"id": number, "picture": picture}}
         if not is_right or all(pictures.get(number) != picture for pictures in self.may_be):
             raise Wrong(f"{found} of {self.may_be}")
         if len(self.may_be) == 1 and self.told.get(number) == picture:
             raise Wrong(f"{found} is told again")
         self.told[number] = picture
+
+    def tell_change(self, number, found):
+        """Holds the notification of a change against those that are due, or against the units that have a picture."""
+        if found == {"jsonrpc": "2.0", "method": "changed", "params": {"id": number, "state": "pending"}}:
+            if all(pictures.get(number) is None for pictures in self.may_be):
+                raise Wrong(f"{found} of {self.may_be}")
+        elif [found] != self.due[:1]:
+            raise Wrong(f"{found}, and not {self.due[:1]}")
+        else:
+            self.due.pop(0)
+        self.told.pop(number, None)
 
     def finish(self):
         """Wants units of the stream, of which each valid one has to be told, and ends the server."""
@@ -220,9 +254,14 @@ class Run:
 
 def run(program, workers, seed, texts, options):
     """What is wrong with a drawn run, if anything."""
+    with tempfile.TemporaryDirectory() as folder:
+        return run_in(folder, program, workers, seed, texts, options)
+
+
+def run_in(folder, program, workers, seed, texts, options):
     client = Client(program, workers)
     try:
-        drawn = Drawn(seed, workers, texts, options.damage)
+        drawn = Drawn(seed, workers, texts, options.damage, folder)
         running = Run(client, drawn)
         for _ in range(options.messages):
             running.message(drawn.line())

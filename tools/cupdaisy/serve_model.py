@@ -6,19 +6,20 @@ each value that may be there: how many steps an edit makes, the controls of vali
 import base64
 import binascii
 import json
+import os
 import re
 from typing import NamedTuple
 from unittest.mock import ANY
 
-from cupdaisy import doubts, mending, session, streams, syntax
+from cupdaisy import doubts, history, mending, session, streams, syntax
 from cupdaisy.fold import Empty, Plan
 
 MOST_LINE, MOST_TOLD, MOST_LEFT_OUT, MOST_WANTED, MOST_NUMBER, MOST_DEPTH = 64 << 20, 1000, 1000, 64, 1 << 64, 127
 MESSAGES = {-32700: "Parse error", -32600: "Invalid Request", -32601: "Method not found", -32602: "Invalid params"}
 JOBS = "take", "land", "give_back"
-FIRST = {"initialize": None, "load": "path", "insert": "after", "delete": "id", "replace": "id", "group": "edits", "mark": None,
-         "units": "from", "text": "id", "find": "position", "show": "id", "want": "ids", "drop": "id", "take": "id", "land": "job",
-         "give_back": "job", "journal": "from", "stats": None, "shutdown": None}
+FIRST = {"initialize": None, "load": "path", "save": "path", "insert": "after", "delete": "id", "replace": "id", "group": "edits", "undo": None,
+         "redo": None, "mark": None, "units": "from", "text": "id", "find": "position", "show": "id", "want": "ids", "drop": "id",
+         "take": "id", "land": "job", "give_back": "job", "journal": "from", "stats": None, "reset": None, "shutdown": None}
 LIMITS = {"units": session.MOST_UNITS, "unit_bytes": 4194304, "slices": 256, "group": session.MOST_EDITS, "wanted": MOST_WANTED,
           "count": MOST_TOLD, "left_out": MOST_LEFT_OUT, "message_bytes": MOST_LINE}
 REASONS = {
@@ -45,6 +46,9 @@ REASONS = {
     22: "more than 64 ids are wanted",
     23: "the file can't be read",
     24: "all numbers of jobs were given",
+    25: "the file can't be written",
+    26: "there is nothing to undo",
+    27: "there is nothing to redo",
 }
 LEFT_OUT = re.compile(r"byte (\d+): left out (\d+) bytes: (.*)\n")
 NUMBER = re.compile(r"-?(0|[1-9][0-9]*)(\.[0-9]+)?([eE][+-]?[0-9]+)?")
@@ -78,6 +82,13 @@ class Some(Either):
     def __eq__(self, other):
         left = iter(self.values)
         return isinstance(other, list) and all(each in left for each in other)
+
+
+class Wanted:
+    """A unit that is wanted: the picture that was told of it last, and what was shown of it when that was asked last."""
+
+    def __init__(self, told=None, seen=None):
+        self.told, self.seen = told, seen
 
 
 class Float(NamedTuple):
@@ -169,13 +180,18 @@ class Server:
     """A server beside so many workers."""
 
     def __init__(self, workers, room=4096):
-        self.workers, self.session, self.wanted, self.is_over = workers, session.Session(room), {}, False
-        self.texts, self.entries, self.bytes = {}, [], 0
+        self.workers, self.room, self.is_over, self.saved = workers, room, False, {}
+        self.begin()
+
+    def begin(self):
+        self.session, self.wanted = session.Session(self.room), {}
+        self.history, self.entries, self.told_entries, self.bytes = history.History(), [], 0, 0
 
     def line(self, line):
-        """What comes of a line: its answer, or None where it isn't answered, and the notifications behind it."""
+        """What comes of a line: its answer, or None where it isn't answered, and the notifications behind it. Beside workers these
+        are the ones that don't rest on how far the workers are."""
         answer = self.answer(line)
-        return answer, [] if self.workers or self.is_over else self.news()
+        return answer, [] if self.is_over else self.news()
 
     def answer(self, line):
         if len(line) > MOST_LINE:
@@ -215,21 +231,25 @@ class Server:
         return getattr(self, name)(parameters)
 
     def edit(self, edit):
+        number = self.made(edit)
+        self.history.end()
+        return {"edit": self.session.edits, "id": number, "steps": ANY, "changed": self.changed()}
+
+    def made(self, edit):
+        """Makes an edit of a step: the id of its unit."""
         try:
             number = self.session.edit(edit)
         except streams.Refused as refusal:
             raise refused(refusal) from None
-        self.keep(edit, number)
-        self.entries.append([edit])
-        return {"edit": self.session.edits, "id": number, "steps": ANY, "changed": self.changed()}
+        self.keep([edit], [number])
+        return number
 
-    def keep(self, edit, number):
-        """Keeps the text of an accepted edit, which is about the unit of an id."""
-        self.bytes += size_of(edit)
-        if edit[0] == "delete":
-            del self.texts[number]
-        else:
-            self.texts[number] = edit[-1]
+    def keep(self, edits, about):
+        """Keeps edits that were accepted together, which are about the units of these ids."""
+        self.entries.append(edits)
+        for edit, number in zip(edits, about):
+            self.bytes += size_of(edit)
+            self.history.take_in(edit, number)
 
     def initialize(self, _):
         methods = [name for name in FIRST if not (self.workers and name in JOBS)]
@@ -241,13 +261,18 @@ class Server:
 
     def text(self, parameters):
         number = parameters.number("id")
-        if number not in self.texts:
+        text = self.history.text(number)
+        if text is None:
             raise Failed(16, "NoSuchUnit")
-        return {"bytes": base64.b64encode(self.texts[number]).decode()}
+        return {"bytes": base64.b64encode(text).decode()}
 
     def journal(self, parameters):
         begin, count = parameters.number("from"), parameters.read("count", lambda value: is_number(value) and value <= MOST_TOLD)
         return [{"edits": [*map(told_edit, entry)]} for entry in self.entries[begin:begin + count]]
+
+    def reset(self, _):
+        self.begin()
+        return "reset"
 
     def group(self, parameters):
         edits = parameters.read("edits", lambda value: isinstance(value, list))
@@ -255,16 +280,34 @@ class Server:
             edits = [entry_of(value) for value in edits]
         except Failed:
             raise Failed(-32602, data="edits") from None
+        answer = self.together(edits)
+        self.history.end()
+        return answer
+
+    def together(self, edits):
+        """Makes edits together."""
         try:
             about = self.session.group(edits)
         except session.GroupRefused as refusal:
             words = str(refusal).split(" ")
             data = {"index": int(words[1])} if words[0] == "at" else None
             raise Failed(int(words[-2]), words[-1], data) from None
-        for edit, number in zip(edits, about):
-            self.keep(edit, number)
-        self.entries.append(edits)
+        self.keep(edits, about)
         return {"edit": self.session.edits, "ids": about, "steps": ANY, "changed": self.changed()}
+
+    def undo(self, _):
+        if not self.history.done:
+            raise Failed(26, "NothingToUndo")
+        answer = self.together(self.history.edits(self.history.undoing(), self.session.ids))
+        self.history.move(self.history.done, self.history.undone)
+        return answer
+
+    def redo(self, _):
+        if not self.history.undone:
+            raise Failed(27, "NothingToRedo")
+        answer = self.together(self.history.edits(self.history.undone[-1], self.session.ids))
+        self.history.move(self.history.undone, self.history.done)
+        return answer
 
     def load(self, parameters):
         if ("path" in parameters.values) == ("bytes" in parameters.values):
@@ -277,6 +320,14 @@ class Server:
             return self.load_text(text)
         stays, lines = mending.mended(text)
         return self.load_text(stays) | {"left_out": left_out(lines)[:MOST_LEFT_OUT]}
+
+    def save(self, parameters):
+        path = parameters.read("path", lambda value: isinstance(value, str))
+        if not can_be_written(path):
+            raise Failed(25, "CannotWrite")
+        texts = [text for _, text in self.history.units]
+        self.saved[path] = b"".join(texts)
+        return {"units": len(texts), "bytes": len(self.saved[path])}
 
     def load_text(self, text):
         try:
@@ -293,7 +344,8 @@ class Server:
         first, begin = self.session.ids + 1, len(self.session.stream)
         for nals in units:
             text, stream = streams.text_of(nals), self.session.stream
-            self.edit(("after", stream[-1][0], text) if stream else ("first", text))
+            self.made(("after", stream[-1][0], text) if stream else ("first", text))
+        self.history.end()
         return {"units": len(units), "first": first, "last": self.session.ids, "changed": {"from": begin, "count": len(units)}}
 
     def changed(self):
@@ -353,24 +405,29 @@ class Server:
         parameters.flag("rest", True)
         if len(ids) > MOST_WANTED:
             raise Failed(22, "TooManyWanted")
-        self.wanted = dict.fromkeys(ids)
-        shown = {number: {"state": "none"} if self.session.place(number) is None else self.shown(number) for number in ids}
+        shown = {number: self.state(number) for number in ids}
         ready = [{"id": number, "picture": it["picture"]} for number, it in shown.items() if it["state"] == "ready"]
-        if is_answered and not self.workers:
-            self.wanted |= {told["id"]: told["picture"] for told in ready}
+        self.wanted = {number: Wanted(it.get("picture"), it) if is_answered else Wanted() for number, it in shown.items()}
         not_now = [number for number, it in shown.items() if it["state"] not in ("ready", "pending")]
         return {"ready": Some(*ready) if self.workers else ready, "not_now": not_now}
 
+    def state(self, number):
+        """What is shown of a unit, or that there is none."""
+        return {"state": "none"} if self.session.place(number) is None else self.shown(number)
+
     def news(self):
         """The notifications that are due, which count as told."""
-        told = []
-        for number, picture in self.wanted.items():
-            if self.session.place(number) is None:
-                continue
-            now = self.shown(number).get("picture")
-            if now not in (None, picture):
-                told.append({"jsonrpc": "2.0", "method": "ready", "params": {"id": number, "picture": now}})
-                self.wanted[number] = now
+        told, has_edits = [], len(self.entries) != self.told_entries
+        for number, unit in self.wanted.items():
+            state = self.state(number)
+            if state["state"] == "ready" and not self.workers and state["picture"] != unit.told:
+                told.append({"jsonrpc": "2.0", "method": "ready", "params": {"id": number, "picture": state["picture"]}})
+                unit.told = state["picture"]
+            elif has_edits and state["state"] != "ready" and unit.seen not in (None, state):
+                told.append({"jsonrpc": "2.0", "method": "changed", "params": {"id": number} | state})
+                unit.told = None
+            unit.seen = state
+        self.told_entries = len(self.entries)
         return told
 
     def drop(self, parameters):
@@ -423,6 +480,11 @@ def told_edit(edit):
     text = base64.b64encode(edit[-1]).decode()
     return {"replace": {"id": edit[1], "bytes": text}} if edit[0] == "replace" \
         else {"insert": {"after": edit[1] if edit[0] == "after" else None, "bytes": text}}
+
+
+def can_be_written(path):
+    """Whether a file may stand there: a plain one or none, in a directory that is there."""
+    return os.path.isdir(os.path.dirname(path) or ".") and (os.path.isfile(path) or not os.path.exists(path)) and bool(path)
 
 
 def whole_file(path):

@@ -7,6 +7,7 @@ ghost use Rattle.cli.specs.Programs.{FailsAt, IsDone};
 use crate::{Serving, Workers};
 use console_io::{Directory, Ended, Files, Sink, Status};
 use failure_reasons::Explain;
+use file_saving::Saving;
 use serve_run::{ServeEnd, say_end, serve_alone, serve_with_workers};
 use std::alloc::Global;
 use std::io::Read;
@@ -15,7 +16,7 @@ use std::thread::Threads;
 
 /// Serves the messages of the standard input, in one thread or beside so many workers. The
 /// directory has the files that are loaded, and says why one isn't taken.
-pub(crate) fn serve_on<D: Directory + Explain, I: Read + Drop, W: Sink + Send, E: Sink>(
+pub(crate) fn serve_on<D: Directory + Explain + Saving, I: Read + Drop, W: Sink + Send, E: Sink>(
     threads: &(impl Threads + Wait + Sync),
     alloc: Global,
     serving: Serving,

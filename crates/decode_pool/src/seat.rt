@@ -1,7 +1,7 @@
 //! A seat: one user of a desk, and its book.
 
-ghost use Rattle.std.specs.Prelude.{◌≡◌, [], length, IfOk};
-ghost use Rattle.stream_edits.specs.Groups.{IsSized};
+ghost use Rattle.std.specs.Prelude.{◌≡◌, ◌≤◌, [], length, IfOk};
+ghost use Rattle.stream_edits.specs.Groups.{IsSized, most_edits};
 ghost use Rattle.stream_edits.specs.Streams.{last_of};
 ghost use Rattle.stream_session.specs.Grouping.{AnswersGroup};
 ghost use Rattle.edit_engine.specs.Showing.{Shows};
@@ -87,6 +87,7 @@ impl Seat {
         ensures session { AnswersGroup session.old edits.items result session.new }
         ensures book { NotesGroup self.old edits.items result (length session.new.journal)
             self.new }
+        ensures few { IfOk result (λ _. length edits.items ≤ most_edits) }
     {
         let group = ReadGroup::read(self.alloc, edits)?;
         self.edit_group_read_in(session, group)
@@ -196,7 +197,8 @@ impl Seat {
         desk: &Desk,
         edits: Vec<Edit>,
     ) -> Result<GroupReceipt, GroupRefused>
-        ensures { EditsGroupOne self.old edits.items result self.new }
+        ensures edits { EditsGroupOne self.old edits.items result self.new }
+        ensures few { IfOk result (λ _. length edits.items ≤ most_edits) }
     {
         let group = ReadGroup::read(self.alloc, edits)?;
         self.edit_group_read(rt, desk, group)

@@ -112,6 +112,21 @@ impl<P: Decoded> DeskState<P> {
         self.session.clear_cache();
     }
 
+    /// Begins anew with an empty stream, and room for so many pictures that no unit has.
+    pub(crate) fn reset(&mut self, alloc: Global, room: u16) -> Result<(), AllocError>
+        ensures ok { OnOk result (self.new.session ≡ empty room) }
+        ensures err { OnErr result (self.new.session ≡ self.old.session) }
+        ensures status { self.new.status ≡ self.old.status }
+    {
+        match Session::new(alloc, Config { cache: room }) {
+            Ok(session) => {
+                self.session = session;
+                Ok(())
+            }
+            Err(_) => Err(AllocError),
+        }
+    }
+
     /// Marks the stream as it is.
     pub(crate) fn mark(&mut self) -> Result<(), AllocError>
         ensures ok { OnOk result (self.new.session ≡ with_mark self.old.session) }

@@ -6,7 +6,7 @@ ghost use Rattle.decode_pool.specs.Visits.{DropsSome, EditsGroupSome, EditsSome,
 use crate::desk::DeskOf;
 use decode_jobs::Decoded;
 use pictures::AuId;
-use std::alloc::AllocError;
+use std::alloc::{AllocError, Global};
 use std::sync::Wait;
 use stream_edits::{EditRefused, GroupReceipt, GroupRefused, ReadEdit, ReadGroup, Receipt};
 use stream_session::{Dropped, Shown};
@@ -79,6 +79,16 @@ impl<P: Decoded> DeskOf<P> {
     /// out, the mark before stays.
     pub fn mark<R: Wait>(&self, rt: &R) -> Result<(), AllocError> {
         self.state.lock(rt).mark()
+    }
+
+    /// Begins anew with an empty stream and no job that is out, as a desk that is opened does, but for
+    /// its threads and what is wanted. What a worker brings of a job from before lands nowhere,
+    /// unless a job of its number and its input is out again. Where memory runs out, all stays.
+    pub fn reset<R: Wait>(&self, rt: &R, alloc: Global) -> Result<(), AllocError> {
+        let mut state = self.state.lock(rt);
+        state.reset(alloc, self.room)?;
+        self.tell(state);
+        Ok(())
     }
 
     /// Waits until the session may show another picture of some unit than it did when `seen` was

@@ -1,5 +1,5 @@
 -- What a session's answers are as results (docs/SERVER.md).
-use Rattle.std.specs.Prelude.{Result, Ok, Err}
+use Rattle.std.specs.Prelude.{Option, Some, None, Result, Ok, Err}
 use Rattle.hex.specs.Hex.{encode_lower}
 use Rattle.unit_outcomes.specs.Numbers.{number_of}
 use Rattle.edit_engine.specs.declared.refusals.NotOut.{NotOut}
@@ -23,6 +23,8 @@ use Rattle.serve_answers.specs.declared.answer.Stretch.{Stretch}
 use Rattle.serve_answers.specs.declared.answer.Answer.{Answer}
 use Rattle.serve_answers.specs.declared.answer.Answer.TheVariants.{Edited, Grouped, Shown as Shows, Word}
 use Rattle.serve_answers.specs.declared.answer.Appearance.TheVariants as appearance
+use Rattle.serve_answers.specs.declared.answer.State.{State}
+use Rattle.serve_answers.specs.declared.answer.State.TheVariants as state
 use Rattle.serve_answers.specs.declared.words.Word.TheVariants as word
 
 -- the stretch that an edit changed
@@ -46,6 +48,14 @@ show_answer shown.Pending = Ok (Shows appearance.Pending)
 show_answer (shown.Fault fault) = Ok (Shows (appearance.Fault (number_of fault) fault))
 show_answer shown.Empty = Ok (Shows appearance.Empty)
 show_answer shown.NoSuchUnit = Err (Refused refusal.NoSuchUnit)
+
+-- what is shown of a unit, unless it is a picture
+abbrev pub state_of : Shown → Option State
+state_of (shown.Ready picture) = None
+state_of shown.Pending = Some state.Pending
+state_of (shown.Fault fault) = Some (state.Fault (number_of fault) fault)
+state_of shown.Empty = Some state.Empty
+state_of shown.NoSuchUnit = Some state.None
 
 -- the result of a picture that was to be dropped
 abbrev pub drop_answer : Dropping → Result Answer Failure

@@ -31,6 +31,11 @@ pub enum Answer {
         #[serde(skip_serializing_if = "Option::is_none")]
         left_out: Option<Listed<LeftOutAnswer>>,
     },
+    /// How many units were saved, and how many bytes they have.
+    Saved {
+        units: usize,
+        bytes: u64,
+    },
     /// The number of an edit, the id of its unit, in how many steps of the fold it was made, and which
     /// units it changed.
     Edited {
@@ -124,6 +129,28 @@ pub enum Appearance {
 pub struct Picked {
     pub id: u64,
     pub picture: Digits,
+}
+
+/// A wanted unit that an edit changed, with what is shown of it, unless there is none.
+#[derive(Debug, Drop, Serialize)]
+pub struct ChangedUnit {
+    pub id: u64,
+    #[serde(flatten)]
+    pub state: State,
+}
+
+/// What is shown of a unit without a picture, or that there is no unit.
+#[derive(Clone, Copy, Debug, PartialEq, Eq, Serialize)]
+#[serde(tag = "state", rename_all = "snake_case")]
+pub enum State {
+    Pending,
+    Fault {
+        number: u8,
+        #[serde(serialize_with = "write_fault_name")]
+        name: ValidityFault,
+    },
+    Empty,
+    None,
 }
 
 /// How much there is of what the server keeps.

@@ -1,9 +1,9 @@
 //! What a session answers, as results.
 
 ghost use Rattle.std.specs.Prelude.{◌≡◌, IfOk};
-ghost use Rattle.serve_answers.specs.Replies.{drop_answer, edit_answer, give_back_answer, group_answer, land_answer, show_answer};
+ghost use Rattle.serve_answers.specs.Replies.{drop_answer, edit_answer, give_back_answer, group_answer, land_answer, show_answer, state_of};
 
-use crate::answer::{Answer, Appearance, Stretch};
+use crate::answer::{Answer, Appearance, State, Stretch};
 use crate::words::{Digits, Word};
 use edit_engine::{
     Dropping, EditRefused, GroupReceipt, GroupRefused, Landing, NotOut, Receipt, Returning, Shown,
@@ -67,6 +67,22 @@ pub fn of_show(alloc: Global, shown: Shown) -> Result<Result<Answer, Failure>, A
         Shown::NoSuchUnit => return Ok(Err(Failure::Refused(Refusal::NoSuchUnit))),
     };
     Ok(Ok(Answer::Shown(appearance)))
+}
+
+/// What is shown of a unit, unless it is a picture.
+pub fn state_of(shown: Shown) -> Option<State>
+    ensures { result ≡ state_of shown }
+{
+    match shown {
+        Shown::Ready(_) => None,
+        Shown::Pending => Some(State::Pending),
+        Shown::Fault(fault) => Some(State::Fault {
+            number: fault.number(),
+            name: fault,
+        }),
+        Shown::Empty => Some(State::Empty),
+        Shown::NoSuchUnit => Some(State::None),
+    }
 }
 
 /// The result of a picture that was to be dropped.

@@ -24,6 +24,7 @@ pub enum Word {
     Stale,
     None,
     Back,
+    Reset,
 }
 
 /// A text. Clauses see its bytes.

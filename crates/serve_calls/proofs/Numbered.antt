@@ -1,9 +1,9 @@
 -- Units that are wanted, number by number.
-use Rattle.std.proofs.Common.{◌≡◌, ◌≢◌, ℕ, List, [], ◌∷◌, ◌++◌, sym, subst, inl, inr, None, Contains, All}
+use Rattle.std.proofs.Common.{◌≡◌, ◌≢◌, ℕ, List, [], ◌∷◌, ◌++◌, sym, subst, inl, inr, Contains, All}
 use Rattle.std.proofs.lemmas.List.Elements.{All-push, Contains-push, Contains-push_cases, Contains-append_left}
 use Rattle.std.proofs.lemmas.List.Quantifiers.{all_pairs_push}
 use Rattle.serve_calls.specs.declared.wanted_units.WantedUnit.{WantedUnit}
-use Rattle.serve_calls.specs.WantedUnits.{AreWanted, IsAmong}
+use Rattle.serve_calls.specs.WantedUnits.{AreWanted, IsAmong, IsUntold}
 
 -- a number more that is there already changes nothing
 pub again : (numbers : List ℕ) (units : List WantedUnit) (number : ℕ) → AreWanted numbers units → IsAmong units number
@@ -20,7 +20,7 @@ again numbers units number are among = record {
 
 -- one that isn't has a unit more
 pub more : (numbers : List ℕ) (units : List WantedUnit) (unit : WantedUnit) → AreWanted numbers units
-    → All (λ other. other.number ≢ unit.number) units → unit.told ≡ None
+    → All (λ other. other.number ≢ unit.number) units → IsUntold unit
     → AreWanted (numbers ++ unit.number ∷ []) (units ++ unit ∷ [])
 more numbers units unit are none untold = record {
   each = λ other is. elim (Contains-push_cases numbers unit.number other is) [
@@ -32,5 +32,5 @@ more numbers units unit are none untold = record {
     | inr same ↦ subst (Contains (numbers ++ unit.number ∷ [])) (subst (λ (it : WantedUnit). it.number ≡ other) (sym same) is.2) (Contains-push numbers unit.number)
   ];
   once = all_pairs_push (λ it other. it.number ≢ other.number) units unit are.once (λ k d low. none k d low);
-  untold = All-push (λ it. it.told ≡ None) units unit are.untold untold;
+  untold = All-push IsUntold units unit are.untold untold;
 }

@@ -1,5 +1,5 @@
 -- What is told of a unit more.
-use Rattle.std.proofs.Common.{◌≡◌, ◌∙◌, List, [], ◌∷◌, ◌++◌, ℕ, Option, ap, ap₂, refl, rules, sym}
+use Rattle.std.proofs.Common.{◌≡◌, ◌∙◌, List, [], ◌∷◌, ◌++◌, ℕ, Option, ap, ap₂, refl, rules, sym, Some}
 use Rattle.std.proofs.lemmas.List.{map-append}
 use Rattle.std.proofs.lemmas.List.Elements.{All-push, filter_map-append}
 use Rattle.stand_in_device.specs.declared.picture.Picture.{Picture}
@@ -17,13 +17,13 @@ use Rattle.serve_calls.specs.Wanting.{IsTold, Seen, TellsOf, TellsOne, not_now_o
 pub tells_one : (old new : ToldNow) (it : Seen) (ready : Option Picked) (not_now : Option ℕ) (told : Option Picture)
     → ready ≡ ready_of it → not_now ≡ not_now_of it → told ≡ picture_of it.1
     → new.ready.items ≡ old.ready.items ++ listed ready → new.not_now.items ≡ old.not_now.items ++ listed not_now
-    → new.units.items ≡ old.units.items ++ record { number = it.0; told = told } ∷ [] → TellsOne old it new
+    → new.units.items ≡ old.units.items ++ record { number = it.0; told = told; seen = Some it.1 } ∷ [] → TellsOne old it new
 tells_one old new it ready not_now told is_ready is_not_now is_told adds_ready adds_not_now adds_unit = λ seen before. record {
   ready = adds_ready ∙ ap₂ (λ items more. items ++ listed more) before.ready is_ready
       ∙ sym (filter_map-append ready_of seen (it ∷ []));
   not_now = adds_not_now ∙ ap₂ (λ items more. items ++ listed more) before.not_now is_not_now
       ∙ sym (filter_map-append not_now_of seen (it ∷ []));
-  units = adds_unit ∙ ap₂ (λ items more. items ++ record { number = it.0; told = more } ∷ []) before.units is_told
+  units = adds_unit ∙ ap₂ (λ items more. items ++ record { number = it.0; told = more; seen = Some it.1 } ∷ []) before.units is_told
       ∙ sym (map-append told_of seen (it ∷ []));
 }
 

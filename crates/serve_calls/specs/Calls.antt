@@ -12,10 +12,13 @@ use Rattle.serve_calls.specs.declared.server.Server.{Server}
 use Rattle.serve_calls.specs.declared.wanted_units.WantedUnit.{WantedUnit}
 use Rattle.serve_calls.specs.Answering.{Introduces, TellsFound, TellsShown, TellsStats, TellsUnits}
 use Rattle.serve_calls.specs.Editing.{DropsAs, EditsAs, GroupsAs, MarksAs}
+use Rattle.serve_calls.specs.Resetting.{ResetsAs}
 use Rattle.serve_calls.specs.Texts.{TellsJournal, TellsText}
 use Rattle.serve_calls.specs.Jobs.{GivesBackAs, LandsAs, TakesAs}
 use Rattle.serve_calls.specs.Loading.{LoadsAs}
+use Rattle.serve_calls.specs.Saving.{SavesAs}
 use Rattle.serve_calls.specs.Sessions.{Steps}
+use Rattle.serve_calls.specs.Undoing.{RedoesAs, UndoesAs}
 use Rattle.serve_calls.specs.Wanting.{WantsAs}
 
 -- a call about jobs: the session answers it where there are such calls, and else no method has the
@@ -26,15 +29,18 @@ IsOfJobs is_session lends_jobs old step result new =
     (lends_jobs old.backend ≡ true
     → Steps (is_session old.backend) (λ before after. step before result after) (is_session new.backend))
     × (lends_jobs old.backend ≡ false → (result ≡ Err NoMethod) × (new.backend ≡ old.backend))
-    × (new.sums ≡ old.sums) × (new.source ≡ old.source)
+    × (new.sums ≡ old.sums) × (new.source ≡ old.source) × (new.history ≡ old.history)
 
 -- the result of a call that leaves the units that are wanted
 abbrev pub IsAnswered : {B S : Type 0} → (B → Machine → Type 0) → (B → Bool) → (S → List ℕ → Option (List ℕ)) → Server B S
     → Call → Result Answer Failure → Server B S → Type 0
 IsAnswered is lends file old call.Initialize result new = Introduces (lends old.backend) result × (new ≡ old)
 IsAnswered is lends file old (call.Load loaded mend) result new = LoadsAs is file old loaded mend result new
+IsAnswered is lends file old (call.Save name) result new = SavesAs file old name result new
 IsAnswered is lends file old (call.Edit edit) result new = EditsAs is old edit result new
 IsAnswered is lends file old (call.Group edits) result new = GroupsAs is old edits result new
+IsAnswered is lends file old call.Undo result new = UndoesAs is old result new
+IsAnswered is lends file old call.Redo result new = RedoesAs is old result new
 IsAnswered is lends file old call.Mark result new = MarksAs is old result new
 IsAnswered is lends file old (call.Units from count controls) result new =
     TellsUnits (is old.backend) from count controls result × (new ≡ old)
@@ -49,12 +55,14 @@ IsAnswered is lends file old (call.Land number) result new = IsOfJobs is lends o
 IsAnswered is lends file old (call.GiveBack number) result new = IsOfJobs is lends old (GivesBackAs number) result new
 IsAnswered is lends file old (call.Journal from count) result new = TellsJournal (is old.backend) from count result × (new ≡ old)
 IsAnswered is lends file old call.Stats result new = TellsStats (is old.backend) old.sums result × (new ≡ old)
+IsAnswered is lends file old call.Reset result new = ⊥
 IsAnswered is lends file old call.Shutdown result new = (result ≡ Ok Nothing) × (new ≡ old)
 
--- the result of a call, of which only a want changes the units that are wanted
+-- the result of a call, of which a want and a reset change the units that are wanted
 abbrev pub AnswersCall : {B S : Type 0} → (B → Machine → Type 0) → (B → Bool) → (S → List ℕ → Option (List ℕ)) → Server B S
     → List WantedUnit → Call → Bool → Result Answer Failure → Server B S → List WantedUnit → Type 0
 AnswersCall is lends file old wanted (call.Want ids rest) is_answered result new wants =
     WantsAs is old wanted ids is_answered result new wants
+AnswersCall is lends file old wanted call.Reset is_answered result new wants = ResetsAs is old wanted result new wants
 AnswersCall is lends file old wanted it is_answered result new wants =
     IsAnswered is lends file old it result new × (wants ≡ wanted)

@@ -1,13 +1,16 @@
 -- Edits, groups, marks and drops by a server, and their results.
-use Rattle.std.specs.Prelude.{◌≡◌, ◌⊎◌, ℕ, List, Option, None, Some, Result, Ok, Err}
+use Rattle.std.specs.Prelude.{◌≡◌, ◌⊎◌, ◌≤◌, ℕ, List, length, Option, None, Some, Result, Ok, Err}
 use Rattle.std.specs.declared.alloc.AllocError.{AllocError}
 use Rattle.stream_edits.specs.declared.edits.Edit.{Edit}
 use Rattle.stream_edits.specs.declared.group_refused.GroupRefused.{GroupRefused}
 use Rattle.stream_edits.specs.declared.receipts.GroupReceipt.{GroupReceipt}
 use Rattle.stream_edits.specs.declared.receipts.Receipt.{Receipt}
 use Rattle.stream_edits.specs.declared.refusals.EditRefused.{EditRefused}
+use Rattle.stream_edits.specs.declared.refusals.EditRefused.TheVariants as refusals
+use Rattle.stream_edits.specs.declared.group_refused.GroupRefused.TheVariants as groups
 use Rattle.stream_edits.specs.Edits.{Register}
 use Rattle.stream_edits.specs.GroupRefusals.{IsGroupRefused}
+use Rattle.stream_edits.specs.Groups.{most_edits}
 use Rattle.stream_edits.specs.Refusals.{IsRefused}
 use Rattle.edit_script.specs.Words.{id_of}
 use Rattle.edit_engine.specs.declared.dropping.Dropping.{Dropping}
@@ -22,6 +25,9 @@ use Rattle.serve_answers.specs.declared.words.Word.TheVariants as word
 use Rattle.serve_answers.specs.Replies.{drop_answer, edit_answer, group_answer}
 use Rattle.serve_calls.specs.declared.server.Server.{Server}
 use Rattle.serve_calls.specs.declared.sums.Sums.{Sums}
+use Rattle.undo_redo.specs.declared.prepared.Step.{Step}
+use Rattle.undo_redo.specs.declared.undo_redo.UndoRedo.{UndoRedo}
+use Rattle.serve_calls.specs.Remembering.{GoesOnIf, Remembers, Rests}
 use Rattle.serve_calls.specs.Failing.{out_of_memory}
 use Rattle.serve_calls.specs.Sessions.{Clears, Marks, Steps}
 use Rattle.serve_calls.specs.Sums.{bytes_of, bytes_of_edit, with_edit}
@@ -36,11 +42,34 @@ abbrev pub sums_after_group : Sums → List Edit → Result GroupReceipt GroupRe
 sums_after_group sums edits (Ok receipt) = with_edit sums receipt.steps (bytes_of edits)
 sums_after_group sums edits (Err refused) = sums
 
--- the session answers an edit so; an accepted one is added to the sums
+-- the session answers an edit so, and an accepted one can be undone
+pub record StepsEdit (old : UndoRedo) (before : Machine) (edit : Edit) (answer : Result Receipt EditRefused) (new : UndoRedo)
+    (after : Machine) : Type 0 where
+  pub answers : AnswersEdit before edit answer after
+  pub remembers : Remembers old before.register answer new after.register
+
+-- the session answers an edit so, and an accepted one can be undone and is added to the sums; or memory ran out before it
+-- was asked
 abbrev pub MakesEdit : {B S : Type 0} → (B → Machine → Type 0) → Server B S → Edit → Result Receipt EditRefused → Server B S → Type 0
 MakesEdit is_session old edit answer new =
-    Steps (is_session old.backend) (λ before after. AnswersEdit before edit answer after) (is_session new.backend)
-    × (new.sums ≡ sums_after_edit old.sums edit answer) × (new.source ≡ old.source)
+    (Steps (is_session old.backend) (λ before after. StepsEdit old.history before edit answer new.history after)
+    (is_session new.backend) × (new.sums ≡ sums_after_edit old.sums edit answer) × (new.source ≡ old.source))
+    ⊎ ((answer ≡ Err refusals.Memory) × Rests old new)
+
+-- the session answers an edit of a step that is under way so
+pub record StepsEditIn (old : UndoRedo) (begun : Step) (before : Machine) (edit : Edit) (answer : Result Receipt EditRefused)
+    (new : UndoRedo) (step : Step) (after : Machine) : Type 0 where
+  pub answers : AnswersEdit before edit answer after
+  pub goes_on : GoesOnIf old begun before.register answer new step after.register
+
+-- the session answers an edit of a step that is under way so, and an accepted one is added to the sums; or memory ran out
+-- before it was asked
+abbrev pub MakesEditIn : {B S : Type 0} → (B → Machine → Type 0) → Server B S → Step → Edit → Result Receipt EditRefused
+    → Server B S → Step → Type 0
+MakesEditIn is_session old begun edit answer new step =
+    (Steps (is_session old.backend) (λ before after. StepsEditIn old.history begun before edit answer new.history step after)
+    (is_session new.backend) × (new.sums ≡ sums_after_edit old.sums edit answer) × (new.source ≡ old.source))
+    ⊎ ((answer ≡ Err refusals.Memory) × Rests old new × (step ≡ begun))
 
 -- the result of an edit is the session's answer; or the refusal of its text, whatever the stream
 -- is: then nothing is asked
@@ -50,18 +79,33 @@ EditsAs is_session old edit result new =
     ⊎ ((refused : EditRefused) × ((register : Register) → IsRefused register edit refused)
     × (result ≡ edit_answer (Err refused)) × (new ≡ old))
 
--- the session answers a group so; an accepted one is added to the sums
+-- the session answers a group so, and an accepted one can be undone
+pub record StepsGroup (old : UndoRedo) (before : Machine) (edits : List Edit) (answer : Result GroupReceipt GroupRefused)
+    (new : UndoRedo) (after : Machine) : Type 0 where
+  pub answers : AnswersGroup before edits answer after
+  pub remembers : Remembers old before.register answer new after.register
+
+-- the session answers a group so, and an accepted one can be undone and is added to the sums; or memory ran out before it
+-- was asked
+abbrev pub MakesStep : {B S : Type 0} → (B → Machine → Type 0) → Server B S → List Edit
+    → Result GroupReceipt GroupRefused → Server B S → Type 0
+MakesStep is_session old edits answer new =
+    (Steps (is_session old.backend) (λ before after. StepsGroup old.history before edits answer new.history after)
+    (is_session new.backend) × (new.sums ≡ sums_after_group old.sums edits answer) × (new.source ≡ old.source))
+    ⊎ ((answer ≡ Err groups.Memory) × Rests old new)
+
+-- the session answers a group so, which isn't remembered; an accepted one is added to the sums
 abbrev pub MakesGroup : {B S : Type 0} → (B → Machine → Type 0) → Server B S → List Edit
     → Result GroupReceipt GroupRefused → Server B S → Type 0
 MakesGroup is_session old edits answer new =
     Steps (is_session old.backend) (λ before after. AnswersGroup before edits answer after) (is_session new.backend)
-    × (new.sums ≡ sums_after_group old.sums edits answer) × (new.source ≡ old.source)
+    × (new.sums ≡ sums_after_group old.sums edits answer) × (new.source ≡ old.source) × (new.history ≡ old.history)
 
--- the result of a group is the session's answer; or a refusal whatever the stream is: then nothing
--- is asked
+-- the result of a group that isn't too large is the session's answer; or a refusal whatever the stream is: then nothing is
+-- asked
 abbrev pub GroupsAs : {B S : Type 0} → (B → Machine → Type 0) → Server B S → List Edit → Result Answer Failure → Server B S → Type 0
 GroupsAs is_session old edits result new =
-    ((answer : Result GroupReceipt GroupRefused) × MakesGroup is_session old edits answer new
+    ((answer : Result GroupReceipt GroupRefused) × (length edits ≤ most_edits) × MakesStep is_session old edits answer new
     × (result ≡ group_answer answer))
     ⊎ ((refused : GroupRefused) × ((register : Register) → IsGroupRefused register edits refused)
     × (result ≡ group_answer (Err refused)) × (new ≡ old))
@@ -75,7 +119,7 @@ mark_answer (Err error) = Err out_of_memory
 abbrev pub MarksAs : {B S : Type 0} → (B → Machine → Type 0) → Server B S → Result Answer Failure → Server B S → Type 0
 MarksAs is_session old result new =
     ((answer : Result (Unit {0}) AllocError) × Marks (is_session old.backend) answer (is_session new.backend)
-    × (result ≡ mark_answer answer)) × (new.sums ≡ old.sums) × (new.source ≡ old.source)
+    × (result ≡ mark_answer answer)) × (new.sums ≡ old.sums) × (new.source ≡ old.source) × (new.history ≡ old.history)
 
 -- the result of a drop is the session's answer, or that its cache is cleared
 abbrev pub DropsAs : {B S : Type 0} → (B → Machine → Type 0) → Server B S → Option ℕ → Result Answer Failure → Server B S → Type 0
@@ -83,7 +127,7 @@ DropsAs is_session old (Some number) result new =
     ((answer : Dropping)
     × Steps (is_session old.backend) (λ before after. AnswersDrop before (id_of number) answer after) (is_session new.backend)
     × (result ≡ drop_answer answer))
-    × (new.sums ≡ old.sums) × (new.source ≡ old.source)
+    × (new.sums ≡ old.sums) × (new.source ≡ old.source) × (new.history ≡ old.history)
 DropsAs is_session old None result new =
     Clears (is_session old.backend) (is_session new.backend) × (result ≡ Ok (Word word.Cleared))
-    × (new.sums ≡ old.sums) × (new.source ≡ old.source)
+    × (new.sums ≡ old.sums) × (new.source ≡ old.source) × (new.history ≡ old.history)

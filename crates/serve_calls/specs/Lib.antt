@@ -6,10 +6,14 @@ pub mod Jobs
 pub mod Lists
 pub mod Loading
 pub mod Preparing
+pub mod Remembering
 pub mod Requests
+pub mod Resetting
+pub mod Saving
 pub mod Sessions
 pub mod Sums
 pub mod Taking
 pub mod Texts
+pub mod Undoing
 pub mod WantedUnits
 pub mod Wanting

@@ -21,7 +21,9 @@ use Rattle.serve_answers.specs.declared.left_out_answers.LeftOutAnswer.{LeftOutA
 use Rattle.serve_calls.specs.declared.loading.Inserted.{Inserted}
 use Rattle.serve_calls.specs.declared.preparing.Prepared.{Prepared}
 use Rattle.serve_calls.specs.declared.server.Server.{Server}
-use Rattle.serve_calls.specs.Editing.{MakesEdit}
+use Rattle.undo_redo.specs.declared.prepared.Step.{Step}
+use Rattle.serve_calls.specs.Editing.{MakesEditIn}
+use Rattle.serve_calls.specs.Remembering.{Begins, Ends, Rests}
 use Rattle.serve_calls.specs.Failing.{out_of_memory}
 use Rattle.serve_calls.specs.Preparing.{prepared}
 use Rattle.serve_calls.specs.Sessions.{Asks}
@@ -55,24 +57,32 @@ load_answer left_out (Err failure) = Err failure
 abbrev pub IsLast : {B S : Type 0} → (B → Machine → Type 0) → Server B S → Last → Type 0
 IsLast is_session server last = Asks (is_session server.backend) (λ machine. last ≡ last_of machine.register.stream)
 
--- a unit is inserted after the last one, or memory ran out before the session was asked
-abbrev pub InsertsLast : {B S : Type 0} → (B → Machine → Type 0) → Server B S → List (List ℕ)
-    → Result Receipt EditRefused → Server B S → Type 0
-InsertsLast is_session old unit answer new =
+-- a unit is inserted after the last one, in a step that is under way; or memory ran out before the session was asked
+abbrev pub InsertsLast : {B S : Type 0} → (B → Machine → Type 0) → Server B S → Step → List (List ℕ)
+    → Result Receipt EditRefused → Server B S → Step → Type 0
+InsertsLast is_session old begun unit answer new step =
     ((last : Last) × IsLast is_session old last
-    × MakesEdit is_session old (Insert (place_after last.id) (joined unit)) answer new)
-    ⊎ ((answer ≡ Err refusals.Memory) × (new ≡ old))
+    × MakesEditIn is_session old begun (Insert (place_after last.id) (joined unit)) answer new step)
+    ⊎ ((answer ≡ Err refusals.Memory) × (new ≡ old) × (step ≡ begun))
 
--- the units are inserted one after the other, to the end or to the first that is refused; those
+-- the units are inserted one after the other in a step that is under way, to the end or to the first that is refused; those
 -- before it stay
-abbrev pub InsertsAll : {B S : Type 0} → (B → Machine → Type 0) → Server B S → List (List (List ℕ)) → Inserted
-    → Result Inserted Failure → Server B S → Type 0
-InsertsAll is_session old [] inserted result new = (result ≡ Ok inserted) × (new ≡ old)
-InsertsAll {B} {S} is_session old (unit ∷ units) inserted result new =
-    ((receipt : Receipt) × (next : Server B S) × InsertsLast is_session old unit (Ok receipt) next
-    × InsertsAll is_session next units (with_unit inserted receipt.id) result new)
-    ⊎ ((refused : EditRefused) × InsertsLast is_session old unit (Err refused) new
+abbrev pub InsertsAll : {B S : Type 0} → (B → Machine → Type 0) → Server B S → Step → List (List (List ℕ)) → Inserted
+    → Result Inserted Failure → Server B S → Step → Type 0
+InsertsAll is_session old begun [] inserted result new step = (result ≡ Ok inserted) × (new ≡ old) × (step ≡ begun)
+InsertsAll {B} {S} is_session old begun (unit ∷ units) inserted result new step =
+    ((receipt : Receipt) × (next : Server B S) × (more : Step) × InsertsLast is_session old begun unit (Ok receipt) next more
+    × InsertsAll is_session next more units (with_unit inserted receipt.id) result new step)
+    ⊎ ((refused : EditRefused) × InsertsLast is_session old begun unit (Err refused) new step
     × (result ≡ Err (Refused (refusal.Loading refused inserted.units))))
+
+-- the units are inserted as one step, with those that were inserted; or memory ran out, and nothing is asked
+abbrev pub InsertsStep : {B S : Type 0} → (B → Machine → Type 0) → Server B S → List (List (List ℕ)) → Inserted
+    → Result Inserted Failure → Server B S → Type 0
+InsertsStep {B} {S} is_session old units inserted result new =
+    ((begun done : Server B S) × (first last : Step) × Begins old begun first
+    × InsertsAll is_session begun first units inserted result done last × Ends done last new)
+    ⊎ ((result ≡ Err out_of_memory) × Rests old new)
 
 -- the text that is loaded: the bytes that are given, or those of the file where they are known
 abbrev pub IsTextOf : {S : Type 0} → (S → List ℕ → Option (List ℕ)) → S → Loaded → List ℕ → Type 0
@@ -87,7 +97,7 @@ IsTextless (loaded.File name) failure = (failure ≡ Refused refusal.CannotRead)
 -- nothing is asked of the session, nothing is added to the sums, and the files stay as they are
 abbrev pub KeepsAll : {B S : Type 0} → (S → List ℕ → Option (List ℕ)) → Server B S → Server B S → Type 0
 KeepsAll file old new =
-    (new.backend ≡ old.backend) × (new.sums ≡ old.sums)
+    (new.backend ≡ old.backend) × (new.sums ≡ old.sums) × (new.history ≡ old.history)
     × ((name : List ℕ) → file new.source name ≡ file old.source name)
 
 -- so many units the session's stream has, and for so many it has room
@@ -100,7 +110,7 @@ HasRoom is_session server from room =
 abbrev pub LoadsStream : {B S : Type 0} → (B → Machine → Type 0) → Server B S → Prepared → Result Answer Failure → Server B S → Type 0
 LoadsStream is_session old stream result new =
     ((from room : ℕ) × (units : List (List (List ℕ))) × (inserted : Result Inserted Failure) × HasRoom is_session old from room
-    × IsStream stream.text units × (length units ≤ room) × InsertsAll is_session old units (none_inserted from) inserted new
+    × IsStream stream.text units × (length units ≤ room) × InsertsStep is_session old units (none_inserted from) inserted new
     × (result ≡ load_answer stream.left_out inserted))
     ⊎ ((from room : ℕ) × (refused : StreamRefusal) × HasRoom is_session old from room
     × IsStreamRefused stream.text room refused × (result ≡ Err (Refused (refusal.Stream refused))) × (new ≡ old))

@@ -47,9 +47,9 @@ number_if number shown.NoSuchUnit = Some number
 abbrev pub not_now_of : Seen → Option ℕ
 not_now_of seen = number_if seen.0 seen.1
 
--- the unit, with the picture that is told of it, if it is there
+-- the unit, with what is shown of it and the picture that is told of it, if it is there
 abbrev pub told_of : Seen → WantedUnit
-told_of seen = record { number = seen.0; told = picture_of seen.1 }
+told_of seen = record { number = seen.0; told = picture_of seen.1; seen = Some seen.1 }
 
 -- this is what is told of these units
 pub record IsTold (seen : List Seen) (told : ToldNow) : Type 0 where
@@ -92,5 +92,5 @@ abbrev pub WantsAs : {B S : Type 0} → (B → Machine → Type 0) → Server B 
 WantsAs is_session old wanted ids is_answered result new wants =
     ((64 < length ids) × (result ≡ Err (Refused refusal.TooManyWanted)) × (new ≡ old) × (wants ≡ wanted))
     ⊎ ((length ids ≤ 64) × Wants is_session old.backend ids is_answered result wants new.backend
-    × (new.sums ≡ old.sums) × (new.source ≡ old.source))
+    × (new.sums ≡ old.sums) × (new.source ≡ old.source) × (new.history ≡ old.history))
     ⊎ ((length ids ≤ 64) × (result ≡ Err out_of_memory) × (new ≡ old) × (wants ≡ wanted))

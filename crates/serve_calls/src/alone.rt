@@ -1,6 +1,6 @@
 //! A session alone, whose jobs are taken and landed by calls.
 
-ghost use Rattle.std.specs.Prelude.{◌≡◌, ◌≤◌, ◌↔◌, Err, IfOk, IfSome, IsErrOf, MatchOption, MatchResult, None, Some, true};
+ghost use Rattle.std.specs.Prelude.{◌≡◌, ◌≤◌, ◌↔◌, Err, IfOk, IfSome, IsErrOf, MatchOption, MatchResult, None, OnOk, Some, true};
 ghost use Rattle.picture_cache.specs.Bounded.{most_room};
 ghost use Rattle.stand_in_device.specs.Inputs.{InputValue};
 ghost use Rattle.stream_session.specs.Machines.{empty};
@@ -8,6 +8,7 @@ ghost use Rattle.stream_session.specs.Taken.{input_of};
 ghost use Rattle.serve_answers.specs.JobAnswers.{job_answer};
 ghost use Rattle.serve_calls.specs.Failing.{out_of_memory};
 ghost use Rattle.serve_calls.specs.Jobs.{TellsJob};
+ghost use Rattle.serve_calls.specs.Sessions.{Resets};
 ghost use Rattle.serve_calls.specs.Taking.{TakesReply, taken_in, taken_of};
 
 use crate::backend::{Asked, Backend};
@@ -25,17 +26,20 @@ use std::alloc::{AllocError, Global};
 #[derive(Drop)]
 pub struct Alone {
     pub runner: Runner,
+    /// How many pictures of keys that no unit has it has room for.
+    pub cache: u16,
 }
 
 impl Alone {
     /// An empty stream, and room for so many pictures that no unit has.
     pub fn open(alloc: Global, cache: u16) -> Result<Alone, ConfigFault>
         ensures ok { IfOk result (λ alone. alone.runner ≡ empty cache) }
+        ensures kept { IfOk result (λ alone. alone.cache ≡ cache) }
         ensures cache { IsErrOf result ConfigFault.Cache
             ↔ ((1 ≤ cache) × (cache ≤ most_room) → ⊥) }
     {
         let runner = Runner::new(alloc, Config { cache })?;
-        Ok(Alone { runner })
+        Ok(Alone { runner, cache })
     }
 
     /// Takes a job, or with an id one that the unit needs.
@@ -139,6 +143,21 @@ impl Backend for Alone {
 
     fn mark(&mut self) -> Result<(), AllocError> {
         self.runner.mark()
+    }
+
+    fn reset(&mut self, alloc: Global) -> Result<(), AllocError>
+        ensures ok { OnOk result (self.new.runner ≡ empty self.old.cache) }
+        ensures kept { self.new.cache ≡ self.old.cache }
+        ensures anew { Resets (λ machine. machine ≡ self.old.runner) result
+            (λ machine. machine ≡ self.new.runner) }
+    {
+        match Alone::open(alloc, self.cache) {
+            Ok(alone) => {
+                *self = alone;
+                Ok(())
+            }
+            Err(_) => Err(AllocError),
+        }
     }
 
     // Nobody decodes but by a call.

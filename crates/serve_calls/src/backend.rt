@@ -7,7 +7,7 @@ ghost use Rattle.stream_session.specs.Machines.{AnswersEdit};
 ghost use Rattle.stream_session.specs.Grouping.{AnswersGroup};
 ghost use Rattle.edit_engine.specs.Needing.{AnswersDrop};
 ghost use Rattle.serve_calls.specs.Jobs.{GivesBackAs, LandsAs, TakesAs};
-ghost use Rattle.serve_calls.specs.Sessions.{Asks, Clears, Marks, Stays, Steps};
+ghost use Rattle.serve_calls.specs.Sessions.{Asks, Clears, Marks, Resets, Stays, Steps};
 
 use edit_engine::{
     Dropping, EditRefused, GroupReceipt, GroupRefused, ReadEdit, ReadGroup, Receipt, Session,
@@ -56,6 +56,10 @@ pub trait Backend: Asked {
     /// Marks the stream as it is, by which units are altered from then on.
     fn mark(&mut self) -> Result<(), AllocError>
         ensures { Marks (Self.is_session self.old) result (Self.is_session self.new) };
+
+    /// Begins anew: with an empty stream, and without jobs that are out.
+    fn reset(&mut self, alloc: Global) -> Result<(), AllocError>
+        ensures { Resets (Self.is_session self.old) result (Self.is_session self.new) };
 
     /// Has the pictures of these units made first, of which there are 64 at most, and those of all
     /// others too or not.

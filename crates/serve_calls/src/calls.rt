@@ -8,14 +8,14 @@ ghost use Rattle.serve_calls.specs.Jobs.{GivesBackAs, LandsAs, TakesAs};
 use crate::backend::Backend;
 use crate::server::Server;
 use crate::wanted_units::WantedUnit;
-use console_io::Source;
 use edit_script::id_of_number;
+use file_saving::Saver;
 use pictures::AuId;
 use serve_answers::Answer;
 use serve_requests::{Call, Failure};
 use std::thread::Threads;
 
-impl<B: Backend, S: Source> Server<B, S> {
+impl<B: Backend, S: Saver> Server<B, S> {
     /// Does what a call asks for. The units that are wanted then are told of by notifications.
     pub fn call<R: Threads + Sync>(
         &mut self,
@@ -30,8 +30,11 @@ impl<B: Backend, S: Source> Server<B, S> {
         match call {
             Call::Initialize => self.introduce(),
             Call::Load { loaded, mend } => self.load(rt, loaded, mend),
+            Call::Save(name) => self.save(name),
             Call::Edit(edit) => self.edit(edit),
             Call::Group(edits) => self.group(edits),
+            Call::Undo => self.undo(),
+            Call::Redo => self.redo(),
             Call::Mark => self.mark(),
             Call::Units {
                 from,
@@ -48,6 +51,7 @@ impl<B: Backend, S: Source> Server<B, S> {
             Call::GiveBack(number) => self.give_back(number),
             Call::Journal { from, count } => self.journal(from, count),
             Call::Stats => self.stats(),
+            Call::Reset => self.reset(wanted),
             Call::Shutdown => Ok(Answer::Nothing),
         }
     }

@@ -15,10 +15,13 @@ mod lists;
 mod loading;
 mod preparing;
 mod questions;
+mod remembering;
 mod requests;
+mod saving;
 mod server;
 mod sums;
 mod texts;
+mod undoing;
 mod wanted_units;
 mod wanting;
 

@@ -1,8 +1,9 @@
 //! `load`: the units of a stream inserted one after the other.
 
-ghost use Rattle.std.specs.Prelude.{◌≡◌, ℕ, List, IfErr, IfOk, MatchResult};
+ghost use Rattle.std.specs.Prelude.{◌≡◌, ◌+◌, ◌<◌, ◌≤◌, ℕ, List, IfErr, IfOk, MatchResult, vec_len};
+ghost use Rattle.std.specs.Vec.{vec_capacity};
 ghost use Rattle.serve_calls.specs.Failing.{out_of_memory};
-ghost use Rattle.serve_calls.specs.Loading.{InsertsAll, InsertsLast, IsLast, IsTextOf, IsTextless, LoadsAs, LoadsStream, load_answer, loaded_answer, none_inserted, with_unit};
+ghost use Rattle.serve_calls.specs.Loading.{InsertsAll, InsertsLast, InsertsStep, IsLast, IsTextOf, IsTextless, LoadsAs, LoadsStream, load_answer, loaded_answer, none_inserted, with_unit};
 ghost use Rattle.serve_calls.specs.Preparing.{prepared};
 
 use crate::backend::{Asked, Backend};
@@ -19,6 +20,7 @@ use serve_answers::{Answer, LeftOutAnswer, Stretch};
 use serve_requests::{Failure, Listed, Loaded, Refusal};
 use std::alloc::Global;
 use std::thread::Threads;
+use undo_redo::Step;
 
 /// How many units were inserted, from which place on, and the ids of the first and the last of them.
 #[derive(Clone, Copy, Debug, PartialEq, Eq)]
@@ -114,7 +116,7 @@ impl<B: Backend, S: Source> Server<B, S> {
         let from = self.last().units;
         match read_units(rt, self.alloc, &text, MOST_UNITS.saturating_sub(from)) {
             Ok(units) => match hash_units(rt, self.alloc, units) {
-                Ok(units) => of_load(left_out, self.insert_all(from, units)),
+                Ok(units) => of_load(left_out, self.insert_step(from, units)),
                 Err(_) => Err(OUT_OF_MEMORY),
             },
             Err(ReadFault::Refused(refusal)) => Err(Failure::Refused(Refusal::Stream(refusal))),
@@ -122,15 +124,37 @@ impl<B: Backend, S: Source> Server<B, S> {
         }
     }
 
-    /// Inserts the units after the last one, the first of them at a place. One that is refused ends
-    /// that, and those before it stay.
-    fn insert_all(&mut self, from: usize, units: Vec<HashedUnit>) -> Result<Inserted, Failure>
-        ensures { InsertsAll B.is_session self.old units.items (none_inserted from) result
+    /// Inserts the units after the last one, the first of them at a place, as one step.
+    fn insert_step(&mut self, from: usize, units: Vec<HashedUnit>) -> Result<Inserted, Failure>
+        ensures { InsertsStep B.is_session self.old units.items (none_inserted from) result
             self.new }
+    {
+        match self.history.begin(self.alloc, units.len()) {
+            Ok(mut step) => {
+                let inserted = self.insert_all(&mut step, from, units);
+                self.history.end(step);
+                inserted
+            }
+            Err(_) => Err(OUT_OF_MEMORY),
+        }
+    }
+
+    /// Inserts the units after the last one, the first of them at a place, in a step that is under
+    /// way. One that is refused ends that, and those before it stay.
+    fn insert_all(
+        &mut self,
+        step: &mut Step,
+        from: usize,
+        units: Vec<HashedUnit>,
+    ) -> Result<Inserted, Failure>
+        requires { vec_len step.old.changes + vec_len units ≤ vec_capacity step.old.changes }
+        ensures inserts { InsertsAll B.is_session self.old step.old units.items
+            (none_inserted from) result self.new step.new }
+        ensures history { self.new.history.history ≡ self.old.history.history }
     {
         let mut inserted = Inserted::none(from);
         for unit in units {
-            match self.insert_last(unit) {
+            match self.insert_last(step, unit) {
                 Ok(receipt) => inserted = inserted.with_unit(receipt.id),
                 Err(refused) => {
                     let units = inserted.units;
@@ -141,13 +165,18 @@ impl<B: Backend, S: Source> Server<B, S> {
         Ok(inserted)
     }
 
-    /// Inserts a unit after the last one.
-    fn insert_last(&mut self, unit: HashedUnit) -> Result<Receipt, EditRefused>
-        ensures { InsertsLast B.is_session self.old unit result self.new }
+    /// Inserts a unit after the last one, in a step that is under way.
+    fn insert_last(&mut self, step: &mut Step, unit: HashedUnit) -> Result<Receipt, EditRefused>
+        requires { vec_len step.old.changes < vec_capacity step.old.changes }
+        ensures inserts { InsertsLast B.is_session self.old step.old unit result self.new
+            step.new }
+        ensures history { self.new.history.history ≡ self.old.history.history }
+        ensures capacity { vec_capacity step.new.changes ≡ vec_capacity step.old.changes }
+        ensures more { vec_len step.new.changes ≤ vec_len step.old.changes + 1 }
     {
         let place = self.last().end();
         let read = ReadEdit::insertion(self.alloc, place, unit)?;
-        self.edit_read(read)
+        self.edit_in(step, read)
     }
 
     /// The end of the stream.

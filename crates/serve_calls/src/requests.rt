@@ -7,7 +7,7 @@ ghost use Rattle.serve_calls.specs.Requests.{IsServed, IsServedBy, IsServedIf, i
 use crate::backend::Backend;
 use crate::server::Server;
 use crate::wanted_units::WantedUnit;
-use console_io::Source;
+use file_saving::Saver;
 use serde_json::Value;
 use serve_answers::Answer;
 use serve_requests::{Call, Failure, Message, Request};
@@ -22,7 +22,7 @@ pub struct Served {
     pub is_last: bool,
 }
 
-impl<B: Backend, S: Source> Server<B, S> {
+impl<B: Backend, S: Saver> Server<B, S> {
     /// Does what a message asks for. One that is refused, since it is no request, for its method or
     /// for a parameter, changes nothing.
     pub fn serve<R: Threads + Sync>(

@@ -1,26 +1,36 @@
 //! A server's state, and its edits.
 
-ghost use Rattle.std.specs.Prelude.{◌≡◌};
-ghost use Rattle.serve_calls.specs.Editing.{DropsAs, EditsAs, GroupsAs, MakesEdit, MakesGroup, MarksAs, mark_answer};
+ghost use Rattle.std.specs.Prelude.{◌≡◌, ◌+◌, ◌<◌, ◌≤◌, [], ◌∷◌, IfSome, None, vec_len};
+ghost use Rattle.std.specs.Vec.{vec_capacity};
+ghost use Rattle.stream_edits.specs.Edits.{no_units};
+ghost use Rattle.undo_redo.specs.Following.{Follows, HasRoom, IsRefusedOf};
+ghost use Rattle.undo_redo.specs.States.{IsUndoRedo};
+ghost use Rattle.serve_calls.specs.Editing.{DropsAs, EditsAs, GroupsAs, MakesEdit, MakesEditIn, MakesGroup, MakesStep, MarksAs, mark_answer};
+ghost use Rattle.serve_calls.specs.Resetting.{ResetsAs};
 ghost use Rattle.serve_calls.specs.Sums.{no_sums};
 
 use crate::backend::Backend;
 use crate::failing::OUT_OF_MEMORY;
+use crate::remembering::{take_in, take_in_group};
 use crate::sums::{Sums, bytes_of, bytes_of_edit};
+use crate::wanted_units::WantedUnit;
 use edit_engine::{EditRefused, GroupReceipt, GroupRefused, ReadEdit, ReadGroup, Receipt};
 use edit_script::id_of_number;
 use serve_answers::{Answer, Word, of_drop, of_edit, of_group};
 use serve_requests::{Failure, Listed};
 use std::alloc::{AllocError, Global};
 use stream_edits::Edit;
+use undo_redo::{PreparedEdit, Step, UndoRedo};
 
-/// A server: what keeps its session, the files that are loaded, and what it adds up.
+/// A server: what keeps its session, the files that are loaded, what it adds up, and what can be
+/// undone and redone.
 #[derive(Drop)]
 pub struct Server<B, S> {
     pub alloc: Global,
     pub backend: B,
     pub source: S,
     pub sums: Sums,
+    pub history: UndoRedo,
 }
 
 impl<B: Backend, S> Server<B, S> {
@@ -29,12 +39,14 @@ impl<B: Backend, S> Server<B, S> {
         ensures backend { result.backend ≡ backend }
         ensures source { result.source ≡ source }
         ensures sums { result.sums ≡ no_sums }
+        ensures history { IsUndoRedo result.history ([] ∷ []) no_units }
     {
         Server {
             alloc,
             backend,
             source,
             sums: Sums::none(),
+            history: UndoRedo::new(alloc),
         }
     }
 
@@ -48,12 +60,58 @@ impl<B: Backend, S> Server<B, S> {
         }
     }
 
-    /// Edits the stream by an edit whose text is read.
-    pub(crate) fn edit_read(&mut self, read: ReadEdit) -> Result<Receipt, EditRefused>
+    /// Edits the stream by an edit whose text is read, as one step.
+    fn edit_read(&mut self, read: ReadEdit) -> Result<Receipt, EditRefused>
         ensures { MakesEdit B.is_session self.old read result self.new }
+    {
+        match self.history.begin(self.alloc, 1) {
+            Ok(mut step) => {
+                let answer = self.edit_in(&mut step, read);
+                self.history.end(step);
+                answer
+            }
+            Err(_) => Err(EditRefused::Memory),
+        }
+    }
+
+    /// Edits the stream by an edit whose text is read, in a step that is under way.
+    pub(crate) fn edit_in(
+        &mut self,
+        step: &mut Step,
+        read: ReadEdit,
+    ) -> Result<Receipt, EditRefused>
+        requires { vec_len step.old.changes < vec_capacity step.old.changes }
+        ensures makes { MakesEditIn B.is_session self.old step.old read result self.new step.new }
+        ensures history { self.new.history.history ≡ self.old.history.history }
+        ensures capacity { vec_capacity step.new.changes ≡ vec_capacity step.old.changes }
+        ensures more { vec_len step.new.changes ≤ vec_len step.old.changes + 1 }
+    {
+        match self.history.prepare(self.alloc, read.edit()) {
+            Ok(prepared) => self.edit_prepared(step, prepared, read),
+            Err(_) => Err(EditRefused::Memory),
+        }
+    }
+
+    /// Edits the stream by an edit whose text is read and for which this was prepared, if the stream
+    /// may accept it.
+    fn edit_prepared(
+        &mut self,
+        step: &mut Step,
+        prepared: Option<PreparedEdit>,
+        read: ReadEdit,
+    ) -> Result<Receipt, EditRefused>
+        requires begun { vec_len step.old.changes < vec_capacity step.old.changes }
+        requires room { IfSome prepared (HasRoom self.old.history.units) }
+        requires follows { IfSome prepared (Follows self.old.history.units read) }
+        requires none { prepared ≡ None → IsRefusedOf self.old.history.units read }
+        ensures makes { MakesEditIn B.is_session self.old step.old read result self.new step.new }
+        ensures history { self.new.history.history ≡ self.old.history.history }
+        ensures capacity { vec_capacity step.new.changes ≡ vec_capacity step.old.changes }
+        ensures more { vec_len step.new.changes ≤ vec_len step.old.changes + 1 }
     {
         let bytes = bytes_of_edit(read.edit());
         let receipt = self.backend.edit(read)?;
+        take_in(&mut self.history, step, prepared);
         self.sums = self.sums.with_edit(receipt.steps, bytes);
         Ok(receipt)
     }
@@ -65,7 +123,7 @@ impl<B: Backend, S> Server<B, S> {
         self.edit_group(edits.into_items())
     }
 
-    /// Makes these edits together.
+    /// Makes these edits together, as one step.
     fn edit_group(&mut self, edits: Vec<Edit>) -> Result<Answer, Failure>
         ensures { GroupsAs B.is_session self.old edits.items result self.new }
     {
@@ -75,8 +133,22 @@ impl<B: Backend, S> Server<B, S> {
         }
     }
 
-    /// Makes edits together, those of a group whose texts are read.
+    /// Makes edits together, those of a group whose texts are read, as one step.
     fn edit_group_read(&mut self, group: ReadGroup) -> Result<GroupReceipt, GroupRefused>
+        ensures { MakesStep B.is_session self.old group result self.new }
+    {
+        match self.history.prepare_group(self.alloc, group.edits()) {
+            Ok(prepared) => {
+                let receipt = self.edit_together(group)?;
+                take_in_group(&mut self.history, prepared);
+                Ok(receipt)
+            }
+            Err(_) => Err(GroupRefused::Memory),
+        }
+    }
+
+    /// Makes edits together, those of a group whose texts are read.
+    pub(crate) fn edit_together(&mut self, group: ReadGroup) -> Result<GroupReceipt, GroupRefused>
         ensures { MakesGroup B.is_session self.old group result self.new }
     {
         let bytes = bytes_of(group.edits());
@@ -90,6 +162,22 @@ impl<B: Backend, S> Server<B, S> {
         ensures { MarksAs B.is_session self.old result self.new }
     {
         of_mark(self.backend.mark())
+    }
+
+    /// Begins anew.
+    pub(crate) fn reset(&mut self, wanted: &mut Vec<WantedUnit>) -> Result<Answer, Failure>
+        ensures { ResetsAs B.is_session self.old wanted.old.items result self.new
+            wanted.new.items }
+    {
+        match self.backend.reset(self.alloc) {
+            Ok(()) => {
+                self.sums = Sums::none();
+                self.history = UndoRedo::new(self.alloc);
+                *wanted = Vec::new(self.alloc);
+                Ok(Answer::Word(Word::Reset))
+            }
+            Err(_) => Err(OUT_OF_MEMORY),
+        }
     }
 
     /// Drops the picture of the unit of this number, or without a number those that are cached.

@@ -1,18 +1,23 @@
 //! The units that are wanted, and what was told of each.
 
 ghost use Rattle.std.specs.Prelude.{◌≡◌, ◌≢◌, All, IfOk, MatchBool, MatchOption, OnOk, Some};
+ghost use Rattle.serve_answers.specs.Replies.{state_of};
 ghost use Rattle.stream_session.specs.declared.showing.Shown.TheVariants.{Ready};
 ghost use Rattle.stand_in_device.specs.declared.picture.Picture.{Picture};
-ghost use Rattle.serve_calls.specs.WantedUnits.{AddsOne, AreWanted, IsAmong};
+ghost use Rattle.serve_calls.specs.WantedUnits.{AddsOne, AreWanted, IsAmong, IsChanged};
 
 use edit_engine::{Picture, Shown};
+use serve_answers::{State, state_of};
 use std::alloc::{AllocError, Global};
 
-/// A unit that is wanted, by its number, and the picture that was told of it last.
+/// A unit that is wanted, by its number.
 #[derive(Clone, Copy, Debug, PartialEq, Eq, Drop)]
 pub struct WantedUnit {
     pub number: u64,
+    /// The picture that was told of it last, if no change was told since.
     pub told: Option<Picture>,
+    /// What was shown of it when that was asked last, if it was.
+    pub seen: Option<Shown>,
 }
 
 impl WantedUnit {
@@ -24,6 +29,18 @@ impl WantedUnit {
     {
         match shown {
             Shown::Ready(picture) if self.told != Some(picture) => Some(picture),
+            _ => None,
+        }
+    }
+
+    /// What is to be told of the unit that edits changed, where this is shown of it now. Of a picture
+    /// `news` tells.
+    pub fn change(&self, has_edits: bool, shown: Shown) -> Option<State>
+        ensures { MatchOption result (IsChanged self.now has_edits shown → ⊥)
+            (λ state. IsChanged self.now has_edits shown × (state_of shown ≡ Some state)) }
+    {
+        match self.seen {
+            Some(seen) if has_edits && seen != shown => state_of(shown),
             _ => None,
         }
     }
@@ -47,7 +64,11 @@ fn add(units: &mut Vec<WantedUnit>, number: u64) -> Result<(), AllocError>
     if has_number(units, number) {
         return Ok(());
     }
-    units.push(WantedUnit { number, told: None })?;
+    units.push(WantedUnit {
+        number,
+        told: None,
+        seen: None,
+    })?;
     Ok(())
 }
 

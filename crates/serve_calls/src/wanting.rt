@@ -53,6 +53,7 @@ impl ToldNow {
         self.units.push(WantedUnit {
             number,
             told: picture_of(shown),
+            seen: Some(shown),
         })?;
         Ok(())
     }

@@ -86,6 +86,10 @@ load_in parameters =
     and_then (loaded_in parameters) (λ it.
     and_then (optional as_bool parameter.Mend parameters) (λ mend. Ok (call.Load it (unwrap_or mend false))))
 
+-- the file that the stream is saved as
+abbrev pub save_in : Data → Result Call Parameter
+save_in parameters = and_then (required as_str parameter.Path parameters) (λ name. Ok (call.Save name))
+
 -- the units of a stretch, and whether they are told with their controls
 abbrev pub units_in : Data → Result Call Parameter
 units_in parameters =
@@ -115,10 +119,13 @@ edited read = and_then read (λ it. Ok (call.Edit it))
 abbrev pub call_with : Method → Data → Result Call Parameter
 call_with method.Initialize parameters = Ok call.Initialize
 call_with method.Load parameters = load_in parameters
+call_with method.Save parameters = save_in parameters
 call_with method.Insert parameters = edited (insertion_in parameters)
 call_with method.Delete parameters = edited (deletion_in parameters)
 call_with method.Replace parameters = edited (replacement_in parameters)
 call_with method.Group parameters = and_then (required entries_of parameter.Edits parameters) (λ edits. Ok (call.Group edits))
+call_with method.Undo parameters = Ok call.Undo
+call_with method.Redo parameters = Ok call.Redo
 call_with method.Mark parameters = Ok call.Mark
 call_with method.Units parameters = units_in parameters
 call_with method.Text parameters = and_then (required number_of parameter.Id parameters) (λ it. Ok (call.Text it))
@@ -131,6 +138,7 @@ call_with method.Land parameters = and_then (required number_of parameter.Job pa
 call_with method.GiveBack parameters = and_then (required number_of parameter.Job parameters) (λ it. Ok (call.GiveBack it))
 call_with method.Journal parameters = journal_in parameters
 call_with method.Stats parameters = Ok call.Stats
+call_with method.Reset parameters = Ok call.Reset
 call_with method.Shutdown parameters = Ok call.Shutdown
 
 -- an answer for an entry of a group, whichever of its parameters is wrong

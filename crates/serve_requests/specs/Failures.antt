@@ -38,6 +38,9 @@ number_of refusal.NoSuchUnit = 16
 number_of refusal.TooManyWanted = 22
 number_of refusal.CannotRead = 23
 number_of refusal.JobsSpent = 24
+number_of refusal.CannotWrite = 25
+number_of refusal.NothingToUndo = 26
+number_of refusal.NothingToRedo = 27
 number_of refusal.Memory = 15
 
 -- the name of a refusal
@@ -50,6 +53,9 @@ name_of refusal.NoSuchUnit = codes "NoSuchUnit"
 name_of refusal.TooManyWanted = codes "TooManyWanted"
 name_of refusal.CannotRead = codes "CannotRead"
 name_of refusal.JobsSpent = codes "JobsSpent"
+name_of refusal.CannotWrite = codes "CannotWrite"
+name_of refusal.NothingToUndo = codes "NothingToUndo"
+name_of refusal.NothingToRedo = codes "NothingToRedo"
 name_of refusal.Memory = codes "Memory"
 
 -- the index of the edit of a group, or of the unit of a stream, that is refused
@@ -73,6 +79,9 @@ index_in refusal.NoSuchUnit = None
 index_in refusal.TooManyWanted = None
 index_in refusal.CannotRead = None
 index_in refusal.JobsSpent = None
+index_in refusal.CannotWrite = None
+index_in refusal.NothingToUndo = None
+index_in refusal.NothingToRedo = None
 index_in refusal.Memory = None
 
 -- how many units of a stream were inserted
@@ -85,6 +94,9 @@ units_in refusal.NoSuchUnit = None
 units_in refusal.TooManyWanted = None
 units_in refusal.CannotRead = None
 units_in refusal.JobsSpent = None
+units_in refusal.CannotWrite = None
+units_in refusal.NothingToUndo = None
+units_in refusal.NothingToRedo = None
 units_in refusal.Memory = None
 
 -- why something is refused, with these two

@@ -2,7 +2,7 @@
 use Rattle.std.specs.Prelude.{ℕ, List, [], ◌∷◌, codes, Bool, true, false, Option, Some, None, if◌then◌else◌}
 use Rattle.std.specs.Str.{bytes_eq}
 use Rattle.serve_requests.specs.declared.method.Method.{Method}
-use Rattle.serve_requests.specs.declared.method.Method.TheVariants.{Initialize, Load, Insert, Delete, Replace, Group, Mark, Units, Text, Find, Show, Want, Drop, Take, Land, GiveBack, Journal, Stats, Shutdown}
+use Rattle.serve_requests.specs.declared.method.Method.TheVariants.{Initialize, Load, Save, Insert, Delete, Replace, Group, Undo, Redo, Mark, Units, Text, Find, Show, Want, Drop, Take, Land, GiveBack, Journal, Stats, Reset, Shutdown}
 use Rattle.serve_requests.specs.declared.parameter.Parameter.{Parameter}
 use Rattle.serve_requests.specs.declared.parameter.Parameter.TheVariants as parameter
 
@@ -17,6 +17,7 @@ method_of_pictures name =
     else if bytes_eq name (codes "give_back") then Some GiveBack
     else if bytes_eq name (codes "journal") then Some Journal
     else if bytes_eq name (codes "stats") then Some Stats
+    else if bytes_eq name (codes "reset") then Some Reset
     else if bytes_eq name (codes "shutdown") then Some Shutdown
     else None
 
@@ -24,10 +25,13 @@ method_of_pictures name =
 abbrev pub method_named : List ℕ → Option Method
 method_named name =
     if bytes_eq name (codes "load") then Some Load
+    else if bytes_eq name (codes "save") then Some Save
     else if bytes_eq name (codes "insert") then Some Insert
     else if bytes_eq name (codes "delete") then Some Delete
     else if bytes_eq name (codes "replace") then Some Replace
     else if bytes_eq name (codes "group") then Some Group
+    else if bytes_eq name (codes "undo") then Some Undo
+    else if bytes_eq name (codes "redo") then Some Redo
     else if bytes_eq name (codes "mark") then Some Mark
     else if bytes_eq name (codes "units") then Some Units
     else if bytes_eq name (codes "text") then Some Text
@@ -50,20 +54,23 @@ takes_any _ = false
 -- the methods that there are, where those about jobs are there or not
 abbrev pub methods : Bool → List Method
 methods true =
-    Initialize ∷ Load ∷ Insert ∷ Delete ∷ Replace ∷ Group ∷ Mark ∷ Units ∷ Text ∷ Find ∷ Show ∷ Want ∷ Drop ∷ Take ∷ Land
-    ∷ GiveBack ∷ Journal ∷ Stats ∷ Shutdown ∷ []
+    Initialize ∷ Load ∷ Save ∷ Insert ∷ Delete ∷ Replace ∷ Group ∷ Undo ∷ Redo ∷ Mark ∷ Units ∷ Text ∷ Find ∷ Show ∷ Want
+    ∷ Drop ∷ Take ∷ Land ∷ GiveBack ∷ Journal ∷ Stats ∷ Reset ∷ Shutdown ∷ []
 methods false =
-    Initialize ∷ Load ∷ Insert ∷ Delete ∷ Replace ∷ Group ∷ Mark ∷ Units ∷ Text ∷ Find ∷ Show ∷ Want ∷ Drop ∷ Journal
-    ∷ Stats ∷ Shutdown ∷ []
+    Initialize ∷ Load ∷ Save ∷ Insert ∷ Delete ∷ Replace ∷ Group ∷ Undo ∷ Redo ∷ Mark ∷ Units ∷ Text ∷ Find ∷ Show ∷ Want
+    ∷ Drop ∷ Journal ∷ Stats ∷ Reset ∷ Shutdown ∷ []
 
 -- the first parameter of a method
 abbrev pub first_parameter : Method → Option Parameter
 first_parameter Initialize = None
 first_parameter Load = Some parameter.Path
+first_parameter Save = Some parameter.Path
 first_parameter Insert = Some parameter.After
 first_parameter Delete = Some parameter.Id
 first_parameter Replace = Some parameter.Id
 first_parameter Group = Some parameter.Edits
+first_parameter Undo = None
+first_parameter Redo = None
 first_parameter Mark = None
 first_parameter Units = Some parameter.From
 first_parameter Text = Some parameter.Id
@@ -76,4 +83,5 @@ first_parameter Land = Some parameter.Job
 first_parameter GiveBack = Some parameter.Job
 first_parameter Journal = Some parameter.From
 first_parameter Stats = None
+first_parameter Reset = None
 first_parameter Shutdown = None

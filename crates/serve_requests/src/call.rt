@@ -2,8 +2,11 @@
 
 ghost use Rattle.std.specs.Prelude.{◌≡◌};
 ghost use Rattle.serde_json.specs.View.{view};
-ghost use Rattle.serve_requests.specs.Calls.{call_with, file_named, journal_in, load_in, loaded_in, units_in, want_in};
+ghost use Rattle.serve_requests.specs.Calls.{call_with, file_named, journal_in, load_in, loaded_in, save_in, units_in, want_in};
 ghost use Rattle.serve_requests.specs.Fields.{IsFieldAnswer};
+ghost use Rattle.serve_requests.specs.declared.parameter.Parameter.TheVariants.{Path};
+ghost use Rattle.serde_json.specs.Find.{as_str};
+ghost use Rattle.std.specs.Option.{ok_or};
 
 use crate::edits::{deletion, entries, insertion, replacement};
 use crate::fields::{
@@ -28,10 +31,16 @@ pub enum Call {
         loaded: Loaded,
         mend: bool,
     },
+    /// That the stream is saved as the file of this name.
+    Save(Name),
     /// An edit of the stream.
     Edit(Edit),
     /// These edits, all of them or none.
     Group(Listed<Edit>),
+    /// The last edit, group or load that isn't undone, taken back.
+    Undo,
+    /// The last of these that was taken back, done again.
+    Redo,
     /// The mark by which units are altered from then on.
     Mark,
     /// What becomes of so many units from a place on, with their controls if they are asked for.
@@ -68,6 +77,8 @@ pub enum Call {
     },
     /// How much there is of what the server keeps.
     Stats,
+    /// That all is as at the beginning.
+    Reset,
     /// The end.
     Shutdown,
 }
@@ -115,10 +126,13 @@ pub(crate) fn call_with(
     match method {
         Method::Initialize => Ok(Call::Initialize),
         Method::Load => load(alloc, parameters),
+        Method::Save => save(alloc, parameters),
         Method::Insert => Ok(Call::Edit(insertion(alloc, parameters)?)),
         Method::Delete => Ok(Call::Edit(deletion(parameters)?)),
         Method::Replace => Ok(Call::Edit(replacement(alloc, parameters)?)),
         Method::Group => Ok(Call::Group(entries(alloc, parameters)?)),
+        Method::Undo => Ok(Call::Undo),
+        Method::Redo => Ok(Call::Redo),
         Method::Mark => Ok(Call::Mark),
         Method::Units => Ok(units(parameters)?),
         Method::Text => Ok(Call::Text(number(parameters, Parameter::Id)?)),
@@ -131,6 +145,7 @@ pub(crate) fn call_with(
         Method::GiveBack => Ok(Call::GiveBack(number(parameters, Parameter::Job)?)),
         Method::Journal => Ok(journal(parameters)?),
         Method::Stats => Ok(Call::Stats),
+        Method::Reset => Ok(Call::Reset),
         Method::Shutdown => Ok(Call::Shutdown),
     }
 }
@@ -182,6 +197,14 @@ fn load(alloc: Global, parameters: &Value) -> Result<Call, FieldFault>
     })
 }
 
+/// The file that the stream is saved as.
+fn save(alloc: Global, parameters: &Value) -> Result<Call, FieldFault>
+    ensures { IsFieldAnswer (save_in (view parameters.now)) result }
+{
+    let path = value_at(parameters, Parameter::Path).ok_or(Parameter::Path)?;
+    Ok(Call::Save(name_of(alloc, path)?))
+}
+
 /// What a load takes its units from: a file of a name, or bytes.
 fn source(alloc: Global, parameters: &Value) -> Result<Loaded, FieldFault>
     ensures { IsFieldAnswer (loaded_in (view parameters.now)) result }
@@ -199,7 +222,14 @@ fn source(alloc: Global, parameters: &Value) -> Result<Loaded, FieldFault>
 fn file_named(alloc: Global, path: &Value) -> Result<Loaded, FieldFault>
     ensures { IsFieldAnswer (file_named (view path.now)) result }
 {
+    Ok(Loaded::File(name_of(alloc, path)?))
+}
+
+/// The name that a value is.
+fn name_of(alloc: Global, path: &Value) -> Result<Name, FieldFault>
+    ensures { IsFieldAnswer (ok_or (as_str (view path.now)) Path) result }
+{
     let path = path.as_str().ok_or(Parameter::Path)?;
     let text = String::from_str(alloc, path)?;
-    Ok(Loaded::File(Name { text }))
+    Ok(Name { text })
 }

@@ -45,6 +45,12 @@ pub enum Refusal {
     CannotRead,
     /// All numbers of jobs were given.
     JobsSpent,
+    /// The file can't be written.
+    CannotWrite,
+    /// No edit, group or load is there that isn't undone.
+    NothingToUndo,
+    /// None is there that was undone, and no other edit since.
+    NothingToRedo,
     /// A growth was refused.
     Memory,
 }
@@ -126,6 +132,9 @@ impl Refusal {
             Refusal::TooManyWanted => 22,
             Refusal::CannotRead => 23,
             Refusal::JobsSpent => 24,
+            Refusal::CannotWrite => 25,
+            Refusal::NothingToUndo => 26,
+            Refusal::NothingToRedo => 27,
             Refusal::Memory => 15,
         }
     }
@@ -143,6 +152,9 @@ impl Refusal {
             Refusal::TooManyWanted => "TooManyWanted",
             Refusal::CannotRead => "CannotRead",
             Refusal::JobsSpent => "JobsSpent",
+            Refusal::CannotWrite => "CannotWrite",
+            Refusal::NothingToUndo => "NothingToUndo",
+            Refusal::NothingToRedo => "NothingToRedo",
             Refusal::Memory => "Memory",
         }
     }

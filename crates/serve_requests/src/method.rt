@@ -14,10 +14,13 @@ use std::alloc::{AllocError, Global};
 pub enum Method {
     Initialize,
     Load,
+    Save,
     Insert,
     Delete,
     Replace,
     Group,
+    Undo,
+    Redo,
     Mark,
     Units,
     Text,
@@ -30,6 +33,7 @@ pub enum Method {
     GiveBack,
     Journal,
     Stats,
+    Reset,
     Shutdown,
 }
 
@@ -40,10 +44,13 @@ impl Method {
     {
         match name {
             "load" => Some(Method::Load),
+            "save" => Some(Method::Save),
             "insert" => Some(Method::Insert),
             "delete" => Some(Method::Delete),
             "replace" => Some(Method::Replace),
             "group" => Some(Method::Group),
+            "undo" => Some(Method::Undo),
+            "redo" => Some(Method::Redo),
             "mark" => Some(Method::Mark),
             "units" => Some(Method::Units),
             "text" => Some(Method::Text),
@@ -66,6 +73,7 @@ impl Method {
             "give_back" => Some(Method::GiveBack),
             "journal" => Some(Method::Journal),
             "stats" => Some(Method::Stats),
+            "reset" => Some(Method::Reset),
             "shutdown" => Some(Method::Shutdown),
             _ => None,
         }
@@ -98,10 +106,13 @@ impl Method {
         let mut methods = vec![in alloc;
             Method::Initialize,
             Method::Load,
+            Method::Save,
             Method::Insert,
             Method::Delete,
             Method::Replace,
             Method::Group,
+            Method::Undo,
+            Method::Redo,
             Method::Mark,
             Method::Units,
             Method::Text,
@@ -117,6 +128,7 @@ impl Method {
         }
         methods.push(Method::Journal)?;
         methods.push(Method::Stats)?;
+        methods.push(Method::Reset)?;
         methods.push(Method::Shutdown)?;
         Ok(Listed::new(methods))
     }
@@ -126,14 +138,20 @@ impl Method {
         ensures { result ≡ first_parameter self }
     {
         match self {
-            Method::Load => Some(Parameter::Path),
+            Method::Load | Method::Save => Some(Parameter::Path),
             Method::Insert => Some(Parameter::After),
             Method::Group => Some(Parameter::Edits),
             Method::Units | Method::Journal => Some(Parameter::From),
             Method::Find => Some(Parameter::Position),
             Method::Want => Some(Parameter::Ids),
             Method::Land | Method::GiveBack => Some(Parameter::Job),
-            Method::Initialize | Method::Mark | Method::Stats | Method::Shutdown => None,
+            Method::Initialize
+            | Method::Undo
+            | Method::Redo
+            | Method::Mark
+            | Method::Stats
+            | Method::Reset
+            | Method::Shutdown => None,
             _ => Some(Parameter::Id),
         }
     }

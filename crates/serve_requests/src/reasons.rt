@@ -20,6 +20,9 @@ pub(crate) fn reason_of(refusal: Refusal) -> &'static str
         Refusal::TooManyWanted => "more than 64 ids are wanted",
         Refusal::CannotRead => "the file can't be read",
         Refusal::JobsSpent => "all numbers of jobs were given",
+        Refusal::CannotWrite => "the file can't be written",
+        Refusal::NothingToUndo => "there is nothing to undo",
+        Refusal::NothingToRedo => "there is nothing to redo",
         Refusal::Memory => "out of memory",
     }
 }

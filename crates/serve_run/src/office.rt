@@ -91,6 +91,12 @@ impl<'a, R: Wait> Backend for AtDesk<'a, R> {
         self.desk.mark(self.rt)
     }
 
+    fn reset(&mut self, alloc: Global) -> Result<(), AllocError> {
+        self.desk.reset(self.rt, alloc)?;
+        self.want(&[], true);
+        Ok(())
+    }
+
     fn want(&mut self, ids: &[AuId], rest: bool) {
         match self.seat.want(self.rt, self.desk, ids) {
             Ok(()) => self.seat.rest(self.rt, self.desk, rest),

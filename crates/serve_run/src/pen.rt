@@ -1,8 +1,10 @@
 //! The writer of a server's lines.
 
 use crate::answers::Answers;
+use edit_engine::{Picture, Shown};
 use edit_script::id_of_number;
-use serve_answers::notification_text;
+use serde::Serialize;
+use serve_answers::{ChangedUnit, notification_text};
 use serve_calls::{Asked, WantedUnit, picked};
 use std::alloc::{AllocError, Global};
 use std::io::Write;
@@ -30,6 +32,8 @@ pub(crate) struct Pen<W> {
     /// Whether a write failed: then nothing more is written.
     has_failed: bool,
     pub(crate) wanted: Vec<WantedUnit>,
+    /// How many edits there were when the wanted units were looked at last.
+    edits: usize,
 }
 
 impl<W: Write> Pen<W> {
@@ -40,6 +44,7 @@ impl<W: Write> Pen<W> {
             output,
             has_failed: false,
             wanted: Vec::new(alloc),
+            edits: 0,
         }
     }
 
@@ -51,33 +56,61 @@ impl<W: Write> Pen<W> {
         }
     }
 
-    /// Writes of each wanted unit that is ready with another picture than was told of it last.
+    /// Writes of each wanted unit that is ready with another picture than was told of it last, or
+    /// that edits changed since it was looked at last.
     pub(crate) fn tell<B: Asked>(&mut self, backend: &B) -> Result<(), Fault> {
+        let edits = backend.look(|session| session.journal().len());
+        let has_edits = edits != self.edits;
         for at in 0..self.wanted.len() {
-            self.tell_one(backend, at)?;
+            self.tell_one(backend, at, has_edits)?;
+        }
+        self.edits = edits;
+        Ok(())
+    }
+
+    /// Writes of a wanted unit if it is ready with another picture than was told of it last, or if
+    /// edits changed it.
+    fn tell_one<B: Asked>(&mut self, backend: &B, at: usize, has_edits: bool) -> Result<(), Fault> {
+        let Some(unit) = self.wanted.get(at) else {
+            return Ok(());
+        };
+        let unit = *unit;
+        let shown = backend.look(|session| session.show(id_of_number(unit.number)));
+        let told = self.told_of(unit, has_edits, shown)?;
+        if let Some(place) = self.wanted.get_mut(at) {
+            *place = WantedUnit {
+                number: unit.number,
+                told,
+                seen: Some(shown),
+            };
         }
         Ok(())
     }
 
-    /// Writes of a wanted unit if it is ready with another picture than was told of it last.
-    fn tell_one<B: Asked>(&mut self, backend: &B, at: usize) -> Result<(), Fault> {
-        let Some(unit) = self.wanted.get(at) else {
-            return Ok(());
-        };
-        let number = unit.number;
-        let shown = backend.look(|session| session.show(id_of_number(number)));
-        let Some(picture) = unit.news(shown) else {
-            return Ok(());
-        };
-        let text = notification_text(self.alloc, "ready", &picked(self.alloc, number, picture)?)?;
-        self.write(text)?;
-        if let Some(unit) = self.wanted.get_mut(at) {
-            *unit = WantedUnit {
-                number,
-                told: Some(picture),
-            };
+    /// Writes what is to be told of a wanted unit where this is shown of it: the picture that was
+    /// told of it last then.
+    fn told_of(
+        &mut self,
+        unit: WantedUnit,
+        has_edits: bool,
+        shown: Shown,
+    ) -> Result<Option<Picture>, Fault> {
+        let id = unit.number;
+        if let Some(state) = unit.change(has_edits, shown) {
+            self.notify("changed", &ChangedUnit { id, state })?;
+            return Ok(None);
         }
-        Ok(())
+        let Some(picture) = unit.news(shown) else {
+            return Ok(unit.told);
+        };
+        self.notify("ready", &picked(self.alloc, id, picture)?)?;
+        Ok(Some(picture))
+    }
+
+    /// Writes a notification of this method.
+    fn notify<P: Serialize>(&mut self, method: &'static str, params: &P) -> Result<(), Fault> {
+        let text = notification_text(self.alloc, method, params)?;
+        self.write(text)
     }
 
     /// Writes a text as a line at once.

@@ -17,6 +17,7 @@ use crate::lines::{Line, Lines, MOST_BYTES};
 use crate::pen::{Fault, Pen};
 use console_io::Source;
 use failure_reasons::Explain;
+use file_saving::Saver;
 use serde_json::{Category, Error, Value};
 use serve_answers::Answer;
 use serve_calls::{Alone, Backend, OUT_OF_MEMORY, Server, WantedUnit};
@@ -28,7 +29,7 @@ use std::thread::Threads;
 
 /// Serves the messages of an input with a session alone, in this thread. The files that are loaded
 /// are the source's, which says beside the answer why it isn't taken of one that isn't.
-pub fn serve_alone<R: Threads + Sync, I: Read + Drop, S: Source + Explain + Drop, W: Write>(
+pub fn serve_alone<R: Threads + Sync, I: Read + Drop, S: Saver + Explain + Drop, W: Write>(
     rt: &R,
     alloc: Global,
     cache: u16,
@@ -53,7 +54,7 @@ pub fn serve_alone<R: Threads + Sync, I: Read + Drop, S: Source + Explain + Drop
 }
 
 /// Reads the next message and serves it; or how the server ends.
-fn serve_next<R: Threads + Sync, B: Backend, I: Read + Drop, S: Source + Explain, W: Write>(
+fn serve_next<R: Threads + Sync, B: Backend, I: Read + Drop, S: Saver + Explain, W: Write>(
     rt: &R,
     server: &mut Server<B, S>,
     pen: &mut Pen<W>,
@@ -66,7 +67,7 @@ fn serve_next<R: Threads + Sync, B: Backend, I: Read + Drop, S: Source + Explain
 }
 
 /// Serves a line; or how the server ends.
-pub(crate) fn serve_line<R: Threads + Sync, B: Backend, S: Source + Explain, W: Write>(
+pub(crate) fn serve_line<R: Threads + Sync, B: Backend, S: Saver + Explain, W: Write>(
     rt: &R,
     server: &mut Server<B, S>,
     pen: &mut Pen<W>,
@@ -81,7 +82,7 @@ pub(crate) fn serve_line<R: Threads + Sync, B: Backend, S: Source + Explain, W: 
 }
 
 /// Serves the message of this text; or how the server ends.
-fn serve_text<R: Threads + Sync, B: Backend, S: Source + Explain, W: Write>(
+fn serve_text<R: Threads + Sync, B: Backend, S: Saver + Explain, W: Write>(
     rt: &R,
     server: &mut Server<B, S>,
     pen: &mut Pen<W>,
@@ -97,7 +98,7 @@ fn serve_text<R: Threads + Sync, B: Backend, S: Source + Explain, W: Write>(
 }
 
 /// Serves the messages of a value and answers them; or how the server ends.
-fn serve_value<R: Threads + Sync, B: Backend, S: Source + Explain, W: Write>(
+fn serve_value<R: Threads + Sync, B: Backend, S: Saver + Explain, W: Write>(
     rt: &R,
     server: &mut Server<B, S>,
     pen: &mut Pen<W>,
@@ -163,7 +164,7 @@ fn some_or<'a>(values: &'a [Value], none: &'a Value) -> &'a [Value]
 
 /// Serves messages one after the other: whether one of them asks for the end. Their answers are
 /// added to those of the line.
-fn serve_all<R: Threads + Sync, B: Backend, S: Source + Explain>(
+fn serve_all<R: Threads + Sync, B: Backend, S: Saver + Explain>(
     rt: &R,
     server: &mut Server<B, S>,
     wanted: &mut Vec<WantedUnit>,
@@ -191,7 +192,7 @@ fn either(first: bool, second: bool) -> bool
 }
 
 /// Serves a message: whether it asks for the end. Its answer is added to those of the line.
-fn serve_one<R: Threads + Sync, B: Backend, S: Source + Explain>(
+fn serve_one<R: Threads + Sync, B: Backend, S: Saver + Explain>(
     rt: &R,
     server: &mut Server<B, S>,
     wanted: &mut Vec<WantedUnit>,

@@ -7,9 +7,9 @@ use crate::end::ServeEnd;
 use crate::lines::{Lines, MOST_BYTES};
 use crate::office::{AtDesk, Office};
 use crate::serving::serve_line;
-use console_io::Source;
 use decode_pool::{Gate, worker};
 use failure_reasons::Explain;
+use file_saving::Saver;
 use serve_calls::Server;
 use stand_in_device::Device;
 use std::alloc::{AllocError, Global};
@@ -31,7 +31,7 @@ pub fn serve_with_workers<R, I, S, W>(
 where
     R: Threads + Wait + Sync,
     I: Read + Drop,
-    S: Source + Explain + Drop,
+    S: Saver + Explain + Drop,
     W: Write + Send,
     requires cache { (1 ≤ cache) × (cache ≤ 4096) }
     requires workers { (1 ≤ workers) × (workers ≤ 64) }
@@ -68,7 +68,7 @@ where
     R: Threads + Wait + Sync,
     D: Gate + Send + Drop,
     I: Read + Drop,
-    S: Source + Explain + Drop,
+    S: Saver + Explain + Drop,
     W: Write + Send,
     requires cache { (1 ≤ cache) × (cache ≤ 4096) }
     requires workers { (1 ≤ length gates.items) × (length gates.items ≤ 64) }
@@ -96,7 +96,7 @@ where
     R: Threads + Wait + Sync,
     D: Gate + Send + Drop,
     I: Read + Drop,
-    S: Source + Explain + Drop,
+    S: Saver + Explain + Drop,
     W: Write + Send + Drop,
 {
     thread::scope(thread::scope_env(), rt, move |scope| -> ServeEnd {
@@ -120,7 +120,7 @@ where
     R: Threads + Wait + Sync,
     D: Gate + Send + Drop + 's,
     I: Read + Drop,
-    S: Source + Explain + Drop,
+    S: Saver + Explain + Drop,
     W: Write + Send + 's,
 {
     for gate in gates {
@@ -174,7 +174,7 @@ fn serve_lines<R, I, S, W>(
 where
     R: Threads + Wait + Sync,
     I: Read + Drop,
-    S: Source + Explain + Drop,
+    S: Saver + Explain + Drop,
     W: Write,
 {
     let backend = AtDesk {
@@ -193,7 +193,7 @@ where
 }
 
 /// Reads the next message and serves it, while no one else writes; or how the server ends.
-fn serve_next<R: Threads + Wait + Sync, I: Read + Drop, S: Source + Explain, W: Write>(
+fn serve_next<R: Threads + Wait + Sync, I: Read + Drop, S: Saver + Explain, W: Write>(
     rt: &R,
     office: &Office<W>,
     server: &mut Server<AtDesk<'_, R>, S>,

@@ -1,5 +1,5 @@
 -- Groups of edits, which a caller asks for by kinds, ids and places in one buffer of texts.
-use Rattle.std.specs.Prelude.{◌≡◌, ◌==◌, ◌<◌, ◌≤◌, ◌+◌, ◌++◌, ◌⊎◌, ℕ, List, length, map, take, drop, nat_lt, slice_get, slice_range, Option, None, Some, Result, Ok, Err, if◌then◌else◌}
+use Rattle.std.specs.Prelude.{◌≡◌, ◌==◌, ◌<◌, ◌≤◌, ◌+◌, ◌++◌, ◌⊎◌, ℕ, List, length, map, take, drop, nat_lt, slice_get, slice_range, Option, None, Some, Result, Ok, Err, IfOk, if◌then◌else◌}
 use Rattle.std.specs.Option.{option_map}
 use Rattle.stream_edits.specs.declared.edits.Edit.{Edit}
 use Rattle.stream_edits.specs.declared.edits.Edit.TheVariants.{Delete, Insert, Replace}
@@ -8,6 +8,7 @@ use Rattle.stream_edits.specs.declared.receipts.GroupReceipt.{GroupReceipt}
 use Rattle.stream_edits.specs.declared.group_refused.GroupRefused.{GroupRefused}
 use Rattle.stream_edits.specs.declared.group_refused.GroupRefused.TheVariants as groups
 use Rattle.stream_edits.specs.GroupRefusals.{number_of_group}
+use Rattle.stream_edits.specs.Groups.{most_edits}
 use Rattle.stream_edits.specs.Numbers.{number_of}
 use Rattle.session_calls.specs.Machines.{Machine}
 use Rattle.stream_session.specs.Grouping.{AnswersGroup}
@@ -73,9 +74,10 @@ TellsGroup (Err (groups.Edit index refused)) status old new =
     (status ≡ number_of refused) × (new ≡ (old.0, told_at index))
 TellsGroup (Err refused) status old new = (status ≡ number_of_group refused) × (new ≡ old)
 
--- the group has its answer, and no surface comes or goes
+-- the group has its answer, is accepted only where it isn't too large, and no surface comes or goes
 abbrev pub MakesGroup : Machine → List Edit → Result GroupReceipt GroupRefused → Machine → Type 0
-MakesGroup old edits answer new = AnswersGroup old edits answer new × KeepsPictures old new
+MakesGroup old edits answer new =
+    AnswersGroup old edits answer new × KeepsPictures old new × IfOk answer (λ _. length edits ≤ most_edits)
 
 -- the group has its answer, and this is told
 abbrev pub GroupsBy : Machine → List Edit → ℕ → List ℕ × GroupTold → List ℕ × GroupTold → Machine → Type 0

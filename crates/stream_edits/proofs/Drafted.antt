@@ -1,6 +1,5 @@
 -- A stream under the edits of a group, and the change that it comes to.
-use Rattle.std.proofs.Common.{◌≡◌, ℕ, ◌+◌, ◌-◌, ◌≤◌, List, [], ◌∷◌, ◌++◌, length, take, drop, refl, ap, sym, ◌∙◌, subst, arith, append_assoc, length-append, length-drop}
-use Rattle.std.specs.Prelude.{min}
+use Rattle.std.proofs.Common.{◌≡◌, ℕ, ◌+◌, ◌-◌, ◌≤◌, List, [], ◌∷◌, ◌++◌, length, take, drop, refl, ap, sym, ◌∙◌, arith, append_assoc, length-append, length-drop}
 use Rattle.std.proofs.Math.Seq.{drop-append-add, take-append_seam}
 use Rattle.std.proofs.lemmas.List.{take-append-drop, take-take, length-take-le, map-append, take-map, drop-map}
 use Rattle.stream_edits.specs.declared.acceptance.AcceptedEdit.{AcceptedEdit}
@@ -13,7 +12,7 @@ use Rattle.stream_edits.specs.Changes.{IsFor, IsInside, at_of, rest_from, units_
 use Rattle.stream_edits.specs.Common.{IsFront, IsRest, IsLongestFront, IsLongestRest}
 use Rattle.stream_edits.specs.Drafts.{IsDraft, IsMade, register_of}
 use Rattle.stream_edits.specs.Edits.{Register}
-use Rattle.stream_edits.specs.Groups.{IsForAll, IsSized, MakesAll}
+use Rattle.stream_edits.specs.Groups.{IsForAll, IsSized}
 use Rattle.stream_edits.proofs.Fronts.{front_on, rest_on}
 use Rattle.stream_edits.proofs.Grouped.{MakesAll-push}
 

@@ -1,5 +1,5 @@
 -- How many bytes reading edits hashes.
-use Rattle.std.proofs.Common.{◌≡◌, ◌∙◌, ℕ, ◌+◌, ◌*◌, ◌≤◌, List, [], ◌∷◌, ◌++◌, length, refl, sym, arith}
+use Rattle.std.proofs.Common.{◌≡◌, ℕ, ◌+◌, ◌≤◌, List, [], ◌∷◌, ◌++◌, refl, arith}
 use Rattle.std.specs.Prelude.{None, Some}
 use Rattle.access_unit.specs.Answers.{IsAccepted}
 use Rattle.access_unit.proofs.Lengths.{length_joined}

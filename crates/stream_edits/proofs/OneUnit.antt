@@ -1,5 +1,5 @@
 -- A stream with one unit more, one fewer, and another one in its place.
-use Rattle.std.proofs.Common.{◌≡◌, ℕ, ◌+◌, ◌<◌, List, [], ◌∷◌, ◌++◌, length, take, drop, set, sym, ◌∙◌, refl, add-one, append_assoc}
+use Rattle.std.proofs.Common.{◌≡◌, ℕ, ◌+◌, ◌<◌, List, [], ◌∷◌, ◌++◌, length, take, drop, set, ◌∙◌, refl, add-one, append_assoc}
 use Rattle.std.specs.Prelude.{insert, remove}
 use Rattle.std.proofs.lemmas.List.{set_split}
 use Rattle.stream_edits.specs.Streams.{Stream}

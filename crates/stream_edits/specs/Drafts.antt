@@ -1,5 +1,5 @@
 -- A stream under the edits of a group.
-use Rattle.std.specs.Prelude.{◌≡◌, ℕ, ◌-◌, List, [], ◌∷◌, ◌++◌, length, min}
+use Rattle.std.specs.Prelude.{◌≡◌, ◌-◌, List, [], ◌∷◌, ◌++◌, length, min}
 use Rattle.stream_edits.specs.declared.acceptance.AcceptedEdit.{AcceptedEdit}
 use Rattle.stream_edits.specs.declared.draft.Draft.{Draft}
 use Rattle.stream_edits.specs.declared.edits.Edit.{Edit}

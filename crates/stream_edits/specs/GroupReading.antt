@@ -1,5 +1,5 @@
 -- A group whose texts are read, up to the first that is refused.
-use Rattle.std.specs.Prelude.{◌≡◌, ◌≤◌, List, length, take, Option, None, Some, slice_get}
+use Rattle.std.specs.Prelude.{◌≡◌, List, length, take, Option, None, Some, slice_get}
 use Rattle.stream_edits.specs.declared.edits.Edit.{Edit}
 use Rattle.stream_edits.specs.declared.refusals.EditRefused.{EditRefused}
 use Rattle.stream_edits.specs.Edits.{Register}

@@ -1,18 +1,19 @@
 -- Edits that are made together, as one step.
 use Rattle.std.specs.Prelude.{◌≡◌, ℕ, ◌-◌, ◌<◌, ◌≤◌, List, [], ◌∷◌, length}
+use Rattle.access_unit.specs.Rooms.{most_units}
 use Rattle.stream_edits.specs.declared.acceptance.AcceptedGroup.{AcceptedGroup}
 use Rattle.stream_edits.specs.declared.edits.Edit.{Edit}
 use Rattle.stream_edits.specs.Edits.{Register, Makes}
 use Rattle.stream_edits.specs.Changes.{IsInside, at_of, rest_from, after, stream_after}
 use Rattle.stream_edits.specs.Common.{IsLongestFront, IsLongestRest}
 
--- how many edits a group has at most
+-- how many edits a group has at most that is asked for
 abbrev pub most_edits : ℕ
 most_edits = 1024
 
--- a group has one edit at least, and not too many
+-- edits that are made together are one at least, and no more than the units that a stream may have
 abbrev pub IsSized : List Edit → Type 0
-IsSized edits = (0 < length edits) × (length edits ≤ most_edits)
+IsSized edits = (0 < length edits) × (length edits ≤ most_units)
 
 -- the edits, each accepted after those before it, are about these ids and lead from one to the
 -- other

@@ -3,7 +3,8 @@
 ghost use Rattle.std.specs.Prelude.{◌≡◌, ◌≤◌, length, IfErr, IfOk};
 ghost use Rattle.stream_edits.specs.Drafts.{IsDraft};
 ghost use Rattle.stream_edits.specs.GroupRefusals.{IsGroupRefused, IsRefusedAmong};
-ghost use Rattle.stream_edits.specs.Groups.{IsForAll, most_edits};
+ghost use Rattle.access_unit.specs.Rooms.{most_units};
+ghost use Rattle.stream_edits.specs.Groups.{IsForAll};
 ghost use Rattle.stream_edits.specs.Ids.{HasIds};
 ghost use Rattle.stream_edits.specs.Reading.{AreHashedFor};
 ghost use Rattle.stream_edits.specs.Streams.{ids_of};
@@ -48,7 +49,7 @@ pub fn change_of_group(
 
 /// How many bytes were hashed for these edits.
 fn hashed_for(read: &[ReadEdit]) -> usize
-    requires { length read.now ≤ most_edits }
+    requires { length read.now ≤ most_units }
     ensures { AreHashedFor read.now result }
 {
     let mut hashed = 0;

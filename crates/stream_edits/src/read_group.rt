@@ -1,22 +1,24 @@
 //! Groups of edits whose texts are read.
 
-ghost use Rattle.std.specs.Prelude.{◌≡◌, IfErr, IfOk};
+ghost use Rattle.std.specs.Prelude.{◌≡◌, ◌≤◌, IfErr, IfOk, length};
+ghost use Rattle.access_unit.specs.Rooms.{most_units};
 ghost use Rattle.stream_edits.specs.Edits.{Register};
 ghost use Rattle.stream_edits.specs.GroupReading.{AreReadUpTo};
 ghost use Rattle.stream_edits.specs.GroupRefusals.{IsGroupRefused};
-ghost use Rattle.stream_edits.specs.Groups.{IsSized};
+ghost use Rattle.stream_edits.specs.Groups.{IsSized, most_edits};
 
 use crate::edits::Edit;
 use crate::group_refused::GroupRefused;
 use crate::read_edit::ReadEdit;
 use crate::refusals::EditRefused;
+use access_unit::MOST_UNITS;
 use std::alloc::{AllocError, Global};
 use std::marker::Model;
 
-/// How many edits a group has at most.
+/// How many edits a group has at most that is asked for.
 pub const MOST_EDITS: usize = 1_024;
 
-/// A group of one edit at least and 1,024 at most, with the units that their texts are read as, up
+/// A group of one edit at least and 65,536 at most, with the units that their texts are read as, up
 /// to the first text that is refused. Clauses see the edits.
 #[derive(Debug)]
 pub struct ReadGroup {
@@ -55,21 +57,21 @@ impl ReadGroup {
     /// made, since an edit before it may be refused for the stream. No byte is copied.
     pub fn read(alloc: Global, edits: Vec<Edit>) -> Result<ReadGroup, GroupRefused>
         ensures ok { IfOk result (λ group. (group ≡ edits.items) × IsSized group) }
+        ensures few { IfOk result (λ group. length group ≤ most_edits) }
         ensures err { IfErr result (λ refused. (old : Register)
             → IsGroupRefused old edits.items refused) }
     {
-        if edits.is_empty() {
-            return Err(GroupRefused::Empty);
-        }
-        if edits.len() > MOST_EDITS {
-            return Err(GroupRefused::TooLarge);
-        }
-        let (read, refused) = read_texts(alloc, &edits)?;
-        Ok(ReadGroup {
-            edits,
-            read,
-            refused,
-        })
+        group_of(alloc, edits, MOST_EDITS)
+    }
+
+    /// The group of the edits of an undo or a redo, as `read` gives it, of which there may be as many
+    /// as a stream has units.
+    pub fn of_step(alloc: Global, edits: Vec<Edit>) -> Result<ReadGroup, GroupRefused>
+        ensures ok { IfOk result (λ group. (group ≡ edits.items) × IsSized group) }
+        ensures err { IfErr result (λ refused. (old : Register)
+            → IsGroupRefused old edits.items refused) }
+    {
+        group_of(alloc, edits, MOST_UNITS)
     }
 
     /// The edits.
@@ -91,6 +93,28 @@ impl ReadGroup {
         } = self;
         edits
     }
+}
+
+/// The group of these edits, of which there may be so many, with their texts read.
+fn group_of(alloc: Global, edits: Vec<Edit>, most: usize) -> Result<ReadGroup, GroupRefused>
+    requires { (most_edits ≤ most) × (most ≤ most_units) }
+    ensures ok { IfOk result (λ group. (group ≡ edits.items) × IsSized group) }
+    ensures few { IfOk result (λ group. length group ≤ most) }
+    ensures err { IfErr result (λ refused. (old : Register)
+        → IsGroupRefused old edits.items refused) }
+{
+    if edits.is_empty() {
+        return Err(GroupRefused::Empty);
+    }
+    if edits.len() > most {
+        return Err(GroupRefused::TooLarge);
+    }
+    let (read, refused) = read_texts(alloc, &edits)?;
+    Ok(ReadGroup {
+        edits,
+        read,
+        refused,
+    })
 }
 
 /// The edits with their texts read, up to the first text that is refused, and that refusal.

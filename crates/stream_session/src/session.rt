@@ -5,6 +5,7 @@ ghost use Rattle.request_core.specs.Fold.{outcomes_of};
 ghost use Rattle.picture_cache.specs.Bounded.{most_room};
 ghost use Rattle.picture_store.specs.Stores.{AreNumbered};
 ghost use Rattle.stream_edits.specs.Changes.{IsInside};
+ghost use Rattle.stream_edits.specs.Groups.{most_edits};
 ghost use Rattle.stream_edits.specs.Journals.{edits_of};
 ghost use Rattle.stream_edits.specs.Streams.{ids_of, last_of, place_of};
 ghost use Rattle.stream_edits.specs.Edits.{no_units, Replays};
@@ -151,6 +152,7 @@ impl<P: Decoded> Session<P> {
     /// of an edit.
     pub fn edit_group(&mut self, edits: Vec<Edit>) -> Result<GroupReceipt, GroupRefused>
         ensures answers { AnswersGroup self.old edits.items result self.new }
+        ensures few { IfOk result (λ _. length edits.items ≤ most_edits) }
         // Where pictures go back to the host, no picture comes or goes.
         ensures pictures { P.GoesBack ≡ true → KeepsPictures self.old self.new }
     {

@@ -14,6 +14,7 @@ ghost use Rattle.undo_redo.specs.States.{IsAsBefore, IsUnderWay, IsUndoRedo, Tak
 
 use crate::prepared::{PreparedEdit, PreparedGroup, Step};
 use crate::unit_texts::UnitTexts;
+use bytes::Bytes;
 use edit_history::{History, NotUndone, StepGroup};
 use std::alloc::{AllocError, Global};
 use stream_edits::Edit;
@@ -44,6 +45,13 @@ impl UndoRedo {
             history: History::new(alloc),
             units: UnitTexts::none(alloc),
         }
+    }
+
+    /// The texts of the stream's units, in decoding order.
+    pub fn texts(&self) -> &[Bytes]
+        ensures { result.now ≡ self.now.units.texts.items }
+    {
+        self.units.texts.as_slice()
     }
 
     /// How many steps can be undone.

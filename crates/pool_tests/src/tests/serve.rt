@@ -1,14 +1,19 @@
 //! Messages and their answers, worked out by hand from docs/SERVER.md.
 
 mod alone;
-mod batches;
+mod anew;
 mod beside;
+mod changed;
 mod ends;
 mod errors;
+mod saving;
 mod taken;
+mod undoing;
 
+use bytes::Bytes;
 use console_io::{InputFault, Source};
 use failure_reasons::Explain;
+use file_saving::{Saver, Unsaved};
 use serve_run::{ServeEnd, serve_alone};
 use std::alloc::{AllocError, Global};
 use std::process::Abort;
@@ -37,6 +42,17 @@ impl Source for OneFile {
             return Vec::from_slice(alloc, A).map_err(|_: AllocError| InputFault::Memory);
         }
         Err(InputFault::Unread)
+    }
+}
+
+impl Saver for OneFile {
+    // One that has the file's bytes is saved.
+    fn save(&mut self, _alloc: Global, name: &str, texts: &[Bytes]) -> Result<(), Unsaved> {
+        match (name, texts) {
+            ("memory", _) => Err(Unsaved::Memory),
+            ("one", [text]) if text.as_slice() == A => Ok(()),
+            _ => Err(Unsaved::Unwritten),
+        }
     }
 }
 

@@ -3,9 +3,11 @@
 use super::writers::{End, ShortWriter};
 use super::{A, LINES_OF_A, P1, row_holds};
 use Status::{Failure, Success, Usage};
+use bytes::Bytes;
 use cli::{run, run_on};
 use console_io::{Directory, Ended, PrintFault, Status};
 use failure_reasons::Explain;
+use file_saving::{Saving, Unsaved};
 use std::alloc::{AllocError, Global};
 use std::io;
 use std::io::{ErrorKind, Read};
@@ -49,6 +51,13 @@ impl Directory for Folder {
             _ => return Err(ErrorKind::NotFound),
         };
         Ok(Text { left })
+    }
+}
+
+impl Saving for Folder {
+    // Nothing is saved.
+    fn save(&self, _alloc: Global, _name: &str, _texts: &[Bytes]) -> Result<(), Unsaved> {
+        Err(Unsaved::Unwritten)
     }
 }
 

@@ -12,6 +12,6 @@ returns-then-has_number c = λ numbers are.
 pub returns : goal.returns
 returns c = λ numbers are.
     subst (λ (units : List WantedUnit). AreWanted (numbers ++ c.args.number ∷ []) units) (sym c.in_ok-push.ensures.items)
-    (more numbers c.args.units.now.items (record { number = c.args.number; told = None }) are
+    (more numbers c.args.units.now.items (record { number = c.args.number; told = None; seen = None }) are
     (subst (λ (units : List WantedUnit). All (λ unit. unit.number ≢ c.args.number) units) c.deref.ensures.value c.if-has_number.ensures)
-    refl)
+    (refl, refl))

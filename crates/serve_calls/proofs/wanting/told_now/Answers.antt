@@ -11,7 +11,7 @@ loop-unit-preserved c =
     let session = c.args.session.now in
     let units : List WantedUnit = c.args.units.now in
     let at : ℕ = c.loop-unit.unit-index in
-    let none : WantedUnit = record { number = 0; told = None } in
+    let none : WantedUnit = record { number = 0; told = None; seen = None } in
     subst (λ (some : List WantedUnit). TellsOf session some c.add.new.self) (sym (take-next units at none c.loop-unit-test.true))
     (tells_more session (take at units) (slice_index_or units at none) c.show-shown.result c.loop-unit.told c.add.new.self
     c.loop-unit.invariant (subst (λ (id : ℕ). Shows session id c.show-shown.result) c.id_of_number.ensures c.show-shown.ensures)

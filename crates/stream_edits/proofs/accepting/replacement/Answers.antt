@@ -1,4 +1,4 @@
-use Rattle.std.proofs.Common.{◌≡◌, ◌<◌, ◌∷◌, [], length, refl, sym, arith}
+use Rattle.std.proofs.Common.{◌<◌, length, refl, sym, arith}
 use Rattle.std.proofs.lemmas.List.{length-map}
 use Rattle.stream_edits.proofs.OneUnit.{replaced}
 use Rattle.stream_edits.proofs.accepting.replacement.Goals as goal

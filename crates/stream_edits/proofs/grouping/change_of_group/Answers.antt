@@ -1,7 +1,7 @@
 use Rattle.std.proofs.Common.{◌≡◌, length, Some, arith}
 use Rattle.stream_edits.specs.Drafts.{register_of}
 use Rattle.stream_edits.specs.GroupReading.{IsReadGroup}
-use Rattle.stream_edits.proofs.Grouped.{refused_group, refused_next}
+use Rattle.stream_edits.proofs.Grouped.{refused_next}
 use Rattle.stream_edits.proofs.grouping.change_of_group.Goals as goal
 
 pub returns-in-Some-clause-err : goal.returns-in-Some-clause-err

@@ -1,8 +1,7 @@
 -- What one edit more hashes is added.
-use Rattle.std.proofs.Common.{◌≡◌, ◌<◌, ◌+◌, ◌*◌, ◌≤◌, take, arith}
+use Rattle.std.proofs.Common.{take, arith}
 use Rattle.std.proofs.lemmas.List.{get_or_read, take_more}
 use Rattle.stream_edits.specs.declared.edits.Edit.TheVariants.{Delete}
-use Rattle.stream_edits.specs.Reading.{AreHashedFor}
 use Rattle.stream_edits.proofs.Hashed.{hashed_few, hashed_more}
 use Rattle.stream_edits.proofs.grouping.hashed_for.Goals as goal
 

@@ -1,12 +1,18 @@
-use Rattle.std.proofs.Common.{Result}
+use Rattle.std.proofs.Common.{◌≡◌, ◌+◌, ◌≤◌, Result, length, vec_len}
+use Rattle.std.specs.Vec.{vec_capacity}
 use Rattle.std.specs.Vec.Iter.{into_iter_items}
 use Rattle.serve_requests.specs.declared.failure.Failure.{Failure}
+use Rattle.undo_redo.specs.declared.prepared.Step.{Step}
 use Rattle.serve_calls.specs.declared.loading.Inserted.{Inserted}
 use Rattle.serve_calls.specs.declared.server.Server.{Server}
 use Rattle.serve_calls.specs.Loading.{InsertsAll, none_inserted}
 use Rattle.serve_calls.proofs.server.Server.insert_all.Given as goal
 
+-- what becomes of the units that are left, behind those before them, becomes of all; the step has room for them
 abbrev pub invariant-loop-unit : goal.invariant-loop-unit
-invariant-loop-unit g l = (result : Result Inserted Failure) (new : Server g.row.B.Denot g.row.S.Denot)
-    → InsertsAll g.B.Asked.is_session l.self (into_iter_items l.unit-iterator) l.inserted result new
-    → InsertsAll g.B.Asked.is_session l.fn.self l.fn.units.items (none_inserted l.fn.from) result new
+invariant-loop-unit g l =
+    ((result : Result Inserted Failure) (new : Server g.row.B.Denot g.row.S.Denot) (step : Step)
+    → InsertsAll g.B.Asked.is_session l.self l.step (into_iter_items l.unit-iterator) l.inserted result new step
+    → InsertsAll g.B.Asked.is_session l.fn.self l.fn.step l.fn.units.items (none_inserted l.fn.from) result new step)
+    × (l.self.history.history ≡ l.fn.self.history.history)
+    × (vec_len l.step.changes + length (into_iter_items l.unit-iterator) ≤ vec_capacity l.step.changes)

@@ -6,6 +6,6 @@ returns-in-Ok g c = inl (
   c.in-Ok.text,
   record c.args.self.now { source = c.text_of.new.source },
   c.in-Ok.ensures.ok,
-  (refl, refl, c.in-Ok.ensures.kept),
+  (refl, refl, refl, c.in-Ok.ensures.kept),
   c.load_text.ensures,
 )

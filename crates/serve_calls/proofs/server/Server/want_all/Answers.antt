@@ -23,4 +23,5 @@ returns g c =
       ),
       refl,
       refl,
+      refl,
     ))

@@ -1,5 +1,5 @@
-use Rattle.std.proofs.Common.{◌≡◌, ◌-◌, length, refl, ap, sym, ◌∙◌, arith}
-use Rattle.stream_edits.specs.Changes.{at_of, rest_from, stream_after}
+use Rattle.std.proofs.Common.{◌≡◌, length, refl, ap, sym, ◌∙◌, arith}
+use Rattle.stream_edits.specs.Changes.{stream_after}
 use Rattle.stream_edits.specs.Streams.{ids_of}
 use Rattle.stream_edits.proofs.Drafted.{ids_after}
 use Rattle.stream_edits.proofs.draft.Draft.make_accepted.Goals as goal

@@ -1,4 +1,4 @@
-//! Marks, texts, what the server takes, and batches.
+//! Marks, texts, beginning anew, and batches.
 
 use super::{Row, answers_so};
 
@@ -54,11 +54,49 @@ const MARKS: [Row; 12] = [
     },
 ];
 
-/// What the server is, and what it takes.
-const INTRODUCED: [Row; 1] = [Row {
-    message: "{\"jsonrpc\":\"2.0\",\"id\":1,\"method\":\"initialize\",\"params\":[1]}",
-    lines: "{\"jsonrpc\":\"2.0\",\"id\":1,\"result\":{\"name\":\"cupdaisy\",\"version\":\"0.3.0\",\"methods\":[\"initialize\",\"load\",\"insert\",\"delete\",\"replace\",\"group\",\"mark\",\"units\",\"text\",\"find\",\"show\",\"want\",\"drop\",\"take\",\"land\",\"give_back\",\"journal\",\"stats\",\"shutdown\"],\"limits\":{\"units\":65536,\"unit_bytes\":4194304,\"slices\":256,\"group\":1024,\"wanted\":64,\"count\":1000,\"left_out\":1000,\"message_bytes\":67108864}}}\n",
-}];
+/// All is as at the beginning: ids, edits and jobs are counted anew, and nothing is wanted.
+const RESETS: [Row; 10] = [
+    Row {
+        message: "{\"jsonrpc\":\"2.0\",\"id\":1,\"method\":\"initialize\",\"params\":[1]}",
+        lines: "{\"jsonrpc\":\"2.0\",\"id\":1,\"result\":{\"name\":\"cupdaisy\",\"version\":\"0.3.0\",\"methods\":[\"initialize\",\"load\",\"save\",\"insert\",\"delete\",\"replace\",\"group\",\"undo\",\"redo\",\"mark\",\"units\",\"text\",\"find\",\"show\",\"want\",\"drop\",\"take\",\"land\",\"give_back\",\"journal\",\"stats\",\"reset\",\"shutdown\"],\"limits\":{\"units\":65536,\"unit_bytes\":4194304,\"slices\":256,\"group\":1024,\"wanted\":64,\"count\":1000,\"left_out\":1000,\"message_bytes\":67108864}}}\n",
+    },
+    Row {
+        message: "{\"jsonrpc\":\"2.0\",\"method\":\"load\",\"params\":{\"path\":\"one\"}}",
+        lines: "",
+    },
+    Row {
+        message: "{\"jsonrpc\":\"2.0\",\"id\":2,\"method\":\"want\",\"params\":{\"ids\":[1]}}",
+        lines: "{\"jsonrpc\":\"2.0\",\"id\":2,\"result\":{\"ready\":[],\"not_now\":[]}}\n",
+    },
+    Row {
+        message: "{\"jsonrpc\":\"2.0\",\"method\":\"take\"}",
+        lines: "",
+    },
+    Row {
+        message: "{\"jsonrpc\":\"2.0\",\"id\":3,\"method\":\"reset\"}",
+        lines: "{\"jsonrpc\":\"2.0\",\"id\":3,\"result\":\"reset\"}\n",
+    },
+    Row {
+        message: "{\"jsonrpc\":\"2.0\",\"id\":4,\"method\":\"stats\"}",
+        lines: "{\"jsonrpc\":\"2.0\",\"id\":4,\"result\":{\"units\":0,\"edits\":0,\"held\":0,\"cached\":0,\"jobs_out\":0,\"steps\":0,\"bytes\":0}}\n",
+    },
+    Row {
+        message: "{\"jsonrpc\":\"2.0\",\"id\":5,\"method\":\"land\",\"params\":{\"job\":1}}",
+        lines: "{\"jsonrpc\":\"2.0\",\"id\":5,\"result\":\"none\"}\n",
+    },
+    Row {
+        message: "{\"jsonrpc\":\"2.0\",\"id\":6,\"method\":\"load\",\"params\":{\"path\":\"one\"}}",
+        lines: "{\"jsonrpc\":\"2.0\",\"id\":6,\"result\":{\"units\":1,\"first\":1,\"last\":1,\"changed\":{\"from\":0,\"count\":1}}}\n",
+    },
+    Row {
+        message: "{\"jsonrpc\":\"2.0\",\"method\":\"take\"}",
+        lines: "",
+    },
+    Row {
+        message: "{\"jsonrpc\":\"2.0\",\"id\":7,\"method\":\"land\",\"params\":{\"job\":1}}",
+        lines: "{\"jsonrpc\":\"2.0\",\"id\":7,\"result\":\"taken\"}\n",
+    },
+];
 
 /// Batches are answered by arrays, and carried out whole.
 const BATCHES: [Row; 5] = [
@@ -90,8 +128,8 @@ fn units_are_altered_since_the_mark(rt: HostRuntime) {
 }
 
 #[test]
-fn a_server_says_what_it_takes(rt: HostRuntime) {
-    assert!(rt; answers_so(&rt, &INTRODUCED));
+fn a_server_begins_anew(rt: HostRuntime) {
+    assert!(rt; answers_so(&rt, &RESETS));
 }
 
 #[test]

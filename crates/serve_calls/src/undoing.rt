@@ -1,0 +1,84 @@
+//! `undo` and `redo`.
+
+ghost use Rattle.std.specs.Prelude.{◌≡◌, ◌+◌, ◌-◌, ◌<◌, length, min};
+ghost use Rattle.serve_calls.specs.Undoing.{GoesBy, Redoes, RedoesAs, Undoes, UndoesAs, undo_failure};
+
+use crate::backend::Backend;
+use crate::server::Server;
+use edit_engine::{GroupReceipt, GroupRefused, ReadGroup};
+use serve_answers::{Answer, of_group};
+use serve_requests::{Failure, Refusal};
+use stream_edits::{Edit, EditRefused};
+use undo_redo::{NotUndone, UnitTexts};
+
+impl<B: Backend, S> Server<B, S> {
+    /// Takes the last step back that is done.
+    pub(crate) fn undo(&mut self) -> Result<Answer, Failure>
+        ensures { UndoesAs B.is_session self.old result self.new }
+    {
+        match self.history.undo(self.alloc) {
+            Ok((edits, units)) => of_group(self.take_back(edits, units)),
+            Err(why) => Err(undo_failure(Refusal::NothingToUndo, why)),
+        }
+    }
+
+    /// Makes the edits together that take the last step back, after which the units have these
+    /// texts.
+    fn take_back(
+        &mut self,
+        edits: Vec<Edit>,
+        units: UnitTexts,
+    ) -> Result<GroupReceipt, GroupRefused>
+        requires some { 0 < self.old.history.history.done }
+        requires undoes { Undoes self.old.history edits.items units }
+        ensures { GoesBy B.is_session (self.old.history.history.done - 1) self.old edits.items
+            result self.new }
+    {
+        let group = ReadGroup::of_step(self.alloc, edits)?;
+        let receipt = self.edit_together(group)?;
+        self.history.undone(units);
+        Ok(receipt)
+    }
+
+    /// Makes the next step again that was taken back.
+    pub(crate) fn redo(&mut self) -> Result<Answer, Failure>
+        ensures { RedoesAs B.is_session self.old result self.new }
+    {
+        match self.history.redo(self.alloc) {
+            Ok((edits, units)) => of_group(self.make_again(edits, units)),
+            Err(why) => Err(undo_failure(Refusal::NothingToRedo, why)),
+        }
+    }
+
+    /// Makes the edits together that make the next step again, after which the units have these
+    /// texts.
+    fn make_again(
+        &mut self,
+        edits: Vec<Edit>,
+        units: UnitTexts,
+    ) -> Result<GroupReceipt, GroupRefused>
+        requires some { self.old.history.history.done
+            < length self.old.history.history.steps.items }
+        requires redoes { Redoes self.old.history edits.items units }
+        ensures { GoesBy B.is_session (min (self.old.history.history.done + 1)
+            (length self.old.history.history.steps.items)) self.old edits.items result self.new }
+    {
+        let group = ReadGroup::of_step(self.alloc, edits)?;
+        let receipt = self.edit_together(group)?;
+        self.history.redone(units);
+        Ok(receipt)
+    }
+}
+
+/// Why nothing is undone or redone, where nothing is there.
+fn undo_failure(none: Refusal, why: NotUndone) -> Failure
+    ensures { result ≡ undo_failure none why }
+{
+    let refusal = match why {
+        NotUndone::Nothing => none,
+        NotUndone::IdsSpent => Refusal::Edit(EditRefused::IdsSpent),
+        NotUndone::Unfit => Refusal::NoSuchUnit,
+        NotUndone::Memory => Refusal::Memory,
+    };
+    Failure::Refused(refusal)
+}

@@ -15,7 +15,7 @@ from cupdaisy.session import Open
 from cupdaisy.streams import texts_of
 from cupdaisy.workspace import SAMPLES
 
-SECONDS, UNITS, DEEP = 60, 12, 10_000
+SECONDS, UNITS, DEEP, LOADS = 60, 12, 10_000, 100
 FILES = sorted(SAMPLES.glob("*.264"))
 
 
@@ -299,11 +299,28 @@ def edges(program, workers):
     for text, wanted in rows:
         if (found := replies(program, workers, text)) != (wanted, 0):
             return f"{text[:60]!r}: {found}"
+    if (wrong := long_load(program, workers)):
+        return wrong
     with open("/dev/full", "wb") as full:
         ran = processes.run([program, "serve", "--workers", str(workers)], call, SECONDS, stdout=full)
     if ran.status != 1:
         return f"a full disk: status {ran.status}"
     return closed_output(program, workers, call + b"\n", json.dumps(nothing, separators=(",", ":")).encode() + b"\n")
+
+
+def long_load(program, workers):
+    """What is wrong where a load of more units than a group of a caller may have edits is undone and done again, if anything."""
+    text = (SAMPLES / "clock.264").read_bytes() * LOADS
+    count = len(texts_of(text))
+    methods = [("load", {"bytes": text_of(text)}), ("undo", {}), ("stats", {}), ("redo", {}), ("text", {"id": count + 1}), ("undo", {}),
+               ("undo", {})]
+    lines = [json.dumps({"jsonrpc": "2.0", "id": at, "method": name, "params": given}) for at, (name, given) in enumerate(methods)]
+    found, status = replies(program, workers, "\n".join(lines).encode())
+    answers = [answer.get("result", answer.get("error")) for answer in found]
+    ids, again = [*range(count, 0, -1)], [*range(count + 1, 2 * count + 1)]
+    wanted = [count, ids, 0, again, text_of(texts_of(text)[0]), again[::-1], 26]
+    told = [answer.get(member) for answer, member in zip(answers, ("units", "ids", "units", "ids", "bytes", "ids", "code"))]
+    return None if (told, status) == (wanted, 0) else f"a load of {count} units is undone otherwise: {str(answers)[:300]}, status {status}"
 
 
 def closed_output(program, workers, call, line):

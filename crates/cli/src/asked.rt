@@ -53,7 +53,7 @@ pub enum Asked<'a> {
         workers: Workers,
     },
     /// A server.
-    Serve(Serving<'a>),
+    Serve(Serving),
 }
 
 /// How many workers decode, each in a thread of its own.
@@ -66,12 +66,10 @@ pub struct Workers {
 
 /// With what a server is run.
 #[derive(Clone, Copy, Debug)]
-pub struct Serving<'a> {
+pub struct Serving {
     /// The workers that decode; with none it is all one thread.
     pub workers: Option<Workers>,
     /// For how many pictures that no unit has the session has room, 1 to `MOST_ROOM`.
     pub cache: u16,
-    /// The file in which edits are recorded, if they are.
-    pub journal: Option<&'a str>,
     ghost room: { (1 ≤ cache) × (cache ≤ most_room) },
 }

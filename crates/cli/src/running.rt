@@ -23,7 +23,6 @@ use draw_run::{Choice, EditedChoice, draw_edited, draw_on};
 use failure_reasons::Explain;
 use file_saving::Saving;
 use script_run::{Options, script_on};
-use session_journal::Journals;
 use shared_run::{audit_with_workers, script_with_workers};
 use std::alloc::Global;
 use std::convert::AsStr;
@@ -34,7 +33,7 @@ use std::thread::Threads;
 use unit_json::Json;
 
 /// Does what the process's words ask for; words that can't be read are a wrong command line.
-pub fn run<D: Directory + Explain + Saving + Journals, I: Read + Drop, W: Sink + Send, E: Sink>(
+pub fn run<D: Directory + Explain + Saving, I: Read + Drop, W: Sink + Send, E: Sink>(
     threads: &(impl Threads + Wait + Sync),
     alloc: Global,
     words: io::Result<Vec<String>>,
@@ -84,13 +83,7 @@ pub fn run<D: Directory + Explain + Saving + Journals, I: Read + Drop, W: Sink +
 }
 
 /// Does what the words ask for, of which the first is the program's name.
-pub fn run_on<
-    T: AsStr,
-    D: Directory + Explain + Saving + Journals,
-    I: Read + Drop,
-    W: Sink + Send,
-    E: Sink,
->(
+pub fn run_on<T: AsStr, D: Directory + Explain + Saving, I: Read + Drop, W: Sink + Send, E: Sink>(
     threads: &(impl Threads + Wait + Sync),
     alloc: Global,
     words: &[T],

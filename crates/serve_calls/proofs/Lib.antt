@@ -5,5 +5,4 @@ mod Listing
 mod Numbered
 mod Pages
 mod Remembered
-mod Replayed
 mod Told

@@ -15,6 +15,6 @@ mod pen;
 mod serving;
 mod threads;
 
-pub use end::{ServeEnd, say_end, say_journal_fault};
+pub use end::{ServeEnd, say_end};
 pub use serving::serve_alone;
 pub use threads::{serve_with, serve_with_workers};

@@ -5,13 +5,14 @@ ghost use Rattle.std.specs.Prelude.{◌≤◌, false, length};
 
 use crate::pen::Pen;
 use decode_pool::{Desk, Seat, TooManyWanted, drop_picture};
-use edit_engine::{Config, Dropping, GroupReceipt, ReadEdit, ReadGroup, Receipt, Session};
-use picture_keys::HashedUnit;
+use edit_engine::{
+    Config, Dropping, EditRefused, GroupReceipt, GroupRefused, ReadEdit, ReadGroup, Receipt,
+    Session,
+};
 use pictures::AuId;
 use serve_answers::Answer;
-use serve_calls::{Asked, Backend, EditFault, GroupFault};
+use serve_calls::{Asked, Backend};
 use serve_requests::Failure;
-use session_journal::Unkept;
 use std::alloc::{AllocError, Global};
 use std::io::Write;
 use std::sync::{Mutex, Wait};
@@ -70,26 +71,13 @@ impl<'a, R: Wait> Backend for AtDesk<'a, R> {
     // The workers have the jobs.
     ghost lends_jobs = { λ _. false };
 
-    fn edit(&mut self, read: ReadEdit) -> Result<Receipt, EditFault> {
-        match self.desk.edit_read(self.rt, read) {
-            Ok(receipt) => Ok(receipt),
-            Err(refused) => Err(EditFault::Refused(refused)),
-        }
+    fn edit(&mut self, read: ReadEdit) -> Result<Receipt, EditRefused> {
+        self.desk.edit_read(self.rt, read)
     }
 
-    fn edit_group(&mut self, group: ReadGroup) -> Result<GroupReceipt, GroupFault> {
-        match self.desk.edit_group_read(self.rt, group) {
-            Ok(receipt) => Ok(receipt),
-            Err(refused) => Err(GroupFault::Refused(refused)),
-        }
+    fn edit_group(&mut self, group: ReadGroup) -> Result<GroupReceipt, GroupRefused> {
+        self.desk.edit_group_read(self.rt, group)
     }
-
-    // Nothing is recorded.
-    fn begin_load(&mut self, _alloc: Global, _units: &[HashedUnit]) -> Result<(), Unkept> {
-        Ok(())
-    }
-
-    fn end_load(&mut self) {}
 
     fn drop_picture(&mut self, id: AuId) -> Dropping {
         drop_picture(self.rt, self.desk, id)
@@ -103,12 +91,8 @@ impl<'a, R: Wait> Backend for AtDesk<'a, R> {
         self.desk.mark(self.rt)
     }
 
-    fn fresh(&self, alloc: Global) -> Result<Session, AllocError> {
-        self.desk.fresh(alloc)
-    }
-
-    fn begin_anew(&mut self, session: Session) -> Result<(), Unkept> {
-        self.desk.begin_anew(self.rt, session);
+    fn reset(&mut self, alloc: Global) -> Result<(), AllocError> {
+        self.desk.reset(self.rt, alloc)?;
         self.want(&[], true);
         Ok(())
     }

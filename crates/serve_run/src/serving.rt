@@ -20,43 +20,30 @@ use failure_reasons::Explain;
 use file_saving::Saver;
 use serde_json::{Category, Error, Value};
 use serve_answers::Answer;
-use serve_calls::{Alone, Backend, Journaled, OUT_OF_MEMORY, Server, Unreplayed, WantedUnit};
+use serve_calls::{Alone, Backend, OUT_OF_MEMORY, Server, WantedUnit};
 use serve_requests::{Failure, Message, Refusal, Request};
-use session_journal::{Records, Step};
 use std::alloc::Global;
 use std::io::{ErrorKind, Read, Write};
 use std::slice;
 use std::thread::Threads;
 
-/// Serves the messages of an input with a session alone, in this thread. The steps of a journal are
-/// made again first, where there is one, and what is edited is recorded in it. The files that are
-/// loaded are the source's, which says beside the answer why it isn't taken of one that isn't.
-pub fn serve_alone<R, K, I, S, W>(
+/// Serves the messages of an input with a session alone, in this thread. The files that are loaded
+/// are the source's, which says beside the answer why it isn't taken of one that isn't.
+pub fn serve_alone<R: Threads + Sync, I: Read + Drop, S: Saver + Explain + Drop, W: Write>(
     rt: &R,
     alloc: Global,
     cache: u16,
-    journal: Option<(K, Vec<Step>)>,
     input: I,
     source: S,
     output: &mut W,
-) -> ServeEnd
-where
-    R: Threads + Sync,
-    K: Records + Drop,
-    I: Read + Drop,
-    S: Saver + Explain + Drop,
-    W: Write,
-{
+) -> ServeEnd {
     let Ok(backend) = Alone::open(alloc, cache) else {
         return ServeEnd::Memory;
     };
     let Ok(mut lines) = Lines::of(alloc, input, MOST_BYTES) else {
         return ServeEnd::Memory;
     };
-    let mut server = Server::new(alloc, Journaled::new(backend), source);
-    if let Err(end) = resume(&mut server, journal) {
-        return end;
-    }
+    let mut server = Server::new(alloc, backend, source);
     let mut pen = Pen::new(alloc, output);
     for _ in 0..u64::MAX {
         if let Err(end) = serve_next(rt, &mut server, &mut pen, &mut lines) {
@@ -64,22 +51,6 @@ where
         }
     }
     ServeEnd::Done
-}
-
-/// Makes the steps of a journal again, in which edits are recorded from then on, where there is one;
-/// or how the server ends.
-pub(crate) fn resume<B: Backend, K: Records + Drop, S>(
-    server: &mut Server<Journaled<B, K>, S>,
-    journal: Option<(K, Vec<Step>)>,
-) -> Result<(), ServeEnd> {
-    let Some((journal, steps)) = journal else {
-        return Ok(());
-    };
-    match server.resume(journal, steps) {
-        Ok(()) => Ok(()),
-        Err(Unreplayed::Memory) => Err(ServeEnd::Memory),
-        Err(Unreplayed::Refused | Unreplayed::InPart) => Err(ServeEnd::Unreplayed),
-    }
 }
 
 /// Reads the next message and serves it; or how the server ends.

@@ -6,12 +6,11 @@ ghost use Rattle.std.specs.Prelude.{◌≡◌, ◌≤◌, length, IfOk};
 use crate::end::ServeEnd;
 use crate::lines::{Lines, MOST_BYTES};
 use crate::office::{AtDesk, Office};
-use crate::serving::{resume, serve_line};
+use crate::serving::serve_line;
 use decode_pool::{Gate, worker};
 use failure_reasons::Explain;
 use file_saving::Saver;
-use serve_calls::{Journaled, Server};
-use session_journal::{Records, Step};
+use serve_calls::Server;
 use stand_in_device::Device;
 use std::alloc::{AllocError, Global};
 use std::io::{Read, Write};
@@ -20,19 +19,17 @@ use std::thread;
 use std::thread::{Scope, Threads};
 
 /// Serves the messages of an input as `serve_with` does, beside so many workers with a device each.
-pub fn serve_with_workers<R, K, I, S, W>(
+pub fn serve_with_workers<R, I, S, W>(
     rt: &R,
     alloc: Global,
     cache: u16,
     workers: usize,
-    journal: Option<(K, Vec<Step>)>,
     input: I,
     source: S,
     output: &mut W,
 ) -> ServeEnd
 where
     R: Threads + Wait + Sync,
-    K: Records + Drop,
     I: Read + Drop,
     S: Saver + Explain + Drop,
     W: Write + Send,
@@ -40,7 +37,7 @@ where
     requires workers { (1 ≤ workers) × (workers ≤ 64) }
 {
     match devices(alloc, workers) {
-        Ok(gates) => serve_with(rt, alloc, cache, gates, journal, input, source, output),
+        Ok(gates) => serve_with(rt, alloc, cache, gates, input, source, output),
         Err(_) => ServeEnd::Memory,
     }
 }
@@ -58,12 +55,11 @@ fn devices(alloc: Global, count: usize) -> Result<Vec<Device>, AllocError>
 
 /// Serves the messages of an input while a worker for each gate decodes in a thread of its own. The
 /// files that are loaded are the source's.
-pub fn serve_with<R, D, K, I, S, W>(
+pub fn serve_with<R, D, I, S, W>(
     rt: &R,
     alloc: Global,
     cache: u16,
     gates: Vec<D>,
-    journal: Option<(K, Vec<Step>)>,
     input: I,
     source: S,
     output: &mut W,
@@ -71,7 +67,6 @@ pub fn serve_with<R, D, K, I, S, W>(
 where
     R: Threads + Wait + Sync,
     D: Gate + Send + Drop,
-    K: Records + Drop,
     I: Read + Drop,
     S: Saver + Explain + Drop,
     W: Write + Send,
@@ -82,52 +77,48 @@ where
         return ServeEnd::Memory;
     };
     match Office::open(alloc, cache, gates.len(), output) {
-        Ok(office) => serve_beside(rt, alloc, &office, gates, journal, lines, source),
+        Ok(office) => serve_beside(rt, alloc, &office, gates, lines, source),
         Err(_) => ServeEnd::Memory,
     }
 }
 
 /// Serves the messages of lines beside the threads of an office. However that ends, the desk is
 /// closed then, and the threads have ended.
-fn serve_beside<'a, R, D, K, I, S, W>(
+fn serve_beside<'a, R, D, I, S, W>(
     rt: &'a R,
     alloc: Global,
     office: &'a Office<W>,
     gates: Vec<D>,
-    journal: Option<(K, Vec<Step>)>,
     lines: Lines<I>,
     source: S,
 ) -> ServeEnd
 where
     R: Threads + Wait + Sync,
     D: Gate + Send + Drop,
-    K: Records + Drop,
     I: Read + Drop,
     S: Saver + Explain + Drop,
     W: Write + Send + Drop,
 {
     thread::scope(thread::scope_env(), rt, move |scope| -> ServeEnd {
-        let end = serve_among(scope, rt, alloc, office, gates, journal, lines, source);
+        let end = serve_among(scope, rt, alloc, office, gates, lines, source);
         office.desk.close(rt);
         end
     })
 }
 
 /// Starts the threads, and serves where all of them could be started.
-fn serve_among<'s, E, R, D, K, I, S, W>(
+fn serve_among<'s, E, R, D, I, S, W>(
     scope: &Scope<'s, E>,
     rt: &'s R,
     alloc: Global,
     office: &'s Office<W>,
     gates: Vec<D>,
-    journal: Option<(K, Vec<Step>)>,
     lines: Lines<I>,
     source: S,
 ) -> ServeEnd
 where
     R: Threads + Wait + Sync,
     D: Gate + Send + Drop + 's,
-    K: Records + Drop,
     I: Read + Drop,
     S: Saver + Explain + Drop,
     W: Write + Send + 's,
@@ -143,7 +134,7 @@ where
     if scope.spawn(move || tell_on(rt, office)).is_err() {
         return ServeEnd::Memory;
     }
-    serve_lines(rt, alloc, office, journal, lines, source)
+    serve_lines(rt, alloc, office, lines, source)
 }
 
 /// Tells of wanted units whenever the session may have another picture to show, until the desk is
@@ -173,17 +164,15 @@ fn tell<R: Wait, W: Write>(rt: &R, office: &Office<W>) {
 }
 
 /// Serves the messages of lines one after the other.
-fn serve_lines<R, K, I, S, W>(
+fn serve_lines<R, I, S, W>(
     rt: &R,
     alloc: Global,
     office: &Office<W>,
-    journal: Option<(K, Vec<Step>)>,
     lines: Lines<I>,
     source: S,
 ) -> ServeEnd
 where
     R: Threads + Wait + Sync,
-    K: Records + Drop,
     I: Read + Drop,
     S: Saver + Explain + Drop,
     W: Write,
@@ -194,10 +183,7 @@ where
         seat: &office.seat,
     };
     let mut lines = lines;
-    let mut server = Server::new(alloc, Journaled::new(backend), source);
-    if let Err(end) = resume(&mut server, journal) {
-        return end;
-    }
+    let mut server = Server::new(alloc, backend, source);
     for _ in 0..u64::MAX {
         if let Err(end) = serve_next(rt, office, &mut server, &mut lines) {
             return end;
@@ -207,19 +193,12 @@ where
 }
 
 /// Reads the next message and serves it, while no one else writes; or how the server ends.
-fn serve_next<R, K, I, S, W>(
+fn serve_next<R: Threads + Wait + Sync, I: Read + Drop, S: Saver + Explain, W: Write>(
     rt: &R,
     office: &Office<W>,
-    server: &mut Server<Journaled<AtDesk<'_, R>, K>, S>,
+    server: &mut Server<AtDesk<'_, R>, S>,
     lines: &mut Lines<I>,
-) -> Result<(), ServeEnd>
-where
-    R: Threads + Wait + Sync,
-    K: Records,
-    I: Read + Drop,
-    S: Saver + Explain,
-    W: Write,
-{
+) -> Result<(), ServeEnd> {
     match lines.next() {
         Ok(line) => {
             let mut pen = office.pen.lock(rt);

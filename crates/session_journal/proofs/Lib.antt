@@ -1,4 +1,0 @@
-pub mod CountLemmas
-pub mod KeepLemmas
-pub mod LeaveLemmas
-pub mod OpenLemmas

@@ -32,6 +32,15 @@ def access_units(stream):
     return [unit_of(stream, begin, end, inside) for begin, end, inside in zip(begins, ends, nals)]
 
 
+def unit_of_text(text):
+    return unit_of(text, 0, len(text), list(NAL.finditer(text)))
+
+
+def nal_units(stream):
+    """What of a stream is the same however its start codes are written, and how many zero bytes stand around them."""
+    return [nal.rstrip(b"\x00") for nal in stream.split(b"\x00\x00\x01")]
+
+
 def unit_of(stream, begin, end, nals):
     heads = [found[1][0] for found in nals]
     slices = [found.start(1) for found, head in zip(nals, heads) if 1 <= head & 31 <= 5]

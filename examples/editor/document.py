@@ -2,28 +2,52 @@
 import concurrent.futures
 import pathlib
 
-from access_units import access_units, sets_before
-from server import Refused
+from access_units import access_units, nal_units, sets_before
+from server import Refused, Server
 from stream import Stream
 
 
 class Document:
     """Units' texts, undo and redo are kept here, as a second session tries each step too. An edit is a list of splices, each (place,
-    how many units go, the units that come), and so is what undoes it: a unit that comes back has a new id."""
+    how many units go, the units that come), and so is what undoes it: a unit that comes back has a new id. Beside a file that isn't
+    a copy stands its journal, from which edits that weren't saved are resumed."""
 
     def __init__(self, path, workers, is_copy):
         self.path, self.is_copy, self.undone_by, self.redone_by, self.is_saved = pathlib.Path(path), is_copy, [], [], True
-        units = access_units(self.path.read_bytes())
-        self.shown = Stream(self.path, units, workers)
-        self.stretch = (0, 0)
+        self.journal, self.stretch = None if is_copy else f"{self.path}.journal", (0, 0)
         # A session beside tries edits before they are made. It begins while the user looks at the first pictures.
-        self.trials = concurrent.futures.ThreadPoolExecutor(1)
-        self.beside = self.trials.submit(lambda: Stream(self.path, units, 0))
+        self.trials, self.beside = concurrent.futures.ThreadPoolExecutor(1), None
+        file = self.path.read_bytes()
+        self.shown = Stream(Server(workers, self.journal))
+        if self.shown.resume():
+            self.is_saved = nal_units(self.text()) == nal_units(file)
+        else:
+            self.load(file)
+        self.is_resumed = not self.is_saved
+        self.trials.submit(self.beside_of, self.shown.units)
+
+    def load(self, file):
+        try:
+            self.shown.load(self.path, access_units(file))
+        except Refused:
+            self.close()
+            raise
 
     def close(self):
+        """Ends both sessions. The journal stays if edits weren't saved."""
         self.shown.server.close()
-        self.trials.submit(lambda: self.beside.result().server.close())
+        if self.journal and self.is_saved:
+            for name in (self.journal, f"{self.journal}-wal"):
+                pathlib.Path(name).unlink(missing_ok=True)
+        self.trials.submit(lambda: self.beside and self.beside.server.close())
         self.trials.shutdown(wait=False)
+
+    def beside_of(self, units):
+        """The session beside, which has these units: begun where there is none, or where its server was killed."""
+        if not self.beside or self.beside.server.process.poll() is not None:
+            self.beside = Stream(Server(0))
+            self.beside.make([(0, 0, units)])
+        return self.beside
 
     def edit(self, splices):
         """Makes an edit, which can be undone."""
@@ -45,9 +69,10 @@ class Document:
         self.redone_by.pop()
 
     def made(self, splices):
+        units = self.shown.units
         back, self.stretch = self.shown.make(splices)
         self.is_saved = False
-        self.trials.submit(lambda: self.beside.result().make(splices))
+        self.trials.submit(lambda: self.beside_of(units).make(splices))
         return back
 
     def units(self, ids):
@@ -55,8 +80,10 @@ class Document:
 
     def foreseen(self, splices):
         """How many units an edit would make faulty or put in doubt, and how many whole again: it is made beside, and undone."""
+        units = self.shown.units
+
         def tried():
-            stream = self.beside.result()
+            stream = self.beside_of(units)
             before = stream.states()
             back, _ = stream.make(splices)
             after = stream.states()
@@ -72,15 +99,15 @@ class Document:
 
     def save(self):
         """Has the server write the stream as the file: whoever reads that finds the old one or the new one whole."""
-        self.shown.server.call("save", path=str(self.path))
-        self.is_saved = True
+        self.shown.call("save", path=str(self.path))
+        self.is_saved, self.is_resumed = True, False
         self.shown.mark()
 
     def told(self):
         """All that the page shows, but for pictures: a member for each property of units, lists in stream order or of places."""
         stream = self.shown
         outcomes = list(enumerate(stream.outcomes))
-        return {"name": self.path.name, "is_copy": self.is_copy, "is_saved": self.is_saved,
+        return {"name": self.path.name, "is_copy": self.is_copy, "is_saved": self.is_saved, "resumed": self.is_resumed,
                 "undo": len(self.undone_by), "redo": len(self.redone_by), "changed": self.stretch,
                 "ids": stream.ids, "letters": "".join(unit.letter for unit in stream.units),
                 "references": "".join("01"[unit.is_reference] for unit in stream.units),
@@ -97,7 +124,7 @@ class Document:
         told, texts = [], []
         places = {unit_id: place for place, unit_id in enumerate(self.shown.ids)} if begin else {}
         for unit_id in ids:
-            shown = self.shown.server.call("show", id=unit_id)
+            shown = self.shown.call("show", id=unit_id)
             unit = self.shown.texts[unit_id]
             text = unit.text if shown["state"] in ("ready", "pending") else unit.sets
             if begin and unit_id == ids[0]:

@@ -4,8 +4,9 @@
     examples/editor/editor.py [FILE] [--port N] [--workers N]
 
 It prints the address to open, http://127.0.0.1:8264/ by default, and listens on this machine alone. A page has one stream
-open. FILE is written when the page saves, and not before; a file that is dropped on the page stays as it is, and the page
-downloads what it saves. What the server refuses is shown, and changes nothing.
+open. FILE is written when the page saves, and not before; until then its edits are in FILE.journal, and the next start finds
+them there. A file that is dropped on the page stays as it is, and the page downloads what it saves. What the server refuses
+is shown, and changes nothing.
 """
 import argparse
 import http.server
@@ -21,7 +22,7 @@ import urllib.parse
 
 import thumbnails
 from document import Document
-from server import PREVIEW, Refused
+from server import PREVIEW, Ended, Refused
 
 HERE = pathlib.Path(__file__).resolve().parent
 KINDS = {".html": "text/html", ".js": "text/javascript", ".css": "text/css"}
@@ -122,7 +123,8 @@ class Handler(http.server.BaseHTTPRequestHandler):
             name = pathlib.Path(dict(urllib.parse.parse_qsl(words))["name"]).name
             file = pathlib.Path(tempfile.mkdtemp(dir=Handler.folder), name)
             file.write_bytes(body)
-            return self.answer(self.open(file))
+            with Handler.edits:
+                return self.answer(self.open(file))
         call = {"/ask": self.ask, "/edit": self.edit, "/foresee": self.foresee, "/undo": self.undo, "/redo": self.redo,
                 "/save": self.save, "/mend": self.mend, "/decode": self.decode, "/pictures": self.pictures}.get(path)
         if not call:
@@ -133,7 +135,7 @@ class Handler(http.server.BaseHTTPRequestHandler):
     def ask(self, document, given):
         if given["method"] not in QUESTIONS:
             raise Refused("that is no question")
-        self.answer({"result": document.shown.server.call(given["method"], **given["params"])})
+        self.answer({"result": document.shown.call(given["method"], **given["params"])})
 
     def splices(self, document, given):
         return [(place, gone, document.units(ids)) for place, gone, ids in given]
@@ -197,6 +199,25 @@ class Bridge(http.server.ThreadingHTTPServer):
             super().handle_error(request, client_address)
 
 
+def opened(file, workers):
+    """The document of a file that was named, or the end."""
+    try:
+        return Document(pathlib.Path(file).resolve(), workers, False)
+    except Ended:
+        sys.exit(1)    # the server has said why
+    except Refused as refused:
+        sys.exit(f"editor: {file} is refused: {refused}. What `preview mend FILE >OUT` makes of it can be opened.")
+    except OSError as error:
+        sys.exit(f"editor: {error}")
+
+
+def serve(port):
+    with tempfile.TemporaryDirectory(prefix="editor-") as Handler.folder, Bridge(("127.0.0.1", port), Handler) as server:
+        Handler.port = server.server_address[1]
+        print(f"http://127.0.0.1:{Handler.port}/", flush=True)
+        server.serve_forever()
+
+
 def main():
     parser = argparse.ArgumentParser(description=__doc__, formatter_class=argparse.RawTextHelpFormatter)
     parser.add_argument("file", metavar="FILE", nargs="?")
@@ -205,21 +226,17 @@ def main():
     options = parser.parse_args()
     Handler.workers = options.workers
     if options.file:
-        path = pathlib.Path(options.file).resolve()
-        try:
-            Handler.document = Document(path, options.workers, False)
-        except Refused as refused:
-            sys.exit(f"editor: {options.file} is refused: {refused}. What `preview mend FILE >OUT` makes of it can be opened.")
-        except OSError as error:
-            sys.exit(f"editor: {error}")
-    signal.signal(signal.SIGTERM, lambda *_: sys.exit())    # so that the folder of what was opened goes then too
-    with tempfile.TemporaryDirectory(prefix="editor-") as Handler.folder, Bridge(("127.0.0.1", options.port), Handler) as server:
-        Handler.port = server.server_address[1]
-        print(f"http://127.0.0.1:{Handler.port}/", flush=True)
-        try:
-            server.serve_forever()
-        except KeyboardInterrupt:
-            pass
+        Handler.document = opened(options.file, options.workers)
+    # So that the folder of what was opened goes then too, and the journal if all is saved.
+    signal.signal(signal.SIGTERM, lambda *_: sys.exit())
+    try:
+        serve(options.port)
+    except KeyboardInterrupt:
+        pass
+    finally:
+        with Handler.edits:
+            if Handler.document:
+                Handler.document.close()
 
 
 if __name__ == "__main__":

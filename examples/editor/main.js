@@ -239,4 +239,5 @@ editor.act(async () => {
   [editor.pictures.decoder, byId("decoder").textContent] = await decoder();
   const told = await ask("document");
   if (told) editor.open(told);
+  if (told?.resumed) editor.say(`Edits of ${told.name} that weren't saved were found, and are shown.`, true);
 });

@@ -4,44 +4,81 @@ import re
 import subprocess
 import tempfile
 
-from access_units import sets_before
-from server import PREVIEW, Refused, Server
+from access_units import sets_before, unit_of_text
+from server import PREVIEW, Ended, Refused
 
 MOST_UNITS = 65_536
 # What a group may hold, and how much of a message its texts may be (docs/SERVER.md).
 MOST_EDITS, MOST_BYTES = 1_024, 32 << 20
 PAGE = 1_000
+# How many entries of the journal are asked for at once: each may have the texts of a group.
+ENTRIES = 16
 # Up to how many units a part may have that `plan --json` is asked of, which prints all controls of each.
 MOST_PLANNED = 1_000
 
 
 class Stream:
-    def __init__(self, path, units, workers):
-        self.server = Server(workers)
-        try:
-            loaded = self.server.call("load", path=str(path))
-            if len(units) != loaded["units"]:
-                raise Refused(f"{loaded['units']} units were loaded, and {len(units)} found")
-        except Refused:
-            self.server.close()
-            raise
-        self.units, self.ids = units, list(range(loaded["first"], loaded["last"] + 1))
-        self.next_id, self.outcomes = loaded["last"] + 1, self.asked(0, len(units))
-        self.texts = dict(zip(self.ids, units))    # of each id that there ever was: what is copied can be pasted when it is gone
+    def __init__(self, server):
+        self.server, self.units, self.ids, self.outcomes, self.doubts, self.next_id, self.edits_made = server, [], [], [], {}, 1, 0
+        self.texts = {}    # of each id that there ever was: what is copied can be pasted when it is gone
+
+    def load(self, path, units):
+        loaded = self.server.call("load", path=str(path))
+        if len(units) != loaded["units"]:
+            raise Refused(f"{loaded['units']} units were loaded, and {len(units)} found")
+        self.take(dict(enumerate(units, 1)))
+
+    def resume(self):
+        """Takes the stream that the server's journal leads to. The answer is whether any edit is in it."""
+        texts, entries = {}, 0
+        while found := self.server.call("journal", **{"from": entries, "count": ENTRIES}):
+            entries += len(found)
+            for edit in (edit for entry in found for edit in entry["edits"]):
+                (what, params), = edit.items()
+                if what != "delete":
+                    unit_id = params.get("id", len(texts) + 1)    # insertions are given the ids from 1 on
+                    texts[unit_id] = unit_of_text(base64.b64decode(params["bytes"]))
+        if entries:
+            self.take(texts)
+        return entries > 0
+
+    def take(self, texts):
+        """Takes the stream as the server has it, where the units of all ids that were given are these."""
+        stats = self.server.call("stats")
+        self.edits_made, self.texts, self.next_id = stats["edits"], texts, len(texts) + 1
+        self.outcomes = self.asked(0, stats["units"])
+        self.ids = [outcome["unit"] for outcome in self.outcomes]
+        self.units = [self.texts[unit_id] for unit_id in self.ids]
         self.doubts = self.told_doubts()
         self.mark()
+
+    def call(self, method, **params):
+        """Calls the server. One that was killed is begun again, with the same ids, and marked as it is then. A group that it was
+        killed over isn't made twice: where that is in the journal it has no receipt."""
+        try:
+            return self.server.call(method, **params)
+        except Ended:
+            self.server.begin_again()
+        self.mark()
+        made = self.server.call("stats")["edits"]
+        if method == "group" and made == self.edits_made + 1:
+            return {}
+        if made != self.edits_made:
+            self.server.close()
+            raise Refused("the journal has other edits than are shown: start the editor again")
+        return self.server.call(method, **params)
 
     def mark(self):
         """What a unit was made of now isn't altered later, whatever its id is then."""
         self.server.call("mark")
-        for outcome in self.outcomes:
+        for outcome in filter(None, self.outcomes):
             outcome.pop("altered", None)
 
     def asked(self, begin, end):
         """The outcomes of the units at these places."""
         found = []
         for place in range(begin, end, PAGE):
-            found += self.server.call("units", **{"from": place, "count": min(PAGE, end - place)})
+            found += self.call("units", **{"from": place, "count": min(PAGE, end - place)})
         return found
 
     def make(self, splices):
@@ -131,7 +168,7 @@ class Group:
     """Edits that are made together, in as few groups as the server takes, and the stretch that its receipt tells of them."""
 
     def __init__(self, stream, ids):
-        self.server, self.next_id, self.ids, self.edits = stream.server, stream.next_id, ids, []
+        self.stream, self.next_id, self.ids, self.edits = stream, stream.next_id, ids, []
 
     def add(self, place, gone, come):
         """Adds a splice. Each unit that comes gets the next id, and the one after it stands behind that id."""
@@ -149,7 +186,11 @@ class Group:
         receipts = []
         for part in parts(self.edits):
             try:
-                receipts.append(self.server.call("group", edits=part))
+                receipts.append(self.stream.call("group", edits=part))
+                self.stream.edits_made += 1
+            except Ended:
+                self.stream.server.close()    # nobody knows whether it was made
+                raise
             except Refused as refused:
                 if receipts:
                     raise RuntimeError(f"made in part, and then refused: {refused}. Open the stream again.") from refused

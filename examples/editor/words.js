@@ -20,6 +20,7 @@ const REFUSALS = {
   8: "an IDR picture has a P or B slice", 9: "an IDR picture isn't a reference", 10: "an access unit has slices of reference and of other pictures",
   14: "an access unit is too large", 15: "there is no memory for it", 16: "a unit isn't there any more", 17: "a stream has 65,536 units at most",
   21: "a group has 1,024 edits at most", 23: "the file can't be read",
+  25: "the file, or the journal beside it, can't be written",
 };
 
 const number = new Intl.NumberFormat("en");

@@ -22,7 +22,8 @@ class Refused(Exception):
 
 
 class Preview:
-    """A server in a process of its own."""
+    """A server in a process of its own. Preview(program, "--journal", "edits.journal") begins with the edits of that file, ids as they
+    were, and records further ones there."""
 
     def __init__(self, program, *options):
         self.process = subprocess.Popen([program, "serve", *options], stdin=subprocess.PIPE, stdout=subprocess.PIPE)

@@ -18,6 +18,7 @@ from cupdaisy.workspace import SAMPLES, TOP
 
 sys.path.insert(0, str(TOP / "examples/editor"))
 
+from access_units import nal_units
 from document import Document
 
 SIZES = {"1280": (1280, 880), "800": (800, 880)}
@@ -283,6 +284,23 @@ def edit_drawn(file, edits=30):
     return wrong
 
 
+def edit_killed(file):
+    """Kills a document's server between edits, and ends without a save: the next document has the edits and ids, and saves them."""
+    document, wrong = Document(file, 1, False), []
+    document.edit([(2, 3, [])])
+    document.shown.server.process.kill()
+    document.edit([(4, 0, document.shown.units[:2])])
+    document.close()
+    resumed = Document(file, 1, False)
+    if not resumed.is_resumed or resumed.shown.ids != document.shown.ids or nal_units(resumed.text()) != nal_units(document.text()):
+        wrong.append(f"{file.name}: its edits aren't resumed")
+    resumed.save()
+    resumed.close()
+    if list(file.parent.glob(f"{file.name}.journal*")):
+        wrong.append(f"{file.name}: its journal stays")
+    return wrong
+
+
 def visit(options, name, file, walk_through, query="", is_dark=False, size=SIZES["1280"]):
     """Opens an editor and a browser for a walk; what was wrong."""
     command = [TOP / "examples/editor/editor.py", *([file] if file else []), "--port", "0"]
@@ -336,6 +354,7 @@ def main(doc):
                 wrong += visit(options, name, file, lambda check: walk(check, file), "", is_dark, size)
         for file in (SAMPLES / "bframes.264", SAMPLES / "zoom.264"):
             wrong += edit_drawn(file)
+        wrong += edit_killed(pathlib.Path(shutil.copy(SAMPLES / "bframes.264", folder / "killed.264")))
         wrong += visit(options, "ffmpeg", film, by_decoder(film, "decoded by ffmpeg"), "?decoder=ffmpeg")
         wrong += visit(options, "digests", film, by_decoder(film, "digests"), "?decoder=none")
         wrong += visit(options, "mend", None, lambda check: open_damaged(check, folder / "damaged.264"))

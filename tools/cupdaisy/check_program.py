@@ -309,6 +309,8 @@ def check_reasons(it):
     for workers in "0", "2":
         it.expect(f"serve of loads, {workers} workers", it.run("serve", "--workers", workers, text=loads), 0,
                   lambda text: [line.count(b'"error"') for line in text.splitlines()] == [1, 0, 1, 1], told + cut + why)
+        ran = it.run("serve", "--workers", workers, "--journal", "clock.264", text=loads)
+        it.expect(f"serve with a journal that is none, {workers} workers", ran, 1, b"", b"not a journal: clock.264\n")
 
 
 def check_scripts(it):

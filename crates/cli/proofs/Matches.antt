@@ -11,7 +11,7 @@ use Rattle.clap.proofs.ValueTestLemmas.{Accepts-accepts, accepts-Accepts}
 use Rattle.clap.proofs.WalkLemmas.{first_value-rows, one_text-rows}
 use Rattle.unit_json.specs.declared.decode_mode.DecodeMode.{DecodeMode}
 use Rattle.cli.specs.Bounds.{most_id}
-use Rattle.cli.specs.CommandLine.{Wanted, audit, audit_in, cache_in, check, check_in, draw_in, drawing, form_in, from_by, from_in, has_flag, is_true, mend, mend_in, number_in, number_of, plan, plan_in, run, run_in, several, units_in, workers_in}
+use Rattle.cli.specs.CommandLine.{Wanted, audit, audit_in, cache_in, check, check_in, draw_in, drawing, form_in, from_by, from_in, has_flag, is_true, mend, mend_in, number_in, number_of, plan, plan_in, run, run_in, serve, serve_in, several, units_in, workers_in}
 
 -- with no value of FILE nothing is planned
 pub no-file : (f : Found) → None ≡ first_value f (codes "FILE") → None ≡ plan_in (rows_of f)
@@ -169,3 +169,13 @@ module _ (bits : ℕ) (E : Type 0) (G : List ℕ → Result ℕ E → Type 0) (o
           let read = value t is in
           let refuses = only t (Err read.0) read.1 in
           at (Some t) is ∙ outside low high t (λ h. let below = h.3 in refuses (h.0, omega (arith)))
+
+-- a server is run with what the options give
+pub serve-read : (f : Found) (workers room : Option ℕ) (journal : Option Text) → workers_in 0 (rows_of f) ≡ workers
+    → cache_in (rows_of f) ≡ room → journal ≡ first_value f (codes "journal")
+    → option_and_then (λ n. option_map (λ m. serve (several n) m journal) room) workers ≡ serve_in (rows_of f)
+serve-read f workers room journal several_are is given =
+    ap (λ (r : Option ℕ). option_and_then (λ n. option_map (λ m. serve (several n) m journal) r) workers) (sym is)
+    ∙ (ap (option_and_then (λ n. option_map (λ m. serve (several n) m journal) (cache_in (rows_of f)))) (sym several_are)
+    ∙ ap (λ (j : Option Text). option_and_then (λ n. option_map (λ m. serve (several n) m j) (cache_in (rows_of f))) (workers_in 0 (rows_of f)))
+    (given ∙ first_value-rows f (codes "journal")))

@@ -17,8 +17,8 @@ use Rattle.picture_cache.specs.Bounded.{most_room}
 use Rattle.unit_json.specs.declared.decode_mode.DecodeMode.{DecodeMode}
 use Rattle.unit_json.specs.declared.decode_mode.DecodeMode.TheVariants.{SliceBased, FrameBased}
 use Rattle.cli.specs.Bounds.{most_drawn, most_id, most_workers}
-use Rattle.cli.specs.declared.asked.Asked.{Asked}
-use Rattle.cli.specs.declared.asked.Asked.TheVariants.{Audit, Check, Draw, DrawEdited, Mend, Plan, Run, Serve}
+use Rattle.cli.specs.declared.invocation.Invocation.{Invocation}
+use Rattle.cli.specs.declared.invocation.Invocation.TheVariants.{Audit, Check, Draw, DrawEdited, Mend, Plan, Run, Serve}
 
 -- a word that has to be there
 abbrev pub needed_rule : Text → Rule
@@ -97,9 +97,13 @@ audit_app = with_rule (with_rule (with_rule (new_app (codes "audit")) (needed_ru
 abbrev pub one_worker_rule : Rule
 one_worker_rule = option_rule (codes "workers") (Signed (pos 0) (pos most_workers)) (codes "1")
 
--- `serve [--workers N] [--cache N]`
+-- `--journal FILE`, a name
+abbrev pub journal_rule : Rule
+journal_rule = record (new_rule (codes "journal")) { long = Some (codes "journal"); value_names = 1 }
+
+-- `serve [--workers N] [--cache N] [--journal FILE]`
 abbrev pub serve_app : App
-serve_app = with_rule (with_rule (new_app (codes "serve")) one_worker_rule) cache_rule
+serve_app = with_rule (with_rule (with_rule (new_app (codes "serve")) one_worker_rule) cache_rule) journal_rule
 
 -- `preview` with one of the seven, or with `--version`
 abbrev pub preview_app : App
@@ -112,7 +116,7 @@ preview_app = with_subcommand (with_subcommand (with_subcommand (with_subcommand
 -- id on; one after a script's edits, of so many units from an id or from the first on; a run of a
 -- script, in one thread or beside so many workers, with so much room, and with the hashes of
 -- pictures or without; its audit, beside so many workers and with so much room; or a server, in one
--- thread or beside so many workers, and with so much room
+-- thread or beside so many workers, with so much room, and with a journal in a file or without one
 pub data Wanted : Type 0 where
   plan : Text → Option DecodeMode → Wanted
   mend : Text → Wanted
@@ -121,10 +125,10 @@ pub data Wanted : Type 0 where
   draw_edited : Text → Text → Option ℕ → ℕ → Wanted
   run : Text → Option ℕ → ℕ → Bool → Wanted
   audit : Text → ℕ → ℕ → Wanted
-  serve : Option ℕ → ℕ → Wanted
+  serve : Option ℕ → ℕ → Option Text → Wanted
 
 -- the same, of the program's own type
-abbrev pub wanted_of : Asked → Wanted
+abbrev pub wanted_of : Invocation → Wanted
 wanted_of (Plan file json) = plan file.now json
 wanted_of (Mend file) = mend file.now
 wanted_of (Check file json) = check file.now json
@@ -133,7 +137,8 @@ wanted_of (DrawEdited file script choice) = draw_edited file.now script.now choi
 wanted_of (Run options workers) =
     run options.name.now (option_map (λ several. several.count) workers) options.cache options.hex
 wanted_of (Audit options workers) = audit options.name.now workers.count options.cache
-wanted_of (Serve serving) = serve (option_map (λ several. several.count) serving.workers) serving.cache
+wanted_of (Serve serving) =
+    serve (option_map (λ several. several.count) serving.workers) serving.cache (option_map (λ name. name.now) serving.journal)
 
 -- the number in these bounds that a text reads as
 abbrev pub number_in : ℕ → ℕ → Text → Option ℕ
@@ -228,7 +233,8 @@ audit_in rows = option_and_then (λ name. option_and_then (λ workers.
 -- what the words after `serve` ask for
 abbrev pub serve_in : List Row → Option Wanted
 serve_in rows =
-    option_and_then (λ workers. option_map (λ room. serve (several workers) room) (cache_in rows)) (workers_in 0 rows)
+    option_and_then (λ workers. option_map (λ room. serve (several workers) room (first_of (codes "journal") rows)) (cache_in rows))
+    (workers_in 0 rows)
 
 -- what a subcommand and the words after it ask for
 abbrev pub wanted_by : Text × List Row → Option Wanted

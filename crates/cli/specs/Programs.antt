@@ -30,7 +30,8 @@ use Rattle.script_run.specs.Stops.{StopsBy}
 use Rattle.script_run.specs.declared.run_fault.RunFault.{RunFault}
 use Rattle.unit_json.specs.declared.json_line.JsonLine.{JsonLine}
 use Rattle.cli.specs.CommandLine.{HasOne, IsRequest, Wanted, audit, check, draw, draw_edited, faults_of, mend, plan, run, serve, wanted_in}
-use Rattle.serve_run.specs.Ends.{end_text}
+use Rattle.edit_journal.specs.declared.fault.JournalFault.{JournalFault}
+use Rattle.serve_run.specs.Ends.{end_text, journal_fault_text}
 use Rattle.serve_run.specs.declared.end.ServeEnd.{ServeEnd}
 
 -- nothing is known of the text that says a line as JSON
@@ -76,7 +77,7 @@ IsDone files standard (run name workers room hex) told old new mute had has =
     IfSome (text_named files standard name) (λ text. RunsScript workers files text room hex old new) × Keeps had has
 IsDone files standard (audit name workers room) told old new mute had has =
     IfSome (text_named files standard name) (λ text. WritesAgreed files text old new) × Keeps had has
-IsDone files standard (serve workers room) told old new mute had has = Keeps had has
+IsDone files standard (serve workers room journal) told old new mute had has = Keeps had has
 
 -- it ended by a fault, which was told; of the two outputs it is said whether each refused, and what
 -- it had and has
@@ -110,8 +111,11 @@ FailsAt files standard (run name workers room hex) told refused old new mute had
     × Tells told mute had has (run_fault_text fault)
 FailsAt files standard (audit name workers room) told refused old new mute had has =
     FailsAudit files name (text_named files standard name) told refused old new mute had has
-FailsAt files standard (serve workers room) told refused old new mute had has =
+FailsAt files standard (serve workers room None) told refused old new mute had has =
     (end : ServeEnd) × Tells told mute had has (end_text end)
+FailsAt files standard (serve workers room (Some name)) told refused old new mute had has =
+    ((end : ServeEnd) × Tells told mute had has (end_text end))
+    ⊎ ((fault : JournalFault) × Keeps old new × Tells told mute had has (journal_fault_text name fault))
 
 -- memory ran out for the words or for an answer to them: that was told, and nothing printed
 abbrev pub WantsMemory : {T : Type 0} → Result T PrintFault → Option (List ℕ) → Option (List ℕ)

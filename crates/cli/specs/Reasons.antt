@@ -24,7 +24,7 @@ AreReasons files (draw_edited name script from units) lines =
     MayHaveFile (files name) name lines ⊎ AreScriptLines Edits files script lines
 AreReasons files (run name workers room hex) lines = AreScriptLines (kind_beside workers) files name lines
 AreReasons files (audit name workers room) lines = AreScriptLines Seat files name lines
-AreReasons files (serve workers room) lines = lines ≡ []
+AreReasons files (serve workers room journal) lines = lines ≡ []
 
 -- nothing is said, or that of what the words ask for
 abbrev pub MayHaveReasons : Files → List Text → List ℕ → Type 0

@@ -5,7 +5,7 @@ ghost use Rattle.console_io.specs.Messages.{Tells};
 ghost use Rattle.cli.specs.CommandLine.{wanted_of};
 ghost use Rattle.cli.specs.Reasons.{kind_beside, AreReasons, MayHaveReasons};
 
-use crate::{Asked, Workers, parse};
+use crate::{Invocation, Workers, parse};
 use console_io::{PrintFault, Sink, write_bytes};
 use failure_reasons::{Again, ScriptKind, edited_lines, script_lines, stream_lines};
 use std::alloc::{AllocError, Global};
@@ -44,23 +44,25 @@ fn reasons<T: AsStr, D: Again>(alloc: Global, words: &[T], directory: &D) -> Vec
 /// The lines for what is asked for.
 fn asked_reasons<D: Again>(
     alloc: Global,
-    asked: Asked<'_>,
+    asked: Invocation<'_>,
     directory: &D,
 ) -> Result<Vec<u8>, AllocError>
     ensures { IfOk result (λ lines.
         AreReasons (D.bytes directory.now) (wanted_of asked.entry) lines.items) }
 {
     match asked {
-        Asked::Plan { file, .. } => stream_lines(alloc, directory, file),
-        Asked::Draw { file, .. } => stream_lines(alloc, directory, file),
-        Asked::DrawEdited { file, script, .. } => edited_lines(alloc, directory, file, script),
-        Asked::Run { options, workers } => {
+        Invocation::Plan { file, .. } => stream_lines(alloc, directory, file),
+        Invocation::Draw { file, .. } => stream_lines(alloc, directory, file),
+        Invocation::DrawEdited { file, script, .. } => edited_lines(alloc, directory, file, script),
+        Invocation::Run { options, workers } => {
             script_lines(alloc, kind_beside(workers), directory, options.name)
         }
-        Asked::Audit { options, .. } => {
+        Invocation::Audit { options, .. } => {
             script_lines(alloc, ScriptKind::Seat, directory, options.name)
         }
-        Asked::Mend { .. } | Asked::Check { .. } | Asked::Serve(_) => Ok(Vec::new(alloc)),
+        Invocation::Mend { .. } | Invocation::Check { .. } | Invocation::Serve(_) => Ok(Vec::new(
+            alloc,
+        )),
     }
 }
 

@@ -10,8 +10,8 @@
 //! and is written is generic. Above is preview, which has the process's own.
 #![tactic(auto)]
 
-mod asked;
 mod explaining;
+mod invocation;
 mod named_texts;
 mod parsing;
 mod planning;
@@ -20,7 +20,7 @@ mod running;
 mod serving;
 mod serving_args;
 
-pub use asked::{Asked, MOST_WORKERS, Serving, Workers};
 pub use explaining::explain;
+pub use invocation::{Invocation, MOST_WORKERS, Serving, Workers};
 pub use parsing::{parse, words};
 pub use running::{run, run_on};

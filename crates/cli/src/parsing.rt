@@ -8,7 +8,7 @@ ghost use Rattle.cli.specs.CommandLine.{audit_app, audit_in, cache_in, cache_rul
 ghost use Rattle.cli.specs.CommandLine.{number_of, option_rule, preview_app, run_app, run_in, several};
 ghost use Rattle.cli.specs.CommandLine.{units_in, units_rule, wanted_from, wanted_in, wanted_of, workers_in};
 
-use crate::asked::{Asked, MOST_WORKERS, Workers};
+use crate::invocation::{Invocation, MOST_WORKERS, Workers};
 use crate::planning_args::{
     check_command, mend_command, plan_command, read_check, read_mend, read_plan,
 };
@@ -38,7 +38,7 @@ pub fn words(rt: &HostRuntime) -> io::Result<Vec<String>> {
 }
 
 /// What the words ask for, or clap's answer to them.
-pub fn parse<'a, S: AsStr>(alloc: Global, words: &'a [S]) -> Result<Asked<'a>, Error>
+pub fn parse<'a, S: AsStr>(alloc: Global, words: &'a [S]) -> Result<Invocation<'a>, Error>
     ensures ok { IfOk result (λ asked. wanted_in (map S.text words.entry.now)
         ≡ Some (wanted_of asked)) }
     ensures faults { FailsBy (faults_of (map S.text words.entry.now)) result }
@@ -52,7 +52,7 @@ pub fn parse<'a, S: AsStr>(alloc: Global, words: &'a [S]) -> Result<Asked<'a>, E
 }
 
 /// What the matches ask for.
-fn read_matches<'a>(matches: &ArgMatches<'a>) -> Option<Asked<'a>>
+fn read_matches<'a>(matches: &ArgMatches<'a>) -> Option<Invocation<'a>>
     ensures { option_map wanted_of result ≡ wanted_from (subcommand_rows_of matches.now) }
 {
     match matches.subcommand() {
@@ -68,7 +68,7 @@ fn read_matches<'a>(matches: &ArgMatches<'a>) -> Option<Asked<'a>>
 }
 
 /// What the matches of `draw` ask for.
-fn read_draw<'a>(draw: &ArgMatches<'a>) -> Option<Asked<'a>>
+fn read_draw<'a>(draw: &ArgMatches<'a>) -> Option<Invocation<'a>>
     ensures { option_map wanted_of result ≡ draw_in (rows_of (found_of draw.now)) }
 {
     let file = draw.get_str("FILE")?;
@@ -79,18 +79,23 @@ fn read_draw<'a>(draw: &ArgMatches<'a>) -> Option<Asked<'a>>
 
 /// A drawing of so many units, from an id on if one is given, after the edits of a script if one
 /// is.
-fn drawing<'a>(file: &'a str, script: Option<&'a str>, from: Option<u32>, units: usize) -> Asked<'a>
+fn drawing<'a>(
+    file: &'a str,
+    script: Option<&'a str>,
+    from: Option<u32>,
+    units: usize,
+) -> Invocation<'a>
     requires { units ≤ 1000 }
     ensures { wanted_of result ≡ drawing file.entry.now
         (option_map (λ name. name.now) script.entry) from units }
 {
     match script {
-        Some(script) => Asked::DrawEdited {
+        Some(script) => Invocation::DrawEdited {
             file,
             script,
             choice: EditedChoice { from, units },
         },
-        None => Asked::Draw {
+        None => Invocation::Draw {
             file,
             choice: Choice {
                 from: from.unwrap_or(1),
@@ -131,7 +136,7 @@ fn read_units(matches: &ArgMatches<'_>) -> Option<usize>
 }
 
 /// What the matches of `run` ask for.
-fn read_run<'a>(run: &ArgMatches<'a>) -> Option<Asked<'a>>
+fn read_run<'a>(run: &ArgMatches<'a>) -> Option<Invocation<'a>>
     ensures { option_map wanted_of result ≡ run_in (rows_of (found_of run.now)) }
 {
     let name = run.get_str("SCRIPT")?;
@@ -139,14 +144,14 @@ fn read_run<'a>(run: &ArgMatches<'a>) -> Option<Asked<'a>>
     let cache = read_cache(run)?;
     let hex = has_flag(run, "hex");
     let options = Options { name, cache, hex };
-    Some(Asked::Run {
+    Some(Invocation::Run {
         options,
         workers: several(count),
     })
 }
 
 /// What the matches of `audit` ask for.
-fn read_audit<'a>(audit: &ArgMatches<'a>) -> Option<Asked<'a>>
+fn read_audit<'a>(audit: &ArgMatches<'a>) -> Option<Invocation<'a>>
     ensures { option_map wanted_of result ≡ audit_in (rows_of (found_of audit.now)) }
 {
     let name = audit.get_str("SCRIPT")?;
@@ -154,7 +159,7 @@ fn read_audit<'a>(audit: &ArgMatches<'a>) -> Option<Asked<'a>>
     let cache = read_cache(audit)?;
     let hex = false;
     let options = Options { name, cache, hex };
-    Some(Asked::Audit {
+    Some(Invocation::Audit {
         options,
         workers: Workers { count },
     })

@@ -4,19 +4,19 @@ ghost use Rattle.std.specs.Prelude.{◌≡◌, IfOk, codes, false, option_map};
 ghost use Rattle.clap.specs.Words.{app_of, found_of, rows_of, rule_of};
 ghost use Rattle.cli.specs.CommandLine.{check_app, check_in, form_in, mend_app, mend_in, needed_rule, plan_app, plan_in, wanted_of};
 
-use crate::asked::Asked;
+use crate::invocation::Invocation;
 use crate::parsing::{flag, has_flag, needed};
 use clap::{Arg, ArgMatches, Command};
 use std::alloc::{AllocError, Global};
 use unit_json::DecodeMode;
 
 /// What the matches of `plan` ask for.
-pub(crate) fn read_plan<'a>(plan: &ArgMatches<'a>) -> Option<Asked<'a>>
+pub(crate) fn read_plan<'a>(plan: &ArgMatches<'a>) -> Option<Invocation<'a>>
     ensures { option_map wanted_of result ≡ plan_in (rows_of (found_of plan.now)) }
 {
     let file = plan.get_str("FILE")?;
     let json = read_form(plan)?;
-    Some(Asked::Plan { file, json })
+    Some(Invocation::Plan { file, json })
 }
 
 /// How a plan is printed: as JSON for a decoder of a mode, or in lines of text.
@@ -32,20 +32,20 @@ fn read_form(plan: &ArgMatches<'_>) -> Option<Option<DecodeMode>>
 }
 
 /// What the matches of `mend` ask for.
-pub(crate) fn read_mend<'a>(mend: &ArgMatches<'a>) -> Option<Asked<'a>>
+pub(crate) fn read_mend<'a>(mend: &ArgMatches<'a>) -> Option<Invocation<'a>>
     ensures { option_map wanted_of result ≡ mend_in (rows_of (found_of mend.now)) }
 {
     let file = mend.get_str("FILE")?;
-    Some(Asked::Mend { file })
+    Some(Invocation::Mend { file })
 }
 
 /// What the matches of `check` ask for.
-pub(crate) fn read_check<'a>(check: &ArgMatches<'a>) -> Option<Asked<'a>>
+pub(crate) fn read_check<'a>(check: &ArgMatches<'a>) -> Option<Invocation<'a>>
     ensures { option_map wanted_of result ≡ check_in (rows_of (found_of check.now)) }
 {
     let file = check.get_str("FILE")?;
     let json = has_flag(check, "json");
-    Some(Asked::Check { file, json })
+    Some(Invocation::Check { file, json })
 }
 
 /// The subcommand `plan`.

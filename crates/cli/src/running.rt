@@ -12,7 +12,7 @@ ghost use Rattle.cli.specs.Programs.{FailsAt, Fails, IsDone, Succeeds, WantsMemo
 use crate::named_texts::named_texts;
 use crate::planning::{check_named, mend_named, plan_as};
 use crate::serving::serve_on;
-use crate::{Asked, Workers, parse};
+use crate::{Invocation, Workers, parse};
 use clap::Error;
 use clap::error::ErrorKind;
 use console_io::{
@@ -23,6 +23,7 @@ use draw_run::{Choice, EditedChoice, draw_edited, draw_on};
 use failure_reasons::Explain;
 use file_saving::Saving;
 use script_run::{Options, script_on};
+use session_journal::Journals;
 use shared_run::{audit_with_workers, script_with_workers};
 use std::alloc::Global;
 use std::convert::AsStr;
@@ -33,7 +34,7 @@ use std::thread::Threads;
 use unit_json::Json;
 
 /// Does what the process's words ask for; words that can't be read are a wrong command line.
-pub fn run<D: Directory + Explain + Saving, I: Read + Drop, W: Sink + Send, E: Sink>(
+pub fn run<D: Directory + Explain + Saving + Journals, I: Read + Drop, W: Sink + Send, E: Sink>(
     threads: &(impl Threads + Wait + Sync),
     alloc: Global,
     words: io::Result<Vec<String>>,
@@ -83,7 +84,13 @@ pub fn run<D: Directory + Explain + Saving, I: Read + Drop, W: Sink + Send, E: S
 }
 
 /// Does what the words ask for, of which the first is the program's name.
-pub fn run_on<T: AsStr, D: Directory + Explain + Saving, I: Read + Drop, W: Sink + Send, E: Sink>(
+pub fn run_on<
+    T: AsStr,
+    D: Directory + Explain + Saving + Journals,
+    I: Read + Drop,
+    W: Sink + Send,
+    E: Sink,
+>(
     threads: &(impl Threads + Wait + Sync),
     alloc: Global,
     words: &[T],
@@ -108,18 +115,20 @@ pub fn run_on<T: AsStr, D: Directory + Explain + Saving, I: Read + Drop, W: Sink
         (E.contents errors.new) text }
 {
     match parse(alloc, words) {
-        Ok(Asked::Plan { file, json }) => plan_as(
+        Ok(Invocation::Plan { file, json }) => plan_as(
             threads, alloc, file, json, directory, standard, output, errors,
         ),
-        Ok(Asked::Mend { file }) => mend_named(alloc, file, directory, standard, output, errors),
-        Ok(Asked::Check { file, json }) => check_named(
+        Ok(Invocation::Mend { file }) => mend_named(
+            alloc, file, directory, standard, output, errors,
+        ),
+        Ok(Invocation::Check { file, json }) => check_named(
             threads, alloc, file, json, directory, standard, output, errors,
         ),
-        Ok(Asked::Draw { file, choice }) => draw_named(
+        Ok(Invocation::Draw { file, choice }) => draw_named(
             alloc, file, choice, directory, standard, output, errors,
         ),
         Ok(
-            Asked::DrawEdited {
+            Invocation::DrawEdited {
                 file,
                 script,
                 choice,
@@ -127,13 +136,13 @@ pub fn run_on<T: AsStr, D: Directory + Explain + Saving, I: Read + Drop, W: Sink
         ) => draw_edited_named(
             threads, alloc, file, script, choice, directory, standard, output, errors,
         ),
-        Ok(Asked::Run { options, workers }) => run_named(
+        Ok(Invocation::Run { options, workers }) => run_named(
             threads, alloc, options, workers, directory, standard, output, errors,
         ),
-        Ok(Asked::Audit { options, workers }) => audit_named(
+        Ok(Invocation::Audit { options, workers }) => audit_named(
             threads, alloc, options, workers, directory, standard, output, errors,
         ),
-        Ok(Asked::Serve(serving)) => {
+        Ok(Invocation::Serve(serving)) => {
             serve_on(threads, alloc, serving, directory, standard, output, errors)
         }
         Err(error) => answer(alloc, &error, output, errors),

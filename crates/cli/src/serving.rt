@@ -1,49 +1,95 @@
 //! A server on the standard input.
 
 ghost use Rattle.std.specs.Prelude.{◌≡◌, ◌≢◌, option_map};
+ghost use Rattle.std.specs.Io.KnownBytes.{Keeps};
+ghost use Rattle.console_io.specs.Messages.{Tells};
 ghost use Rattle.cli.specs.CommandLine.{serve};
 ghost use Rattle.cli.specs.Programs.{FailsAt, IsDone};
+ghost use Rattle.serve_run.specs.Ends.{end_text};
 
 use crate::{Serving, Workers};
 use console_io::{Directory, Ended, Files, Sink, Status};
 use failure_reasons::Explain;
 use file_saving::Saving;
-use serve_run::{ServeEnd, say_end, serve_alone, serve_with_workers};
+use serve_run::{ServeEnd, say_end, say_journal_fault, serve_alone, serve_with_workers};
+use session_journal::{Journals, Step};
 use std::alloc::Global;
 use std::io::Read;
 use std::sync::Wait;
 use std::thread::Threads;
 
 /// Serves the messages of the standard input, in one thread or beside so many workers. The
-/// directory has the files that are loaded, and says why one isn't taken.
-pub(crate) fn serve_on<D: Directory + Explain + Saving, I: Read + Drop, W: Sink + Send, E: Sink>(
+/// directory has the files that are loaded, says why one isn't taken, and has the journal in which
+/// edits are recorded, if they are.
+pub(crate) fn serve_on<D, I: Read + Drop, W: Sink + Send, E: Sink>(
     threads: &(impl Threads + Wait + Sync),
     alloc: Global,
-    serving: Serving,
+    serving: Serving<'_>,
     directory: &D,
     standard: I,
     output: &mut W,
     errors: &mut E,
 ) -> Ended
+where
+    D: Directory + Explain + Saving + Journals,
     ensures right { result.status ≡ Status.Success
         → IsDone (D.bytes directory.now) (I.remaining standard)
-        (serve (option_map (λ workers. workers.count) serving.workers) serving.cache) result.told
+        (serve (option_map (λ workers. workers.count) serving.entry.workers)
+        serving.entry.cache (option_map (λ name. name.now) serving.entry.journal)) result.told
         (W.contents output.old) (W.contents output.new)
         (E.refuses errors.new) (E.contents errors.old) (E.contents errors.new) }
     ensures fails { result.status ≡ Status.Failure
         → FailsAt (D.bytes directory.now) (I.remaining standard)
-        (serve (option_map (λ workers. workers.count) serving.workers) serving.cache) result.told
+        (serve (option_map (λ workers. workers.count) serving.entry.workers)
+        serving.entry.cache (option_map (λ name. name.now) serving.entry.journal)) result.told
         (W.refuses output.new) (W.contents output.old) (W.contents output.new)
         (E.refuses errors.new) (E.contents errors.old) (E.contents errors.new) }
     ensures usage { result.status ≢ Status.Usage }
 {
-    let (cache, files) = (serving.cache, Files { directory });
-    let end = match serving.workers {
-        None => serve_alone(threads, alloc, cache, standard, files, output),
-        Some(Workers { count }) => {
-            serve_with_workers(threads, alloc, cache, count, standard, files, output)
-        }
+    let Some(name) = serving.journal else {
+        let end = serve_from(threads, alloc, serving, None, directory, standard, output);
+        return ended_by(end, errors);
     };
+    match directory.open_journal(alloc, name) {
+        Ok(opened) => {
+            let journal = Some(opened);
+            let end = serve_from(
+                threads, alloc, serving, journal, directory, standard, output,
+            );
+            ended_by(end, errors)
+        }
+        Err(fault) => Ended::failed(say_journal_fault(fault, name, errors)),
+    }
+}
+
+/// Serves the messages of the standard input over this journal, if there is one.
+fn serve_from<D: Directory + Explain + Saving + Journals, I: Read + Drop, W: Sink + Send>(
+    threads: &(impl Threads + Wait + Sync),
+    alloc: Global,
+    serving: Serving<'_>,
+    journal: Option<(D::Journal, Vec<Step>)>,
+    directory: &D,
+    standard: I,
+    output: &mut W,
+) -> ServeEnd {
+    let (cache, files) = (serving.cache, Files { directory });
+    match serving.workers {
+        None => serve_alone(threads, alloc, cache, journal, standard, files, output),
+        Some(Workers { count }) => serve_with_workers(
+            threads, alloc, cache, count, journal, standard, files, output,
+        ),
+    }
+}
+
+/// How the program ends where a server ends so.
+fn ended_by<E: Sink>(end: ServeEnd, errors: &mut E) -> Ended
+    ensures right { result.status ≡ Status.Success
+        → Keeps (E.contents errors.old) (E.contents errors.new) }
+    ensures fails { result.status ≡ Status.Failure
+        → Tells result.told (E.refuses errors.new) (E.contents errors.old)
+        (E.contents errors.new) (end_text end) }
+    ensures usage { result.status ≢ Status.Usage }
+{
     match end {
         ServeEnd::Done => Ended::done(),
         _ => Ended::failed(say_end(end, errors)),

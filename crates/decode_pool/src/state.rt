@@ -3,7 +3,7 @@
 ghost use Rattle.std.specs.Prelude.{◌≡◌, ◌≢◌, ◌<◌, ◌≤◌, ◌↔◌, ◌++◌, ◌^◌, [], false, length, IfOk, IsErr, OnErr, OnOk};
 ghost use Rattle.stream_edits.specs.Streams.{last_of};
 ghost use Rattle.stream_session.specs.Altered.{with_mark};
-ghost use Rattle.stream_session.specs.Machines.{empty, uncached};
+ghost use Rattle.stream_session.specs.Machines.{IsEmpty, empty, uncached};
 ghost use Rattle.stream_session.specs.Needing.{AnswersReleased, AnswersUncache};
 ghost use Rattle.decode_pool.specs.Jobs.{JobsDiffer};
 ghost use Rattle.decode_pool.specs.Threads.{Closes};
@@ -112,19 +112,13 @@ impl<P: Decoded> DeskState<P> {
         self.session.clear_cache();
     }
 
-    /// Begins anew with an empty stream, and room for so many pictures that no unit has.
-    pub(crate) fn reset(&mut self, alloc: Global, room: u16) -> Result<(), AllocError>
-        ensures ok { OnOk result (self.new.session ≡ empty room) }
-        ensures err { OnErr result (self.new.session ≡ self.old.session) }
+    /// Begins anew with this session, which has an empty stream.
+    pub(crate) fn begin_anew(&mut self, session: Session<P>)
+        requires { IsEmpty session }
+        ensures session { self.new.session ≡ session }
         ensures status { self.new.status ≡ self.old.status }
     {
-        match Session::new(alloc, Config { cache: room }) {
-            Ok(session) => {
-                self.session = session;
-                Ok(())
-            }
-            Err(_) => Err(AllocError),
-        }
+        self.session = session;
     }
 
     /// Marks the stream as it is.

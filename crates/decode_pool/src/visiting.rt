@@ -1,6 +1,7 @@
 //! One who edits a desk and asks it without a seat, and keeps no book.
 
-ghost use Rattle.std.specs.Prelude.{◌≡◌, ◌≢◌, IfSome};
+ghost use Rattle.std.specs.Prelude.{◌≡◌, ◌≢◌, IfOk, IfSome};
+ghost use Rattle.stream_session.specs.Machines.{IsEmpty, empty};
 ghost use Rattle.decode_pool.specs.Visits.{DropsSome, EditsGroupSome, EditsSome, ReleasesSome, ShowsSome, UncachesSome};
 
 use crate::desk::DeskOf;
@@ -9,7 +10,7 @@ use pictures::AuId;
 use std::alloc::{AllocError, Global};
 use std::sync::Wait;
 use stream_edits::{EditRefused, GroupReceipt, GroupRefused, ReadEdit, ReadGroup, Receipt};
-use stream_session::{Dropped, Shown};
+use stream_session::{Config, Dropped, Session, Shown};
 
 impl<P: Decoded> DeskOf<P> {
     /// Edits the session by an edit whose text is read, while no one else edits it or asks.
@@ -81,14 +82,26 @@ impl<P: Decoded> DeskOf<P> {
         self.state.lock(rt).mark()
     }
 
-    /// Begins anew with an empty stream and no job that is out, as a desk that is opened does, but for
-    /// its threads and what is wanted. What a worker brings of a job from before lands nowhere,
-    /// unless a job of its number and its input is out again. Where memory runs out, all stays.
-    pub fn reset<R: Wait>(&self, rt: &R, alloc: Global) -> Result<(), AllocError> {
+    /// A session to begin anew with: of an empty stream, and with the desk's room for pictures that
+    /// no unit has.
+    pub fn fresh(&self, alloc: Global) -> Result<Session<P>, AllocError>
+        ensures { IfOk result (λ session. session ≡ empty self.now.room) }
+    {
+        match Session::new(alloc, Config { cache: self.room }) {
+            Ok(session) => Ok(session),
+            Err(_) => Err(AllocError),
+        }
+    }
+
+    /// Begins anew with this session, which has an empty stream, as a desk that is opened does, but
+    /// for its threads and what is wanted. What a worker brings of a job from before lands nowhere,
+    /// unless a job of its number and its input is out again.
+    pub fn begin_anew<R: Wait>(&self, rt: &R, session: Session<P>)
+        requires { IsEmpty session }
+    {
         let mut state = self.state.lock(rt);
-        state.reset(alloc, self.room)?;
+        state.begin_anew(session);
         self.tell(state);
-        Ok(())
     }
 
     /// Waits until the session may show another picture of some unit than it did when `seen` was

@@ -70,6 +70,14 @@ impl Runner {
         })
     }
 
+    /// Begins anew with this session.
+    pub fn begin_anew(&mut self, session: Session)
+        ensures { self.new ≡ session }
+    {
+        self.session = session;
+        self.device = Device::new(self.alloc);
+    }
+
     /// Follows a command and answers it. An edit that runs out of memory is answered so; where
     /// anything else runs out of memory, there is no answer.
     pub fn step(&mut self, command: Command) -> Result<Reply, AllocError>

@@ -1,6 +1,8 @@
 -- Rows of lines, one more and one less.
-use Rattle.std.proofs.Common.{◌≡◌, ℕ, ◌+◌, ◌<◌, List, [], ◌∷◌, ◌++◌, length, pos, ◌==◌, if◌then◌else◌, refl, sym, ap, ◌∙◌, arith, Less, Greater, Equal}
+use Rattle.std.proofs.Common.{◌≡◌, ℕ, zero, suc, ◌+◌, ◌-◌, ◌<◌, ◌≤◌, List, [], ◌∷◌, ◌++◌, length, take, drop, min, pos, ◌==◌, if◌then◌else◌, refl, sym, ap, ◌∙◌, arith, Less, Greater, Equal}
+use Rattle.std.proofs.Math.Seq.{take-append-add}
 use Rattle.std.proofs.lemmas.Bool.Decides.{nat_tests}
+use Rattle.std.proofs.lemmas.List.{append-nil, length-append, take_min}
 use Rattle.std.specs.Ordering.{int_cmp}
 use Rattle.sqlite_value.specs.declared.value.Value.{Value}
 use Rattle.sqlite_value.specs.Order.{Row, column}
@@ -11,7 +13,7 @@ use Rattle.edit_journal.specs.declared.line.Line.{Line}
 use Rattle.edit_journal.specs.declared.line.Step.{Step}
 use Rattle.edit_journal.specs.declared.line.Kind.{Kind}
 use Rattle.edit_journal.specs.declared.line.Kind.TheVariants.{Insert, Delete, Replace, Unit as UnitKind, Given, Load}
-use Rattle.edit_journal.specs.Lines.{row_of, rows_from, lines_from, name_of}
+use Rattle.edit_journal.specs.Lines.{row_of, rows_from, lines_from, lines_of, name_of}
 
 -- a row of seven columns is the list of them
 pub seven : (row : Row) (a b d e f g h : Value) → length row ≡ 7 → column row 0 ≡ a → column row 1 ≡ b → column row 2 ≡ d → column row 3 ≡ e → column row 4 ≡ f
@@ -46,9 +48,22 @@ keeps_later number [] deleted less = refl
 keeps_later number (line ∷ lines) deleted less =
     rw (value_cmp-Int (pos number) (pos deleted), above number deleted less) (ap (λ rows. row_of number line ∷ rows) (keeps_later (number + 1) lines deleted (omega arith)))
 
--- the first row is deleted
-pub without_first : (number : ℕ) (line : Line) (lines : List Line) → without_rowid (pos number) (rows_from number (line ∷ lines)) ≡ rows_from (number + 1) lines
+without_first : (number : ℕ) (line : Line) (lines : List Line) → without_rowid (pos number) (rows_from number (line ∷ lines)) ≡ rows_from (number + 1) lines
 without_first number line lines = rw (value_cmp-Int (pos number) (pos number), level number) (keeps_later (number + 1) lines number (omega arith))
+
+-- the first row is deleted of those behind a front
+pub without_next : (number : ℕ) (front : List Line) (at : ℕ) (lines : List Line) → number + length front ≤ at
+    → without_rowid (pos at) (rows_from number front ++ rows_from at lines) ≡ rows_from number front ++ rows_from (at + 1) (drop 1 lines)
+without_next number [] at [] less = refl
+without_next number [] at (line ∷ lines) less = without_first at line lines
+without_next number (first ∷ front) at lines less =
+    rw (value_cmp-Int (pos number) (pos at), below number at (omega arith)) (ap (λ rows. row_of number first ∷ rows) (without_next (number + 1) front at lines (omega arith)))
+
+-- rows are those of a front, and those behind it
+pub rows_split : (number left : ℕ) (lines : List Line) (at : ℕ) → at ≡ number + left → rows_from number lines ≡ rows_from number (take left lines) ++ rows_from at (drop left lines)
+rows_split number zero lines at is = let first : at ≡ number = omega (arith, is) in rw first refl
+rows_split number (suc left) [] at is = refl
+rows_split number (suc left) (line ∷ lines) at is = ap (λ rows. row_of number line ∷ rows) (rows_split (number + 1) left lines at (omega arith))
 
 -- one row more
 pub rows_then : (number : ℕ) (lines : List Line) (line : Line) (more : List Row) (at : ℕ) → at ≡ number + length lines
@@ -66,6 +81,19 @@ lines_then entry place (first ∷ steps) step at is = ap (λ lines. (record { en
 pub length-lines_from : (entry place : ℕ) (steps : List Step) → length (lines_from entry place steps) ≡ length steps
 length-lines_from entry place [] = refl
 length-lines_from entry place (step ∷ steps) = omega (arith, length-lines_from entry (place + 1) steps)
+
+take-lines_from : (n entry place : ℕ) (steps : List Step) → take n (lines_from entry place steps) ≡ lines_from entry place (take n steps)
+take-lines_from zero entry place steps = refl
+take-lines_from (suc n) entry place [] = refl
+take-lines_from (suc n) entry place (step ∷ steps) = ap (λ lines. (record { entry = entry; place = place; step = step }) ∷ lines) (take-lines_from n entry (place + 1) steps)
+
+-- of the lines whose last record has so many steps, its first ones are left
+pub take_record : (lines : List Line) (entry : ℕ) (steps : List Step) (rows left count kept : ℕ) → rows ≡ length (lines ++ lines_of entry steps) → count ≡ length steps → left + (count - kept) ≡ rows
+    → take left (lines ++ lines_of entry steps) ++ [] ≡ lines ++ lines_of entry (take kept steps)
+take_record lines entry steps rows left count kept all long is =
+    let at : left ≡ length lines + min kept (length steps) = omega (arith, length-append lines (lines_of entry steps), length-lines_from entry 0 steps) in
+    append-nil (take left (lines ++ lines_of entry steps)) ∙ ap (λ (m : ℕ). take m (lines ++ lines_of entry steps)) at ∙ take-append-add lines (lines_of entry steps) (min kept (length steps))
+    ∙ ap (λ (more : List Line). lines ++ more) (take-lines_from (min kept (length steps)) entry 0 steps ∙ ap (lines_of entry) (take_min kept steps))
 
 -- with no key, a cursor has all rows
 pub from_no_key : (o : Order) (rows : List Row) → from_key o [] rows ≡ rows

@@ -1,5 +1,6 @@
 -- What calls of a store come to together.
-use Rattle.std.proofs.Common.{◌≡◌, ℕ, ◌+◌, ◌<◌, List, [], ◌∷◌, ◌++◌, length, ℤ, pos, Some, None, Result, Ok, Err, IfOk, OnErr, false, refl, sym, ap, subst, ◌∙◌, inl, inr, append_assoc, length-append, arith}
+use Rattle.std.proofs.Common.{◌≡◌, ℕ, ◌+◌, ◌≤◌, List, [], ◌∷◌, ◌++◌, length, take, drop, ℤ, pos, Some, None, Result, Ok, Err, IfOk, OnErr, false, refl, sym, ap, subst, ◌∙◌, inl, inr, append_assoc, length-append, arith}
+use Rattle.std.proofs.lemmas.List.{append-nil, length-take, drop-drop, drop_all}
 use Rattle.sqlite_value.specs.Order.{Row}
 use Rattle.sqlite_trees.specs.Tree.{Trees, with_tree, sought, order_of, put_row, without_rowid}
 use Rattle.sqlite_trees.specs.declared.store.Direction.TheVariants.{Forward}
@@ -9,7 +10,7 @@ use Rattle.edit_journal.specs.declared.line.Line.{Line}
 use Rattle.edit_journal.specs.declared.line.Step.{Step}
 use Rattle.edit_journal.specs.Lines.{Keeps, row_of, rows_from, lines_of, edit_tree}
 use Rattle.edit_journal.specs.Journals.{Takes, OnlySeeks, PutsRow, KeepsCommit, edit_cursor}
-use Rattle.edit_journal.proofs.RowLemmas.{put_last, without_first, rows_then, lines_then, length-lines_from, from_no_key}
+use Rattle.edit_journal.proofs.RowLemmas.{put_last, without_next, rows_split, rows_then, lines_then, length-lines_from, from_no_key}
 
 module _ {S : Type 0} (g : Ghosts S) where
   abbrev pub Quiet : S → S → Type 0
@@ -64,11 +65,7 @@ reads_more old now new lines line number is reads takes =
 pub reads_all : (old now new : View) (lines : List Line) (number : ℕ) → Reads old now lines → Takes now new number None → Keeps old.trees lines × OnlySeeks old new
 reads_all old now new lines number reads takes =
     let left : reads.left ≡ [] = let both = sym reads.stands ∙ takes.0 in cc in
-    (reads.rows ∙ rw left (append-nil' (rows_from 1 lines)), subst (OnlySeeks old) (sym takes.1) reads.seeks)
-  where
-    append-nil' : (rows : List Row) → rows ++ [] ≡ rows
-    append-nil' [] = refl
-    append-nil' (row ∷ rows) = ap (λ more. row ∷ more) (append-nil' rows)
+    (reads.rows ∙ rw left (append-nil (rows_from 1 lines)), subst (OnlySeeks old) (sym takes.1) reads.seeks)
 
 -- ---- writing
 
@@ -112,11 +109,7 @@ pub record Puts (old now : View) (rows entry : ℕ) (steps : List Step) : Type 0
   pub keeps : (lines : List Line) → Keeps old.trees lines → rows ≡ length lines → Keeps now.trees (lines ++ lines_of entry steps)
 
 pub puts_nothing : (v : View) (rows entry : ℕ) → Puts v v rows entry []
-puts_nothing v rows entry = record { writes = refl; keeps = λ lines keeps _. keeps ∙ ap (rows_from 1) (sym (all lines)) }
-  where
-    all : (lines : List Line) → lines ++ [] ≡ lines
-    all [] = refl
-    all (line ∷ lines) = ap (λ more. line ∷ more) (all lines)
+puts_nothing v rows entry = record { writes = refl; keeps = λ lines keeps _. keeps ∙ ap (rows_from 1) (sym (append-nil lines)) }
 
 pub puts_more : (old now new : View) (rows entry : ℕ) (steps : List Step) (step : Step) (number place : ℕ) → place ≡ length steps → number ≡ rows + length steps + 1 → Puts old now rows entry steps
     → PutsRow now new (row_of number (record { entry = entry; place = place; step = step })) → Puts old new rows entry (steps ++ step ∷ [])
@@ -131,30 +124,27 @@ puts_more old now new rows entry steps step number place at_place at puts row =
           ∙ ap (rows_from 1) (append_assoc lines (lines_of entry steps) (line ∷ []) ∙ ap (λ more. lines ++ more) (sym (lines_then entry 0 steps step place (omega arith))));
     }
 
--- so many of the first rows are deleted
-pub record Deletes (old now : View) (rows deleted : ℕ) : Type 0 where
+-- of the rows behind the first `left`, those up to this number are deleted
+pub record Deletes (old now : View) (rows left deleted : ℕ) : Type 0 where
   pub writes : OnlyWrites old now
-  pub keeps : (lines : List Line) → Keeps old.trees lines → rows ≡ length lines → (left : List Line) × (now.trees edit_tree ≡ rows_from (deleted + 1) left) × (deleted + length left ≡ rows)
+  pub keeps : (lines : List Line) → Keeps old.trees lines → rows ≡ length lines → now.trees edit_tree ≡ rows_from 1 (take left lines) ++ rows_from (deleted + 1) (drop deleted lines)
 
-pub deletes_nothing : (v : View) (rows : ℕ) → Deletes v v rows 0
-deletes_nothing v rows = record { writes = refl; keeps = λ lines keeps count. (lines, keeps, omega (arith, count)) }
+pub deletes_nothing : (v : View) (rows left : ℕ) → Deletes v v rows left left
+deletes_nothing v rows left = record { writes = refl; keeps = λ lines keeps count. keeps ∙ rows_split 1 left lines (left + 1) (omega arith) }
 
-one_less : (now new : View) (rows deleted : ℕ) (left : List Line) → deleted < rows → now.trees edit_tree ≡ rows_from (deleted + 1) left → deleted + length left ≡ rows
-    → SetsTree now new edit_tree (without_rowid (pos (deleted + 1))) → (less : List Line) × (new.trees edit_tree ≡ rows_from (deleted + 1 + 1) less) × (deleted + 1 + length less ≡ rows)
-one_less now new rows deleted [] more is count set = absurd (omega arith)
-one_less now new rows deleted (line ∷ left) more is count set =
-    (left, set_rows now new (without_rowid (pos (deleted + 1))) set ∙ ap (without_rowid (pos (deleted + 1))) is ∙ without_first (deleted + 1) line left, omega arith)
+pub deletes_more : (old now new : View) (rows left deleted : ℕ) (id : ℤ) → left ≤ deleted → Deletes old now rows left deleted → SetsTree now new edit_tree (without_rowid id) → id ≡ pos (deleted + 1)
+    → Deletes old new rows left (deleted + 1)
+deletes_more old now new rows left deleted id less first given is =
+    let set = subst (λ (n : ℤ). SetsTree now new edit_tree (without_rowid n)) is given in record {
+      writes = writes_then old now new (without_rowid (pos (deleted + 1))) first.writes set;
+      keeps = λ lines keeps count.
+          let short : 1 + length (take left lines) ≤ deleted + 1 = omega (arith, length-take left lines) in
+          set_rows now new (without_rowid (pos (deleted + 1))) set ∙ ap (without_rowid (pos (deleted + 1))) (first.keeps lines keeps count)
+          ∙ without_next 1 (take left lines) (deleted + 1) (drop deleted lines) short
+          ∙ ap (λ (more : List Line). rows_from 1 (take left lines) ++ rows_from (deleted + 1 + 1) more) (drop-drop 1 deleted lines);
+    }
 
-pub deletes_more : (old now new : View) (rows deleted : ℕ) (id : ℤ) → deleted < rows → Deletes old now rows deleted → SetsTree now new edit_tree (without_rowid id) → id ≡ pos (deleted + 1)
-    → Deletes old new rows (deleted + 1)
-deletes_more old now new rows deleted id more first given is = let set = subst (λ (n : ℤ). SetsTree now new edit_tree (without_rowid n)) is given in record {
-  writes = writes_then old now new (without_rowid (pos (deleted + 1))) first.writes set;
-  keeps = λ lines keeps count. let left = first.keeps lines keeps count in one_less now new rows deleted left.0 more left.1 left.2 set;
-}
-
-none_left : (deleted : ℕ) (left : List Line) → deleted + length left ≡ deleted → rows_from (deleted + 1) left ≡ []
-none_left deleted [] is = refl
-none_left deleted (line ∷ left) is = absurd (omega arith)
-
-pub deletes_all : (old now : View) (rows : ℕ) → Deletes old now rows rows → (lines : List Line) → Keeps old.trees lines → rows ≡ length lines → Keeps now.trees []
-deletes_all old now rows deletes lines keeps count = let left = deletes.keeps lines keeps count in left.1 ∙ none_left rows left.0 left.2
+pub deletes_all : (old now : View) (rows left deleted : ℕ) → rows ≤ deleted → Deletes old now rows left deleted → (lines : List Line) → Keeps old.trees lines → rows ≡ length lines
+    → Keeps now.trees (take left lines)
+deletes_all old now rows left deleted past deletes lines keeps count =
+    deletes.keeps lines keeps count ∙ ap (λ (more : List Line). rows_from 1 (take left lines) ++ rows_from (deleted + 1) more) (drop_all deleted lines (omega arith)) ∙ append-nil (rows_from 1 (take left lines))

@@ -29,7 +29,7 @@ pub enum JournalFault {
     /// An earlier failure of the disk has shut the journal.
     #[error("an earlier failure has shut the journal")]
     Shut,
-    /// A step's text, or the number of rows or records, is too great.
+    /// A step's text, or the number of rows or records, is too great, or more rows are to be taken off than there are.
     #[error("the journal has no room for a record as large")]
     TooLarge,
     /// A growth was refused.

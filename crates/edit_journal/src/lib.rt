@@ -3,8 +3,8 @@
 //! What one call of `Journal::append` is given is a record: the steps of one accepted edit, group or load. It stands
 //! whole, or not at all: clauses say that a crash leaves the records of before, or the new one behind them.
 //! `Journal::over` makes a journal in a store, or reads the one that is there. `Journal::rewrite` puts one record in the
-//! place of all. The store is one of the crate sqlite, a file or memory; docs/JOURNAL.md says what other programs find in
-//! the file.
+//! place of all, and `Journal::shorten` takes the last steps of the last record off again. The store is one of the crate
+//! sqlite, a file or memory; docs/JOURNAL.md says what other programs find in the file.
 #![tactic(auto)]
 
 mod fault;

@@ -1,6 +1,6 @@
 //! Rows are written, and committed.
 
-ghost use Rattle.std.specs.Prelude.{◌≡◌, ◌+◌, List, ◌++◌, [], length, IfErr, IfOk, OnErr, OnOk};
+ghost use Rattle.std.specs.Prelude.{◌≡◌, ◌+◌, ◌≤◌, List, ◌++◌, length, take, IfErr, IfOk, OnErr, OnOk};
 ghost use Rattle.sqlite_trees.specs.View.{IsClean, IsQuiet, IsStorableRow, KeepsSchema, OnlyWrites};
 ghost use Rattle.edit_journal.specs.declared.line.Line.{Line};
 ghost use Rattle.edit_journal.specs.Lines.{Keeps, edit_tree, lines_of, row_of};
@@ -68,18 +68,18 @@ fn put_steps<S: Alter>(
     Ok(after)
 }
 
-/// Deletes so many rows, which are all that there are.
-fn delete_rows<S: Alter>(store: &mut S, rows: u32) -> Result<(), JournalFault>
+/// Deletes the rows behind the first `left` of so many, which are all that there are.
+fn delete_rows<S: Alter>(store: &mut S, rows: u32, left: u32) -> Result<(), JournalFault>
     requires { IsClean (S.Store.view store.old) → (S.Store.view store.old).shape edit_tree ≡ Shape.Table }
     ensures deletes { IsClean (S.Store.view store.new) → OnOk result ((lines : List Line) → Keeps (S.Store.view store.old).trees lines
-        → rows ≡ length lines → Keeps (S.Store.view store.new).trees []) }
+        → rows ≡ length lines → Keeps (S.Store.view store.new).trees (take left lines)) }
     ensures writes { IsClean (S.Store.view store.new) → OnOk result (OnlyWrites (S.Store.view store.old) (S.Store.view store.new)) }
     ensures keeps { IsClean (S.Store.view store.new) → OnErr result (KeepsCommit (S.Store.view store.old) (S.Store.view store.new)) }
     ensures fails { IsClean (S.Store.view store.new) → IfErr result (Fails S.Store store.old store.new ⊥) }
     ensures schema { KeepsSchema (S.Store.view store.old) (S.Store.view store.new) }
     ensures quiet { IsQuiet S.Store.view S.Store.faults S.Store.recovers S.Store.is_shielded store.old store.new }
 {
-    for deleted in 0..rows {
+    for deleted in left..rows {
         store.delete(EDITS, i64::from(deleted + 1))?;
     }
     Ok(())
@@ -95,6 +95,7 @@ pub(crate) fn commit_record<S: Alter>(
 ) -> Result<u32, JournalFault>
     ensures adds { IsClean (S.Store.view store.new) → IfOk result (λ after. (lines : List Line)
         → Shows (S.Store.view store.old) rows lines → Lasts S.Store store.new after (lines ++ lines_of entry steps.now)) }
+    ensures count { IfOk result (λ after. after ≡ rows + length steps.now) }
     ensures keeps { IsClean (S.Store.view store.new) → OnErr result (KeepsCommit (S.Store.view store.old) (S.Store.view store.new)) }
     ensures fails { IsClean (S.Store.view store.new) → IfErr result (Fails S.Store store.old store.new
         (¬ Fits ((S.Store.view store.old).reals edit_tree) rows entry steps.now)) }
@@ -109,24 +110,28 @@ pub(crate) fn commit_record<S: Alter>(
     Ok(after)
 }
 
-/// Puts the record in the place of so many rows, which are all that there are, and answers how many there are then.
+/// Puts the record in the place of the rows behind the first `left` of so many, which are all that there are, and answers
+/// how many there are then.
 pub(crate) fn replace_records<S: Alter>(
     alloc: Global,
     store: &mut S,
     rows: u32,
+    left: u32,
+    entry: u32,
     steps: &[Step],
 ) -> Result<u32, JournalFault>
-    ensures replaces { IsClean (S.Store.view store.new) → IfOk result (λ after. (lines : List Line)
-        → Shows (S.Store.view store.old) rows lines → Lasts S.Store store.new after (lines_of 1 steps.now)) }
+    ensures replaces { IsClean (S.Store.view store.new) → IfOk result (λ after. (lines : List Line) → left ≤ rows
+        → Shows (S.Store.view store.old) rows lines → Lasts S.Store store.new after (take left lines ++ lines_of entry steps.now)) }
+    ensures count { IfOk result (λ after. after ≡ left + length steps.now) }
     ensures keeps { IsClean (S.Store.view store.new) → OnErr result (KeepsCommit (S.Store.view store.old) (S.Store.view store.new)) }
     ensures fails { IsClean (S.Store.view store.new) → IfErr result (Fails S.Store store.old store.new
-        (¬ Fits ((S.Store.view store.old).reals edit_tree) 0 1 steps.now)) }
-    ensures survives { Survives S.Store store.old store.new (λ db. (lines : List Line) → Shows (S.Store.view store.old) rows lines
-        → Keeps db (lines_of 1 steps.now)) }
+        (¬ Fits ((S.Store.view store.old).reals edit_tree) left entry steps.now)) }
+    ensures survives { Survives S.Store store.old store.new (λ db. (lines : List Line) → left ≤ rows
+        → Shows (S.Store.view store.old) rows lines → Keeps db (take left lines ++ lines_of entry steps.now)) }
 {
     let Shape::Table = store.shape(EDITS) else {
         return Err(JournalFault::NotAJournal);
     };
-    delete_rows(store, rows)?;
-    commit_record(alloc, store, 0, 1, steps)
+    delete_rows(store, rows, left)?;
+    commit_record(alloc, store, left, entry, steps)
 }

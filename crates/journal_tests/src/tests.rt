@@ -1,5 +1,6 @@
 mod files;
 mod records;
+mod sessions;
 
 use edit_journal::{JournalFault, Kind, Line, Wary, open};
 use std::process::Abort;

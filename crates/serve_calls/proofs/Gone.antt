@@ -5,13 +5,13 @@ use Rattle.edit_history.specs.Texts.{Texts}
 use Rattle.edit_engine.specs.Machines.{Machine}
 use Rattle.stream_edits.specs.declared.edits.Edit.{Edit}
 use Rattle.stream_edits.specs.declared.receipts.GroupReceipt.{GroupReceipt}
-use Rattle.stream_edits.specs.declared.group_refused.GroupRefused.{GroupRefused}
 use Rattle.stream_edits.specs.Edits.{Register}
 use Rattle.stream_edits.specs.Groups.{MakesAll}
 use Rattle.undo_redo.specs.declared.undo_redo.UndoRedo.{UndoRedo}
 use Rattle.undo_redo.specs.declared.unit_texts.UnitTexts.{UnitTexts}
 use Rattle.undo_redo.specs.States.{IsUndoRedo, TakesTo}
 use Rattle.serve_calls.specs.declared.server.Server.{Server}
+use Rattle.serve_calls.specs.declared.unmade.GroupFault.{GroupFault}
 use Rattle.serve_calls.specs.Editing.{MakesGroup}
 use Rattle.serve_calls.specs.Undoing.{GoesBy, Redoes, Undoes}
 use Rattle.serve_calls.proofs.Remembered.{steps-more}
@@ -81,6 +81,6 @@ gone is_session done old made new edits receipt makes done_are steps_are leads =
 
 -- and where it refused it they stay
 pub gone-refused : {B S : Type 0} (is_session : B → Machine → Type 0) (done : ℕ) (old made : Server B S) (edits : List Edit)
-    (refused : GroupRefused) → MakesGroup is_session old edits (Err refused) made → GoesBy is_session done old edits (Err refused) made
+    (refused : GroupFault) → MakesGroup is_session old edits (Err refused) made → GoesBy is_session done old edits (Err refused) made
 gone-refused is_session done old made edits refused makes =
     inl (steps-more (λ before after answers. record { answers = answers; goes = makes.3 }) makes.0, makes.1, makes.2)

@@ -5,4 +5,5 @@ mod Listing
 mod Numbered
 mod Pages
 mod Remembered
+mod Replayed
 mod Told

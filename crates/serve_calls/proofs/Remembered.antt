@@ -6,14 +6,10 @@ use Rattle.edit_history.specs.Histories.{IsHistory}
 use Rattle.edit_history.specs.Texts.{Texts}
 use Rattle.edit_engine.specs.Machines.{Machine}
 use Rattle.stream_edits.specs.declared.edits.Edit.{Edit}
-use Rattle.stream_edits.specs.declared.group_refused.GroupRefused.{GroupRefused}
 use Rattle.stream_edits.specs.declared.receipts.GroupReceipt.{GroupReceipt}
 use Rattle.stream_edits.specs.declared.receipts.Receipt.{Receipt}
-use Rattle.stream_edits.specs.declared.refusals.EditRefused.{EditRefused}
 use Rattle.stream_edits.specs.Edits.{Makes, Register}
 use Rattle.stream_edits.specs.Groups.{MakesAll}
-use Rattle.stream_session.specs.Grouping.{AnswersGroup}
-use Rattle.stream_session.specs.Machines.{AnswersEdit}
 use Rattle.undo_redo.specs.declared.prepared.Step.{Step}
 use Rattle.undo_redo.specs.declared.undo_redo.UndoRedo.{UndoRedo}
 use Rattle.undo_redo.specs.States.{IsAsBefore, IsUnderWay, IsUndoRedo}
@@ -21,10 +17,13 @@ use Rattle.undo_redo.proofs.Led.{kept-same}
 use Rattle.undo_redo.proofs.Stepped.{history-same}
 use Rattle.serve_calls.specs.declared.server.Server.{Server}
 use Rattle.serve_calls.specs.declared.sums.Sums.{Sums}
+use Rattle.serve_calls.specs.declared.unmade.EditFault.{EditFault}
+use Rattle.serve_calls.specs.declared.unmade.GroupFault.{GroupFault}
 use Rattle.serve_calls.specs.Editing.{MakesEdit, MakesEditIn, MakesGroup, MakesStep, sums_after_edit}
 use Rattle.serve_calls.specs.Remembering.{AddsStep, Begins, Ends, GoesOn, GoesOnIf, KeepsRest, Remembers}
 use Rattle.serve_calls.specs.Sessions.{Steps}
 use Rattle.serve_calls.specs.Sums.{bytes_of, bytes_of_edit, with_edit}
+use Rattle.serve_calls.specs.Unmade.{MakesOne, MakesTogether}
 
 -- what holds of each step holds of the one that was taken
 pub steps-more : {before after : Machine → Type 0} {step more : Machine → Machine → Type 0}
@@ -97,7 +96,7 @@ remembered old begun made done first last (Err refused) before after same empty 
 
 -- so is an edit of a server
 pub edited : {B S : Type 0} (is_session : B → Machine → Type 0) (old begun made done : Server B S) (first last : Step) (edit : Edit)
-    (answer : Result Receipt EditRefused) → Begins old begun first → made.history.history ≡ begun.history.history
+    (answer : Result Receipt EditFault) → Begins old begun first → made.history.history ≡ begun.history.history
     → MakesEditIn is_session begun first edit answer made last → Ends made last done → MakesEdit is_session old edit answer done
 edited {B} {S} is_session old begun made done first last edit answer begins kept (inl makes) ends =
     let steps = makes.0 in
@@ -132,7 +131,7 @@ edited is_session old begun made done first last edit answer begins kept (inr no
 
 -- an edit of a step that is under way, made where the room alone is different
 pub edited-in : {B S : Type 0} (is_session : B → Machine → Type 0) (old between new : Server B S) (begun step : Step) (edit : Edit)
-    (answer : Result Receipt EditRefused) → KeepsRest old between → IsAsBefore old.history between.history
+    (answer : Result Receipt EditFault) → KeepsRest old between → IsAsBefore old.history between.history
     → MakesEditIn is_session between begun edit answer new step → MakesEditIn is_session old begun edit answer new step
 edited-in {B} is_session old between new begun step edit answer keeps same (inl makes) =
     let steps = makes.0 in
@@ -168,8 +167,8 @@ edited-in is_session old between new begun step edit answer keeps same (inr none
     )
 
 -- a refused edit leaves a step that is under way
-pub refused-in : {B S : Type 0} (is_session : B → Machine → Type 0) (old new : Server B S) (begun : Step) (edit : Edit) (refused : EditRefused)
-    → Steps (is_session old.backend) (λ before after. AnswersEdit before edit (Err refused) after) (is_session new.backend)
+pub refused-in : {B S : Type 0} (is_session : B → Machine → Type 0) (old new : Server B S) (begun : Step) (edit : Edit) (refused : EditFault)
+    → Steps (is_session old.backend) (λ before after. MakesOne before edit (Err refused) after) (is_session new.backend)
     → new.sums ≡ old.sums → new.source ≡ old.source → new.history ≡ old.history
     → MakesEditIn is_session old begun edit (Err refused) new begun
 refused-in is_session old new begun edit refused steps sums source history =
@@ -186,7 +185,7 @@ refused-in is_session old new begun edit refused steps sums source history =
 
 -- an accepted one goes on with it
 pub accepted-in : {B S : Type 0} (is_session : B → Machine → Type 0) (old new : Server B S) (begun step : Step) (edit : Edit) (receipt : Receipt)
-    → Steps (is_session old.backend) (λ before after. AnswersEdit before edit (Ok receipt) after) (is_session new.backend)
+    → Steps (is_session old.backend) (λ before after. MakesOne before edit (Ok receipt) after) (is_session new.backend)
     → new.sums ≡ with_edit old.sums receipt.steps (bytes_of_edit edit) → new.source ≡ old.source
     → ((before : Register) (id : ℕ) (after : Register) → Makes before edit id after → (states : List Texts) (first : Texts)
     → IsUnderWay old.history begun states first before → GoesOn begun new.history step after states first)
@@ -204,7 +203,7 @@ accepted-in is_session old new begun step edit receipt steps sums source goes =
     )
 
 -- a refused group leaves what can be undone and redone
-pub group-refused : {B S : Type 0} (is_session : B → Machine → Type 0) (old between new : Server B S) (edits : List Edit) (refused : GroupRefused)
+pub group-refused : {B S : Type 0} (is_session : B → Machine → Type 0) (old between new : Server B S) (edits : List Edit) (refused : GroupFault)
     → KeepsRest old between → IsAsBefore old.history between.history → MakesGroup is_session between edits (Err refused) new
     → MakesStep is_session old edits (Err refused) new
 group-refused {B} is_session old between new edits refused keeps same makes =
@@ -215,7 +214,7 @@ group-refused {B} is_session old between new edits refused keeps same makes =
             remembers = subst (λ (it : UndoRedo). IsAsBefore old.history it) (sym makes.3) same;
           })
           (subst
-          (λ (backend : B). Steps (is_session backend) (λ before after. AnswersGroup before edits (Err refused) after)
+          (λ (backend : B). Steps (is_session backend) (λ before after. MakesTogether before edits (Err refused) after)
           (is_session new.backend))
           keeps.backend makes.0),
       makes.1 ∙ keeps.sums,
@@ -247,11 +246,11 @@ group-accepted {B} is_session old between made new edits receipt keeps same make
                 };
           })
           (subst
-          (λ (backend : B). Steps (is_session backend) (λ before after. AnswersGroup before edits (Ok receipt) after)
+          (λ (backend : B). Steps (is_session backend) (λ before after. MakesTogether before edits (Ok receipt) after)
           (is_session new.backend))
           keeps.backend
           (subst
-          (λ (backend : B). Steps (is_session between.backend) (λ before after. AnswersGroup before edits (Ok receipt) after)
+          (λ (backend : B). Steps (is_session between.backend) (λ before after. MakesTogether before edits (Ok receipt) after)
           (is_session backend))
           (sym rests.backend) makes.0)),
       rests.sums ∙ makes.1 ∙ ap (λ (sums : Sums). with_edit sums receipt.steps (bytes_of edits)) keeps.sums,

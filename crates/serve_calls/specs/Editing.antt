@@ -14,9 +14,7 @@ use Rattle.stream_edits.specs.Groups.{most_edits}
 use Rattle.stream_edits.specs.Refusals.{IsRefused}
 use Rattle.edit_script.specs.Words.{id_of}
 use Rattle.edit_engine.specs.declared.dropping.Dropping.{Dropping}
-use Rattle.stream_session.specs.Grouping.{AnswersGroup}
 use Rattle.edit_engine.specs.Machines.{Machine}
-use Rattle.stream_session.specs.Machines.{AnswersEdit}
 use Rattle.edit_engine.specs.Needing.{AnswersDrop}
 use Rattle.serve_requests.specs.declared.failure.Failure.{Failure}
 use Rattle.serve_answers.specs.declared.answer.Answer.{Answer}
@@ -31,82 +29,87 @@ use Rattle.serve_calls.specs.Remembering.{GoesOnIf, Remembers, Rests}
 use Rattle.serve_calls.specs.Failing.{out_of_memory}
 use Rattle.serve_calls.specs.Sessions.{Clears, Marks, Steps}
 use Rattle.serve_calls.specs.Sums.{bytes_of, bytes_of_edit, with_edit}
+use Rattle.serve_calls.specs.Unmade.{MakesTogether, MakesOne, group_made_answer, made_answer}
+use Rattle.serve_calls.specs.declared.unmade.EditFault.{EditFault}
+use Rattle.serve_calls.specs.declared.unmade.EditFault.TheVariants as edit_fault
+use Rattle.serve_calls.specs.declared.unmade.GroupFault.{GroupFault}
+use Rattle.serve_calls.specs.declared.unmade.GroupFault.TheVariants as group_fault
 
 -- the sums after an edit is answered
-abbrev pub sums_after_edit : Sums → Edit → Result Receipt EditRefused → Sums
+abbrev pub sums_after_edit : Sums → Edit → Result Receipt EditFault → Sums
 sums_after_edit sums edit (Ok receipt) = with_edit sums receipt.steps (bytes_of_edit edit)
-sums_after_edit sums edit (Err refused) = sums
+sums_after_edit sums edit (Err fault) = sums
 
 -- the sums after a group is answered
-abbrev pub sums_after_group : Sums → List Edit → Result GroupReceipt GroupRefused → Sums
+abbrev pub sums_after_group : Sums → List Edit → Result GroupReceipt GroupFault → Sums
 sums_after_group sums edits (Ok receipt) = with_edit sums receipt.steps (bytes_of edits)
-sums_after_group sums edits (Err refused) = sums
+sums_after_group sums edits (Err fault) = sums
 
--- the session answers an edit so, and an accepted one can be undone
-pub record StepsEdit (old : UndoRedo) (before : Machine) (edit : Edit) (answer : Result Receipt EditRefused) (new : UndoRedo)
+-- the session answers an edit so, or it isn't recorded; an accepted one can be undone
+pub record StepsEdit (old : UndoRedo) (before : Machine) (edit : Edit) (answer : Result Receipt EditFault) (new : UndoRedo)
     (after : Machine) : Type 0 where
-  pub answers : AnswersEdit before edit answer after
+  pub answers : MakesOne before edit answer after
   pub remembers : Remembers old before.register answer new after.register
 
 -- the session answers an edit so, and an accepted one can be undone and is added to the sums; or memory ran out before it
 -- was asked
-abbrev pub MakesEdit : {B S : Type 0} → (B → Machine → Type 0) → Server B S → Edit → Result Receipt EditRefused → Server B S → Type 0
+abbrev pub MakesEdit : {B S : Type 0} → (B → Machine → Type 0) → Server B S → Edit → Result Receipt EditFault → Server B S → Type 0
 MakesEdit is_session old edit answer new =
     (Steps (is_session old.backend) (λ before after. StepsEdit old.history before edit answer new.history after)
     (is_session new.backend) × (new.sums ≡ sums_after_edit old.sums edit answer) × (new.source ≡ old.source))
-    ⊎ ((answer ≡ Err refusals.Memory) × Rests old new)
+    ⊎ ((answer ≡ Err (edit_fault.Refused refusals.Memory)) × Rests old new)
 
--- the session answers an edit of a step that is under way so
-pub record StepsEditIn (old : UndoRedo) (begun : Step) (before : Machine) (edit : Edit) (answer : Result Receipt EditRefused)
+-- the session answers an edit of a step that is under way so, or it isn't recorded
+pub record StepsEditIn (old : UndoRedo) (begun : Step) (before : Machine) (edit : Edit) (answer : Result Receipt EditFault)
     (new : UndoRedo) (step : Step) (after : Machine) : Type 0 where
-  pub answers : AnswersEdit before edit answer after
+  pub answers : MakesOne before edit answer after
   pub goes_on : GoesOnIf old begun before.register answer new step after.register
 
 -- the session answers an edit of a step that is under way so, and an accepted one is added to the sums; or memory ran out
 -- before it was asked
-abbrev pub MakesEditIn : {B S : Type 0} → (B → Machine → Type 0) → Server B S → Step → Edit → Result Receipt EditRefused
+abbrev pub MakesEditIn : {B S : Type 0} → (B → Machine → Type 0) → Server B S → Step → Edit → Result Receipt EditFault
     → Server B S → Step → Type 0
 MakesEditIn is_session old begun edit answer new step =
     (Steps (is_session old.backend) (λ before after. StepsEditIn old.history begun before edit answer new.history step after)
     (is_session new.backend) × (new.sums ≡ sums_after_edit old.sums edit answer) × (new.source ≡ old.source))
-    ⊎ ((answer ≡ Err refusals.Memory) × Rests old new × (step ≡ begun))
+    ⊎ ((answer ≡ Err (edit_fault.Refused refusals.Memory)) × Rests old new × (step ≡ begun))
 
 -- the result of an edit is the session's answer; or the refusal of its text, whatever the stream
 -- is: then nothing is asked
 abbrev pub EditsAs : {B S : Type 0} → (B → Machine → Type 0) → Server B S → Edit → Result Answer Failure → Server B S → Type 0
 EditsAs is_session old edit result new =
-    ((answer : Result Receipt EditRefused) × MakesEdit is_session old edit answer new × (result ≡ edit_answer answer))
+    ((answer : Result Receipt EditFault) × MakesEdit is_session old edit answer new × (result ≡ made_answer answer))
     ⊎ ((refused : EditRefused) × ((register : Register) → IsRefused register edit refused)
     × (result ≡ edit_answer (Err refused)) × (new ≡ old))
 
--- the session answers a group so, and an accepted one can be undone
-pub record StepsGroup (old : UndoRedo) (before : Machine) (edits : List Edit) (answer : Result GroupReceipt GroupRefused)
+-- the session answers a group so, or it isn't recorded; an accepted one can be undone
+pub record StepsGroup (old : UndoRedo) (before : Machine) (edits : List Edit) (answer : Result GroupReceipt GroupFault)
     (new : UndoRedo) (after : Machine) : Type 0 where
-  pub answers : AnswersGroup before edits answer after
+  pub answers : MakesTogether before edits answer after
   pub remembers : Remembers old before.register answer new after.register
 
 -- the session answers a group so, and an accepted one can be undone and is added to the sums; or memory ran out before it
 -- was asked
 abbrev pub MakesStep : {B S : Type 0} → (B → Machine → Type 0) → Server B S → List Edit
-    → Result GroupReceipt GroupRefused → Server B S → Type 0
+    → Result GroupReceipt GroupFault → Server B S → Type 0
 MakesStep is_session old edits answer new =
     (Steps (is_session old.backend) (λ before after. StepsGroup old.history before edits answer new.history after)
     (is_session new.backend) × (new.sums ≡ sums_after_group old.sums edits answer) × (new.source ≡ old.source))
-    ⊎ ((answer ≡ Err groups.Memory) × Rests old new)
+    ⊎ ((answer ≡ Err (group_fault.Refused groups.Memory)) × Rests old new)
 
--- the session answers a group so, which isn't remembered; an accepted one is added to the sums
+-- the session answers a group so, or it isn't recorded; it isn't remembered, and an accepted one is added to the sums
 abbrev pub MakesGroup : {B S : Type 0} → (B → Machine → Type 0) → Server B S → List Edit
-    → Result GroupReceipt GroupRefused → Server B S → Type 0
+    → Result GroupReceipt GroupFault → Server B S → Type 0
 MakesGroup is_session old edits answer new =
-    Steps (is_session old.backend) (λ before after. AnswersGroup before edits answer after) (is_session new.backend)
+    Steps (is_session old.backend) (λ before after. MakesTogether before edits answer after) (is_session new.backend)
     × (new.sums ≡ sums_after_group old.sums edits answer) × (new.source ≡ old.source) × (new.history ≡ old.history)
 
 -- the result of a group that isn't too large is the session's answer; or a refusal whatever the stream is: then nothing is
 -- asked
 abbrev pub GroupsAs : {B S : Type 0} → (B → Machine → Type 0) → Server B S → List Edit → Result Answer Failure → Server B S → Type 0
 GroupsAs is_session old edits result new =
-    ((answer : Result GroupReceipt GroupRefused) × (length edits ≤ most_edits) × MakesStep is_session old edits answer new
-    × (result ≡ group_answer answer))
+    ((answer : Result GroupReceipt GroupFault) × (length edits ≤ most_edits) × MakesStep is_session old edits answer new
+    × (result ≡ group_made_answer answer))
     ⊎ ((refused : GroupRefused) × ((register : Register) → IsGroupRefused register edits refused)
     × (result ≡ group_answer (Err refused)) × (new ≡ old))
 

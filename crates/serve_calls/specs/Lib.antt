@@ -3,10 +3,14 @@ pub mod Calls
 pub mod Editing
 pub mod Failing
 pub mod Jobs
+pub mod Journaled
 pub mod Lists
 pub mod Loading
 pub mod Preparing
 pub mod Remembering
+pub mod Unreplayed
+pub mod Replaying
+pub mod Resuming
 pub mod Requests
 pub mod Resetting
 pub mod Saving
@@ -15,5 +19,6 @@ pub mod Sums
 pub mod Taking
 pub mod Texts
 pub mod Undoing
+pub mod Unmade
 pub mod WantedUnits
 pub mod Wanting

@@ -6,7 +6,6 @@ use Rattle.access_unit.specs.Rooms.{IsStream, IsStreamRefused, most_units}
 use Rattle.stream_edits.specs.declared.edits.Edit.TheVariants.{Insert}
 use Rattle.stream_edits.specs.declared.receipts.Last.{Last}
 use Rattle.stream_edits.specs.declared.receipts.Receipt.{Receipt}
-use Rattle.stream_edits.specs.declared.refusals.EditRefused.{EditRefused}
 use Rattle.stream_edits.specs.declared.refusals.EditRefused.TheVariants as refusals
 use Rattle.stream_edits.specs.Streams.{last_of, place_after}
 use Rattle.edit_engine.specs.Machines.{Machine}
@@ -23,7 +22,11 @@ use Rattle.serve_calls.specs.declared.preparing.Prepared.{Prepared}
 use Rattle.serve_calls.specs.declared.server.Server.{Server}
 use Rattle.undo_redo.specs.declared.prepared.Step.{Step}
 use Rattle.serve_calls.specs.Editing.{MakesEditIn}
-use Rattle.serve_calls.specs.Remembering.{Begins, Ends, Rests}
+use Rattle.session_journal.specs.declared.unkept.Unkept.{Unkept}
+use Rattle.serve_calls.specs.declared.unmade.EditFault.{EditFault}
+use Rattle.serve_calls.specs.declared.unmade.EditFault.TheVariants as edit_fault
+use Rattle.serve_calls.specs.Unmade.{unkept_failure}
+use Rattle.serve_calls.specs.Remembering.{Begins, Ends, KeepsSession, Rests}
 use Rattle.serve_calls.specs.Failing.{out_of_memory}
 use Rattle.serve_calls.specs.Preparing.{prepared}
 use Rattle.serve_calls.specs.Sessions.{Asks}
@@ -59,11 +62,16 @@ IsLast is_session server last = Asks (is_session server.backend) (λ machine. la
 
 -- a unit is inserted after the last one, in a step that is under way; or memory ran out before the session was asked
 abbrev pub InsertsLast : {B S : Type 0} → (B → Machine → Type 0) → Server B S → Step → List (List ℕ)
-    → Result Receipt EditRefused → Server B S → Step → Type 0
+    → Result Receipt EditFault → Server B S → Step → Type 0
 InsertsLast is_session old begun unit answer new step =
     ((last : Last) × IsLast is_session old last
     × MakesEditIn is_session old begun (Insert (place_after last.id) (joined unit)) answer new step)
-    ⊎ ((answer ≡ Err refusals.Memory) × (new ≡ old) × (step ≡ begun))
+    ⊎ ((answer ≡ Err (edit_fault.Refused refusals.Memory)) × (new ≡ old) × (step ≡ begun))
+
+-- why a unit isn't inserted, once so many were
+abbrev pub uninserted : EditFault → ℕ → Failure
+uninserted (edit_fault.Refused refused) units = Refused (refusal.Loading refused units)
+uninserted (edit_fault.Unkept why) units = unkept_failure why
 
 -- the units are inserted one after the other in a step that is under way, to the end or to the first that is refused; those
 -- before it stay
@@ -73,15 +81,23 @@ InsertsAll is_session old begun [] inserted result new step = (result ≡ Ok ins
 InsertsAll {B} {S} is_session old begun (unit ∷ units) inserted result new step =
     ((receipt : Receipt) × (next : Server B S) × (more : Step) × InsertsLast is_session old begun unit (Ok receipt) next more
     × InsertsAll is_session next more units (with_unit inserted receipt.id) result new step)
-    ⊎ ((refused : EditRefused) × InsertsLast is_session old begun unit (Err refused) new step
-    × (result ≡ Err (Refused (refusal.Loading refused inserted.units))))
+    ⊎ ((fault : EditFault) × InsertsLast is_session old begun unit (Err fault) new step
+    × (result ≡ Err (uninserted fault inserted.units)))
 
--- the units are inserted as one step, with those that were inserted; or memory ran out, and nothing is asked
+-- the units are inserted as the step that has begun, with those that were inserted; or they aren't recorded, and nothing
+-- is different
+abbrev pub InsertsBegun : {B S : Type 0} → (B → Machine → Type 0) → Server B S → Step → List (List (List ℕ)) → Inserted
+    → Result Inserted Failure → Server B S → Type 0
+InsertsBegun {B} {S} is_session old step units inserted result new =
+    ((begun done ended : Server B S) × (last : Step) × KeepsSession is_session old begun
+    × InsertsAll is_session begun step units inserted result done last × KeepsSession is_session done ended × Ends ended last new)
+    ⊎ ((why : Unkept) × (result ≡ Err (unkept_failure why)) × KeepsSession is_session old new)
+
+-- the units are inserted as one step; or memory ran out, and nothing is asked
 abbrev pub InsertsStep : {B S : Type 0} → (B → Machine → Type 0) → Server B S → List (List (List ℕ)) → Inserted
     → Result Inserted Failure → Server B S → Type 0
 InsertsStep {B} {S} is_session old units inserted result new =
-    ((begun done : Server B S) × (first last : Step) × Begins old begun first
-    × InsertsAll is_session begun first units inserted result done last × Ends done last new)
+    ((begun : Server B S) × (first : Step) × Begins old begun first × InsertsBegun is_session begun first units inserted result new)
     ⊎ ((result ≡ Err out_of_memory) × Rests old new)
 
 -- the text that is loaded: the bytes that are given, or those of the file where they are known

@@ -1,11 +1,13 @@
 -- What can be undone and redone of a stream, while it is edited.
-use Rattle.std.specs.Prelude.{◌≡◌, ℕ, ◌+◌, ◌<◌, List, [], ◌∷◌, ◌++◌, length, take, Result, Ok, Err}
+use Rattle.std.specs.Prelude.{◌≡◌, ◌+◌, ◌<◌, List, [], ◌∷◌, ◌++◌, length, take, Result, Ok, Err}
 use Rattle.edit_history.specs.Texts.{Texts}
 use Rattle.stream_edits.specs.Edits.{Register}
 use Rattle.undo_redo.specs.declared.prepared.Step.{Step}
 use Rattle.undo_redo.specs.declared.undo_redo.UndoRedo.{UndoRedo}
 use Rattle.undo_redo.specs.States.{IsAsBefore, IsUnderWay, IsUndoRedo}
+use Rattle.edit_engine.specs.Machines.{Machine}
 use Rattle.serve_calls.specs.declared.server.Server.{Server}
+use Rattle.serve_calls.specs.Sessions.{Stays}
 
 -- a step more can be undone, after which the stream has its texts as they are, and nothing can be redone
 pub record AddsStep (old new : UndoRedo) (after : Register) (states : List Texts) : Type 0 where
@@ -35,6 +37,13 @@ pub record KeepsRest {B S : Type 0} (old new : Server B S) : Type 0 where
   pub backend : new.backend ≡ old.backend
   pub sums : new.sums ≡ old.sums
   pub source : new.source ≡ old.source
+
+-- whichever session may be the one may be it still, and nothing else is different
+pub record KeepsSession {B S : Type 0} (is_session : B → Machine → Type 0) (old new : Server B S) : Type 0 where
+  pub stays : Stays (is_session old.backend) (is_session new.backend)
+  pub sums : new.sums ≡ old.sums
+  pub source : new.source ≡ old.source
+  pub history : new.history ≡ old.history
 
 pub record Rests {B S : Type 0} (old new : Server B S) : Type 0 where
   pub keeps : KeepsRest old new

@@ -1,13 +1,14 @@
 -- The session that answers a server's calls: one that may be what the server keeps. A session alone
 -- is the only one that may be; of a desk's, which lies under a lock, no clause knows which one it
 -- is.
-use Rattle.std.specs.Prelude.{ℕ, Result, Ok, Err}
+use Rattle.std.specs.Prelude.{Result, Ok, Err}
 use Rattle.std.specs.declared.alloc.AllocError.{AllocError}
 use Rattle.stream_edits.specs.Edits.{no_units, Replays}
 use Rattle.stream_edits.specs.Journals.{edits_of}
 use Rattle.edit_engine.specs.Machines.{Machine}
 use Rattle.stream_session.specs.Altered.{with_mark}
-use Rattle.stream_session.specs.Machines.{empty, uncached}
+use Rattle.stream_session.specs.Machines.{uncached}
+use Rattle.session_journal.specs.declared.unkept.Unkept.{Unkept}
 
 -- a session that may be the one answers so; its stream is what its journal leads to
 abbrev pub Asks : (Machine → Type 0) → (Machine → Type 0) → Type 0
@@ -35,8 +36,8 @@ abbrev pub Marks : (Machine → Type 0) → Result (Unit {0}) AllocError → (Ma
 Marks before (Ok it) after = (machine : Machine) → before machine → after (with_mark machine)
 Marks before (Err error) after = Stays before after
 
--- an empty session may be the one after a call; or memory ran out, and whichever may be it before the
+-- this session may be the one after a call; or that isn't recorded, and whichever may be it before the
 -- call may be it after that
-abbrev pub Resets : (Machine → Type 0) → Result (Unit {0}) AllocError → (Machine → Type 0) → Type 0
-Resets before (Ok it) after = (room : ℕ) × after (empty room)
-Resets before (Err error) after = Stays before after
+abbrev pub Resets : (Machine → Type 0) → Machine → Result (Unit {0}) Unkept → (Machine → Type 0) → Type 0
+Resets before session (Ok it) after = after session
+Resets before session (Err why) after = Stays before after

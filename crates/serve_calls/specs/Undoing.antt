@@ -1,5 +1,5 @@
 -- What can be undone and redone of the stream that a server edits, and its results.
-use Rattle.std.specs.Prelude.{◌≡◌, ◌⊎◌, ℕ, ◌+◌, ◌-◌, ◌<◌, List, [], ◌∷◌, ◌++◌, length, min, take, Some, slice_get, Result, Ok, Err}
+use Rattle.std.specs.Prelude.{◌≡◌, ◌⊎◌, ℕ, ◌+◌, ◌-◌, ◌<◌, List, length, min, Some, slice_get, Result, Ok, Err}
 use Rattle.edit_history.specs.declared.refusals.NotUndone.{NotUndone}
 use Rattle.edit_history.specs.declared.refusals.NotUndone.TheVariants as not_undone
 use Rattle.edit_history.specs.Refusals.{IsNotUndone}
@@ -9,21 +9,23 @@ use Rattle.stream_edits.specs.declared.group_refused.GroupRefused.{GroupRefused}
 use Rattle.stream_edits.specs.declared.receipts.GroupReceipt.{GroupReceipt}
 use Rattle.stream_edits.specs.declared.refusals.EditRefused.TheVariants as refusals
 use Rattle.stream_edits.specs.Edits.{Register}
-use Rattle.stream_edits.specs.GroupRefusals.{IsGroupRefused}
-use Rattle.stream_session.specs.Grouping.{AnswersGroup}
+use Rattle.stream_edits.specs.GroupRefusals.{IsGroupRefused, IsUntaken}
+use Rattle.access_unit.specs.Rooms.{most_units}
 use Rattle.edit_engine.specs.Machines.{Machine}
 use Rattle.serve_requests.specs.declared.failure.Failure.{Failure}
 use Rattle.serve_requests.specs.declared.failure.Failure.TheVariants.{Refused}
 use Rattle.serve_requests.specs.declared.failure.Refusal.{Refusal}
 use Rattle.serve_requests.specs.declared.failure.Refusal.TheVariants as refusal
 use Rattle.serve_answers.specs.declared.answer.Answer.{Answer}
-use Rattle.serve_answers.specs.Replies.{group_answer}
 use Rattle.undo_redo.specs.declared.undo_redo.UndoRedo.{UndoRedo}
 use Rattle.undo_redo.specs.declared.unit_texts.UnitTexts.{UnitTexts}
 use Rattle.undo_redo.specs.States.{IsUndoRedo, TakesTo}
 use Rattle.serve_calls.specs.declared.server.Server.{Server}
 use Rattle.serve_calls.specs.Editing.{sums_after_group}
 use Rattle.serve_calls.specs.Sessions.{Steps}
+use Rattle.serve_calls.specs.Unmade.{MakesTogether, group_made_answer}
+use Rattle.serve_calls.specs.declared.unmade.GroupFault.{GroupFault}
+use Rattle.serve_calls.specs.declared.unmade.GroupFault.TheVariants as group_fault
 
 -- why nothing is undone or redone, where nothing is there
 abbrev pub undo_failure : Refusal → NotUndone → Failure
@@ -51,40 +53,41 @@ pub record IsAt (done : ℕ) (old : UndoRedo) (before : Register) (new : UndoRed
   pub is : (states : List Texts) → IsUndoRedo old states before → IsUndoRedo new states after
 
 -- after the answer to a group that goes to so many steps: it is there if the group is accepted, and else where it was
-abbrev pub GoesTo : ℕ → UndoRedo → Register → Result GroupReceipt GroupRefused → UndoRedo → Register → Type 0
+abbrev pub GoesTo : ℕ → UndoRedo → Register → Result GroupReceipt GroupFault → UndoRedo → Register → Type 0
 GoesTo done old before (Ok receipt) new after = IsAt done old before new after
-GoesTo done old before (Err refused) new after = new ≡ old
+GoesTo done old before (Err fault) new after = new ≡ old
 
--- the session answers the group of an undo or a redo so, which goes to so many steps
-pub record StepsTo (done : ℕ) (old : UndoRedo) (before : Machine) (edits : List Edit) (answer : Result GroupReceipt GroupRefused)
+-- the session answers the group of an undo or a redo so, which goes to so many steps; or it isn't recorded
+pub record StepsTo (done : ℕ) (old : UndoRedo) (before : Machine) (edits : List Edit) (answer : Result GroupReceipt GroupFault)
     (new : UndoRedo) (after : Machine) : Type 0 where
-  pub answers : AnswersGroup before edits answer after
+  pub answers : MakesTogether before edits answer after
   pub goes : GoesTo done old before.register answer new after.register
 
--- the result of edits that go to so many steps: the session's answer; or a refusal whatever the stream is, and nothing is asked
+-- the result of edits that go to so many steps: the session's answer; or they aren't taken as a group of an undo or a redo,
+-- whatever the stream is, and nothing is asked
 abbrev pub GoesBy : {B S : Type 0} → (B → Machine → Type 0) → ℕ → Server B S → List Edit
-    → Result GroupReceipt GroupRefused → Server B S → Type 0
+    → Result GroupReceipt GroupFault → Server B S → Type 0
 GoesBy is_session done old edits answer new =
     (Steps (is_session old.backend) (λ before after. StepsTo done old.history before edits answer new.history after)
     (is_session new.backend) × (new.sums ≡ sums_after_group old.sums edits answer) × (new.source ≡ old.source))
-    ⊎ ((refused : GroupRefused) × (answer ≡ Err refused) × ((register : Register) → IsGroupRefused register edits refused)
-    × (new ≡ old))
+    ⊎ ((refused : GroupRefused) × (answer ≡ Err (group_fault.Refused refused)) × IsUntaken most_units edits refused
+    × ((register : Register) → IsGroupRefused register edits refused) × (new ≡ old))
 
 -- the result of an undo: that of a group that takes the last step back; or why there is none, and nothing changes
 abbrev pub UndoesAs : {B S : Type 0} → (B → Machine → Type 0) → Server B S → Result Answer Failure → Server B S → Type 0
 UndoesAs is_session old result new =
-    ((edits : List Edit) × (units : UnitTexts) × (answer : Result GroupReceipt GroupRefused) × (0 < old.history.history.done)
+    ((edits : List Edit) × (units : UnitTexts) × (answer : Result GroupReceipt GroupFault) × (0 < old.history.history.done)
     × Undoes old.history edits units
-    × GoesBy is_session (old.history.history.done - 1) old edits answer new × (result ≡ group_answer answer))
+    × GoesBy is_session (old.history.history.done - 1) old edits answer new × (result ≡ group_made_answer answer))
     ⊎ ((why : NotUndone) × IsNotUndone old.history.history.done why × (result ≡ Err (undo_failure refusal.NothingToUndo why))
     × (new ≡ old))
 
 -- the result of a redo: that of a group that makes the next step again; or why there is none, and nothing changes
 abbrev pub RedoesAs : {B S : Type 0} → (B → Machine → Type 0) → Server B S → Result Answer Failure → Server B S → Type 0
 RedoesAs is_session old result new =
-    ((edits : List Edit) × (units : UnitTexts) × (answer : Result GroupReceipt GroupRefused)
+    ((edits : List Edit) × (units : UnitTexts) × (answer : Result GroupReceipt GroupFault)
     × (old.history.history.done < length old.history.history.steps.items) × Redoes old.history edits units
     × GoesBy is_session (min (old.history.history.done + 1) (length old.history.history.steps.items)) old edits answer new
-    × (result ≡ group_answer answer))
+    × (result ≡ group_made_answer answer))
     ⊎ ((why : NotUndone) × IsNotUndone (length old.history.history.steps.items - old.history.history.done) why
     × (result ≡ Err (undo_failure refusal.NothingToRedo why)) × (new ≡ old))

@@ -1,25 +1,27 @@
 //! A session alone, whose jobs are taken and landed by calls.
 
-ghost use Rattle.std.specs.Prelude.{◌≡◌, ◌≤◌, ◌↔◌, Err, IfOk, IfSome, IsErrOf, MatchOption, MatchResult, None, OnOk, Some, true};
+ghost use Rattle.std.specs.Prelude.{◌≡◌, ◌≤◌, ◌↔◌, Err, IfOk, IfSome, IsErrOf, MatchOption, MatchResult, None, Some, true};
 ghost use Rattle.picture_cache.specs.Bounded.{most_room};
 ghost use Rattle.stand_in_device.specs.Inputs.{InputValue};
-ghost use Rattle.stream_session.specs.Machines.{empty};
+ghost use Rattle.stream_session.specs.Machines.{IsEmpty, empty};
 ghost use Rattle.stream_session.specs.Taken.{input_of};
 ghost use Rattle.serve_answers.specs.JobAnswers.{job_answer};
 ghost use Rattle.serve_calls.specs.Failing.{out_of_memory};
 ghost use Rattle.serve_calls.specs.Jobs.{TellsJob};
-ghost use Rattle.serve_calls.specs.Sessions.{Resets};
 ghost use Rattle.serve_calls.specs.Taking.{TakesReply, taken_in, taken_of};
 
-use crate::backend::{Asked, Backend};
+use crate::backend::{Backend, LendsSession};
 use crate::failing::OUT_OF_MEMORY;
+use crate::unmade::{EditFault, GroupFault};
 use edit_engine::{
-    Command, Config, ConfigFault, Dropping, EditRefused, GroupReceipt, GroupRefused, ReadEdit,
-    ReadGroup, Receipt, Reply, Runner, Session, TakeRefused, TakenJob,
+    Command, Config, ConfigFault, Dropping, GroupReceipt, ReadEdit, ReadGroup, Receipt, Reply,
+    Runner, Session, TakeRefused, TakenJob,
 };
+use picture_keys::HashedUnit;
 use pictures::AuId;
 use serve_answers::{Answer, JobAnswer, of_give_back, of_land};
 use serve_requests::{Failure, Refusal};
+use session_journal::Unkept;
 use std::alloc::{AllocError, Global};
 
 /// A session alone.
@@ -109,7 +111,7 @@ fn taken_of(answer: &Result<Option<TakenJob>, TakeRefused>) -> Result<Option<Tak
     }
 }
 
-impl Asked for Alone {
+impl LendsSession for Alone {
     ghost is_session = { λ alone machine. machine ≡ alone.runner };
 
     fn look<T, F: FnOnce(&Session) -> T>(&self, ask: F) -> T {
@@ -122,15 +124,28 @@ impl Asked for Alone {
 impl Backend for Alone {
     ghost lends_jobs = { λ _. true };
 
-    fn edit(&mut self, read: ReadEdit) -> Result<Receipt, EditRefused> {
+    fn edit(&mut self, read: ReadEdit) -> Result<Receipt, EditFault> {
         let _ = self.runner.session().journal();
-        self.runner.edit_read(read)
+        match self.runner.edit_read(read) {
+            Ok(receipt) => Ok(receipt),
+            Err(refused) => Err(EditFault::Refused(refused)),
+        }
     }
 
-    fn edit_group(&mut self, group: ReadGroup) -> Result<GroupReceipt, GroupRefused> {
+    fn edit_group(&mut self, group: ReadGroup) -> Result<GroupReceipt, GroupFault> {
         let _ = self.runner.session().journal();
-        self.runner.edit_group_read(group)
+        match self.runner.edit_group_read(group) {
+            Ok(receipt) => Ok(receipt),
+            Err(refused) => Err(GroupFault::Refused(refused)),
+        }
     }
+
+    // Nothing is recorded.
+    fn begin_load(&mut self, _alloc: Global, _units: &[HashedUnit]) -> Result<(), Unkept> {
+        Ok(())
+    }
+
+    fn end_load(&mut self) {}
 
     fn drop_picture(&mut self, id: AuId) -> Dropping {
         let _ = self.runner.session().journal();
@@ -145,19 +160,22 @@ impl Backend for Alone {
         self.runner.mark()
     }
 
-    fn reset(&mut self, alloc: Global) -> Result<(), AllocError>
-        ensures ok { OnOk result (self.new.runner ≡ empty self.old.cache) }
-        ensures kept { self.new.cache ≡ self.old.cache }
-        ensures anew { Resets (λ machine. machine ≡ self.old.runner) result
-            (λ machine. machine ≡ self.new.runner) }
+    fn fresh(&self, alloc: Global) -> Result<Session, AllocError>
+        ensures room { IfOk result (λ session. session ≡ empty self.now.cache) }
+        ensures empty { IfOk result IsEmpty }
     {
-        match Alone::open(alloc, self.cache) {
-            Ok(alone) => {
-                *self = alone;
-                Ok(())
-            }
+        match Session::new(alloc, Config { cache: self.cache }) {
+            Ok(session) => Ok(session),
             Err(_) => Err(AllocError),
         }
+    }
+
+    fn clear_records(&mut self) -> Result<(), Unkept> {
+        Ok(())
+    }
+
+    fn begin_anew(&mut self, session: Session) {
+        self.runner.begin_anew(session);
     }
 
     // Nobody decodes but by a call.

@@ -1,24 +1,25 @@
 //! What keeps the session that calls are about.
 
-ghost use Rattle.std.specs.Prelude.{◌≡◌, ◌≤◌, Bool, true, false, Err, length};
+ghost use Rattle.std.specs.Prelude.{◌≡◌, ◌≤◌, Bool, true, false, Err, IfOk, length};
 ghost use Rattle.std.specs.Fn.{FnOnceReturnsAt};
 ghost use Rattle.edit_engine.specs.Machines.{Machine};
-ghost use Rattle.stream_session.specs.Machines.{AnswersEdit};
-ghost use Rattle.stream_session.specs.Grouping.{AnswersGroup};
+ghost use Rattle.stream_session.specs.Machines.{IsEmpty};
 ghost use Rattle.edit_engine.specs.Needing.{AnswersDrop};
 ghost use Rattle.serve_calls.specs.Jobs.{GivesBackAs, LandsAs, TakesAs};
-ghost use Rattle.serve_calls.specs.Sessions.{Asks, Clears, Marks, Resets, Stays, Steps};
+ghost use Rattle.serve_calls.specs.Sessions.{Asks, Clears, Marks, Stays, Steps};
+ghost use Rattle.serve_calls.specs.Unmade.{MakesTogether, MakesOne};
 
-use edit_engine::{
-    Dropping, EditRefused, GroupReceipt, GroupRefused, ReadEdit, ReadGroup, Receipt, Session,
-};
+use crate::unmade::{EditFault, GroupFault};
+use edit_engine::{Dropping, GroupReceipt, ReadEdit, ReadGroup, Receipt, Session};
+use picture_keys::HashedUnit;
 use pictures::AuId;
 use serve_answers::Answer;
 use serve_requests::Failure;
+use session_journal::Unkept;
 use std::alloc::{AllocError, Global};
 
 /// One who lends a session to be asked.
-pub trait Asked {
+pub trait LendsSession {
     // Whether a session may be the one that is lent.
     ghost is_session: { Self → Machine → Type 0 };
 
@@ -30,19 +31,28 @@ pub trait Asked {
 }
 
 /// One who keeps a session for a server.
-pub trait Backend: Asked {
+pub trait Backend: LendsSession {
     // Whether there are calls about jobs.
     ghost lends_jobs: { Self → Bool };
 
     /// Edits the stream by an edit whose text is read.
-    fn edit(&mut self, read: ReadEdit) -> Result<Receipt, EditRefused>
+    fn edit(&mut self, read: ReadEdit) -> Result<Receipt, EditFault>
         ensures { Steps (Self.is_session self.old)
-            (λ before after. AnswersEdit before read result after) (Self.is_session self.new) };
+            (λ before after. MakesOne before read result after) (Self.is_session self.new) };
 
     /// Makes the edits of a group whose texts are read, as one step.
-    fn edit_group(&mut self, group: ReadGroup) -> Result<GroupReceipt, GroupRefused>
+    fn edit_group(&mut self, group: ReadGroup) -> Result<GroupReceipt, GroupFault>
         ensures { Steps (Self.is_session self.old)
-            (λ before after. AnswersGroup before group result after) (Self.is_session self.new) };
+            (λ before after. MakesTogether before group result after) (Self.is_session self.new) };
+
+    /// Begins a load of these units, which are then inserted one after the other behind the last
+    /// one.
+    fn begin_load(&mut self, alloc: Global, units: &[HashedUnit]) -> Result<(), Unkept>
+        ensures { Stays (Self.is_session self.old) (Self.is_session self.new) };
+
+    /// Ends a load, of which those units stay that were inserted.
+    fn end_load(&mut self)
+        ensures { Stays (Self.is_session self.old) (Self.is_session self.new) };
 
     /// Drops the picture of the unit that has the id.
     fn drop_picture(&mut self, id: AuId) -> Dropping
@@ -57,9 +67,18 @@ pub trait Backend: Asked {
     fn mark(&mut self) -> Result<(), AllocError>
         ensures { Marks (Self.is_session self.old) result (Self.is_session self.new) };
 
-    /// Begins anew: with an empty stream, and without jobs that are out.
-    fn reset(&mut self, alloc: Global) -> Result<(), AllocError>
-        ensures { Resets (Self.is_session self.old) result (Self.is_session self.new) };
+    /// A session to begin anew with.
+    fn fresh(&self, alloc: Global) -> Result<Session, AllocError>
+        ensures { IfOk result IsEmpty };
+
+    /// Takes all records of edits off, before the session begins anew.
+    fn clear_records(&mut self) -> Result<(), Unkept>
+        ensures { Stays (Self.is_session self.old) (Self.is_session self.new) };
+
+    /// Begins anew with this session, and without jobs that are out.
+    fn begin_anew(&mut self, session: Session)
+        requires { IsEmpty session }
+        ensures { Self.is_session self.new session };
 
     /// Has the pictures of these units made first, of which there are 64 at most, and those of all
     /// others too or not.

@@ -1,19 +1,21 @@
 //! `load`: the units of a stream inserted one after the other.
 
-ghost use Rattle.std.specs.Prelude.{◌≡◌, ◌+◌, ◌<◌, ◌≤◌, ℕ, List, IfErr, IfOk, MatchResult, vec_len};
+ghost use Rattle.std.specs.Prelude.{◌≡◌, ◌+◌, ◌<◌, ◌≤◌, ℕ, List, [], IfErr, IfOk, MatchResult, vec_len};
 ghost use Rattle.std.specs.Vec.{vec_capacity};
 ghost use Rattle.serve_calls.specs.Failing.{out_of_memory};
-ghost use Rattle.serve_calls.specs.Loading.{InsertsAll, InsertsLast, InsertsStep, IsLast, IsTextOf, IsTextless, LoadsAs, LoadsStream, load_answer, loaded_answer, none_inserted, with_unit};
+ghost use Rattle.edit_history.specs.Histories.{HasRoom as HasStepRoom};
+ghost use Rattle.serve_calls.specs.Loading.{InsertsAll, InsertsBegun, InsertsLast, InsertsStep, IsLast, IsTextOf, IsTextless, LoadsAs, LoadsStream, load_answer, loaded_answer, none_inserted, uninserted, with_unit};
 ghost use Rattle.serve_calls.specs.Preparing.{prepared};
 
-use crate::backend::{Asked, Backend};
+use crate::backend::{Backend, LendsSession};
 use crate::failing::OUT_OF_MEMORY;
 use crate::preparing::Prepared;
 use crate::server::Server;
+use crate::unmade::{EditFault, unkept_failure};
 use access_unit::{MOST_UNITS, ReadFault, read_units};
 use bytes::Bytes;
 use console_io::{InputFault, Source};
-use edit_engine::{EditRefused, Last, ReadEdit, Receipt};
+use edit_engine::{Last, ReadEdit, Receipt};
 use picture_keys::{HashedUnit, hash_units};
 use pictures::AuId;
 use serve_answers::{Answer, LeftOutAnswer, Stretch};
@@ -130,13 +132,33 @@ impl<B: Backend, S: Source> Server<B, S> {
             self.new }
     {
         match self.history.begin(self.alloc, units.len()) {
-            Ok(mut step) => {
-                let inserted = self.insert_all(&mut step, from, units);
-                self.history.end(step);
-                inserted
-            }
+            Ok(step) => self.insert_begun(step, from, units),
             Err(_) => Err(OUT_OF_MEMORY),
         }
+    }
+
+    /// Inserts the units after the last one, the first of them at a place, as the step that has
+    /// begun, unless they aren't recorded.
+    fn insert_begun(
+        &mut self,
+        step: Step,
+        from: usize,
+        units: Vec<HashedUnit>,
+    ) -> Result<Inserted, Failure>
+        requires fits { vec_len units ≤ vec_capacity step.changes }
+        requires empty { step.changes.items ≡ [] }
+        requires room { HasStepRoom self.old.history.history }
+        ensures { InsertsBegun B.is_session self.old step units.items (none_inserted from) result
+            self.new }
+    {
+        if let Err(why) = self.backend.begin_load(self.alloc, &units) {
+            return Err(unkept_failure(why));
+        }
+        let mut step = step;
+        let inserted = self.insert_all(&mut step, from, units);
+        self.backend.end_load();
+        self.history.end(step);
+        inserted
     }
 
     /// Inserts the units after the last one, the first of them at a place, in a step that is under
@@ -156,17 +178,14 @@ impl<B: Backend, S: Source> Server<B, S> {
         for unit in units {
             match self.insert_last(step, unit) {
                 Ok(receipt) => inserted = inserted.with_unit(receipt.id),
-                Err(refused) => {
-                    let units = inserted.units;
-                    return Err(Failure::Refused(Refusal::Loading { refused, units }));
-                }
+                Err(fault) => return Err(uninserted(fault, inserted.units)),
             }
         }
         Ok(inserted)
     }
 
     /// Inserts a unit after the last one, in a step that is under way.
-    fn insert_last(&mut self, step: &mut Step, unit: HashedUnit) -> Result<Receipt, EditRefused>
+    fn insert_last(&mut self, step: &mut Step, unit: HashedUnit) -> Result<Receipt, EditFault>
         requires { vec_len step.old.changes < vec_capacity step.old.changes }
         ensures inserts { InsertsLast B.is_session self.old step.old unit result self.new
             step.new }
@@ -184,6 +203,16 @@ impl<B: Backend, S: Source> Server<B, S> {
         ensures { IsLast B.is_session self.now result }
     {
         self.backend.look(|session| session.last())
+    }
+}
+
+/// Why a unit isn't inserted, once so many were.
+fn uninserted(fault: EditFault, units: usize) -> Failure
+    ensures { result ≡ uninserted fault units }
+{
+    match fault {
+        EditFault::Refused(refused) => Failure::Refused(Refusal::Loading { refused, units }),
+        EditFault::Unkept(why) => unkept_failure(why),
     }
 }
 

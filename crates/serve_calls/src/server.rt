@@ -13,6 +13,7 @@ use crate::backend::Backend;
 use crate::failing::OUT_OF_MEMORY;
 use crate::remembering::{take_in, take_in_group};
 use crate::sums::{Sums, bytes_of, bytes_of_edit};
+use crate::unmade::{EditFault, GroupFault, of_group_made, of_made, unkept_failure};
 use crate::wanted_units::WantedUnit;
 use edit_engine::{EditRefused, GroupReceipt, GroupRefused, ReadEdit, ReadGroup, Receipt};
 use edit_script::id_of_number;
@@ -55,13 +56,13 @@ impl<B: Backend, S> Server<B, S> {
         ensures { EditsAs B.is_session self.old edit result self.new }
     {
         match edit.read(self.alloc) {
-            Ok(read) => of_edit(self.edit_read(read)),
+            Ok(read) => of_made(self.edit_read(read)),
             Err(refused) => of_edit(Err(refused)),
         }
     }
 
     /// Edits the stream by an edit whose text is read, as one step.
-    fn edit_read(&mut self, read: ReadEdit) -> Result<Receipt, EditRefused>
+    pub(crate) fn edit_read(&mut self, read: ReadEdit) -> Result<Receipt, EditFault>
         ensures { MakesEdit B.is_session self.old read result self.new }
     {
         match self.history.begin(self.alloc, 1) {
@@ -70,16 +71,12 @@ impl<B: Backend, S> Server<B, S> {
                 self.history.end(step);
                 answer
             }
-            Err(_) => Err(EditRefused::Memory),
+            Err(_) => Err(EditFault::Refused(EditRefused::Memory)),
         }
     }
 
     /// Edits the stream by an edit whose text is read, in a step that is under way.
-    pub(crate) fn edit_in(
-        &mut self,
-        step: &mut Step,
-        read: ReadEdit,
-    ) -> Result<Receipt, EditRefused>
+    pub(crate) fn edit_in(&mut self, step: &mut Step, read: ReadEdit) -> Result<Receipt, EditFault>
         requires { vec_len step.old.changes < vec_capacity step.old.changes }
         ensures makes { MakesEditIn B.is_session self.old step.old read result self.new step.new }
         ensures history { self.new.history.history ≡ self.old.history.history }
@@ -88,7 +85,7 @@ impl<B: Backend, S> Server<B, S> {
     {
         match self.history.prepare(self.alloc, read.edit()) {
             Ok(prepared) => self.edit_prepared(step, prepared, read),
-            Err(_) => Err(EditRefused::Memory),
+            Err(_) => Err(EditFault::Refused(EditRefused::Memory)),
         }
     }
 
@@ -99,7 +96,7 @@ impl<B: Backend, S> Server<B, S> {
         step: &mut Step,
         prepared: Option<PreparedEdit>,
         read: ReadEdit,
-    ) -> Result<Receipt, EditRefused>
+    ) -> Result<Receipt, EditFault>
         requires begun { vec_len step.old.changes < vec_capacity step.old.changes }
         requires room { IfSome prepared (HasRoom self.old.history.units) }
         requires follows { IfSome prepared (Follows self.old.history.units read) }
@@ -128,13 +125,13 @@ impl<B: Backend, S> Server<B, S> {
         ensures { GroupsAs B.is_session self.old edits.items result self.new }
     {
         match ReadGroup::read(self.alloc, edits) {
-            Ok(group) => of_group(self.edit_group_read(group)),
+            Ok(group) => of_group_made(self.edit_group_read(group)),
             Err(refused) => of_group(Err(refused)),
         }
     }
 
     /// Makes edits together, those of a group whose texts are read, as one step.
-    fn edit_group_read(&mut self, group: ReadGroup) -> Result<GroupReceipt, GroupRefused>
+    pub(crate) fn edit_group_read(&mut self, group: ReadGroup) -> Result<GroupReceipt, GroupFault>
         ensures { MakesStep B.is_session self.old group result self.new }
     {
         match self.history.prepare_group(self.alloc, group.edits()) {
@@ -143,12 +140,12 @@ impl<B: Backend, S> Server<B, S> {
                 take_in_group(&mut self.history, prepared);
                 Ok(receipt)
             }
-            Err(_) => Err(GroupRefused::Memory),
+            Err(_) => Err(GroupFault::Refused(GroupRefused::Memory)),
         }
     }
 
     /// Makes edits together, those of a group whose texts are read.
-    pub(crate) fn edit_together(&mut self, group: ReadGroup) -> Result<GroupReceipt, GroupRefused>
+    pub(crate) fn edit_together(&mut self, group: ReadGroup) -> Result<GroupReceipt, GroupFault>
         ensures { MakesGroup B.is_session self.old group result self.new }
     {
         let bytes = bytes_of(group.edits());
@@ -169,14 +166,18 @@ impl<B: Backend, S> Server<B, S> {
         ensures { ResetsAs B.is_session self.old wanted.old.items result self.new
             wanted.new.items }
     {
-        match self.backend.reset(self.alloc) {
+        let Ok(session) = self.backend.fresh(self.alloc) else {
+            return Err(OUT_OF_MEMORY);
+        };
+        match self.backend.clear_records() {
             Ok(()) => {
+                self.backend.begin_anew(session);
                 self.sums = Sums::none();
                 self.history = UndoRedo::new(self.alloc);
                 *wanted = Vec::new(self.alloc);
                 Ok(Answer::Word(Word::Reset))
             }
-            Err(_) => Err(OUT_OF_MEMORY),
+            Err(why) => Err(unkept_failure(why)),
         }
     }
 

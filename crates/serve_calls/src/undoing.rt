@@ -5,8 +5,9 @@ ghost use Rattle.serve_calls.specs.Undoing.{GoesBy, Redoes, RedoesAs, Undoes, Un
 
 use crate::backend::Backend;
 use crate::server::Server;
-use edit_engine::{GroupReceipt, GroupRefused, ReadGroup};
-use serve_answers::{Answer, of_group};
+use crate::unmade::{GroupFault, of_group_made};
+use edit_engine::{GroupReceipt, ReadGroup};
+use serve_answers::Answer;
 use serve_requests::{Failure, Refusal};
 use stream_edits::{Edit, EditRefused};
 use undo_redo::{NotUndone, UnitTexts};
@@ -17,18 +18,14 @@ impl<B: Backend, S> Server<B, S> {
         ensures { UndoesAs B.is_session self.old result self.new }
     {
         match self.history.undo(self.alloc) {
-            Ok((edits, units)) => of_group(self.take_back(edits, units)),
+            Ok((edits, units)) => of_group_made(self.take_back(edits, units)),
             Err(why) => Err(undo_failure(Refusal::NothingToUndo, why)),
         }
     }
 
     /// Makes the edits together that take the last step back, after which the units have these
     /// texts.
-    fn take_back(
-        &mut self,
-        edits: Vec<Edit>,
-        units: UnitTexts,
-    ) -> Result<GroupReceipt, GroupRefused>
+    fn take_back(&mut self, edits: Vec<Edit>, units: UnitTexts) -> Result<GroupReceipt, GroupFault>
         requires some { 0 < self.old.history.history.done }
         requires undoes { Undoes self.old.history edits.items units }
         ensures { GoesBy B.is_session (self.old.history.history.done - 1) self.old edits.items
@@ -45,18 +42,14 @@ impl<B: Backend, S> Server<B, S> {
         ensures { RedoesAs B.is_session self.old result self.new }
     {
         match self.history.redo(self.alloc) {
-            Ok((edits, units)) => of_group(self.make_again(edits, units)),
+            Ok((edits, units)) => of_group_made(self.make_again(edits, units)),
             Err(why) => Err(undo_failure(Refusal::NothingToRedo, why)),
         }
     }
 
     /// Makes the edits together that make the next step again, after which the units have these
     /// texts.
-    fn make_again(
-        &mut self,
-        edits: Vec<Edit>,
-        units: UnitTexts,
-    ) -> Result<GroupReceipt, GroupRefused>
+    fn make_again(&mut self, edits: Vec<Edit>, units: UnitTexts) -> Result<GroupReceipt, GroupFault>
         requires some { self.old.history.history.done
             < length self.old.history.history.steps.items }
         requires redoes { Redoes self.old.history edits.items units }

@@ -12,7 +12,7 @@ use Rattle.serve_calls.specs.declared.wanted_units.WantedUnit.{WantedUnit}
 use Rattle.serve_calls.specs.Failing.{out_of_memory}
 use Rattle.serve_calls.specs.Requests.{IsRefusedAs, IsServedIf}
 use Rattle.serve_run.specs.declared.end.ServeEnd.{ServeEnd}
-use Rattle.serve_run.specs.declared.end.ServeEnd.TheVariants.{Done, Memory, Unread, Unwritten}
+use Rattle.serve_run.specs.declared.end.ServeEnd.TheVariants.{Done, Memory, Unread, Unreplayed, Unwritten}
 
 -- why a text is no value: it is no UTF-8 or no JSON, or memory ran out
 abbrev pub IsNoValue : List ℕ → Failure → Type 0
@@ -61,6 +61,7 @@ GoesOn is_last (Err Done) = is_last ≡ true
 GoesOn is_last (Err Unread) = ⊥
 GoesOn is_last (Err Unwritten) = ⊤
 GoesOn is_last (Err Memory) = ⊤
+GoesOn is_last (Err Unreplayed) = ⊥
 
 -- the messages of a text are served, and the server goes on or ends
 abbrev pub GoesOnAfter : {B S : Type 0} → (B → Machine → Type 0) → (B → Bool) → (S → List ℕ → Option (List ℕ)) → Server B S

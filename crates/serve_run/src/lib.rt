@@ -8,13 +8,13 @@
 #![tactic(auto)]
 
 mod answers;
+mod desk_backend;
 mod end;
+mod line_writer;
 mod lines;
-mod office;
-mod pen;
 mod serving;
 mod threads;
 
-pub use end::{ServeEnd, say_end};
+pub use end::{ServeEnd, say_end, say_journal_fault};
 pub use serving::serve_alone;
 pub use threads::{serve_with, serve_with_workers};

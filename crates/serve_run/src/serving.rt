@@ -13,55 +13,84 @@ ghost use Rattle.serve_run.specs.Serving.{GoesOn, GoesOnAfter, ServesAll, end_an
 
 use crate::answers::Answers;
 use crate::end::ServeEnd;
+use crate::line_writer::{Fault, LineWriter};
 use crate::lines::{Line, Lines, MOST_BYTES};
-use crate::pen::{Fault, Pen};
 use console_io::Source;
 use failure_reasons::Explain;
 use file_saving::Saver;
 use serde_json::{Category, Error, Value};
 use serve_answers::Answer;
-use serve_calls::{Alone, Backend, OUT_OF_MEMORY, Server, WantedUnit};
+use serve_calls::{Alone, Backend, Journaled, OUT_OF_MEMORY, Server, Unreplayed, WantedUnit};
 use serve_requests::{Failure, Message, Refusal, Request};
+use session_journal::{Records, Step};
 use std::alloc::Global;
 use std::io::{ErrorKind, Read, Write};
 use std::slice;
 use std::thread::Threads;
 
-/// Serves the messages of an input with a session alone, in this thread. The files that are loaded
-/// are the source's, which says beside the answer why it isn't taken of one that isn't.
-pub fn serve_alone<R: Threads + Sync, I: Read + Drop, S: Saver + Explain + Drop, W: Write>(
+/// Serves the messages of an input with a session alone, in this thread. The steps of a journal are
+/// made again first, where there is one, and what is edited is recorded in it. The files that are
+/// loaded are the source's, which says beside the answer why it isn't taken of one that isn't.
+pub fn serve_alone<R, K, I, S, W>(
     rt: &R,
     alloc: Global,
     cache: u16,
+    journal: Option<(K, Vec<Step>)>,
     input: I,
     source: S,
     output: &mut W,
-) -> ServeEnd {
+) -> ServeEnd
+where
+    R: Threads + Sync,
+    K: Records + Drop,
+    I: Read + Drop,
+    S: Saver + Explain + Drop,
+    W: Write,
+{
     let Ok(backend) = Alone::open(alloc, cache) else {
         return ServeEnd::Memory;
     };
     let Ok(mut lines) = Lines::of(alloc, input, MOST_BYTES) else {
         return ServeEnd::Memory;
     };
-    let mut server = Server::new(alloc, backend, source);
-    let mut pen = Pen::new(alloc, output);
+    let mut server = Server::new(alloc, Journaled::new(backend), source);
+    if let Err(end) = resume(&mut server, journal) {
+        return end;
+    }
+    let mut writer = LineWriter::new(alloc, output);
     for _ in 0..u64::MAX {
-        if let Err(end) = serve_next(rt, &mut server, &mut pen, &mut lines) {
+        if let Err(end) = serve_next(rt, &mut server, &mut writer, &mut lines) {
             return end;
         }
     }
     ServeEnd::Done
 }
 
+/// Makes the steps of a journal again, in which edits are recorded from then on, where there is one;
+/// or how the server ends.
+pub(crate) fn resume<B: Backend, K: Records + Drop, S>(
+    server: &mut Server<Journaled<B, K>, S>,
+    journal: Option<(K, Vec<Step>)>,
+) -> Result<(), ServeEnd> {
+    let Some((journal, steps)) = journal else {
+        return Ok(());
+    };
+    match server.resume(journal, steps) {
+        Ok(()) => Ok(()),
+        Err(Unreplayed::Memory) => Err(ServeEnd::Memory),
+        Err(Unreplayed::Refused | Unreplayed::InPart) => Err(ServeEnd::Unreplayed),
+    }
+}
+
 /// Reads the next message and serves it; or how the server ends.
 fn serve_next<R: Threads + Sync, B: Backend, I: Read + Drop, S: Saver + Explain, W: Write>(
     rt: &R,
     server: &mut Server<B, S>,
-    pen: &mut Pen<W>,
+    writer: &mut LineWriter<W>,
     lines: &mut Lines<I>,
 ) -> Result<(), ServeEnd> {
     match lines.next() {
-        Ok(line) => serve_line(rt, server, pen, line),
+        Ok(line) => serve_line(rt, server, writer, line),
         Err(_) => Err(ServeEnd::Unread),
     }
 }
@@ -70,13 +99,13 @@ fn serve_next<R: Threads + Sync, B: Backend, I: Read + Drop, S: Saver + Explain,
 pub(crate) fn serve_line<R: Threads + Sync, B: Backend, S: Saver + Explain, W: Write>(
     rt: &R,
     server: &mut Server<B, S>,
-    pen: &mut Pen<W>,
+    writer: &mut LineWriter<W>,
     line: Line,
 ) -> Result<(), ServeEnd> {
     match line {
-        Line::Text(text) => serve_text(rt, server, pen, text.as_slice()),
-        Line::TooLong => refuse(server.alloc, pen, Failure::NotRequest),
-        Line::Memory => refuse(server.alloc, pen, OUT_OF_MEMORY),
+        Line::Text(text) => serve_text(rt, server, writer, text.as_slice()),
+        Line::TooLong => refuse(server.alloc, writer, Failure::NotRequest),
+        Line::Memory => refuse(server.alloc, writer, OUT_OF_MEMORY),
         Line::End => Err(ServeEnd::Done),
     }
 }
@@ -85,15 +114,15 @@ pub(crate) fn serve_line<R: Threads + Sync, B: Backend, S: Saver + Explain, W: W
 fn serve_text<R: Threads + Sync, B: Backend, S: Saver + Explain, W: Write>(
     rt: &R,
     server: &mut Server<B, S>,
-    pen: &mut Pen<W>,
+    writer: &mut LineWriter<W>,
     text: &[u8],
 ) -> Result<(), ServeEnd>
-    ensures { GoesOnAfter B.is_session B.lends_jobs S.file server.old pen.old.wanted.items text.now
+    ensures { GoesOnAfter B.is_session B.lends_jobs S.file server.old writer.old.wanted.items text.now
         result server.new }
 {
     match Value::from_slice(server.alloc, text) {
-        Ok(value) => serve_value(rt, server, pen, &value),
-        Err(error) => refuse(server.alloc, pen, why_no_value(&error)),
+        Ok(value) => serve_value(rt, server, writer, &value),
+        Err(error) => refuse(server.alloc, writer, why_no_value(&error)),
     }
 }
 
@@ -101,34 +130,34 @@ fn serve_text<R: Threads + Sync, B: Backend, S: Saver + Explain, W: Write>(
 fn serve_value<R: Threads + Sync, B: Backend, S: Saver + Explain, W: Write>(
     rt: &R,
     server: &mut Server<B, S>,
-    pen: &mut Pen<W>,
+    writer: &mut LineWriter<W>,
     value: &Value,
 ) -> Result<(), ServeEnd>
     ensures { (served : List Served) × (wants : List WantedUnit)
-        × ServesAll B.is_session B.lends_jobs S.file server.old pen.old.wanted.items
+        × ServesAll B.is_session B.lends_jobs S.file server.old writer.old.wanted.items
         (messages_in (view value.now)) served server.new wants
         × GoesOn (end_any served) result }
 {
     let mut answers = Answers::new(server.alloc, is_batch(value));
     let messages = messages_in(value);
-    let is_last = serve_all(rt, server, &mut pen.wanted, messages, &mut answers);
-    go_on(server, pen, answers, is_last)
+    let is_last = serve_all(rt, server, &mut writer.wanted, messages, &mut answers);
+    go_on(server, writer, answers, is_last)
 }
 
 /// Writes answers and goes on: the wanted units are told of, unless the end was asked for.
 fn go_on<B: Backend, S: Source, W: Write>(
     server: &Server<B, S>,
-    pen: &mut Pen<W>,
+    writer: &mut LineWriter<W>,
     answers: Answers,
     is_last: bool,
 ) -> Result<(), ServeEnd>
     ensures { GoesOn is_last result }
 {
-    pen.answer(answers)?;
+    writer.answer(answers)?;
     if is_last {
         return Err(ServeEnd::Done);
     }
-    pen.tell(&server.backend)?;
+    writer.tell(&server.backend)?;
     Ok(())
 }
 
@@ -247,12 +276,16 @@ fn let_go(message: Message<'_>) {
 }
 
 /// Answers what is no request; or how the server ends.
-fn refuse<W: Write>(alloc: Global, pen: &mut Pen<W>, failure: Failure) -> Result<(), ServeEnd>
+fn refuse<W: Write>(
+    alloc: Global,
+    writer: &mut LineWriter<W>,
+    failure: Failure,
+) -> Result<(), ServeEnd>
     ensures { GoesOn false result }
 {
     let mut answers = Answers::new(alloc, false);
     answers.add(None, &Err(failure));
-    pen.answer(answers)?;
+    writer.answer(answers)?;
     Ok(())
 }
 

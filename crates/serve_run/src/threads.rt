@@ -3,14 +3,15 @@
 
 ghost use Rattle.std.specs.Prelude.{◌≡◌, ◌≤◌, length, IfOk};
 
+use crate::desk_backend::{DeskBackend, Shared};
 use crate::end::ServeEnd;
 use crate::lines::{Lines, MOST_BYTES};
-use crate::office::{AtDesk, Office};
-use crate::serving::serve_line;
+use crate::serving::{resume, serve_line};
 use decode_pool::{Gate, worker};
 use failure_reasons::Explain;
 use file_saving::Saver;
-use serve_calls::Server;
+use serve_calls::{Journaled, Server};
+use session_journal::{Records, Step};
 use stand_in_device::Device;
 use std::alloc::{AllocError, Global};
 use std::io::{Read, Write};
@@ -19,17 +20,19 @@ use std::thread;
 use std::thread::{Scope, Threads};
 
 /// Serves the messages of an input as `serve_with` does, beside so many workers with a device each.
-pub fn serve_with_workers<R, I, S, W>(
+pub fn serve_with_workers<R, K, I, S, W>(
     rt: &R,
     alloc: Global,
     cache: u16,
     workers: usize,
+    journal: Option<(K, Vec<Step>)>,
     input: I,
     source: S,
     output: &mut W,
 ) -> ServeEnd
 where
     R: Threads + Wait + Sync,
+    K: Records + Drop,
     I: Read + Drop,
     S: Saver + Explain + Drop,
     W: Write + Send,
@@ -37,7 +40,7 @@ where
     requires workers { (1 ≤ workers) × (workers ≤ 64) }
 {
     match devices(alloc, workers) {
-        Ok(gates) => serve_with(rt, alloc, cache, gates, input, source, output),
+        Ok(gates) => serve_with(rt, alloc, cache, gates, journal, input, source, output),
         Err(_) => ServeEnd::Memory,
     }
 }
@@ -55,11 +58,12 @@ fn devices(alloc: Global, count: usize) -> Result<Vec<Device>, AllocError>
 
 /// Serves the messages of an input while a worker for each gate decodes in a thread of its own. The
 /// files that are loaded are the source's.
-pub fn serve_with<R, D, I, S, W>(
+pub fn serve_with<R, D, K, I, S, W>(
     rt: &R,
     alloc: Global,
     cache: u16,
     gates: Vec<D>,
+    journal: Option<(K, Vec<Step>)>,
     input: I,
     source: S,
     output: &mut W,
@@ -67,6 +71,7 @@ pub fn serve_with<R, D, I, S, W>(
 where
     R: Threads + Wait + Sync,
     D: Gate + Send + Drop,
+    K: Records + Drop,
     I: Read + Drop,
     S: Saver + Explain + Drop,
     W: Write + Send,
@@ -76,76 +81,80 @@ where
     let Ok(lines) = Lines::of(alloc, input, MOST_BYTES) else {
         return ServeEnd::Memory;
     };
-    match Office::open(alloc, cache, gates.len(), output) {
-        Ok(office) => serve_beside(rt, alloc, &office, gates, lines, source),
+    match Shared::open(alloc, cache, gates.len(), output) {
+        Ok(shared) => serve_beside(rt, alloc, &shared, gates, journal, lines, source),
         Err(_) => ServeEnd::Memory,
     }
 }
 
-/// Serves the messages of lines beside the threads of an office. However that ends, the desk is
+/// Serves the messages of lines beside the threads that share a desk. However that ends, the desk is
 /// closed then, and the threads have ended.
-fn serve_beside<'a, R, D, I, S, W>(
+fn serve_beside<'a, R, D, K, I, S, W>(
     rt: &'a R,
     alloc: Global,
-    office: &'a Office<W>,
+    shared: &'a Shared<W>,
     gates: Vec<D>,
+    journal: Option<(K, Vec<Step>)>,
     lines: Lines<I>,
     source: S,
 ) -> ServeEnd
 where
     R: Threads + Wait + Sync,
     D: Gate + Send + Drop,
+    K: Records + Drop,
     I: Read + Drop,
     S: Saver + Explain + Drop,
     W: Write + Send + Drop,
 {
     thread::scope(thread::scope_env(), rt, move |scope| -> ServeEnd {
-        let end = serve_among(scope, rt, alloc, office, gates, lines, source);
-        office.desk.close(rt);
+        let end = serve_among(scope, rt, alloc, shared, gates, journal, lines, source);
+        shared.desk.close(rt);
         end
     })
 }
 
 /// Starts the threads, and serves where all of them could be started.
-fn serve_among<'s, E, R, D, I, S, W>(
+fn serve_among<'s, E, R, D, K, I, S, W>(
     scope: &Scope<'s, E>,
     rt: &'s R,
     alloc: Global,
-    office: &'s Office<W>,
+    shared: &'s Shared<W>,
     gates: Vec<D>,
+    journal: Option<(K, Vec<Step>)>,
     lines: Lines<I>,
     source: S,
 ) -> ServeEnd
 where
     R: Threads + Wait + Sync,
     D: Gate + Send + Drop + 's,
+    K: Records + Drop,
     I: Read + Drop,
     S: Saver + Explain + Drop,
     W: Write + Send + 's,
 {
     for gate in gates {
         if scope
-            .spawn(move || worker(rt, alloc, &office.desk, gate))
+            .spawn(move || worker(rt, alloc, &shared.desk, gate))
             .is_err()
         {
             return ServeEnd::Memory;
         }
     }
-    if scope.spawn(move || tell_on(rt, office)).is_err() {
+    if scope.spawn(move || tell_on(rt, shared)).is_err() {
         return ServeEnd::Memory;
     }
-    serve_lines(rt, alloc, office, lines, source)
+    serve_lines(rt, alloc, shared, journal, lines, source)
 }
 
 /// Tells of wanted units whenever the session may have another picture to show, until the desk is
 /// closed.
-fn tell_on<R: Wait, W: Write>(rt: &R, office: &Office<W>) {
+fn tell_on<R: Wait, W: Write>(rt: &R, shared: &Shared<W>) {
     let mut seen = 0;
     for _ in rt.forever() {
-        match office.desk.news(rt, seen) {
+        match shared.desk.news(rt, seen) {
             Some(news) => {
                 seen = news;
-                tell(rt, office);
+                tell(rt, shared);
             }
             None => return,
         }
@@ -154,38 +163,43 @@ fn tell_on<R: Wait, W: Write>(rt: &R, office: &Office<W>) {
 
 /// Tells of wanted units as they are now. One that can't be told is told of later, or the next
 /// answer fails.
-fn tell<R: Wait, W: Write>(rt: &R, office: &Office<W>) {
-    let session = AtDesk {
+fn tell<R: Wait, W: Write>(rt: &R, shared: &Shared<W>) {
+    let session = DeskBackend {
         rt,
-        desk: &office.desk,
-        seat: &office.seat,
+        desk: &shared.desk,
+        seat: &shared.seat,
     };
-    let _ = office.pen.lock(rt).tell(&session);
+    let _ = shared.writer.lock(rt).tell(&session);
 }
 
 /// Serves the messages of lines one after the other.
-fn serve_lines<R, I, S, W>(
+fn serve_lines<R, K, I, S, W>(
     rt: &R,
     alloc: Global,
-    office: &Office<W>,
+    shared: &Shared<W>,
+    journal: Option<(K, Vec<Step>)>,
     lines: Lines<I>,
     source: S,
 ) -> ServeEnd
 where
     R: Threads + Wait + Sync,
+    K: Records + Drop,
     I: Read + Drop,
     S: Saver + Explain + Drop,
     W: Write,
 {
-    let backend = AtDesk {
+    let backend = DeskBackend {
         rt,
-        desk: &office.desk,
-        seat: &office.seat,
+        desk: &shared.desk,
+        seat: &shared.seat,
     };
     let mut lines = lines;
-    let mut server = Server::new(alloc, backend, source);
+    let mut server = Server::new(alloc, Journaled::new(backend), source);
+    if let Err(end) = resume(&mut server, journal) {
+        return end;
+    }
     for _ in 0..u64::MAX {
-        if let Err(end) = serve_next(rt, office, &mut server, &mut lines) {
+        if let Err(end) = serve_next(rt, shared, &mut server, &mut lines) {
             return end;
         }
     }
@@ -193,16 +207,23 @@ where
 }
 
 /// Reads the next message and serves it, while no one else writes; or how the server ends.
-fn serve_next<R: Threads + Wait + Sync, I: Read + Drop, S: Saver + Explain, W: Write>(
+fn serve_next<R, K, I, S, W>(
     rt: &R,
-    office: &Office<W>,
-    server: &mut Server<AtDesk<'_, R>, S>,
+    shared: &Shared<W>,
+    server: &mut Server<Journaled<DeskBackend<'_, R>, K>, S>,
     lines: &mut Lines<I>,
-) -> Result<(), ServeEnd> {
+) -> Result<(), ServeEnd>
+where
+    R: Threads + Wait + Sync,
+    K: Records,
+    I: Read + Drop,
+    S: Saver + Explain,
+    W: Write,
+{
     match lines.next() {
         Ok(line) => {
-            let mut pen = office.pen.lock(rt);
-            serve_line(rt, server, &mut pen, line)
+            let mut writer = shared.writer.lock(rt);
+            serve_line(rt, server, &mut writer, line)
         }
         Err(_) => Err(ServeEnd::Unread),
     }

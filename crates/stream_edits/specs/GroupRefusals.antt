@@ -34,6 +34,13 @@ IsGroupRefused old edits (groups.Edit index refused) =
     IsSized edits × (refused ≡ refusals.Memory → ⊥) × IsRefusedAt old edits index refused
 IsGroupRefused old edits groups.Memory = IsSized edits
 
+-- edits of which there may be so many aren't taken as a group, whatever the stream is
+abbrev pub IsUntaken : ℕ → List Edit → GroupRefused → Type 0
+IsUntaken most edits groups.Empty = edits ≡ []
+IsUntaken most edits groups.TooLarge = most < length edits
+IsUntaken most edits (groups.Edit index refused) = ⊥
+IsUntaken most edits groups.Memory = ⊤
+
 -- the refusal of a group whose edit at the index is refused so
 abbrev pub refusal_at : ℕ → EditRefused → GroupRefused
 refusal_at index refusals.Memory = groups.Memory

@@ -4,7 +4,7 @@ ghost use Rattle.std.specs.Prelude.{◌≡◌, ◌≤◌, IfErr, IfOk, length};
 ghost use Rattle.access_unit.specs.Rooms.{most_units};
 ghost use Rattle.stream_edits.specs.Edits.{Register};
 ghost use Rattle.stream_edits.specs.GroupReading.{AreReadUpTo};
-ghost use Rattle.stream_edits.specs.GroupRefusals.{IsGroupRefused};
+ghost use Rattle.stream_edits.specs.GroupRefusals.{IsGroupRefused, IsUntaken};
 ghost use Rattle.stream_edits.specs.Groups.{IsSized, most_edits};
 
 use crate::edits::Edit;
@@ -70,6 +70,7 @@ impl ReadGroup {
         ensures ok { IfOk result (λ group. (group ≡ edits.items) × IsSized group) }
         ensures err { IfErr result (λ refused. (old : Register)
             → IsGroupRefused old edits.items refused) }
+        ensures untaken { IfErr result (IsUntaken most_units edits.items) }
     {
         group_of(alloc, edits, MOST_UNITS)
     }
@@ -102,6 +103,7 @@ fn group_of(alloc: Global, edits: Vec<Edit>, most: usize) -> Result<ReadGroup, G
     ensures few { IfOk result (λ group. length group ≤ most) }
     ensures err { IfErr result (λ refused. (old : Register)
         → IsGroupRefused old edits.items refused) }
+    ensures untaken { IfErr result (IsUntaken most edits.items) }
 {
     if edits.is_empty() {
         return Err(GroupRefused::Empty);

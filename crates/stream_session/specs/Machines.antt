@@ -65,6 +65,10 @@ module _ {P : Type 0} where
     marked = None;
   }
 
+  -- the session is one before the first edit
+  abbrev pub IsEmpty : Machine P → Type 0
+  IsEmpty machine = (room : ℕ) × (machine ≡ empty room)
+
   -- the pictures of the units, as they are stored: those of the stream's ids and of each unit's
   -- outcome
   abbrev pub store_of : Machine P → StoreValue P

@@ -68,6 +68,14 @@ impl UndoRedo {
         self.history.to_redo()
     }
 
+    /// Forgets what can be undone and redone.
+    pub fn forget(&mut self, alloc: Global)
+        ensures { (states : List Texts) (register : Register) → IsUndoRedo self.old states register
+            → IsUndoRedo self.new (self.old.units.texts.items ∷ []) register }
+    {
+        self.history = History::new(alloc);
+    }
+
     /// Begins a step of so many edits at most, for which it makes room.
     pub fn begin(&mut self, alloc: Global, edits: usize) -> Result<Step, AllocError>
         ensures same { IsAsBefore self.old self.new }

@@ -6,6 +6,7 @@ mod beside;
 mod changed;
 mod ends;
 mod errors;
+mod recorded;
 mod saving;
 mod taken;
 mod undoing;
@@ -14,7 +15,9 @@ use bytes::Bytes;
 use console_io::{InputFault, Source};
 use failure_reasons::Explain;
 use file_saving::{Saver, Unsaved};
+use recorded::Few;
 use serve_run::{ServeEnd, serve_alone};
+use session_journal::Step;
 use std::alloc::{AllocError, Global};
 use std::process::Abort;
 use std::thread::Threads;
@@ -80,10 +83,24 @@ fn lines_of(alloc: Global, rows: &[Row]) -> Result<String, AllocError> {
     Ok(text)
 }
 
+/// No journal.
+fn unrecorded() -> Option<(Few, Vec<Step>)> {
+    None
+}
+
 /// What a session alone writes for these bytes, and how it ends.
 fn served<R: AllocGlobal + Threads + Sync>(rt: &R, input: &[u8]) -> (ServeEnd, Vec<u8>) {
+    served_by(rt, unrecorded(), input)
+}
+
+/// The same, with this journal and its steps, if there is one.
+fn served_by<R: AllocGlobal + Threads + Sync>(
+    rt: &R,
+    journal: Option<(Few, Vec<Step>)>,
+    input: &[u8],
+) -> (ServeEnd, Vec<u8>) {
     let mut output = Vec::new(rt.alloc());
-    let end = serve_alone(rt, rt.alloc(), 64, input, OneFile, &mut output);
+    let end = serve_alone(rt, rt.alloc(), 64, journal, input, OneFile, &mut output);
     (end, output)
 }
 

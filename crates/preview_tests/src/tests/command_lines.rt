@@ -8,6 +8,7 @@ use cli::{run, run_on};
 use console_io::{Directory, Ended, PrintFault, Status};
 use failure_reasons::Explain;
 use file_saving::{Saving, Unsaved};
+use session_journal::{JournalFault, Journals, SessionFile, Step};
 use std::alloc::{AllocError, Global};
 use std::io;
 use std::io::{ErrorKind, Read};
@@ -58,6 +59,22 @@ impl Saving for Folder {
     // Nothing is saved.
     fn save(&self, _alloc: Global, _name: &str, _texts: &[Bytes]) -> Result<(), Unsaved> {
         Err(Unsaved::Unwritten)
+    }
+}
+
+impl Journals for Folder {
+    type Journal = SessionFile;
+
+    // One can't be read, and the other isn't one.
+    fn open_journal(
+        &self,
+        _alloc: Global,
+        name: &str,
+    ) -> Result<(SessionFile, Vec<Step>), JournalFault> {
+        if name == "a.264" {
+            return Err(JournalFault::NotAJournal);
+        }
+        Err(JournalFault::Failed)
     }
 }
 
@@ -116,7 +133,7 @@ type Ran = (
     &'static str,
 );
 
-const RUNS: [Ran; 40] = [
+const RUNS: [Ran; 42] = [
     (&["plan", "a.264"], &P1, Success, LINES_OF_A, ""),
     (
         &["plan", "-"],
@@ -260,6 +277,21 @@ const RUNS: [Ran; 40] = [
         Success,
         "agreed 3 edits 2 shows\n",
         "",
+    ),
+    // A file that is no journal, and one that can't be read.
+    (
+        &["serve", "--journal", "a.264"],
+        &A,
+        Failure,
+        "",
+        "not a journal: a.264\n",
+    ),
+    (
+        &["serve", "--workers", "0", "--journal", "b.journal"],
+        &A,
+        Failure,
+        "",
+        "cannot read or write the journal: b.journal\n",
     ),
     // A group counts as one edit.
     (

@@ -12,6 +12,7 @@ returns c =
     let few : c.range-few.result ≡ Signed (pos 0) (pos most_workers) = rw (c.value_parser.ensures, c.new.ensures.start, c.new.ensures.end) at c.range-few.ensures in
     let workers_is : rule_of c.number_option-workers.result ≡ one_worker_rule = c.number_option-workers.ensures.rule ∙ ap (λ (q : ValueParser). option_rule (codes "workers") q (codes "1")) few in
     let base : app_of c.about.result ≡ new_app (codes "serve") = search rules in
-    IfOk-weaker c.arg-2.result _ _ (λ command added. added.shape c.cache_option-cache.ensures.local
+    IfOk-weaker c.arg-3.result _ _ (λ command added. added.shape c.journal_option-journal.ensures.local
+    ∙ ap₂ with_rule (c.in_ok-arg-2.ensures.shape c.cache_option-cache.ensures.local
     ∙ ap₂ with_rule (c.in_ok-arg.ensures.shape c.number_option-workers.ensures.local
-    ∙ ap₂ with_rule base workers_is) c.cache_option-cache.ensures.rule) c.arg-2.ensures
+    ∙ ap₂ with_rule base workers_is) c.cache_option-cache.ensures.rule) c.journal_option-journal.ensures.rule) c.arg-3.ensures

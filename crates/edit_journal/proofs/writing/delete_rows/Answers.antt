@@ -1,14 +1,14 @@
-use Rattle.std.proofs.Common.{◌≡◌, refl, ap, subst, arith, rules}
+use Rattle.std.proofs.Common.{refl, ap, arith, rules}
 use Rattle.std.proofs.lemmas.Result.{err_from_is_err_and}
 use Rattle.sqlite_trees.specs.View.{IsClean, View}
-use Rattle.edit_journal.proofs.ViewLemmas.{Deletes, deletes_nothing, deletes_more, deletes_all, quiet_same, quiet_then, writes_keep, on_err}
+use Rattle.edit_journal.proofs.ViewLemmas.{deletes_nothing, deletes_more, deletes_all, quiet_same, quiet_then, writes_keep, on_err}
 use Rattle.edit_journal.proofs.CommitLemmas.{failed_keeps}
 use Rattle.edit_journal.proofs.FaultLemmas.{fails_later, fails_of}
 use Rattle.edit_journal.proofs.writing.delete_rows.Goals as goal
 
 pub loop-deleted-init : goal.loop-deleted-init
 loop-deleted-init g c = record {
-  deletes = λ _. deletes_nothing (g.S.Store.view c.args.store.now) c.args.rows;
+  deletes = λ _. deletes_nothing (g.S.Store.view c.args.store.now) c.args.rows c.args.left;
   schema = record { shape = refl; reals = refl; committed_shape = refl; committed_reals = refl; numbered = refl };
   quiet = quiet_same g.S.Store c.args.store.now;
 }
@@ -38,7 +38,7 @@ loop-deleted-preserved g c =
     record {
       deletes = λ clean.
           let early : IsClean now = omega (arith, c.delete.ensures.quiet.clean, clean) in
-          deletes_more old now new c.args.rows l.deleted _ c.loop-deleted-test.true (l.invariant.deletes early) (c.in_ok-delete.ensures.ok clean) (search rules);
+          deletes_more old now new c.args.rows c.args.left l.deleted _ (omega arith) (l.invariant.deletes early) (c.in_ok-delete.ensures.ok clean) (search rules);
       schema = search rules;
       quiet = quiet_then g.S.Store c.args.store.now l.store c.delete.new.self l.invariant.quiet c.delete.ensures.quiet;
     }
@@ -47,8 +47,7 @@ pub returns-clause-deletes : goal.returns-clause-deletes
 returns-clause-deletes g c clean =
     let old = g.S.Store.view c.args.store.now in
     let now = g.S.Store.view c.loop-deleted.store in
-    let all : c.loop-deleted.deleted ≡ c.args.rows = omega (arith, c.loop-deleted-test.false, c.loop-deleted.auto.deleted-end) in
-    deletes_all old now c.args.rows (subst (Deletes old now c.args.rows) all (c.loop-deleted.invariant.deletes clean))
+    deletes_all old now c.args.rows c.args.left c.loop-deleted.deleted (omega (arith, c.loop-deleted-test.false)) (c.loop-deleted.invariant.deletes clean)
 
 pub returns-clause-writes : goal.returns-clause-writes
 returns-clause-writes g c clean = (c.loop-deleted.invariant.deletes clean).writes

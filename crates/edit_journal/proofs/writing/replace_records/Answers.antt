@@ -1,4 +1,5 @@
-use Rattle.std.proofs.Common.{◌≡◌, [], ap, ◌∙◌, arith, refl}
+use Rattle.std.proofs.Common.{◌≡◌, take, ap, sym, ◌∙◌, arith, refl}
+use Rattle.std.proofs.lemmas.List.{length-take-le}
 use Rattle.std.proofs.lemmas.Result.{IfErr-weaker, err_from_is_err_and}
 use Rattle.sqlite_trees.specs.View.{IsClean, View}
 use Rattle.edit_journal.specs.Lines.{edit_tree}
@@ -42,7 +43,7 @@ returns-in_err-delete_rows-clause-survives g c = survives_quiet g.S.Store _ c.ar
 pub returns-clause-replaces : goal.returns-clause-replaces
 returns-clause-replaces g c clean =
     let early : IsClean (g.S.Store.view c.delete_rows.new.store) = omega (arith, c.commit_record.ensures.survives.clean, clean) in
-    if_ok c.commit_record.result _ _ (λ after adds lines shows. adds [] (record { now = c.in_ok-delete_rows.ensures.deletes early lines shows.now shows.count; count = refl })) (c.commit_record.ensures.adds clean)
+    if_ok c.commit_record.result _ _ (λ after adds lines less shows. adds (take c.args.left lines) (record { now = c.in_ok-delete_rows.ensures.deletes early lines shows.now shows.count; count = sym (length-take-le c.args.left lines (omega (arith, less, shows.count))) })) (c.commit_record.ensures.adds clean)
 
 pub returns-clause-keeps : goal.returns-clause-keeps
 returns-clause-keeps g c clean =
@@ -55,4 +56,4 @@ returns-clause-keeps g c clean =
 pub returns-clause-survives : goal.returns-clause-survives
 returns-clause-survives g c =
     survives_before g.S.Store _ _ c.args.store.now c.delete_rows.new.store c.commit_record.new.store c.delete_rows.ensures.quiet c.commit_record.ensures.survives
-    (λ early db adds lines shows. adds [] (record { now = c.in_ok-delete_rows.ensures.deletes early lines shows.now shows.count; count = refl }))
+    (λ early db adds lines less shows. adds (take c.args.left lines) (record { now = c.in_ok-delete_rows.ensures.deletes early lines shows.now shows.count; count = sym (length-take-le c.args.left lines (omega (arith, less, shows.count))) }))

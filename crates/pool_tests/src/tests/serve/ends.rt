@@ -1,6 +1,6 @@
 //! How a server ends.
 
-use super::{OneFile, served};
+use super::{OneFile, served, unrecorded};
 use serve_run::{ServeEnd, serve_alone};
 use std::io;
 use std::io::{ErrorKind, Read, Write};
@@ -43,6 +43,7 @@ fn an_output_that_takes_nothing_ends_a_server(rt: HostRuntime) {
         &rt,
         rt.alloc(),
         64,
+        unrecorded(),
         SHUTDOWN.as_bytes(),
         OneFile,
         &mut output,
@@ -53,6 +54,14 @@ fn an_output_that_takes_nothing_ends_a_server(rt: HostRuntime) {
 #[test]
 fn an_input_that_gives_nothing_ends_a_server(rt: HostRuntime) {
     let mut output = Vec::new(rt.alloc());
-    let end = serve_alone(&rt, rt.alloc(), 64, Broken, OneFile, &mut output);
+    let end = serve_alone(
+        &rt,
+        rt.alloc(),
+        64,
+        unrecorded(),
+        Broken,
+        OneFile,
+        &mut output,
+    );
     assert!(rt; end == ServeEnd::Unread && output.is_empty());
 }

@@ -12,4 +12,4 @@ returns-in-Err g c =
       | inr text ↦ inl (text.1, c.in-Err.ensures.err text.0)
     ] in
     let refused : Served = record { answer = Err failure; is_last = false } in
-    (refused ∷ [], c.args.pen.now.wanted.items, inr (failure, refused, none, (refl, refl, refl, refl), refl), c.refuse.ensures)
+    (refused ∷ [], c.args.writer.now.wanted.items, inr (failure, refused, none, (refl, refl, refl, refl), refl), c.refuse.ensures)

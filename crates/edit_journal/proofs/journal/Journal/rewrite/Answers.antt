@@ -15,13 +15,13 @@ returns-in-Err-clause-fails g c clean =
 
 pub returns-in-Ok-clause-replaced : goal.returns-in-Ok-clause-replaced
 returns-in-Ok-clause-replaced g c clean lines stands =
-    c.in-Ok.ensures.replaces clean lines stands.shows
+    c.in-Ok.ensures.replaces clean lines (omega arith) stands.shows
 
 pub returns-in-Ok-clause-survives : goal.returns-in-Ok-clause-survives
 returns-in-Ok-clause-survives g c =
     let old = c.args.self.now in
     survives_before g.S.Store _ _ old.store old.store c.replace_records.new.store (quiet_same g.S.Store old.store) c.replace_records.ensures.survives
-    (λ _ db replaces lines stands. replaces lines stands.shows)
+    (λ _ db replaces lines stands. replaces lines (omega arith) stands.shows)
 
 pub returns-in-Err-clause-stays : goal.returns-in-Err-clause-stays
 returns-in-Err-clause-stays g c clean lines stands is_open =
@@ -39,5 +39,5 @@ returns-in-Err-clause-survives g c =
     let new = c.rollback.new.self in
     survives_after g.S.Store _ old.store mid new
     (survives_before g.S.Store _ _ old.store old.store mid (quiet_same g.S.Store old.store) c.replace_records.ensures.survives
-    (λ _ db replaces lines stands. replaces lines stands.shows))
+    (λ _ db replaces lines stands. replaces lines (omega arith) stands.shows))
     c.rollback.ensures.quiet

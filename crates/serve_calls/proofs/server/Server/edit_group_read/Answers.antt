@@ -18,7 +18,7 @@ returns-in_ok-receipt-in-Ok g c =
     c.in-Ok.ensures.follows in
     let none = subst (λ (edits : List Edit). c.in-Ok.prepared ≡ None → AreRefusedOf c.prepare_group.new.self.units edits) c.edits.ensures.edits
     c.in-Ok.ensures.none in
-    group-accepted g.B.Asked.is_session old between made new c.args.group c.in_ok-receipt-in-Ok.receipt
+    group-accepted g.B.LendsSession.is_session old between made new c.args.group c.in_ok-receipt-in-Ok.receipt
     (record { backend = refl; sums = refl; source = refl }) c.in-Ok.ensures.same makes
     (record { backend = refl; sums = refl; source = refl })
     (λ before ids after all states is.

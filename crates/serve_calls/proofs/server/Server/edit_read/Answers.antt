@@ -6,7 +6,7 @@ pub returns-in-Ok : goal.returns-in-Ok
 returns-in-Ok g c =
     let old = c.args.self.now in
     let made = c.edit_in-answer.new.self in
-    edited g.B.Asked.is_session old (record old { history = c.begin.new.self }) made (record made { history = c.end.new.self })
+    edited g.B.LendsSession.is_session old (record old { history = c.begin.new.self }) made (record made { history = c.end.new.self })
     c.in-Ok.step c.edit_in-answer.new.step c.args.read c.edit_in-answer.result
     (record {
       keeps = record { backend = refl; sums = refl; source = refl };

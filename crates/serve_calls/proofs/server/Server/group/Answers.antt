@@ -4,5 +4,5 @@ use Rattle.serve_calls.specs.Editing.{GroupsAs}
 use Rattle.serve_calls.proofs.server.Server.group.Goals as goal
 
 pub returns : goal.returns
-returns g c = subst (λ (edits : List Edit). GroupsAs g.B.Asked.is_session c.args.self.now edits c.edit_group.result c.edit_group.new.self)
+returns g c = subst (λ (edits : List Edit). GroupsAs g.B.LendsSession.is_session c.args.self.now edits c.edit_group.result c.edit_group.new.self)
     c.into_items.ensures c.edit_group.ensures

@@ -12,7 +12,7 @@ use Rattle.serve_calls.proofs.server.Server.insert_all.Given as goal
 abbrev pub invariant-loop-unit : goal.invariant-loop-unit
 invariant-loop-unit g l =
     ((result : Result Inserted Failure) (new : Server g.row.B.Denot g.row.S.Denot) (step : Step)
-    → InsertsAll g.B.Asked.is_session l.self l.step (into_iter_items l.unit-iterator) l.inserted result new step
-    → InsertsAll g.B.Asked.is_session l.fn.self l.fn.step l.fn.units.items (none_inserted l.fn.from) result new step)
+    → InsertsAll g.B.LendsSession.is_session l.self l.step (into_iter_items l.unit-iterator) l.inserted result new step
+    → InsertsAll g.B.LendsSession.is_session l.fn.self l.fn.step l.fn.units.items (none_inserted l.fn.from) result new step)
     × (l.self.history.history ≡ l.fn.self.history.history)
     × (vec_len l.step.changes + length (into_iter_items l.unit-iterator) ≤ vec_capacity l.step.changes)

@@ -10,6 +10,6 @@ pub returns-clause-inserts : goal.returns-clause-inserts
 returns-clause-inserts g c = inl (
   c.last.result,
   c.last.ensures,
-  subst (λ (edit : Edit). MakesEditIn g.B.Asked.is_session c.args.self.now c.args.step.now edit c.edit_in.result c.edit_in.new.self c.edit_in.new.step)
+  subst (λ (edit : Edit). MakesEditIn g.B.LendsSession.is_session c.args.self.now c.args.step.now edit c.edit_in.result c.edit_in.new.self c.edit_in.new.step)
       (c.in_ok-read.ensures.ok ∙ ap (λ (place : Place). Insert place (joined c.args.unit)) c.end-place.ensures) c.edit_in.ensures.makes,
 )

@@ -9,9 +9,9 @@ pub returns : goal.returns
 returns g c =
     let old = c.args.self.now in
     let made = c.edit_together.new.self in
-    let makes = subst (λ (edits : List Edit). MakesGroup g.B.Asked.is_session old edits (Ok c.in_ok-receipt.receipt) made) c.in_ok-group.ensures.ok.0
+    let makes = subst (λ (edits : List Edit). MakesGroup g.B.LendsSession.is_session old edits (Ok c.in_ok-receipt.receipt) made) c.in_ok-group.ensures.ok.0
     c.in_ok-receipt.ensures in
-    gone g.B.Asked.is_session _ old made c.redone.new.self c.args.edits.items c.in_ok-receipt.receipt makes
+    gone g.B.LendsSession.is_session _ old made c.redone.new.self c.args.edits.items c.in_ok-receipt.receipt makes
     (c.redone.ensures.done ∙ ap (λ (it : UndoRedo). min (it.history.done + 1) (length it.history.steps.items)) makes.3)
     (c.redone.ensures.steps ∙ ap (λ (it : UndoRedo). it.history.steps.items) makes.3)
     (is-redone old.history c.redone.new.self c.args.edits.items c.args.units c.requires.some c.requires.redoes

@@ -3,4 +3,4 @@ use Rattle.serve_calls.proofs.server.Server.redo.Goals as goal
 
 pub returns-in-Ok : goal.returns-in-Ok
 returns-in-Ok g c =
-    inl (c.in-Ok.edits.items, c.in-Ok.units, c.make_again.result, c.in-Ok.ensures.some, c.in-Ok.ensures.ok, c.make_again.ensures, c.of_group.ensures)
+    inl (c.in-Ok.edits.items, c.in-Ok.units, c.make_again.result, c.in-Ok.ensures.some, c.in-Ok.ensures.ok, c.make_again.ensures, c.of_group_made.ensures)

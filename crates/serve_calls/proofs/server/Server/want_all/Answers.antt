@@ -8,7 +8,7 @@ use Rattle.serve_calls.proofs.server.Server.want_all.Goals as goal
 pub returns : goal.returns
 returns g c =
     let told = c.in_ok-told.told in
-    let asks = subst (λ (units : List WantedUnit). Asks (g.B.Asked.is_session c.args.self.now.backend) (λ machine. TellsOf machine units told))
+    let asks = subst (λ (units : List WantedUnit). Asks (g.B.LendsSession.is_session c.args.self.now.backend) (λ machine. TellsOf machine units told))
     c.as_slice.ensures.value c.in_ok-told.ensures in
     inr (inl (
       c.if-numbers-gt-MOST_WANTED.false,

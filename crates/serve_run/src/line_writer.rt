@@ -5,7 +5,7 @@ use edit_engine::{Picture, Shown};
 use edit_script::id_of_number;
 use serde::Serialize;
 use serve_answers::{ChangedUnit, notification_text};
-use serve_calls::{Asked, WantedUnit, picked};
+use serve_calls::{LendsSession, WantedUnit, picked};
 use std::alloc::{AllocError, Global};
 use std::io::Write;
 
@@ -26,7 +26,7 @@ impl From<AllocError> for Fault {
 
 /// The writer of a server's lines, with the units that are wanted and what was told of each.
 #[derive(Drop)]
-pub(crate) struct Pen<W> {
+pub(crate) struct LineWriter<W> {
     alloc: Global,
     output: W,
     /// Whether a write failed: then nothing more is written.
@@ -36,10 +36,10 @@ pub(crate) struct Pen<W> {
     edits: usize,
 }
 
-impl<W: Write> Pen<W> {
+impl<W: Write> LineWriter<W> {
     /// A writer of lines. No unit is wanted yet.
-    pub(crate) fn new(alloc: Global, output: W) -> Pen<W> {
-        Pen {
+    pub(crate) fn new(alloc: Global, output: W) -> LineWriter<W> {
+        LineWriter {
             alloc,
             output,
             has_failed: false,
@@ -58,7 +58,7 @@ impl<W: Write> Pen<W> {
 
     /// Writes of each wanted unit that is ready with another picture than was told of it last, or
     /// that edits changed since it was looked at last.
-    pub(crate) fn tell<B: Asked>(&mut self, backend: &B) -> Result<(), Fault> {
+    pub(crate) fn tell<B: LendsSession>(&mut self, backend: &B) -> Result<(), Fault> {
         let edits = backend.look(|session| session.journal().len());
         let has_edits = edits != self.edits;
         for at in 0..self.wanted.len() {
@@ -70,7 +70,12 @@ impl<W: Write> Pen<W> {
 
     /// Writes of a wanted unit if it is ready with another picture than was told of it last, or if
     /// edits changed it.
-    fn tell_one<B: Asked>(&mut self, backend: &B, at: usize, has_edits: bool) -> Result<(), Fault> {
+    fn tell_one<B: LendsSession>(
+        &mut self,
+        backend: &B,
+        at: usize,
+        has_edits: bool,
+    ) -> Result<(), Fault> {
         let Some(unit) = self.wanted.get(at) else {
             return Ok(());
         };

@@ -13,7 +13,7 @@ pub const MOST_WORKERS: usize = 64;
 
 /// What the command line asks for.
 #[derive(Clone, Copy, Debug)]
-pub enum Asked<'a> {
+pub enum Invocation<'a> {
     /// The plan of the stream in this file, `-` being the standard input: as JSON with the requests
     /// for a decoder of this mode, or in lines of text.
     Plan {
@@ -53,7 +53,7 @@ pub enum Asked<'a> {
         workers: Workers,
     },
     /// A server.
-    Serve(Serving),
+    Serve(Serving<'a>),
 }
 
 /// How many workers decode, each in a thread of its own.
@@ -66,10 +66,12 @@ pub struct Workers {
 
 /// With what a server is run.
 #[derive(Clone, Copy, Debug)]
-pub struct Serving {
+pub struct Serving<'a> {
     /// The workers that decode; with none it is all one thread.
     pub workers: Option<Workers>,
     /// For how many pictures that no unit has the session has room, 1 to `MOST_ROOM`.
     pub cache: u16,
+    /// The file in which edits are recorded, if they are.
+    pub journal: Option<&'a str>,
     ghost room: { (1 ≤ cache) × (cache ≤ most_room) },
 }

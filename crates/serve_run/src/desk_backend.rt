@@ -3,47 +3,46 @@
 
 ghost use Rattle.std.specs.Prelude.{◌≤◌, false, length};
 
-use crate::pen::Pen;
+use crate::line_writer::LineWriter;
 use decode_pool::{Desk, Seat, TooManyWanted, drop_picture};
-use edit_engine::{
-    Config, Dropping, EditRefused, GroupReceipt, GroupRefused, ReadEdit, ReadGroup, Receipt,
-    Session,
-};
+use edit_engine::{Config, Dropping, GroupReceipt, ReadEdit, ReadGroup, Receipt, Session};
+use picture_keys::HashedUnit;
 use pictures::AuId;
 use serve_answers::Answer;
-use serve_calls::{Asked, Backend};
+use serve_calls::{Backend, EditFault, GroupFault, LendsSession};
 use serve_requests::Failure;
+use session_journal::Unkept;
 use std::alloc::{AllocError, Global};
 use std::io::Write;
 use std::sync::{Mutex, Wait};
 
 /// What the threads of a server share.
 #[derive(Drop)]
-pub(crate) struct Office<W> {
+pub(crate) struct Shared<W> {
     pub(crate) desk: Desk,
     /// By it units are wanted. Its book stays empty.
     pub(crate) seat: Seat,
     /// The writer of lines, which one thread has at a time.
-    pub(crate) pen: Mutex<Pen<W>>,
+    pub(crate) writer: Mutex<LineWriter<W>>,
 }
 
-impl<W: Write + Drop> Office<W> {
+impl<W: Write + Drop> Shared<W> {
     /// A desk with an empty stream for so many workers, and a writer.
     pub(crate) fn open(
         alloc: Global,
         cache: u16,
         workers: usize,
         output: W,
-    ) -> Result<Office<W>, AllocError>
+    ) -> Result<Shared<W>, AllocError>
         requires cache { (1 ≤ cache) × (cache ≤ 4096) }
         requires workers { (1 ≤ workers) × (workers ≤ 64) }
     {
         let (desk, mut seats) = Desk::open(alloc, Config { cache }, workers, 1)?;
         match seats.pop() {
-            Some(seat) => Ok(Office {
+            Some(seat) => Ok(Shared {
                 desk,
                 seat,
-                pen: Mutex::new(Pen::new(alloc, output)),
+                writer: Mutex::new(LineWriter::new(alloc, output)),
             }),
             None => Err(AllocError),
         }
@@ -52,13 +51,13 @@ impl<W: Write + Drop> Office<W> {
 
 /// The session of a desk.
 #[derive(Drop)]
-pub(crate) struct AtDesk<'a, R: Wait> {
+pub(crate) struct DeskBackend<'a, R: Wait> {
     pub(crate) rt: &'a R,
     pub(crate) desk: &'a Desk,
     pub(crate) seat: &'a Seat,
 }
 
-impl<'a, R: Wait> Asked for AtDesk<'a, R> {
+impl<'a, R: Wait> LendsSession for DeskBackend<'a, R> {
     // It lies under the desk's lock, so that no clause knows which one it is.
     ghost is_session = { λ _ _. Unit {0} };
 
@@ -67,17 +66,30 @@ impl<'a, R: Wait> Asked for AtDesk<'a, R> {
     }
 }
 
-impl<'a, R: Wait> Backend for AtDesk<'a, R> {
+impl<'a, R: Wait> Backend for DeskBackend<'a, R> {
     // The workers have the jobs.
     ghost lends_jobs = { λ _. false };
 
-    fn edit(&mut self, read: ReadEdit) -> Result<Receipt, EditRefused> {
-        self.desk.edit_read(self.rt, read)
+    fn edit(&mut self, read: ReadEdit) -> Result<Receipt, EditFault> {
+        match self.desk.edit_read(self.rt, read) {
+            Ok(receipt) => Ok(receipt),
+            Err(refused) => Err(EditFault::Refused(refused)),
+        }
     }
 
-    fn edit_group(&mut self, group: ReadGroup) -> Result<GroupReceipt, GroupRefused> {
-        self.desk.edit_group_read(self.rt, group)
+    fn edit_group(&mut self, group: ReadGroup) -> Result<GroupReceipt, GroupFault> {
+        match self.desk.edit_group_read(self.rt, group) {
+            Ok(receipt) => Ok(receipt),
+            Err(refused) => Err(GroupFault::Refused(refused)),
+        }
     }
+
+    // Nothing is recorded.
+    fn begin_load(&mut self, _alloc: Global, _units: &[HashedUnit]) -> Result<(), Unkept> {
+        Ok(())
+    }
+
+    fn end_load(&mut self) {}
 
     fn drop_picture(&mut self, id: AuId) -> Dropping {
         drop_picture(self.rt, self.desk, id)
@@ -91,10 +103,17 @@ impl<'a, R: Wait> Backend for AtDesk<'a, R> {
         self.desk.mark(self.rt)
     }
 
-    fn reset(&mut self, alloc: Global) -> Result<(), AllocError> {
-        self.desk.reset(self.rt, alloc)?;
-        self.want(&[], true);
+    fn fresh(&self, alloc: Global) -> Result<Session, AllocError> {
+        self.desk.fresh(alloc)
+    }
+
+    fn clear_records(&mut self) -> Result<(), Unkept> {
         Ok(())
+    }
+
+    fn begin_anew(&mut self, session: Session) {
+        self.desk.begin_anew(self.rt, session);
+        self.want(&[], true);
     }
 
     fn want(&mut self, ids: &[AuId], rest: bool) {

@@ -1,0 +1,4 @@
+pub mod KeptLemmas
+pub mod LineLemmas
+pub mod ReadLemmas
+pub mod StepLemmas

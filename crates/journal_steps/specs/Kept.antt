@@ -1,0 +1,74 @@
+-- What a record keeps of a step of a session.
+use Rattle.std.specs.Prelude.{◌≡◌, ◌≢◌, ℕ, ◌+◌, ◌<◌, List, [], ◌∷◌, length, ⊤}
+use Rattle.std.specs.List.{AllByRecursion}
+use Rattle.stream_edits.specs.declared.edits.Edit.{Edit}
+use Rattle.stream_edits.specs.declared.edits.Edit.TheVariants.{Insert, Delete, Replace}
+use Rattle.stream_edits.specs.declared.edits.Place.{Place}
+use Rattle.stream_edits.specs.declared.edits.Place.TheVariants.{First, After}
+use Rattle.edit_journal.specs.declared.line.Kind.TheVariants.{Insert as InsertKind, Delete as DeleteKind, Replace as ReplaceKind, Load as LoadKind}
+use Rattle.edit_journal.specs.declared.line.Step.{Step as Kept}
+use Rattle.journal_steps.specs.declared.step.Step.{Step}
+use Rattle.journal_steps.specs.declared.step.Step.TheVariants.{Edits, Load}
+
+-- the id that a place names, or 0
+abbrev pub named_in : Place → ℕ
+named_in First = 0
+named_in (After id) = id
+
+-- what is kept of an edit, where so many ids were given before it
+abbrev pub kept_of : ℕ → Edit → Kept
+kept_of given (Insert place text) = record { kind = InsertKind; id = given + 1; named = named_in place; text = text }
+kept_of given (Delete id) = record { kind = DeleteKind; id = id; named = 0; text = [] }
+kept_of given (Replace id text) = record { kind = ReplaceKind; id = id; named = 0; text = text }
+
+-- how many ids were given, with that of the edit
+abbrev pub given_after : ℕ → Edit → ℕ
+given_after given (Insert place text) = given + 1
+given_after given (Delete id) = given
+given_after given (Replace id text) = given
+
+-- what is kept of edits, one after the other
+abbrev pub kept_of_edits : ℕ → List Edit → List Kept
+kept_of_edits given [] = []
+kept_of_edits given (edit ∷ edits) = kept_of given edit ∷ kept_of_edits (given_after given edit) edits
+
+-- how many ids were given, with those of the edits
+abbrev pub given_after_edits : ℕ → List Edit → ℕ
+given_after_edits given [] = given
+given_after_edits given (edit ∷ edits) = given_after_edits (given_after given edit) edits
+
+-- what stands before the edits of a load
+abbrev pub kept_of_load : Kept
+kept_of_load = record { kind = LoadKind; id = 0; named = 0; text = [] }
+
+-- what is kept of a step
+abbrev pub kept_of_step : ℕ → Step → List Kept
+kept_of_step given (Edits edits) = kept_of_edits given edits
+kept_of_step given (Load edits) = kept_of_load ∷ kept_of_edits given edits
+
+-- how many ids were given after it
+abbrev pub given_by_step : ℕ → Step → ℕ
+given_by_step given (Edits edits) = given_after_edits given edits
+given_by_step given (Load edits) = given_after_edits given edits
+
+-- an id that a place names isn't 0
+abbrev pub IsPlace : Place → Type 0
+IsPlace First = ⊤
+IsPlace (After id) = id ≢ 0
+
+-- the edit is one of a stream whose ids begin at 1
+abbrev pub IsEdit : Edit → Type 0
+IsEdit (Insert place text) = IsPlace place
+IsEdit (Delete id) = ⊤
+IsEdit (Replace id text) = ⊤
+
+-- the step is an edit or several, or a load
+abbrev pub IsStep : Step → Type 0
+IsStep (Edits edits) = (0 < length edits) × AllByRecursion IsEdit edits
+IsStep (Load edits) = AllByRecursion IsEdit edits
+
+-- the step is the one that keeps this, and so many ids were given after it
+pub record IsReadFrom (given : ℕ) (kept : List Kept) (step : Step) (after : ℕ) : Type 0 where
+  pub kept_is : kept ≡ kept_of_step given step
+  pub is_step : IsStep step
+  pub after_is : after ≡ given_by_step given step

@@ -1,0 +1,87 @@
+-- What is recorded of a session's edits.
+use Rattle.std.specs.Prelude.{◌≡◌, ℕ, ◌+◌, ◌-◌, ◌^◌, min, List, [], ◌∷◌, ◌++◌, Option, None, Some, Result, Ok, Err, ⊤}
+use Rattle.annexb.specs.ByteStream.{joined}
+use Rattle.stream_edits.specs.declared.edits.Edit.{Edit}
+use Rattle.stream_edits.specs.declared.edits.Edit.TheVariants.{Insert}
+use Rattle.stream_edits.specs.declared.edits.Place.{Place}
+use Rattle.stream_edits.specs.declared.edits.Place.TheVariants.{After}
+use Rattle.stream_edits.specs.Streams.{last_of, place_after}
+use Rattle.edit_engine.specs.Machines.{Machine}
+use Rattle.journal_steps.specs.declared.step.Step.{Step}
+use Rattle.journal_steps.specs.declared.step.Step.TheVariants.{Load}
+use Rattle.journal_steps.specs.Records.{given_by_steps}
+use Rattle.session_journal.specs.Kept.{with_left}
+use Rattle.serve_calls.specs.Sessions.{Asks}
+
+module _ {K : Type 0} (stands : K → List Step → Type 0) where
+  -- the steps that stand in one stand in the other
+  abbrev pub StaysKept : K → K → Type 0
+  StaysKept before after = (steps : List Step) → stands before steps → stands after steps
+
+  -- behind the steps that stand in one, this one stands in the other
+  abbrev pub Adds : K → Step → K → Type 0
+  Adds before step after = (steps : List Step) → stands before steps → stands after (steps ++ step ∷ [])
+
+  -- what is recorded, if anything is, once a step is answered: with the step, if it is made; else the
+  -- steps before it
+  abbrev pub IsKept : {T E : Type 0} → Option K → Step → Result T E → Option K → Type 0
+  IsKept None step answer new = new ≡ None
+  IsKept (Some before) step (Ok it) new = (after : K) × (new ≡ Some after) × Adds before step after
+  IsKept (Some before) step (Err fault) new = (after : K) × (new ≡ Some after) × StaysKept before after
+
+  -- what is recorded, if anything is, before a step is made: with the step, if it could be recorded,
+  -- so that it can be taken off; else the steps before it
+  abbrev pub IsRecorded : {T E : Type 0} → (K → List Step → Step → Type 0) → Option K → Step → Result T E → Option K → Type 0
+  IsRecorded ends None step answer new = new ≡ None
+  IsRecorded ends (Some before) step (Ok it) new =
+      (after : K) × (new ≡ Some after) × Adds before step after × ((steps : List Step) → stands before steps → ends after steps step)
+  IsRecorded ends (Some before) step (Err fault) new = (after : K) × (new ≡ Some after) × StaysKept before after
+
+  -- the step that was recorded last is taken off again
+  abbrev pub IsTakenOff : (K → List Step → Step → Type 0) → Option K → Option K → Type 0
+  IsTakenOff ends None new = new ≡ None
+  IsTakenOff ends (Some before) new =
+      (after : K) × (new ≡ Some after) × ((steps : List Step) (step : Step) → ends before steps step → stands after steps)
+
+  -- what is recorded before a stream begins anew: nothing; or what was there, where that fails
+  abbrev pub IsCleared : {E : Type 0} → Option K → Result (Unit {0}) E → Option K → Type 0
+  IsCleared None answer new = new ≡ None
+  IsCleared (Some before) (Ok it) new =
+      (after : K) × (new ≡ Some after) × ((steps : List Step) → stands before steps → stands after [])
+  IsCleared (Some before) (Err fault) new = (after : K) × (new ≡ Some after) × StaysKept before after
+
+-- the insertions of units one after the other, the first of them at a place, where so many ids were
+-- given before
+abbrev pub insertions_from : Place → ℕ → List (List (List ℕ)) → List Edit
+insertions_from place given [] = []
+insertions_from place given (unit ∷ units) = Insert place (joined unit) ∷ insertions_from (After (given + 1)) (given + 1) units
+
+-- so many ids were given by the edits that are recorded, if any are
+abbrev pub AreGiven : {K : Type 0} → (K → List Step → Type 0) → Option K → ℕ → Type 0
+AreGiven stands None given = ⊤
+AreGiven {K} stands (Some before) given = (steps : List Step) → stands before steps → given ≡ given_by_steps 0 steps
+
+-- the insertions of units behind the last one are recorded as a load, behind so many ids
+abbrev pub IsLoadKeptAt : {K E : Type 0} → (K → List Step → Type 0) → (K → List Step → Step → Type 0) → Place → Option K
+    → List (List (List ℕ)) → Result (Unit {0}) E → Option K → Type 0
+IsLoadKeptAt stands ends place old units answer new =
+    (given : ℕ) × AreGiven stands old given × IsRecorded stands ends old (Load (insertions_from place given units)) answer new
+
+-- the insertions of units behind the last one of the stream are recorded as a load
+abbrev pub IsLoadKept : {B K E : Type 0} → (B → Machine → Type 0) → (K → List Step → Type 0) → (K → List Step → Step → Type 0)
+    → B → Option K → List (List (List ℕ)) → Result (Unit {0}) E → Option K → Type 0
+IsLoadKept is_session stands ends backend old units answer new =
+    Asks (is_session backend)
+    (λ machine. IsLoadKeptAt stands ends (place_after (last_of machine.register.stream).id) old units answer new)
+
+-- of the load that was recorded last so many units stay
+abbrev pub IsLoadLeft : {K : Type 0} → (K → List Step → Type 0) → (K → List Step → Step → Type 0) → Option K → ℕ → Option K → Type 0
+IsLoadLeft stands ends None made new = new ≡ None
+IsLoadLeft {K} stands ends (Some before) made new =
+    (after : K) × (new ≡ Some after)
+    × ((steps : List Step) (step : Step) → ends before steps step → stands after (with_left steps step made))
+
+-- how many units of a load were inserted once one more is answered
+abbrev pub loaded_after : {T E : Type 0} → ℕ → Result T E → ℕ
+loaded_after count (Ok it) = min (count + 1) (2 ^ 64 - 1)
+loaded_after count (Err fault) = count

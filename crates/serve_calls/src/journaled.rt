@@ -1,0 +1,296 @@
+//! A session whose edits are recorded before they are made.
+
+ghost use Rattle.std.specs.Prelude.{◌≡◌, ◌+◌, ◌-◌, ◌^◌, ◌∷◌, ℕ, [], None, Some, IfOk, IsOk, OnOk, min};
+ghost use Rattle.journal_steps.specs.declared.step.Step.TheVariants.{Edits, Load};
+ghost use Rattle.stream_session.specs.Machines.{IsEmpty};
+ghost use Rattle.serve_calls.specs.Journaled.{IsCleared, IsKept, IsLoadKept, IsLoadKeptAt, IsLoadLeft, IsRecorded, IsTakenOff, insertions_from, loaded_after};
+ghost use Rattle.serve_calls.specs.Sessions.{Stays, Steps};
+ghost use Rattle.serve_calls.specs.Unmade.{MakesOne, MakesTogether};
+
+use crate::backend::{Backend, LendsSession};
+use crate::unmade::{EditFault, GroupFault};
+use edit_engine::{Dropping, GroupReceipt, ReadEdit, ReadGroup, Receipt, Session};
+use picture_keys::HashedUnit;
+use pictures::AuId;
+use serve_answers::Answer;
+use serve_requests::Failure;
+use session_journal::{Records, Unkept};
+use std::alloc::{AllocError, Global};
+use stream_edits::{Edit, Place};
+
+/// A session with a journal, or without one.
+#[derive(Drop)]
+pub struct Journaled<B, K> {
+    pub backend: B,
+    /// By whom edits are recorded, if they are.
+    pub journal: Option<K>,
+    /// How many units of a load were inserted, while one is under way: it is recorded as a whole.
+    pub(crate) loaded: Option<usize>,
+}
+
+impl<B, K> Journaled<B, K> {
+    /// A session whose edits aren't recorded so far.
+    pub fn new(backend: B) -> Journaled<B, K>
+        ensures backend { result.backend ≡ backend }
+        ensures journal { result.journal ≡ None }
+        ensures loaded { result.loaded ≡ None }
+    {
+        Journaled {
+            backend,
+            journal: None,
+            loaded: None,
+        }
+    }
+}
+
+impl<B, K: Records> Journaled<B, K> {
+    /// Records an edit by itself, unless it is one of a load.
+    fn record_edit(&mut self, edit: &Edit) -> Result<(), Unkept>
+        ensures backend { self.new.backend ≡ self.old.backend }
+        ensures loaded { self.new.loaded ≡ self.old.loaded }
+        ensures kept { self.old.loaded ≡ None → IsRecorded K.stands K.ends self.old.journal
+            (Edits (edit.now ∷ [])) result self.new.journal }
+        ensures loading { (count : ℕ) → self.old.loaded ≡ Some count
+            → IsOk result × (self.new.journal ≡ self.old.journal) }
+    {
+        if self.loaded.is_some() {
+            return Ok(());
+        }
+        match &mut self.journal {
+            Some(journal) => match journal.keep_edit(edit) {
+                Ok(()) => Ok(()),
+                Err(why) => Err(why),
+            },
+            None => Ok(()),
+        }
+    }
+
+    /// Records edits that are to be made together.
+    fn record_group(&mut self, edits: &[Edit]) -> Result<(), Unkept>
+        ensures backend { self.new.backend ≡ self.old.backend }
+        ensures loaded { self.new.loaded ≡ self.old.loaded }
+        ensures kept { IsRecorded K.stands K.ends self.old.journal (Edits edits.now) result
+            self.new.journal }
+    {
+        match &mut self.journal {
+            Some(journal) => match journal.keep_group(edits) {
+                Ok(()) => Ok(()),
+                Err(why) => Err(why),
+            },
+            None => Ok(()),
+        }
+    }
+
+    /// Records the insertions of these units one after the other, the first of them at a place.
+    fn record_load(
+        &mut self,
+        alloc: Global,
+        place: Place,
+        units: &[HashedUnit],
+    ) -> Result<(), Unkept>
+        ensures backend { self.new.backend ≡ self.old.backend }
+        ensures kept { IsLoadKeptAt K.stands K.ends place self.old.journal units.now result
+            self.new.journal }
+    {
+        let Some(journal) = &mut self.journal else {
+            return Ok(());
+        };
+        let given = journal.ids_given();
+        match insertions(alloc, place, given, units) {
+            Ok(edits) => match journal.keep_load(edits) {
+                Ok(()) => Ok(()),
+                Err(why) => Err(why),
+            },
+            Err(why) => Err(why),
+        }
+    }
+
+    /// Takes the last record off again, whose edits aren't made, unless it is that of a load.
+    fn take_off(&mut self)
+        ensures backend { self.new.backend ≡ self.old.backend }
+        ensures loaded { self.new.loaded ≡ self.old.loaded }
+        ensures taken { self.old.loaded ≡ None
+            → IsTakenOff K.stands K.ends self.old.journal self.new.journal }
+        ensures loading { (count : ℕ) → self.old.loaded ≡ Some count
+            → self.new.journal ≡ self.old.journal }
+    {
+        if self.loaded.is_some() {
+            return;
+        }
+        if let Some(journal) = &mut self.journal {
+            journal.shorten(0);
+        }
+    }
+
+    /// Counts a unit that was inserted, if it is one of a load.
+    fn count(&mut self)
+        ensures backend { self.new.backend ≡ self.old.backend }
+        ensures journal { self.new.journal ≡ self.old.journal }
+        ensures alone { self.old.loaded ≡ None → self.new.loaded ≡ None }
+        ensures counted { (count : ℕ) → self.old.loaded ≡ Some count
+            → self.new.loaded ≡ Some (min (count + 1) (2 ^ 64 - 1)) }
+    {
+        if let Some(count) = self.loaded {
+            self.loaded = Some(count.saturating_add(1));
+        }
+    }
+}
+
+impl<B: LendsSession, K> LendsSession for Journaled<B, K> {
+    ghost is_session = { λ it machine. B.is_session it.backend machine };
+
+    fn look<T, F: FnOnce(&Session) -> T>(&self, ask: F) -> T {
+        self.backend.look(ask)
+    }
+}
+
+impl<B: Backend, K: Records> Backend for Journaled<B, K> {
+    ghost lends_jobs = { λ it. B.lends_jobs it.backend };
+
+    fn edit(&mut self, read: ReadEdit) -> Result<Receipt, EditFault>
+        ensures steps { Steps (B.is_session self.old.backend)
+            (λ before after. MakesOne before read result after)
+            (B.is_session self.new.backend) }
+        ensures recorded { self.old.loaded ≡ None → IsKept K.stands self.old.journal
+            (Edits (read ∷ [])) result self.new.journal }
+        ensures loading { (count : ℕ) → self.old.loaded ≡ Some count
+            → (self.new.journal ≡ self.old.journal)
+            × (self.new.loaded ≡ Some (loaded_after count result)) }
+    {
+        let _units = self.backend.look(|session| session.last().units);
+        self.record_edit(read.edit())?;
+        match self.backend.edit(read) {
+            Ok(receipt) => {
+                self.count();
+                Ok(receipt)
+            }
+            Err(fault) => {
+                self.take_off();
+                Err(fault)
+            }
+        }
+    }
+
+    fn edit_group(&mut self, group: ReadGroup) -> Result<GroupReceipt, GroupFault>
+        ensures steps { Steps (B.is_session self.old.backend)
+            (λ before after. MakesTogether before group result after)
+            (B.is_session self.new.backend) }
+        ensures recorded { self.old.loaded ≡ None → IsKept K.stands self.old.journal (Edits group)
+            result self.new.journal }
+    {
+        let _units = self.backend.look(|session| session.last().units);
+        self.record_group(group.edits())?;
+        match self.backend.edit_group(group) {
+            Ok(receipt) => Ok(receipt),
+            Err(fault) => {
+                self.take_off();
+                Err(fault)
+            }
+        }
+    }
+
+    fn begin_load(&mut self, alloc: Global, units: &[HashedUnit]) -> Result<(), Unkept>
+        ensures stays { Stays (B.is_session self.old.backend) (B.is_session self.new.backend) }
+        ensures recorded { IsLoadKept B.is_session K.stands K.ends self.old.backend
+            self.old.journal units.now result self.new.journal }
+        ensures loaded { OnOk result (self.new.loaded ≡ Some 0) }
+    {
+        let place = self.backend.look(|session| session.last().end());
+        self.record_load(alloc, place, units)?;
+        self.loaded = Some(0);
+        Ok(())
+    }
+
+    fn end_load(&mut self)
+        ensures stays { Stays (B.is_session self.old.backend) (B.is_session self.new.backend) }
+        ensures left { (count : ℕ) → self.old.loaded ≡ Some count
+            → IsLoadLeft K.stands K.ends self.old.journal count self.new.journal }
+        ensures loaded { self.new.loaded ≡ None }
+    {
+        let count = self.loaded.unwrap_or(0);
+        if let Some(journal) = &mut self.journal {
+            journal.shorten(count);
+        }
+        self.loaded = None;
+    }
+
+    fn drop_picture(&mut self, id: AuId) -> Dropping {
+        self.backend.drop_picture(id)
+    }
+
+    fn clear_cache(&mut self) {
+        self.backend.clear_cache();
+    }
+
+    fn mark(&mut self) -> Result<(), AllocError> {
+        self.backend.mark()
+    }
+
+    fn fresh(&self, alloc: Global) -> Result<Session, AllocError> {
+        self.backend.fresh(alloc)
+    }
+
+    fn clear_records(&mut self) -> Result<(), Unkept>
+        ensures stays { Stays (B.is_session self.old.backend) (B.is_session self.new.backend) }
+        ensures cleared { IsCleared K.stands self.old.journal result self.new.journal }
+    {
+        match &mut self.journal {
+            Some(journal) => match journal.clear() {
+                Ok(()) => Ok(()),
+                Err(why) => Err(why),
+            },
+            None => Ok(()),
+        }
+    }
+
+    fn begin_anew(&mut self, session: Session)
+        requires { IsEmpty session }
+        ensures anew { B.is_session self.new.backend session }
+        ensures recorded { self.new.journal ≡ self.old.journal }
+    {
+        self.backend.begin_anew(session);
+    }
+
+    fn want(&mut self, ids: &[AuId], rest: bool) {
+        self.backend.want(ids, rest);
+    }
+
+    fn has_jobs(&self) -> bool {
+        self.backend.has_jobs()
+    }
+
+    fn take(&mut self, alloc: Global, id: Option<AuId>) -> Result<Answer, Failure> {
+        self.backend.take(alloc, id)
+    }
+
+    fn land(&mut self, number: u64) -> Result<Answer, Failure> {
+        self.backend.land(number)
+    }
+
+    fn give_back(&mut self, number: u64) -> Result<Answer, Failure> {
+        self.backend.give_back(number)
+    }
+}
+
+/// The insertions of these units one after the other, the first of them at a place, where so many
+/// ids were given before.
+fn insertions(
+    alloc: Global,
+    place: Place,
+    given: u32,
+    units: &[HashedUnit],
+) -> Result<Vec<Edit>, Unkept>
+    ensures { IfOk result (λ edits. edits.items ≡ insertions_from place given units.now) }
+{
+    let mut edits = Vec::with_capacity(alloc, units.len())?;
+    let (mut next, mut last) = (place, given);
+    for unit in units {
+        edits.push(Edit::Insert(next, unit.unit().text(alloc)?))?;
+        let Some(number) = last.checked_add(1) else {
+            return Err(Unkept::Unwritten);
+        };
+        next = Place::After(AuId::new(number));
+        last = number;
+    }
+    Ok(edits)
+}

@@ -1,0 +1,4 @@
+pub mod CountLemmas
+pub mod KeepLemmas
+pub mod LeaveLemmas
+pub mod OpenLemmas

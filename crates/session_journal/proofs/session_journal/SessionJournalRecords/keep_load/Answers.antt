@@ -1,0 +1,9 @@
+use Rattle.std.proofs.Common.{◌≡◌, rules}
+use Rattle.journal_steps.specs.declared.step.Step.TheVariants.{Load}
+use Rattle.journal_steps.specs.Kept.{kept_of_step}
+use Rattle.session_journal.proofs.session_journal.SessionJournalRecords.keep_load.Goals as goal
+
+pub returns-in-Some-clause-leaves : goal.returns-in-Some-clause-leaves
+returns-in-Some-clause-leaves g c =
+    let rows : c.deref-in-Some.result.now ≡ kept_of_step c.args.self.now.given (Load c.args.edits.items) = search rules in
+    c.keep.ensures.leaves (Load c.args.edits.items) rows

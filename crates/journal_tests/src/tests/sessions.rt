@@ -69,7 +69,9 @@ fn are(steps: &[Step], wanted: &[Shape]) -> bool {
 fn record_in(rt: &HostRuntime, path: &str) -> bool {
     match rt.open_journal(rt.alloc(), path) {
         Ok((mut journal, steps)) => {
-            steps.is_empty() && record_none(&mut journal) && record(rt.alloc(), &mut journal).is_ok()
+            steps.is_empty()
+                && record_none(&mut journal)
+                && record(rt.alloc(), &mut journal).is_ok()
         }
         Err(_) => false,
     }

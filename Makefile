@@ -23,6 +23,7 @@ AR = $(shell $(CC) -print-prog-name=ar)
 RANLIB = $(shell $(CC) -print-prog-name=ranlib)
 CFLAGS = -O2 -g
 WARNINGS = -Wall -Wextra -Wpedantic -Wconversion -Werror
+WARNINGS_IN_CPP = $(WARNINGS) -Wzero-as-null-pointer-constant
 VERSION = 0.3.0
 
 # What the compiler compiles for, and the folder of dist/ that has the library for it, if one has.
@@ -124,7 +125,7 @@ $(BUILD)/%: examples/%.c $(wildcard examples/*.h) include/cupdaisy.h $(library)
 	$(CC) -std=c99 $(WARNINGS) $(CFLAGS) -Iinclude $< $(library) -o $@
 
 $(BUILD)/%: examples/%.cpp $(wildcard examples/*.h examples/*.hpp) include/cupdaisy.h $(library)
-	$(CXX) -std=c++11 $(WARNINGS) $(CFLAGS) -Iinclude $< $(library) -o $@
+	$(CXX) -std=c++11 $(WARNINGS_IN_CPP) $(CFLAGS) -Iinclude $< $(library) -o $@
 
 clean:
 	rm -rf $(BUILD)

@@ -77,8 +77,12 @@ typedef struct cupdaisy_session {
     bool full;
 } cupdaisy_session;
 
-/* A handle without a session. */
+/* A handle without a session: all zeros. In C++ no null pointer is written as 0. */
+#ifdef __cplusplus
+#define CUPDAISY_NONE {}
+#else
 #define CUPDAISY_NONE {0, false}
+#endif
 
 /* What an accepted edit is told. */
 typedef struct cupdaisy_receipt {

@@ -116,6 +116,16 @@ def versions():
     return {"text": text, "number": number}, {"text": made, "number": 1_000_000 * major + 1_000 * minor + patch}
 
 
+def unnamed(header):
+    """The calls of the header that a page which lists them doesn't name, a line each."""
+    for page, form in (("man/cupdaisy.3", "cupdaisy_{}"), ("docs/C.md", "`{}`")):
+        text = (TOP / page).read_text()
+        for name in prototypes(header):
+            word = form.format(name.removeprefix("cupdaisy_"))
+            if not re.search(rf"(?<!\w){word}(?!\w)", text):
+                yield f"{page} doesn't name {name}"
+
+
 def compare(what, library, header):
     """The differences of the library's table and the other, a line each."""
     for name in sorted(library.keys() | header.keys()):
@@ -131,5 +141,6 @@ def main():
     known.pop("cupdaisy_session", None)
     lines += compare("struct", structs(), known)
     lines += compare("version", *versions())
+    lines += unnamed(header)
     print("\n".join(lines), end="\n" if lines else "")
     return 1 if lines else 0

@@ -137,6 +137,17 @@ def differences_of_paths(text):
             yield text.count("\n", 0, found.start()) + 1, f"names {path}, which isn't there"
 
 
+def differences_of_edits(text):
+    """The wrong bodies that a table of crates lists and of which the crates of the row have no edit."""
+    for row in re.finditer(r"^\| ([\w, ]+) \| (.*) \|$", text, re.MULTILINE):
+        crates = [TOP / "crates" / name for name in row[1].split(", ")]
+        if all(crate.is_dir() for crate in crates):
+            edits = {path.stem for crate in crates for path in crate.glob("m*/*.edit")}
+            for name in re.findall(r"[a-z0-9]+(?:_[a-z0-9]+)+", row[2]):
+                if name not in edits:
+                    yield text.count("\n", 0, row.start()) + 1, f"names {name}, which is no edit of {row[1]}"
+
+
 def sentences(text):
     """The sentences of a document, tables by their cells and lists by their items, with the line where each begins."""
     text = BLOCK.sub(lambda found: "\n" * found[0].count("\n"), text)
@@ -166,6 +177,8 @@ def differences(name, text):
     yield from differences_of_paths(text)
     if name in PLAIN:
         yield from differences_of_words(text)
+    if name == "docs/DECISIONS.md":
+        yield from differences_of_edits(text)
     if name == "README.md" and len(text.encode()) > BYTES:
         yield 1, f"has {len(text.encode())} bytes, and not at most {BYTES}"
     if name == "docs/ARCHITECTURE.md" and text.count("\n") > LINES:

@@ -4,7 +4,7 @@ import subprocess
 import sys
 
 from cupdaisy import workspace
-from cupdaisy.command_line import parser_of
+from cupdaisy.command_line import NOT_INSTALLED, are_installed, parser_of
 
 # The machines, by the names of their folders in dist/ and of the compiler's targets.
 TARGETS = {"x86_64-linux": "x86_64-unknown-linux-gnu", "aarch64-linux": "aarch64-unknown-linux-gnu"}
@@ -38,6 +38,9 @@ def main(doc):
     parser.add_argument("name", metavar="NAME", choices=workspace.crates())
     parser.add_argument("target", metavar="TARGET", choices=TARGETS, nargs="?", default="x86_64-linux")
     options = parser.parse_args()
+    if not are_installed("rt"):
+        print('build-library: the toolchain isn\'t there: no rt is in PATH, and it isn\'t public (README.md, "Check it")', file=sys.stderr)
+        return NOT_INSTALLED
     crate = crate_of(options.name)
     if not are_there(crate):
         status = subprocess.run(["rt", "lib"], cwd=crate.folder).returncode

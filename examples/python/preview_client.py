@@ -83,6 +83,8 @@ def pictures_of(preview, ids, rest=True):
 
 
 def main():
+    if len(sys.argv) < 3:
+        sys.exit("usage: preview_client.py PROGRAM STREAM [SAVED]")
     program, stream, *saved = sys.argv[1:]
     with Preview(program, "--workers", "2") as preview:
         with open(stream, "rb") as file:

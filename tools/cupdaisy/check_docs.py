@@ -148,6 +148,13 @@ def differences_of_edits(text):
                     yield text.count("\n", 0, row.start()) + 1, f"names {name}, which is no edit of {row[1]}"
 
 
+def differences_of_links(text):
+    """The pages of docs/ that README.md doesn't link."""
+    for name in pages():
+        if name.startswith("docs/") and f"]({name})" not in text:
+            yield 1, f"doesn't link {name}"
+
+
 def sentences(text):
     """The sentences of a document, tables by their cells and lists by their items, with the line where each begins."""
     text = BLOCK.sub(lambda found: "\n" * found[0].count("\n"), text)
@@ -179,6 +186,8 @@ def differences(name, text):
         yield from differences_of_words(text)
     if name == "docs/DECISIONS.md":
         yield from differences_of_edits(text)
+    if name == "README.md":
+        yield from differences_of_links(text)
     if name == "README.md" and len(text.encode()) > BYTES:
         yield 1, f"has {len(text.encode())} bytes, and not at most {BYTES}"
     if name == "docs/ARCHITECTURE.md" and text.count("\n") > LINES:

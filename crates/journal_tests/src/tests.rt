@@ -1,4 +1,3 @@
-mod compacted;
 mod files;
 mod records;
 mod sessions;

@@ -25,7 +25,6 @@ pub enum Word {
     None,
     Back,
     Reset,
-    Compacted,
 }
 
 /// A text. Clauses see its bytes.

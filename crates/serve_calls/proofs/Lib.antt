@@ -1,4 +1,5 @@
 mod Altered
+mod EditsAfter
 mod Gone
 mod Listing
 mod Numbered

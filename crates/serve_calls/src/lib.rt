@@ -11,7 +11,6 @@
 mod alone;
 mod backend;
 mod calls;
-mod compacting;
 mod failing;
 mod journaled;
 mod lists;

@@ -2,7 +2,6 @@
 //! tells of pictures.
 
 ghost use Rattle.std.specs.Prelude.{◌≤◌, false, length};
-ghost use Rattle.serve_calls.specs.Offering.{offering};
 
 use crate::line_writer::LineWriter;
 use decode_pool::{Desk, Seat, TooManyWanted, drop_picture};
@@ -16,7 +15,6 @@ use session_journal::Unkept;
 use std::alloc::{AllocError, Global};
 use std::io::Write;
 use std::sync::{Mutex, Wait};
-use stream_snapshot::{ReadSnapshot, Snapshot};
 
 /// What the threads of a server share.
 #[derive(Drop)]
@@ -70,7 +68,7 @@ impl<'a, R: Wait> LendsSession for DeskBackend<'a, R> {
 
 impl<'a, R: Wait> Backend for DeskBackend<'a, R> {
     // The workers have the jobs.
-    ghost offers = { λ _. offering false false };
+    ghost lends_jobs = { λ _. false };
 
     fn edit(&mut self, read: ReadEdit) -> Result<Receipt, EditFault> {
         match self.desk.edit_read(self.rt, read) {
@@ -113,14 +111,6 @@ impl<'a, R: Wait> Backend for DeskBackend<'a, R> {
         Ok(())
     }
 
-    fn begun(&self, alloc: Global, snapshot: ReadSnapshot) -> Result<Session, AllocError> {
-        self.desk.begun(alloc, snapshot)
-    }
-
-    fn compact(&mut self, _snapshot: &Snapshot) -> Result<(), Unkept> {
-        Ok(())
-    }
-
     fn begin_anew(&mut self, session: Session) {
         self.desk.begin_anew(self.rt, session);
         self.want(&[], true);
@@ -134,10 +124,6 @@ impl<'a, R: Wait> Backend for DeskBackend<'a, R> {
     }
 
     fn has_jobs(&self) -> bool {
-        false
-    }
-
-    fn has_journal(&self) -> bool {
         false
     }
 

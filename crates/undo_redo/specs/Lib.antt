@@ -1,4 +1,3 @@
 pub mod Kept
 pub mod Following
 pub mod States
-pub mod Snapshots

@@ -46,12 +46,10 @@ fn record_none(journal: &mut SessionFile) -> bool {
     journal.keep_group(&[]) == Err(Unkept::Unwritten)
 }
 
-/// What the step is, unless it is a snapshot.
-fn shape(step: &Step) -> Option<Shape> {
+fn shape(step: &Step) -> Shape {
     match step {
-        Step::Edits(edits) => Some((false, edits.edits().len())),
-        Step::Load(edits) => Some((true, edits.edits().len())),
-        Step::Snapshot(_) => None,
+        Step::Edits(edits) => (false, edits.edits().len()),
+        Step::Load(edits) => (true, edits.edits().len()),
     }
 }
 
@@ -60,7 +58,7 @@ fn are(steps: &[Step], wanted: &[Shape]) -> bool {
         return false;
     }
     for (step, wanted) in steps.iter().zip(wanted) {
-        if shape(step) != Some(*wanted) {
+        if shape(step) != *wanted {
             return false;
         }
     }

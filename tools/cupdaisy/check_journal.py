@@ -18,7 +18,7 @@ from cupdaisy.session import Open
 from cupdaisy.streams import texts_of
 
 SECONDS, PAGE, PHASES = 60, 1000, 3
-KINDS = {"insert": 6, "delete": 3, "replace": 4, "group": 3, "load": 2, "undo": 4, "redo": 3, "reset": 0.5, "find": 1}
+KINDS = {"insert": 6, "delete": 3, "replace": 4, "group": 3, "load": 2, "undo": 4, "redo": 3, "reset": 0.5, "compact": 2, "find": 1}
 LAYERS = "", "-wal"
 
 
@@ -31,7 +31,7 @@ def command(chosen, file, workers=0):
 
 
 class State:
-    """What a journal and the session over it have."""
+    """What a session has that is started over a journal: the edits since the file was written anew, and the units."""
 
     def __init__(self, entries, units, ids):
         self.entries, self.units, self.ids = entries, units, ids
@@ -41,7 +41,7 @@ class State:
 
 
 def state_of(model):
-    entries = [{"edits": [*map(serve_model.told_edit, entry)]} for entry in model.entries]
+    entries = [{"edits": [*map(serve_model.told_edit, entry)]} for entry in model.entries[model.compacted[2]:]]
     return State(entries, [(number, text) for number, text in model.history.units], model.session.ids)
 
 
@@ -61,8 +61,11 @@ def asked(chosen, file, workers=0):
 
 def carried(model):
     """A model of the server that is started over the journal of another."""
-    new = serve_model.Server(model.workers)
-    for entry in model.entries:
+    new = serve_model.Server(model.workers, has_journal=True)
+    units, ids, made = model.compacted
+    if ids:
+        new.begin_from(units, ids)
+    for entry in model.entries[made:]:
         if len(entry) == 1:
             new.made(entry[0])
         else:
@@ -119,7 +122,7 @@ def kills(chosen, seed, workers, texts, count):
     """What is wrong where a server is killed and started again several times, if anything."""
     rng = random.Random(seed)
     with tempfile.TemporaryDirectory() as folder:
-        file, model = pathlib.Path(folder) / "edits.journal", serve_model.Server(workers)
+        file, model = pathlib.Path(folder) / "edits.journal", serve_model.Server(workers, has_journal=True)
         for phase in range(PHASES):
             drawn = Drawn(rng.randrange(1 << 30), workers, texts, 0, folder)
             drawn.kinds, drawn.model, begin = KINDS, model, carried(model)
@@ -135,7 +138,7 @@ def kills(chosen, seed, workers, texts, count):
 
 def short_journal(chosen, folder, texts):
     """A journal of some records, whose server was killed: its files, and its states, from none of its records on."""
-    file, model = pathlib.Path(folder) / "short.journal", serve_model.Server(0)
+    file, model = pathlib.Path(folder) / "short.journal", serve_model.Server(0, has_journal=True)
     lines = [request(0, "load", bytes=serve_model.base64.b64encode(b"".join(texts[:3])).decode()), request(1, "delete", id=2),
              request(2, "group", edits=[{"delete": {"id": 1}}, {"insert": {"after": None, "bytes": serve_model.base64.b64encode(texts[0]).decode()}}]),
              request(3, "undo")]

@@ -76,7 +76,7 @@ class Drawn:
         self.model, self.number, self.saved = serve_model.Server(workers), 0, {}
         self.kinds = {"insert": 6, "delete": 3, "replace": 4, "group": 3, "units": 2, "find": 2, "show": 4, "want": 2, "drop": 2,
                       "stats": 1, "load": 1, "save": 2, "undo": 5, "redo": 4, "wrong": 2, "mark": 1, "text": 2, "journal": 1, "initialize": 0.3,
-                      "reset": 0.3} | ({} if workers else {"take": 10, "land": 8, "give_back": 2})
+                      "reset": 0.3, "compact": 0.3} | ({} if workers else {"take": 10, "land": 8, "give_back": 2})
 
     def line(self):
         """The next message or batch, damaged now and then."""
@@ -152,7 +152,7 @@ class Drawn:
     def stats(self):
         return self.rng.choice(({}, []))
 
-    initialize = mark = reset = undo = redo = stats
+    initialize = mark = reset = compact = undo = redo = stats
 
     def load(self):
         units = self.texts[:self.rng.randint(1, 4)] if len(self.model.session.stream) < 40 else []

@@ -19,7 +19,7 @@ MESSAGES = {-32700: "Parse error", -32600: "Invalid Request", -32601: "Method no
 JOBS = "take", "land", "give_back"
 FIRST = {"initialize": None, "load": "path", "save": "path", "insert": "after", "delete": "id", "replace": "id", "group": "edits", "undo": None,
          "redo": None, "mark": None, "units": "from", "text": "id", "find": "position", "show": "id", "want": "ids", "drop": "id",
-         "take": "id", "land": "job", "give_back": "job", "journal": "from", "stats": None, "reset": None, "shutdown": None}
+         "take": "id", "land": "job", "give_back": "job", "journal": "from", "stats": None, "reset": None, "compact": None, "shutdown": None}
 LIMITS = {"units": session.MOST_UNITS, "unit_bytes": 4194304, "slices": 256, "group": session.MOST_EDITS, "wanted": MOST_WANTED,
           "count": MOST_TOLD, "left_out": MOST_LEFT_OUT, "message_bytes": MOST_LINE}
 REASONS = {
@@ -177,15 +177,23 @@ def entry_of(value):
 
 
 class Server:
-    """A server beside so many workers."""
+    """A server beside so many workers, with a journal or without one."""
 
-    def __init__(self, workers, room=4096):
-        self.workers, self.room, self.is_over, self.saved = workers, room, False, {}
+    def __init__(self, workers, room=4096, has_journal=False):
+        self.workers, self.room, self.has_journal, self.is_over, self.saved = workers, room, has_journal, False, {}
         self.begin()
 
     def begin(self):
         self.session, self.wanted = session.Session(self.room), {}
         self.history, self.entries, self.told_entries, self.bytes = history.History(), [], 0, 0
+        # What the journal's file begins with: units, how many ids were given, and how many edits were made before that.
+        self.compacted = [], 0, 0
+
+    def begin_from(self, units, ids):
+        """Begins from units under their ids, where so many ids were given."""
+        self.begin()
+        self.session.change([(number, syntax.read_unit(text)) for number, text in units], ids)
+        self.session.edits, self.history.units, self.compacted = 0, [*units], (units, ids, 0)
 
     def line(self, line):
         """What comes of a line: its answer, or None where it isn't answered, and the notifications behind it. Beside workers these
@@ -219,7 +227,7 @@ class Server:
 
     def call(self, name, parameters, is_answered):
         """The result of a call."""
-        if name not in FIRST or self.workers and name in JOBS:
+        if not self.has(name):
             raise Failed(-32601)
         if isinstance(parameters, list) and parameters and name != "initialize":
             raise Failed(-32602, data=FIRST[name])
@@ -251,8 +259,12 @@ class Server:
             self.bytes += size_of(edit)
             self.history.take_in(edit, number)
 
+    def has(self, name):
+        """Whether there is a method of this name."""
+        return name in FIRST and not (self.workers and name in JOBS) and (self.has_journal or name != "compact")
+
     def initialize(self, _):
-        methods = [name for name in FIRST if not (self.workers and name in JOBS)]
+        methods = [*filter(self.has, FIRST)]
         return {"name": "cupdaisy", "version": ANY, "methods": methods, "limits": LIMITS}
 
     def mark(self, _):
@@ -273,6 +285,10 @@ class Server:
     def reset(self, _):
         self.begin()
         return "reset"
+
+    def compact(self, _):
+        self.compacted = [*self.history.units], self.session.ids, len(self.entries)
+        return "compacted"
 
     def group(self, parameters):
         edits = parameters.read("edits", lambda value: isinstance(value, list))

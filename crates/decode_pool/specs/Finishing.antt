@@ -89,14 +89,15 @@ pub record HasFault (opened : ℕ) (seats : List Seat) (journal : List (List Edi
   pub theirs : AreBooksOf opened seats books
   pub disagrees : Disagrees journal books seat number
 
--- why a desk isn't finished, of the seats alone or of the journal too; lack of memory says nothing
--- of either
+-- why a desk isn't finished, of the seats alone or of the journal too; lack of memory, and that the
+-- session began from a snapshot, say nothing of either
 abbrev pub IsFault : ℕ → List Seat → FinishFault → Option (List (List Edit)) → Type 0
 IsFault opened seats faults.SeatMissing None = AreNumbered opened seats → ⊥
 IsFault opened seats faults.SeatMissing (Some journal) = LacksBook opened seats journal
 IsFault opened seats (faults.SeatDisagrees seat number) (Some journal) = HasFault opened seats journal seat number
 IsFault opened seats (faults.SeatDisagrees seat number) None = ⊥
 IsFault opened seats faults.Memory journal = Unit {0}
+IsFault opened seats faults.NotAudited journal = Unit {0}
 
 -- the journal that a refusal copies
 abbrev pub journal_in : Refusal → Option (List (List Edit))

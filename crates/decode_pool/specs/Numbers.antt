@@ -8,3 +8,4 @@ abbrev pub number_of : FinishFault → ℕ
 number_of faults.SeatMissing = 1
 number_of (faults.SeatDisagrees seat number) = 2
 number_of faults.Memory = 3
+number_of faults.NotAudited = 4

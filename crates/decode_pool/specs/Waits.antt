@@ -2,7 +2,7 @@
 use Rattle.std.specs.Prelude.{◌≡◌, ℕ, ◌<◌, ◌≤◌, slice_get, Option, None, Some, Result, Ok, Err}
 use Rattle.decode_jobs.specs.Keys.{Key}
 use Rattle.stream_edits.specs.declared.receipts.Last.{Last}
-use Rattle.stream_edits.specs.Edits.{no_units, Replays}
+use Rattle.stream_edits.specs.Edits.{Replays}
 use Rattle.stream_edits.specs.Journals.{edits_of}
 use Rattle.stream_edits.specs.Streams.{ids_of, last_of}
 use Rattle.stream_session.specs.declared.showing.Shown.TheVariants as shown
@@ -15,9 +15,9 @@ use Rattle.decode_pool.specs.declared.state.settling.Settled.{Settled}
 use Rattle.decode_pool.specs.declared.state.settling.Settled.TheVariants as settled
 
 module _ {P : Type 0} where
-  -- the session's stream is what its journal leads to
+  -- the session's stream is what its journal leads to from what it began from
   abbrev pub IsReached : Machine P → Type 0
-  IsReached machine = Replays no_units (edits_of machine.journal) machine.register
+  IsReached machine = Replays machine.origin (edits_of machine.journal) machine.register
 
 -- the end of the stream of a session, which no clause can name
 abbrev pub IsLastOfOne : Type 0 → Last → Type 0

@@ -25,6 +25,9 @@ pub enum FinishFault {
     /// A growth was refused.
     #[error("out of memory")]
     Memory,
+    /// The session began from a snapshot: books are audited from an empty stream on alone.
+    #[error("the session began from a snapshot")]
+    NotAudited,
 }
 
 impl FinishFault {
@@ -36,6 +39,7 @@ impl FinishFault {
             FinishFault::SeatMissing => 1,
             FinishFault::SeatDisagrees { .. } => 2,
             FinishFault::Memory => 3,
+            FinishFault::NotAudited => 4,
         }
     }
 }

@@ -91,6 +91,12 @@ fn look_through(
             journal: None,
         });
     }
+    if !session.began_without_units() {
+        return Err(Refusal {
+            cause: FinishFault::NotAudited,
+            journal: None,
+        });
+    }
     let books = books_of(alloc, seats, opened)?;
     let journal = session.journal();
     if let Err(fault) = audit(alloc, journal, &books) {

@@ -3,7 +3,7 @@
 ghost use Rattle.std.specs.Prelude.{◌≡◌, ◌≢◌, ◌<◌, ◌≤◌, ◌↔◌, ◌++◌, ◌^◌, [], false, length, IfOk, IsErr, OnErr, OnOk};
 ghost use Rattle.stream_edits.specs.Streams.{last_of};
 ghost use Rattle.stream_session.specs.Altered.{with_mark};
-ghost use Rattle.stream_session.specs.Machines.{IsEmpty, empty, uncached};
+ghost use Rattle.stream_session.specs.Machines.{empty, uncached};
 ghost use Rattle.stream_session.specs.Needing.{AnswersReleased, AnswersUncache};
 ghost use Rattle.decode_pool.specs.Jobs.{JobsDiffer};
 ghost use Rattle.decode_pool.specs.Threads.{Closes};
@@ -112,9 +112,9 @@ impl<P: Decoded> DeskState<P> {
         self.session.clear_cache();
     }
 
-    /// Begins anew with this session, which has an empty stream.
+    /// Begins anew with this session, of which no job is out.
     pub(crate) fn begin_anew(&mut self, session: Session<P>)
-        requires { IsEmpty session }
+        requires { session.jobs_out ≡ [] }
         ensures session { self.new.session ≡ session }
         ensures status { self.new.status ≡ self.old.status }
     {
@@ -136,7 +136,7 @@ impl<P: Decoded> DeskState<P> {
         ensures session { AnswersUncache P.IsOf self.old.session result self.new.session }
         ensures status { self.new.status ≡ self.old.status }
     {
-        let _ = self.session.journal();
+        self.session.reached();
         self.session.uncache()
     }
 
@@ -146,7 +146,7 @@ impl<P: Decoded> DeskState<P> {
         ensures session { AnswersReleased self.old.session result self.new.session }
         ensures status { self.new.status ≡ self.old.status }
     {
-        let _ = self.session.journal();
+        self.session.reached();
         self.session.take_released()
     }
 
@@ -155,7 +155,7 @@ impl<P: Decoded> DeskState<P> {
         ensures reached { IsReached self.now.session }
         ensures last { result ≡ last_of self.now.session.register.stream }
     {
-        let _ = self.session.journal();
+        self.session.reached();
         self.session.last()
     }
 

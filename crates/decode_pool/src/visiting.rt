@@ -1,7 +1,7 @@
 //! One who edits a desk and asks it without a seat, and keeps no book.
 
-ghost use Rattle.std.specs.Prelude.{◌≡◌, ◌≢◌, IfOk, IfSome};
-ghost use Rattle.stream_session.specs.Machines.{IsEmpty, empty};
+ghost use Rattle.std.specs.Prelude.{◌≡◌, ◌≢◌, [], IfOk, IfSome};
+ghost use Rattle.stream_session.specs.Machines.{IsBegun, empty};
 ghost use Rattle.decode_pool.specs.Visits.{DropsSome, EditsGroupSome, EditsSome, ReleasesSome, ShowsSome, UncachesSome};
 
 use crate::desk::DeskOf;
@@ -11,6 +11,7 @@ use std::alloc::{AllocError, Global};
 use std::sync::Wait;
 use stream_edits::{EditRefused, GroupReceipt, GroupRefused, ReadEdit, ReadGroup, Receipt};
 use stream_session::{Config, Dropped, Session, Shown};
+use stream_snapshot::ReadSnapshot;
 
 impl<P: Decoded> DeskOf<P> {
     /// Edits the session by an edit whose text is read, while no one else edits it or asks.
@@ -93,11 +94,22 @@ impl<P: Decoded> DeskOf<P> {
         }
     }
 
-    /// Begins anew with this session, which has an empty stream, as a desk that is opened does, but
-    /// for its threads and what is wanted. What a worker brings of a job from before lands nowhere,
+    /// A session to begin anew with, from a snapshot, with the desk's room for pictures that no unit
+    /// has.
+    pub fn begun(&self, alloc: Global, snapshot: ReadSnapshot) -> Result<Session<P>, AllocError>
+        ensures { IfOk result (IsBegun self.now.room snapshot) }
+    {
+        match Session::begun(alloc, Config { cache: self.room }, snapshot) {
+            Ok(session) => Ok(session),
+            Err(_) => Err(AllocError),
+        }
+    }
+
+    /// Begins anew with this session, of which no job is out, as a desk that is opened does, but for
+    /// its threads and what is wanted. What a worker brings of a job from before lands nowhere,
     /// unless a job of its number and its input is out again.
     pub fn begin_anew<R: Wait>(&self, rt: &R, session: Session<P>)
-        requires { IsEmpty session }
+        requires { session.jobs_out ≡ [] }
     {
         let mut state = self.state.lock(rt);
         state.begin_anew(session);

@@ -35,6 +35,7 @@ fn said_of(fault: FinishFault) -> Result<&'static str, AllocError> {
     match fault {
         FinishFault::SeatMissing => Ok("an edit of the journal stands in no book"),
         FinishFault::SeatDisagrees { .. } => Ok("a receipt disagrees with the journal"),
+        FinishFault::NotAudited => Ok("the session began from a snapshot"),
         FinishFault::Memory => Err(AllocError),
     }
 }

@@ -1,5 +1,5 @@
 -- The lines of records.
-use Rattle.std.proofs.Common.{◌≡◌, ◌≢◌, ℕ, ◌+◌, ◌<◌, List, [], ◌∷◌, ◌++◌, length, refl, sym, ap, subst, ◌∙◌, append_assoc, arith}
+use Rattle.std.proofs.Common.{◌≡◌, ◌≢◌, ℕ, ◌+◌, ◌<◌, List, [], ◌∷◌, ◌++◌, length, map, refl, sym, ap, subst, ◌∙◌, append_assoc, length-append, arith}
 use Rattle.std.proofs.lemmas.List.{append-nil}
 use Rattle.std.specs.Bool.{⊤}
 use Rattle.std.specs.List.{AllByRecursion}
@@ -7,8 +7,8 @@ use Rattle.edit_journal.specs.declared.line.Line.{Line}
 use Rattle.edit_journal.specs.declared.line.Step.{Step as Kept}
 use Rattle.edit_journal.specs.Lines.{lines_from, lines_of}
 use Rattle.journal_steps.specs.declared.step.Step.{Step}
-use Rattle.journal_steps.specs.declared.step.Step.TheVariants.{Edits, Load}
-use Rattle.journal_steps.specs.Kept.{IsStep, given_by_step, kept_of_step}
+use Rattle.journal_steps.specs.declared.step.Step.TheVariants.{Edits, Load, Snapshot}
+use Rattle.journal_steps.specs.Kept.{IsStep, given_by_step, kept_of_given, kept_of_step, kept_of_unit}
 use Rattle.journal_steps.specs.Records.{BeginOther, given_by_steps, kept_in, lines_of_steps}
 
 -- the lines are the first of a record, from this place on
@@ -65,6 +65,7 @@ pub some_kept : (given : ℕ) (step : Step) → IsStep step → 0 < length (kept
 some_kept given (Edits []) is = absurd (omega (arith, is.0))
 some_kept given (Edits (edit ∷ edits)) is = omega arith
 some_kept given (Load edits) is = omega arith
+some_kept given (Snapshot s) is = omega (arith, length-append (map kept_of_unit s.units) (kept_of_given s.ids_given ∷ []))
 
 -- one step more
 pub steps_then : (given entry : ℕ) (steps : List Step) (step : Step) (after at : ℕ) → after ≡ given_by_steps given steps → at ≡ entry + length steps

@@ -1,14 +1,14 @@
 -- What a record keeps of a step of a session.
-use Rattle.std.specs.Prelude.{◌≡◌, ◌≢◌, ℕ, ◌+◌, ◌<◌, List, [], ◌∷◌, length, ⊤}
+use Rattle.std.specs.Prelude.{◌≡◌, ◌≢◌, ℕ, ◌+◌, ◌<◌, List, [], ◌∷◌, ◌++◌, length, map, ⊤}
 use Rattle.std.specs.List.{AllByRecursion}
 use Rattle.stream_edits.specs.declared.edits.Edit.{Edit}
 use Rattle.stream_edits.specs.declared.edits.Edit.TheVariants.{Insert, Delete, Replace}
 use Rattle.stream_edits.specs.declared.edits.Place.{Place}
 use Rattle.stream_edits.specs.declared.edits.Place.TheVariants.{First, After}
-use Rattle.edit_journal.specs.declared.line.Kind.TheVariants.{Insert as InsertKind, Delete as DeleteKind, Replace as ReplaceKind, Load as LoadKind}
+use Rattle.edit_journal.specs.declared.line.Kind.TheVariants.{Insert as InsertKind, Delete as DeleteKind, Replace as ReplaceKind, Unit as UnitKind, Given as GivenKind, Load as LoadKind}
 use Rattle.edit_journal.specs.declared.line.Step.{Step as Kept}
 use Rattle.journal_steps.specs.declared.step.Step.{Step}
-use Rattle.journal_steps.specs.declared.step.Step.TheVariants.{Edits, Load}
+use Rattle.journal_steps.specs.declared.step.Step.TheVariants.{Edits, Load, Snapshot}
 
 -- the id that a place names, or 0
 abbrev pub named_in : Place → ℕ
@@ -41,15 +41,25 @@ given_after_edits given (edit ∷ edits) = given_after_edits (given_after given 
 abbrev pub kept_of_load : Kept
 kept_of_load = record { kind = LoadKind; id = 0; named = 0; text = [] }
 
+-- what is kept of a unit of a snapshot
+abbrev pub kept_of_unit : ℕ × List ℕ → Kept
+kept_of_unit unit = record { kind = UnitKind; id = unit.0; named = 0; text = unit.1 }
+
+-- what stands behind the units of a snapshot: how many ids were given
+abbrev pub kept_of_given : ℕ → Kept
+kept_of_given ids_given = record { kind = GivenKind; id = ids_given; named = 0; text = [] }
+
 -- what is kept of a step
 abbrev pub kept_of_step : ℕ → Step → List Kept
 kept_of_step given (Edits edits) = kept_of_edits given edits
 kept_of_step given (Load edits) = kept_of_load ∷ kept_of_edits given edits
+kept_of_step given (Snapshot snapshot) = map kept_of_unit snapshot.units ++ kept_of_given snapshot.ids_given ∷ []
 
 -- how many ids were given after it
 abbrev pub given_by_step : ℕ → Step → ℕ
 given_by_step given (Edits edits) = given_after_edits given edits
 given_by_step given (Load edits) = given_after_edits given edits
+given_by_step given (Snapshot snapshot) = snapshot.ids_given
 
 -- an id that a place names isn't 0
 abbrev pub IsPlace : Place → Type 0
@@ -62,10 +72,11 @@ IsEdit (Insert place text) = IsPlace place
 IsEdit (Delete id) = ⊤
 IsEdit (Replace id text) = ⊤
 
--- the step is an edit or several, or a load
+-- the step is an edit or several, a load, or a snapshot
 abbrev pub IsStep : Step → Type 0
 IsStep (Edits edits) = (0 < length edits) × AllByRecursion IsEdit edits
 IsStep (Load edits) = AllByRecursion IsEdit edits
+IsStep (Snapshot snapshot) = ⊤
 
 -- the step is the one that keeps this, and so many ids were given after it
 pub record IsReadFrom (given : ℕ) (kept : List Kept) (step : Step) (after : ℕ) : Type 0 where

@@ -1,16 +1,18 @@
 //! What a record keeps of a step.
 
-ghost use Rattle.std.specs.Prelude.{◌≡◌, ◌+◌, ◌≤◌, ◌^◌, ℕ, List, [], ◌∷◌, ◌++◌, None, length, IfOk, IfSome};
+ghost use Rattle.std.specs.Prelude.{◌≡◌, ◌+◌, ◌≤◌, ◌^◌, ℕ, List, [], ◌∷◌, ◌++◌, None, length, map, IfOk, IfSome, OnOk};
 ghost use Rattle.edit_journal.specs.Lines.{lines_of};
 ghost use Rattle.journal_steps.specs.declared.step.Step.{Step as StepValue};
-ghost use Rattle.journal_steps.specs.declared.step.Step.TheVariants.{Edits, Load};
-ghost use Rattle.journal_steps.specs.Kept.{given_after, given_after_edits, given_by_step, kept_of, kept_of_edits, kept_of_load, kept_of_step, named_in};
+ghost use Rattle.journal_steps.specs.declared.step.Step.TheVariants.{Edits, Load, Snapshot as SnapshotStep};
+ghost use Rattle.journal_steps.specs.Kept.{given_after, given_after_edits, given_by_step, kept_of, kept_of_edits, kept_of_given, kept_of_load, kept_of_step, kept_of_unit, named_in};
 ghost use Rattle.journal_steps.specs.Records.{given_by_steps, lines_of_steps};
 
 use bytes::Bytes;
 use edit_journal::{Kind, Step as Kept};
+use pictures::AuId;
 use std::alloc::{AllocError, Global};
 use stream_edits::{Edit, Place};
+use stream_snapshot::Snapshot;
 
 /// The id that a place names, or 0.
 fn named_in(place: Place) -> u32
@@ -139,4 +141,54 @@ pub fn keep_load(
         Some(after) => Ok(Some((kept, after))),
         None => Ok(None),
     }
+}
+
+/// What is kept of a unit of a snapshot.
+fn kept_of_unit(unit: &(AuId, Bytes)) -> Result<Kept, AllocError>
+    ensures { IfOk result (λ kept. kept ≡ kept_of_unit unit.now) }
+{
+    Ok(Kept {
+        kind: Kind::Unit,
+        id: unit.0.number(),
+        named: 0,
+        text: unit.1.clone()?,
+    })
+}
+
+/// What is kept behind the units of a snapshot where so many ids were given.
+fn given_mark(ids_given: u32) -> Kept
+    ensures { result ≡ kept_of_given ids_given }
+{
+    Kept {
+        kind: Kind::Given,
+        id: ids_given,
+        named: 0,
+        text: Bytes::new(),
+    }
+}
+
+/// Adds what is kept of the units of a snapshot.
+fn keep_units(units: &[(AuId, Bytes)], kept: &mut Vec<Kept>) -> Result<(), AllocError>
+    ensures { OnOk result (kept.new.items ≡ kept.old.items ++ map kept_of_unit units.now) }
+{
+    for unit in units {
+        kept.push(kept_of_unit(unit)?)?;
+    }
+    Ok(())
+}
+
+/// What a record keeps of a snapshot, however many ids were given before it. A journal of steps that
+/// is appended it has the lines of those steps and this one; one that is written anew with it alone has
+/// its lines.
+pub fn keep_snapshot(alloc: Global, snapshot: &Snapshot) -> Result<Vec<Kept>, AllocError>
+    ensures kept { (given : ℕ) → IfOk result (λ kept.
+        kept.items ≡ kept_of_step given (SnapshotStep snapshot.now)) }
+    ensures added { (steps : List StepValue) → IfOk result (λ kept.
+        lines_of_steps 0 1 (steps ++ SnapshotStep snapshot.now ∷ [])
+        ≡ lines_of_steps 0 1 steps ++ lines_of (length steps + 1) kept.items) }
+{
+    let mut kept = Vec::new(alloc);
+    keep_units(snapshot.units(), &mut kept)?;
+    kept.push(given_mark(snapshot.ids_given()))?;
+    Ok(kept)
 }

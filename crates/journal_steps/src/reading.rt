@@ -4,12 +4,14 @@ ghost use Rattle.std.specs.Prelude.{◌≡◌, ◌<◌, ◌≤◌, ◌↔◌, �
 ghost use Rattle.std.specs.List.{AllByRecursion};
 ghost use Rattle.stream_edits.specs.declared.edits.Edit.{Edit as EditValue};
 ghost use Rattle.journal_steps.specs.declared.step.Step.{Step as StepValue};
-ghost use Rattle.journal_steps.specs.declared.step.Step.TheVariants.{Edits, Load};
+ghost use Rattle.journal_steps.specs.declared.step.Step.TheVariants.{Edits, Load, Snapshot};
 ghost use Rattle.journal_steps.specs.Kept.{IsReadFrom, IsStep, given_by_step, kept_of_step};
 ghost use Rattle.journal_steps.specs.Records.{given_by_steps, kept_in, lines_of_steps};
+ghost use Rattle.stream_snapshot.specs.Snapshots.{SnapshotValue};
 
 use crate::lines::lines_in;
 use crate::reading_edits::read_edits;
+use crate::reading_units::read_snapshot;
 use crate::step::Step;
 use edit_journal::{Kind, Line, Step as Kept};
 use std::alloc::{AllocError, Global};
@@ -60,6 +62,23 @@ fn read_load(
     }
 }
 
+/// The snapshot that lines keep, and how many ids were given then, however many were given before it.
+fn read_stream(alloc: Global, lines: &[Line]) -> Result<Option<(Step, u32)>, AllocError>
+    ensures read { (given : ℕ) → IfOk result (λ read. IfSome read (λ read.
+        IsReadFrom given (kept_in lines.now) read.0 read.1)) }
+    ensures only { (given : ℕ) (snapshot : SnapshotValue)
+        → kept_in lines.now ≡ kept_of_step given (Snapshot snapshot)
+        → IfOk result (λ read. read ≡ Some (Snapshot snapshot, snapshot.ids_given)) }
+{
+    match read_snapshot(alloc, lines)? {
+        Some(snapshot) => {
+            let ids_given = snapshot.ids_given();
+            Ok(Some((Step::Snapshot(snapshot), ids_given)))
+        }
+        None => Ok(None),
+    }
+}
+
 /// The step that lines keep, where so many ids were given before it, and how many were given then.
 fn read_step(alloc: Global, given: u32, lines: &[Line]) -> Result<Option<(Step, u32)>, AllocError>
     ensures read { IfOk result (λ read. IfSome read (λ read.
@@ -74,7 +93,7 @@ fn read_step(alloc: Global, given: u32, lines: &[Line]) -> Result<Option<(Step, 
     match first.step.kind {
         Kind::Load => read_load(alloc, given, &first.step, more),
         Kind::Insert | Kind::Delete | Kind::Replace => read_group(alloc, given, lines),
-        Kind::Unit | Kind::Given => Ok(None),
+        Kind::Unit | Kind::Given => read_stream(alloc, lines),
     }
 }
 

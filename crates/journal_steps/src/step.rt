@@ -1,6 +1,7 @@
 //! What a record keeps.
 
 use crate::edit_list::EditList;
+use stream_snapshot::Snapshot;
 
 /// What one record of a journal keeps.
 #[derive(Debug, Drop)]
@@ -9,4 +10,7 @@ pub enum Step {
     Edits(EditList),
     /// Edits of a load, each made by itself.
     Load(EditList),
+    /// A stream in the place of what was before it, and how many ids were given then. Here it may stand
+    /// anywhere among the steps.
+    Snapshot(Snapshot),
 }

@@ -1,3 +1,4 @@
+mod compacted;
 mod files;
 mod records;
 mod sessions;

@@ -15,7 +15,7 @@ use Rattle.stream_edits.specs.declared.edits.Edit.{Edit}
 use Rattle.stream_edits.specs.Edits.{Register}
 use Rattle.edit_engine.specs.Jobs.{TellsTake, AnswersLand}
 use Rattle.stream_session.specs.Jobs.{IsFirstWith}
-use Rattle.stream_session.specs.Kept.{machine_of}
+use Rattle.stream_session.proofs.ByNumber.{same_machine}
 use Rattle.stream_session.specs.Machines.{store_of}
 use Rattle.stream_session.specs.Showing.{HasKey}
 use Rattle.seat_books.specs.declared.book.SeatBook.{SeatBook}
@@ -207,14 +207,8 @@ Stays-decoded before mid new id job landing told answer =
     numbers_land old job landings.Taken new answer = ap (λ (store : StoreValue). store.numbers) answer.2.3.4
 
 -- where no job is due, nothing changes
-same_machine : (old new : Machine) → store_of new ≡ store_of old → new.journal ≡ old.journal → new.register ≡ old.register → new ≡ old
-same_machine old new store journal register =
-    ap (λ (other : StoreValue). machine_of new.journal new.register other) store
-    ∙ (ap (λ (entries : List (List Edit)). machine_of entries new.register (store_of old)) journal
-    ∙ ap (λ (other : Register). machine_of old.journal other (store_of old)) register)
-
 pub none_taken : (old new : Machine) → TellsTake old (Ok None) new → new ≡ old
-none_taken old new answer = same_machine old new answer.0.1 answer.1.0 answer.1.1
+none_taken old new answer = same_machine old new answer.0.1 answer.1
 
 pub Stays-same : (old new : Machine) → new ≡ old → Stays old new
 Stays-same old new same = record {

@@ -23,11 +23,11 @@ limits = record {
   message_bytes = 67108864;
 }
 
--- what a server is, whether it has methods about jobs or not
-abbrev pub introduction : Bool → Introduction
-introduction has_jobs = record {
+-- what a server is, whether it has methods about jobs and about a journal's file or not
+abbrev pub introduction : Bool → Bool → Introduction
+introduction has_jobs has_journal = record {
   name = codes "cupdaisy";
   version = codes "0.3.0";
-  methods = methods has_jobs;
+  methods = methods has_jobs has_journal;
   limits = limits;
 }

@@ -47,14 +47,14 @@ pub struct Limits {
 }
 
 impl Introduction {
-    /// Of a server that has methods about jobs or none.
-    pub fn of(alloc: Global, has_jobs: bool) -> Result<Introduction, AllocError>
-        ensures { IfOk result (λ it. it ≡ introduction has_jobs) }
+    /// Of a server that has methods about jobs or none, and a method about a journal's file or none.
+    pub fn of(alloc: Global, has_jobs: bool, has_journal: bool) -> Result<Introduction, AllocError>
+        ensures { IfOk result (λ it. it ≡ introduction has_jobs has_journal) }
     {
         Ok(Introduction {
             name: Text::of(alloc, NAME)?,
             version: Text::of(alloc, VERSION)?,
-            methods: Method::all(alloc, has_jobs)?,
+            methods: Method::all(alloc, has_jobs, has_journal)?,
             limits: Limits::here(),
         })
     }

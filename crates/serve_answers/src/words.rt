@@ -25,6 +25,7 @@ pub enum Word {
     None,
     Back,
     Reset,
+    Compacted,
 }
 
 /// A text. Clauses see its bytes.

@@ -1,5 +1,4 @@
 mod Altered
-mod EditsAfter
 mod Gone
 mod Listing
 mod Numbered

@@ -13,7 +13,7 @@ use Rattle.serve_calls.specs.declared.replaying.Unreplayed.TheVariants as unrepl
 use Rattle.serve_calls.specs.declared.journaled.Journaled.{Journaled}
 use Rattle.serve_calls.specs.declared.server.Server.{Server}
 use Rattle.journal_steps.specs.declared.step.Step.{Step as Recorded}
-use Rattle.journal_steps.specs.declared.step.Step.TheVariants.{Edits, Load}
+use Rattle.journal_steps.specs.declared.step.Step.TheVariants.{Edits, Load, Snapshot}
 use Rattle.session_journal.specs.Kept.{with_left}
 use Rattle.serve_calls.specs.Resuming.{ReplaysOnto, ReplaysSteps}
 use Rattle.serve_calls.specs.declared.unmade.EditFault.{EditFault}
@@ -22,7 +22,9 @@ use Rattle.serve_calls.specs.declared.unmade.GroupFault.{GroupFault}
 use Rattle.serve_calls.specs.declared.unmade.GroupFault.TheVariants as group_fault
 use Rattle.serve_calls.specs.Editing.{MakesEdit, MakesStep}
 use Rattle.serve_calls.specs.Replaying.{RefusesEdit, RefusesGroup, ReplaysEdits}
-use Rattle.serve_calls.specs.Unreplayed.{replayed_edit, replayed_group, unreplayed_edit, unreplayed_group}
+use Rattle.stream_snapshot.specs.declared.read_snapshot.SnapshotRefused.{SnapshotRefused}
+use Rattle.stream_snapshot.specs.declared.read_snapshot.SnapshotRefused.TheVariants as snapshots
+use Rattle.serve_calls.specs.Unreplayed.{replayed_edit, replayed_group, unreplayed_edit, unreplayed_group, unreplayed_snapshot}
 
 -- where the session's answer is a receipt, the edits are made again
 pub group-replayed : {B S : Type 0} (is_session : B → Machine → Type 0) (old new : Server B S) (edits : List Edit)
@@ -37,6 +39,7 @@ group-replayed is_session old new edits (Err fault) (Err why) ok makes = tt {0}
 pub left-none : (steps : List Recorded) (step : Recorded) → with_left steps step 0 ≡ steps
 left-none steps (Edits edits) = refl
 left-none steps (Load edits) = refl
+left-none steps (Snapshot snapshot) = refl
 
 -- no steps are an empty list of them
 pub nothing-left : (steps : List Recorded) → length steps ≡ 0 → steps ≡ []
@@ -51,6 +54,11 @@ pub steps-onto : {B K S : Type 0} (is_session : B → Machine → Type 0) (stand
     → IfOk result (λ kept. ReplaysSteps is_session stands ends old journal steps kept new)
 steps-onto is_session stands ends old new journal steps front last (Ok kept) split onto = inr (front, last, split, onto)
 steps-onto is_session stands ends old new journal steps front last (Err why) split onto = tt {0}
+
+-- a snapshot from which nothing begins is no step that the stream refuses
+pub never-refused : (refused : SnapshotRefused) (why : Unreplayed) → why ≡ unreplayed_snapshot refused → why ≡ unreplayed.Refused → ⊥
+never-refused snapshots.Memory why is so = absurd cc
+never-refused snapshots.NoStream why is so = absurd cc
 
 -- an edit that isn't made again as the stream refuses it isn't refused for lack of memory
 pub edit-refusal : (refused : EditRefused) → unreplayed_edit refused ≡ unreplayed.Refused → refused ≢ refusals.Memory

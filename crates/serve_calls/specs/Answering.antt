@@ -22,6 +22,7 @@ use Rattle.serve_answers.specs.UnitAnswers.{unit_answer}
 use Rattle.serve_calls.specs.declared.sums.Sums.{Sums}
 use Rattle.serve_calls.specs.Failing.{IsUnlessMemory, out_of_memory}
 use Rattle.serve_calls.specs.Sessions.{Asks}
+use Rattle.serve_calls.specs.Offering.{Offered}
 
 -- the ids of so many units from a place on
 abbrev pub ids_in : Stream → ℕ → ℕ → List ℕ
@@ -111,6 +112,7 @@ abbrev pub TellsStats : (Machine → Type 0) → Sums → Result Answer Failure 
 TellsStats is_session sums result =
     Asks is_session (λ machine. (result ≡ Ok (answer.Stats (stats_of machine sums))) × AllPairs ◌≢◌ machine.held)
 
--- the result of a question for what the server is, which has methods about jobs or none
-abbrev pub Introduces : Bool → Result Answer Failure → Type 0
-Introduces has_jobs result = IsUnlessMemory (Ok (answer.Initialized (introduction has_jobs))) result
+-- the result of a question for what the server is, which has methods about jobs and about a journal or
+-- none
+abbrev pub Introduces : Offered → Result Answer Failure → Type 0
+Introduces offered result = IsUnlessMemory (Ok (answer.Initialized (introduction offered.jobs offered.journal))) result

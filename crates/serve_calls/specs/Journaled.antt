@@ -8,9 +8,10 @@ use Rattle.stream_edits.specs.declared.edits.Place.TheVariants.{After}
 use Rattle.stream_edits.specs.Streams.{last_of, place_after}
 use Rattle.edit_engine.specs.Machines.{Machine}
 use Rattle.journal_steps.specs.declared.step.Step.{Step}
-use Rattle.journal_steps.specs.declared.step.Step.TheVariants.{Load}
+use Rattle.journal_steps.specs.declared.step.Step.TheVariants.{Load, Snapshot}
 use Rattle.journal_steps.specs.Records.{given_by_steps}
 use Rattle.session_journal.specs.Kept.{with_left}
+use Rattle.stream_snapshot.specs.Snapshots.{SnapshotValue}
 use Rattle.serve_calls.specs.Sessions.{Asks}
 
 module _ {K : Type 0} (stands : K → List Step → Type 0) where
@@ -42,6 +43,14 @@ module _ {K : Type 0} (stands : K → List Step → Type 0) where
   IsTakenOff ends None new = new ≡ None
   IsTakenOff ends (Some before) new =
       (after : K) × (new ≡ Some after) × ((steps : List Step) (step : Step) → ends before steps step → stands after steps)
+
+  -- what is recorded once the file is written anew: the snapshot alone; or what was there, where that
+  -- fails
+  abbrev pub IsCompacted : {E : Type 0} → Option K → SnapshotValue → Result (Unit {0}) E → Option K → Type 0
+  IsCompacted None snapshot answer new = new ≡ None
+  IsCompacted (Some before) snapshot (Ok it) new =
+      (after : K) × (new ≡ Some after) × ((steps : List Step) → stands before steps → stands after (Snapshot snapshot ∷ []))
+  IsCompacted (Some before) snapshot (Err fault) new = (after : K) × (new ≡ Some after) × StaysKept before after
 
   -- what is recorded before a stream begins anew: nothing; or what was there, where that fails
   abbrev pub IsCleared : {E : Type 0} → Option K → Result (Unit {0}) E → Option K → Type 0

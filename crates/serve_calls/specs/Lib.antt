@@ -1,10 +1,12 @@
 pub mod Answering
 pub mod Calls
+pub mod Compacting
 pub mod Editing
 pub mod Failing
 pub mod Jobs
 pub mod Journaled
 pub mod Lists
+pub mod Offering
 pub mod Loading
 pub mod Preparing
 pub mod Remembering

@@ -1,5 +1,5 @@
 -- Recorded steps that a server makes again.
-use Rattle.std.specs.Prelude.{◌≡◌, ◌≢◌, ◌⊎◌, List, [], ◌∷◌, Ok, Err}
+use Rattle.std.specs.Prelude.{◌≡◌, ◌≢◌, ◌⊎◌, ℕ, List, [], ◌∷◌, map, Ok, Err}
 use Rattle.stream_edits.specs.declared.edits.Edit.{Edit}
 use Rattle.stream_edits.specs.declared.group_refused.GroupRefused.{GroupRefused}
 use Rattle.stream_edits.specs.declared.group_refused.GroupRefused.TheVariants as groups
@@ -12,8 +12,11 @@ use Rattle.stream_edits.specs.GroupRefusals.{IsGroupRefused}
 use Rattle.stream_edits.specs.Refusals.{IsRefused}
 use Rattle.edit_engine.specs.Machines.{Machine}
 use Rattle.journal_steps.specs.declared.step.Step.{Step as Recorded}
-use Rattle.journal_steps.specs.declared.step.Step.TheVariants.{Edits, Load}
+use Rattle.journal_steps.specs.declared.step.Step.TheVariants.{Edits, Load, Snapshot}
+use Rattle.stream_session.specs.Machines.{IsBegun}
+use Rattle.stream_snapshot.specs.Snapshots.{IsOf, SnapshotValue}
 use Rattle.undo_redo.specs.declared.prepared.Step.{Step}
+use Rattle.undo_redo.specs.States.{IsUndoRedo}
 use Rattle.serve_calls.specs.declared.server.Server.{Server}
 use Rattle.serve_calls.specs.declared.unmade.EditFault.TheVariants as edit_fault
 use Rattle.serve_calls.specs.declared.unmade.GroupFault.TheVariants as group_fault
@@ -56,17 +59,32 @@ module _ {B S : Type 0} (is_session : B → Machine → Type 0) where
   RefusesEdits old edits new =
       ((edit : Edit) × (edits ≡ edit ∷ []) × RefusesEdit old edit new) ⊎ RefusesGroup old edits new
 
+  -- a session that begins from the snapshot may be the one then, nothing can be undone or redone, and
+  -- the texts are the snapshot's
+  pub record BeginsFrom (old : Server B S) (snapshot : SnapshotValue) (new : Server B S) : Type 0 where
+    pub register : Register
+    pub is_of : IsOf snapshot register
+    pub room : ℕ
+    pub session : Machine
+    pub begun : IsBegun room register session
+    pub is : is_session new.backend session
+    pub history : IsUndoRedo new.history (map (λ unit. unit.1) snapshot.units ∷ []) register
+    pub sums : new.sums ≡ old.sums
+    pub source : new.source ≡ old.source
+
   -- a recorded step is made again
   abbrev pub ReplaysOne : Server B S → Recorded → Server B S → Type 0
   ReplaysOne old (Edits edits) new = ReplaysEdits old edits new
   ReplaysOne old (Load edits) new =
       (begun done : Server B S) × (first last : Step) × Begins old begun first × MakesEach begun first edits done last
       × Ends done last new
+  ReplaysOne old (Snapshot snapshot) new = BeginsFrom old snapshot new
 
   -- a recorded step is refused, and nothing is made of it
   abbrev pub RefusesOne : Server B S → Recorded → Server B S → Type 0
   RefusesOne old (Edits edits) new = RefusesEdits old edits new
   RefusesOne old (Load edits) new = ⊥
+  RefusesOne old (Snapshot snapshot) new = ⊥
 
   -- recorded steps are made again, one after the other
   abbrev pub ReplaysAll : Server B S → List Recorded → Server B S → Type 0

@@ -13,6 +13,7 @@ use Rattle.serve_calls.specs.declared.requests.Served.{Served}
 use Rattle.serve_calls.specs.declared.server.Server.{Server}
 use Rattle.serve_calls.specs.declared.wanted_units.WantedUnit.{WantedUnit}
 use Rattle.serve_calls.specs.Calls.{AnswersCall}
+use Rattle.serve_calls.specs.Offering.{Offered}
 
 -- whether a call is the last
 abbrev pub is_last : Call → Bool
@@ -31,7 +32,7 @@ IsRefusedAs old wanted failure served new wants =
 
 -- a request is served by the call that it asks for; one that is refused is answered so, and changes
 -- nothing
-abbrev pub IsServedBy : {B S : Type 0} → (B → Machine → Type 0) → (B → Bool) → (S → List ℕ → Option (List ℕ)) → Server B S
+abbrev pub IsServedBy : {B S : Type 0} → (B → Machine → Type 0) → (B → Offered) → (S → List ℕ → Option (List ℕ)) → Server B S
     → List WantedUnit → Bool → Result Call Failure → Served → Server B S → List WantedUnit → Type 0
 IsServedBy is lends file old wanted answered (Ok it) served new wants =
     AnswersCall is lends file old wanted it answered served.answer new wants × (served.is_last ≡ is_last it)
@@ -40,10 +41,10 @@ IsServedBy is lends file old wanted answered (Err failure) served new wants =
 
 -- a request is served: as the call that its method and parameters are, or as the refusal of it that
 -- these come to
-abbrev pub IsServed : {B S : Type 0} → (B → Machine → Type 0) → (B → Bool) → (S → List ℕ → Option (List ℕ)) → Server B S
+abbrev pub IsServed : {B S : Type 0} → (B → Machine → Type 0) → (B → Offered) → (S → List ℕ → Option (List ℕ)) → Server B S
     → List WantedUnit → Parts → Served → Server B S → List WantedUnit → Type 0
 IsServed is lends file old wanted parts served new wants =
-    (read : Result Call Failure) × IsRequestAnswer (called (lends old.backend) parts) read
+    (read : Result Call Failure) × IsRequestAnswer (called (lends old.backend).jobs parts) read
     × IsServedBy is lends file old wanted (is_answered parts.id) read served new wants
 
 -- the parts of a message that is a request
@@ -52,7 +53,7 @@ parts_if (message.Request request) = Some (parts_of request)
 parts_if (message.Other id) = None
 
 -- a message is served as the request that it is; another one is refused
-abbrev pub IsServedIf : {B S : Type 0} → (B → Machine → Type 0) → (B → Bool) → (S → List ℕ → Option (List ℕ)) → Server B S
+abbrev pub IsServedIf : {B S : Type 0} → (B → Machine → Type 0) → (B → Offered) → (S → List ℕ → Option (List ℕ)) → Server B S
     → List WantedUnit → Option Parts → Served → Server B S → List WantedUnit → Type 0
 IsServedIf is lends file old wanted (Some parts) served new wants = IsServed is lends file old wanted parts served new wants
 IsServedIf is lends file old wanted None served new wants = IsRefusedAs old wanted NotRequest served new wants

@@ -3,23 +3,24 @@
 -- is.
 use Rattle.std.specs.Prelude.{Result, Ok, Err}
 use Rattle.std.specs.declared.alloc.AllocError.{AllocError}
-use Rattle.stream_edits.specs.Edits.{no_units, Replays}
+use Rattle.stream_edits.specs.Edits.{Replays}
 use Rattle.stream_edits.specs.Journals.{edits_of}
 use Rattle.edit_engine.specs.Machines.{Machine}
 use Rattle.stream_session.specs.Altered.{with_mark}
 use Rattle.stream_session.specs.Machines.{uncached}
 use Rattle.session_journal.specs.declared.unkept.Unkept.{Unkept}
 
--- a session that may be the one answers so; its stream is what its journal leads to
+-- a session that may be the one answers so; its stream is what its journal leads to from
+-- what it began from
 abbrev pub Asks : (Machine → Type 0) → (Machine → Type 0) → Type 0
 Asks is_session answers =
-    (machine : Machine) × is_session machine × Replays no_units (edits_of machine.journal) machine.register × answers machine
+    (machine : Machine) × is_session machine × Replays machine.origin (edits_of machine.journal) machine.register × answers machine
 
 -- a session that may be the one before a call takes this step, to one that may be it after the call
 abbrev pub Steps : (Machine → Type 0) → (Machine → Machine → Type 0) → (Machine → Type 0) → Type 0
 Steps before step after =
     (old : Machine) × (new : Machine) × before old × after new
-    × Replays no_units (edits_of old.journal) old.register × step old new
+    × Replays old.origin (edits_of old.journal) old.register × step old new
 
 -- whichever session may be the one before a call may be it after the call
 abbrev pub Stays : (Machine → Type 0) → (Machine → Type 0) → Type 0

@@ -12,6 +12,8 @@ use Rattle.serve_calls.specs.declared.unmade.EditFault.{EditFault}
 use Rattle.serve_calls.specs.declared.unmade.EditFault.TheVariants as edit_fault
 use Rattle.serve_calls.specs.declared.unmade.GroupFault.{GroupFault}
 use Rattle.serve_calls.specs.declared.unmade.GroupFault.TheVariants as group_fault
+use Rattle.stream_snapshot.specs.declared.read_snapshot.SnapshotRefused.{SnapshotRefused}
+use Rattle.stream_snapshot.specs.declared.read_snapshot.SnapshotRefused.TheVariants as snapshots
 
 -- an edit isn't made again that is refused so
 abbrev pub unreplayed_edit : EditRefused → Unreplayed
@@ -34,3 +36,8 @@ abbrev pub replayed_group : Result GroupReceipt GroupFault → Result (Unit {0})
 replayed_group (Ok receipt) = Ok (tt {0})
 replayed_group (Err (group_fault.Refused refused)) = Err (unreplayed_group refused)
 replayed_group (Err (group_fault.Unkept why)) = Err unreplayed.Memory
+
+-- a snapshot from which nothing begins
+abbrev pub unreplayed_snapshot : SnapshotRefused → Unreplayed
+unreplayed_snapshot snapshots.Memory = unreplayed.Memory
+unreplayed_snapshot snapshots.NoStream = unreplayed.InPart

@@ -1,6 +1,6 @@
 //! A session alone, whose jobs are taken and landed by calls.
 
-ghost use Rattle.std.specs.Prelude.{◌≡◌, ◌≤◌, ◌↔◌, Err, IfOk, IfSome, IsErrOf, MatchOption, MatchResult, None, Some, true};
+ghost use Rattle.std.specs.Prelude.{◌≡◌, ◌≤◌, ◌↔◌, Err, IfOk, IfSome, IsErrOf, MatchOption, MatchResult, None, Some, false, true};
 ghost use Rattle.picture_cache.specs.Bounded.{most_room};
 ghost use Rattle.stand_in_device.specs.Inputs.{InputValue};
 ghost use Rattle.stream_session.specs.Machines.{IsEmpty, empty};
@@ -8,6 +8,7 @@ ghost use Rattle.stream_session.specs.Taken.{input_of};
 ghost use Rattle.serve_answers.specs.JobAnswers.{job_answer};
 ghost use Rattle.serve_calls.specs.Failing.{out_of_memory};
 ghost use Rattle.serve_calls.specs.Jobs.{TellsJob};
+ghost use Rattle.serve_calls.specs.Offering.{offering};
 ghost use Rattle.serve_calls.specs.Taking.{TakesReply, taken_in, taken_of};
 
 use crate::backend::{Backend, LendsSession};
@@ -23,6 +24,7 @@ use serve_answers::{Answer, JobAnswer, of_give_back, of_land};
 use serve_requests::{Failure, Refusal};
 use session_journal::Unkept;
 use std::alloc::{AllocError, Global};
+use stream_snapshot::{ReadSnapshot, Snapshot};
 
 /// A session alone.
 #[derive(Drop)]
@@ -116,16 +118,16 @@ impl LendsSession for Alone {
 
     fn look<T, F: FnOnce(&Session) -> T>(&self, ask: F) -> T {
         let session = self.runner.session();
-        let _ = session.journal();
+        session.reached();
         ask(session)
     }
 }
 
 impl Backend for Alone {
-    ghost lends_jobs = { λ _. true };
+    ghost offers = { λ _. offering true false };
 
     fn edit(&mut self, read: ReadEdit) -> Result<Receipt, EditFault> {
-        let _ = self.runner.session().journal();
+        self.runner.session().reached();
         match self.runner.edit_read(read) {
             Ok(receipt) => Ok(receipt),
             Err(refused) => Err(EditFault::Refused(refused)),
@@ -133,7 +135,7 @@ impl Backend for Alone {
     }
 
     fn edit_group(&mut self, group: ReadGroup) -> Result<GroupReceipt, GroupFault> {
-        let _ = self.runner.session().journal();
+        self.runner.session().reached();
         match self.runner.edit_group_read(group) {
             Ok(receipt) => Ok(receipt),
             Err(refused) => Err(GroupFault::Refused(refused)),
@@ -148,7 +150,7 @@ impl Backend for Alone {
     fn end_load(&mut self) {}
 
     fn drop_picture(&mut self, id: AuId) -> Dropping {
-        let _ = self.runner.session().journal();
+        self.runner.session().reached();
         self.runner.drop_picture(id)
     }
 
@@ -174,6 +176,17 @@ impl Backend for Alone {
         Ok(())
     }
 
+    fn begun(&self, alloc: Global, snapshot: ReadSnapshot) -> Result<Session, AllocError> {
+        match Session::begun(alloc, Config { cache: self.cache }, snapshot) {
+            Ok(session) => Ok(session),
+            Err(_) => Err(AllocError),
+        }
+    }
+
+    fn compact(&mut self, _snapshot: &Snapshot) -> Result<(), Unkept> {
+        Ok(())
+    }
+
     fn begin_anew(&mut self, session: Session) {
         self.runner.begin_anew(session);
     }
@@ -185,8 +198,12 @@ impl Backend for Alone {
         true
     }
 
+    fn has_journal(&self) -> bool {
+        false
+    }
+
     fn take(&mut self, alloc: Global, id: Option<AuId>) -> Result<Answer, Failure> {
-        let _ = self.runner.session().journal();
+        self.runner.session().reached();
         match self.taken(id) {
             Ok(Some(taken)) => self.told(alloc, taken),
             Ok(None) => Ok(Answer::Job(None)),
@@ -195,7 +212,7 @@ impl Backend for Alone {
     }
 
     fn land(&mut self, number: u64) -> Result<Answer, Failure> {
-        let _ = self.runner.session().journal();
+        self.runner.session().reached();
         match self.runner.step(Command::Land(number)) {
             Ok(Reply::Land(answer)) => Ok(of_land(answer)),
             Ok(_) => unreachable!(),
@@ -204,7 +221,7 @@ impl Backend for Alone {
     }
 
     fn give_back(&mut self, number: u64) -> Result<Answer, Failure> {
-        let _ = self.runner.session().journal();
+        self.runner.session().reached();
         Ok(of_give_back(self.runner.give_back(number)))
     }
 }

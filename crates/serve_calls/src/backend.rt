@@ -1,10 +1,11 @@
 //! What keeps the session that calls are about.
 
-ghost use Rattle.std.specs.Prelude.{◌≡◌, ◌≤◌, Bool, true, false, Err, IfOk, length};
+ghost use Rattle.std.specs.Prelude.{◌≡◌, ◌≤◌, ℕ, [], true, false, Err, IfOk, length};
 ghost use Rattle.std.specs.Fn.{FnOnceReturnsAt};
 ghost use Rattle.edit_engine.specs.Machines.{Machine};
-ghost use Rattle.stream_session.specs.Machines.{IsEmpty};
+ghost use Rattle.stream_session.specs.Machines.{IsBegun, IsEmpty};
 ghost use Rattle.edit_engine.specs.Needing.{AnswersDrop};
+ghost use Rattle.serve_calls.specs.Offering.{Offered};
 ghost use Rattle.serve_calls.specs.Jobs.{GivesBackAs, LandsAs, TakesAs};
 ghost use Rattle.serve_calls.specs.Sessions.{Asks, Clears, Marks, Stays, Steps};
 ghost use Rattle.serve_calls.specs.Unmade.{MakesTogether, MakesOne};
@@ -17,6 +18,7 @@ use serve_answers::Answer;
 use serve_requests::Failure;
 use session_journal::Unkept;
 use std::alloc::{AllocError, Global};
+use stream_snapshot::{ReadSnapshot, Snapshot};
 
 /// One who lends a session to be asked.
 pub trait LendsSession {
@@ -32,8 +34,8 @@ pub trait LendsSession {
 
 /// One who keeps a session for a server.
 pub trait Backend: LendsSession {
-    // Whether there are calls about jobs.
-    ghost lends_jobs: { Self → Bool };
+    // Whether there are calls about jobs, and whether there is a journal.
+    ghost offers: { Self → Offered };
 
     /// Edits the stream by an edit whose text is read.
     fn edit(&mut self, read: ReadEdit) -> Result<Receipt, EditFault>
@@ -75,9 +77,19 @@ pub trait Backend: LendsSession {
     fn clear_records(&mut self) -> Result<(), Unkept>
         ensures { Stays (Self.is_session self.old) (Self.is_session self.new) };
 
-    /// Begins anew with this session, and without jobs that are out.
+    /// A session to begin anew with, from a snapshot.
+    fn begun(&self, alloc: Global, snapshot: ReadSnapshot) -> Result<Session, AllocError>
+        ensures { IfOk result (λ session. (room : ℕ) × IsBegun room snapshot session) };
+
+    /// Writes the journal's file anew, with the snapshot of the stream as its only record. Without a
+    /// journal it does nothing.
+    fn compact(&mut self, snapshot: &Snapshot) -> Result<(), Unkept>
+        ensures stays { Stays (Self.is_session self.old) (Self.is_session self.new) }
+        ensures offers { offers self.new ≡ offers self.old };
+
+    /// Begins anew with this session, of which no job is out.
     fn begin_anew(&mut self, session: Session)
-        requires { IsEmpty session }
+        requires { session.jobs_out ≡ [] }
         ensures { Self.is_session self.new session };
 
     /// Has the pictures of these units made first, of which there are 64 at most, and those of all
@@ -88,26 +100,30 @@ pub trait Backend: LendsSession {
 
     /// Whether there are calls about jobs.
     fn has_jobs(&self) -> bool
-        ensures { result ≡ lends_jobs self.now };
+        ensures { result ≡ (offers self.now).jobs };
+
+    /// Whether there is a journal.
+    fn has_journal(&self) -> bool
+        ensures { result ≡ (offers self.now).journal };
 
     /// Takes a job, or with an id one that the unit needs.
     fn take(&mut self, alloc: Global, id: Option<AuId>) -> Result<Answer, Failure>
-        ensures takes { lends_jobs self.old ≡ true → Steps (Self.is_session self.old)
+        ensures takes { (offers self.old).jobs ≡ true → Steps (Self.is_session self.old)
             (λ before after. TakesAs id before result after) (Self.is_session self.new) }
-        ensures none { lends_jobs self.old ≡ false
+        ensures none { (offers self.old).jobs ≡ false
             → (result ≡ Err Failure.NoMethod) × (self.new ≡ self.old) };
 
     /// Lands the result of the job of this number.
     fn land(&mut self, number: u64) -> Result<Answer, Failure>
-        ensures lands { lends_jobs self.old ≡ true → Steps (Self.is_session self.old)
+        ensures lands { (offers self.old).jobs ≡ true → Steps (Self.is_session self.old)
             (λ before after. LandsAs number before result after) (Self.is_session self.new) }
-        ensures none { lends_jobs self.old ≡ false
+        ensures none { (offers self.old).jobs ≡ false
             → (result ≡ Err Failure.NoMethod) × (self.new ≡ self.old) };
 
     /// Gives the job of this number back.
     fn give_back(&mut self, number: u64) -> Result<Answer, Failure>
-        ensures gives { lends_jobs self.old ≡ true → Steps (Self.is_session self.old)
+        ensures gives { (offers self.old).jobs ≡ true → Steps (Self.is_session self.old)
             (λ before after. GivesBackAs number before result after) (Self.is_session self.new) }
-        ensures none { lends_jobs self.old ≡ false
+        ensures none { (offers self.old).jobs ≡ false
             → (result ≡ Err Failure.NoMethod) × (self.new ≡ self.old) };
 }

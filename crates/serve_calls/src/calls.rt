@@ -24,7 +24,7 @@ impl<B: Backend, S: Saver> Server<B, S> {
         call: Call,
         is_answered: bool,
     ) -> Result<Answer, Failure>
-        ensures { AnswersCall B.is_session B.lends_jobs S.file self.old wanted.old.items call
+        ensures { AnswersCall B.is_session B.offers S.file self.old wanted.old.items call
             is_answered result self.new wanted.new.items }
     {
         match call {
@@ -52,6 +52,7 @@ impl<B: Backend, S: Saver> Server<B, S> {
             Call::Journal { from, count } => self.journal(from, count),
             Call::Stats => self.stats(),
             Call::Reset => self.reset(wanted),
+            Call::Compact => self.compact(),
             Call::Shutdown => Ok(Answer::Nothing),
         }
     }
@@ -60,7 +61,7 @@ impl<B: Backend, S: Saver> Server<B, S> {
 impl<B: Backend, S> Server<B, S> {
     /// Takes a job, or with a number one that its unit needs.
     fn take(&mut self, number: Option<u64>) -> Result<Answer, Failure>
-        ensures { IsOfJobs B.is_session B.lends_jobs self.old (TakesAs (option_map id_of number))
+        ensures { IsOfJobs B.is_session B.offers self.old (TakesAs (option_map id_of number))
             result self.new }
     {
         self.backend.take(self.alloc, id_if_any(number))
@@ -68,14 +69,14 @@ impl<B: Backend, S> Server<B, S> {
 
     /// Lands the result of the job of this number.
     fn land(&mut self, number: u64) -> Result<Answer, Failure>
-        ensures { IsOfJobs B.is_session B.lends_jobs self.old (LandsAs number) result self.new }
+        ensures { IsOfJobs B.is_session B.offers self.old (LandsAs number) result self.new }
     {
         self.backend.land(number)
     }
 
     /// Gives the job of this number back.
     fn give_back(&mut self, number: u64) -> Result<Answer, Failure>
-        ensures { IsOfJobs B.is_session B.lends_jobs self.old (GivesBackAs number) result self.new }
+        ensures { IsOfJobs B.is_session B.offers self.old (GivesBackAs number) result self.new }
     {
         self.backend.give_back(number)
     }

@@ -1,9 +1,9 @@
 //! A session whose edits are recorded before they are made.
 
-ghost use Rattle.std.specs.Prelude.{◌≡◌, ◌+◌, ◌-◌, ◌^◌, ◌∷◌, ℕ, [], None, Some, IfOk, IsOk, OnOk, min};
+ghost use Rattle.std.specs.Prelude.{◌≡◌, ◌+◌, ◌-◌, ◌^◌, ◌∷◌, ℕ, [], None, Some, IfOk, IsOk, OnOk, is_some, min};
 ghost use Rattle.journal_steps.specs.declared.step.Step.TheVariants.{Edits, Load};
-ghost use Rattle.stream_session.specs.Machines.{IsEmpty};
-ghost use Rattle.serve_calls.specs.Journaled.{IsCleared, IsKept, IsLoadKept, IsLoadKeptAt, IsLoadLeft, IsRecorded, IsTakenOff, insertions_from, loaded_after};
+ghost use Rattle.serve_calls.specs.Journaled.{IsCleared, IsCompacted, IsKept, IsLoadKept, IsLoadKeptAt, IsLoadLeft, IsRecorded, IsTakenOff, insertions_from, loaded_after};
+ghost use Rattle.serve_calls.specs.Offering.{offering};
 ghost use Rattle.serve_calls.specs.Sessions.{Stays, Steps};
 ghost use Rattle.serve_calls.specs.Unmade.{MakesOne, MakesTogether};
 
@@ -17,6 +17,7 @@ use serve_requests::Failure;
 use session_journal::{Records, Unkept};
 use std::alloc::{AllocError, Global};
 use stream_edits::{Edit, Place};
+use stream_snapshot::{ReadSnapshot, Snapshot};
 
 /// A session with a journal, or without one.
 #[derive(Drop)]
@@ -145,7 +146,7 @@ impl<B: LendsSession, K> LendsSession for Journaled<B, K> {
 }
 
 impl<B: Backend, K: Records> Backend for Journaled<B, K> {
-    ghost lends_jobs = { λ it. B.lends_jobs it.backend };
+    ghost offers = { λ it. offering (B.offers it.backend).jobs (is_some it.journal) };
 
     fn edit(&mut self, read: ReadEdit) -> Result<Receipt, EditFault>
         ensures steps { Steps (B.is_session self.old.backend)
@@ -243,8 +244,29 @@ impl<B: Backend, K: Records> Backend for Journaled<B, K> {
         }
     }
 
+    fn begun(&self, alloc: Global, snapshot: ReadSnapshot) -> Result<Session, AllocError> {
+        self.backend.begun(alloc, snapshot)
+    }
+
+    fn compact(&mut self, snapshot: &Snapshot) -> Result<(), Unkept>
+        ensures stays { Stays (B.is_session self.old.backend) (B.is_session self.new.backend) }
+        ensures offers { offering (B.offers self.new.backend).jobs (is_some self.new.journal)
+            ≡ offering (B.offers self.old.backend).jobs (is_some self.old.journal) }
+        ensures compacted { IsCompacted K.stands self.old.journal snapshot.now result
+            self.new.journal }
+        ensures loaded { self.new.loaded ≡ self.old.loaded }
+    {
+        match &mut self.journal {
+            Some(journal) => match journal.compact(snapshot) {
+                Ok(()) => Ok(()),
+                Err(why) => Err(why),
+            },
+            None => Ok(()),
+        }
+    }
+
     fn begin_anew(&mut self, session: Session)
-        requires { IsEmpty session }
+        requires { session.jobs_out ≡ [] }
         ensures anew { B.is_session self.new.backend session }
         ensures recorded { self.new.journal ≡ self.old.journal }
     {
@@ -257,6 +279,10 @@ impl<B: Backend, K: Records> Backend for Journaled<B, K> {
 
     fn has_jobs(&self) -> bool {
         self.backend.has_jobs()
+    }
+
+    fn has_journal(&self) -> bool {
+        self.journal.is_some()
     }
 
     fn take(&mut self, alloc: Global, id: Option<AuId>) -> Result<Answer, Failure> {

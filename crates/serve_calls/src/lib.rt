@@ -11,6 +11,7 @@
 mod alone;
 mod backend;
 mod calls;
+mod compacting;
 mod failing;
 mod journaled;
 mod lists;

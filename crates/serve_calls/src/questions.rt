@@ -25,9 +25,10 @@ const MOST_REORDERED: usize = 64;
 impl<B: Backend, S> Server<B, S> {
     /// What the server is, and what it takes.
     pub(crate) fn introduce(&self) -> Result<Answer, Failure>
-        ensures { Introduces (B.lends_jobs self.now.backend) result }
+        ensures { Introduces (B.offers self.now.backend) result }
     {
-        match Introduction::of(self.alloc, self.backend.has_jobs()) {
+        let (has_jobs, has_journal) = (self.backend.has_jobs(), self.backend.has_journal());
+        match Introduction::of(self.alloc, has_jobs, has_journal) {
             Ok(introduction) => Ok(Answer::Initialized(introduction)),
             Err(_) => Err(OUT_OF_MEMORY),
         }

@@ -4,9 +4,9 @@ ghost use Rattle.std.specs.Prelude.{◌≡◌, ◌+◌, ◌≤◌, ◌<◌, [], 
 ghost use Rattle.std.specs.Vec.{vec_capacity};
 ghost use Rattle.journal_steps.specs.declared.step.Step.TheVariants.{Edits, Load};
 ghost use Rattle.serve_calls.specs.declared.replaying.Unreplayed.TheVariants.{Memory};
-ghost use Rattle.serve_calls.specs.Replaying.{MakesEach, MakesOneIn, RefusesEdits, RefusesOne, ReplaysAll, ReplaysEdits, ReplaysOne};
+ghost use Rattle.serve_calls.specs.Replaying.{BeginsFrom, MakesEach, MakesOneIn, RefusesEdits, RefusesOne, ReplaysAll, ReplaysEdits, ReplaysOne};
 ghost use Rattle.serve_calls.specs.Resuming.{ReplaysOnto, ReplaysSteps, Resumes};
-ghost use Rattle.serve_calls.specs.Unreplayed.{replayed_edit, replayed_group, unreplayed_edit, unreplayed_group};
+ghost use Rattle.serve_calls.specs.Unreplayed.{replayed_edit, replayed_group, unreplayed_edit, unreplayed_group, unreplayed_snapshot};
 
 use crate::backend::Backend;
 use crate::journaled::Journaled;
@@ -17,14 +17,15 @@ use journal_steps::Step;
 use session_journal::Records;
 use std::alloc::AllocError;
 use stream_edits::Edit;
-use undo_redo::Step as Change;
+use stream_snapshot::{Snapshot, SnapshotRefused};
+use undo_redo::{Step as Change, UndoRedo};
 
 /// Why a recorded step isn't made again.
 #[derive(Clone, Copy, Debug, PartialEq, Eq)]
 pub enum Unreplayed {
     /// The stream refuses it, and nothing of it is made.
     Refused,
-    /// The stream refuses a part of it.
+    /// The stream refuses a part of it, or it is a snapshot of no stream.
     InPart,
     /// A growth was refused.
     Memory,
@@ -35,6 +36,17 @@ impl From<AllocError> for Unreplayed {
 
     fn from(_e: AllocError) -> Unreplayed {
         Unreplayed::Memory
+    }
+}
+
+impl From<SnapshotRefused> for Unreplayed {
+    ghost from_gives = { λ refused why. why ≡ unreplayed_snapshot refused };
+
+    fn from(refused: SnapshotRefused) -> Unreplayed {
+        match refused {
+            SnapshotRefused::Memory => Unreplayed::Memory,
+            SnapshotRefused::NoStream => Unreplayed::InPart,
+        }
     }
 }
 
@@ -104,7 +116,21 @@ impl<B: Backend, S> Server<B, S> {
         match step {
             Step::Edits(edits) => self.replay_edits(edits.into_edits()),
             Step::Load(edits) => self.replay_load(edits.into_edits()),
+            Step::Snapshot(snapshot) => self.begin_from(&snapshot),
         }
+    }
+
+    /// Begins anew from a recorded snapshot.
+    fn begin_from(&mut self, snapshot: &Snapshot) -> Result<(), Unreplayed>
+        ensures made { OnOk result (BeginsFrom B.is_session self.old snapshot.now self.new) }
+        ensures refused { result ≡ Err Unreplayed.Refused → ⊥ }
+    {
+        let read = snapshot.read(self.alloc)?;
+        let history = UndoRedo::of(self.alloc, snapshot)?;
+        let session = self.backend.begun(self.alloc, read)?;
+        self.backend.begin_anew(session);
+        self.history = history;
+        Ok(())
     }
 
     /// Makes recorded edits again, together or a single one by itself.

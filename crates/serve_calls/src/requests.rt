@@ -31,7 +31,7 @@ impl<B: Backend, S: Saver> Server<B, S> {
         wanted: &mut Vec<WantedUnit>,
         message: &Message<'_>,
     ) -> Served
-        ensures { IsServedIf B.is_session B.lends_jobs S.file self.old wanted.old.items
+        ensures { IsServedIf B.is_session B.offers S.file self.old wanted.old.items
             (parts_if message.now) result self.new wanted.new.items }
     {
         match message {
@@ -47,7 +47,7 @@ impl<B: Backend, S: Saver> Server<B, S> {
         wanted: &mut Vec<WantedUnit>,
         request: &Request<'_>,
     ) -> Served
-        ensures { IsServed B.is_session B.lends_jobs S.file self.old wanted.old.items
+        ensures { IsServed B.is_session B.offers S.file self.old wanted.old.items
             (parts_of request.now) result self.new wanted.new.items }
     {
         let call = request.call(self.alloc, self.backend.has_jobs());
@@ -62,7 +62,7 @@ impl<B: Backend, S: Saver> Server<B, S> {
         call: Result<Call, Failure>,
         is_answered: bool,
     ) -> Served
-        ensures { IsServedBy B.is_session B.lends_jobs S.file self.old wanted.old.items is_answered
+        ensures { IsServedBy B.is_session B.offers S.file self.old wanted.old.items is_answered
             call result self.new wanted.new.items }
     {
         match call {

@@ -139,6 +139,7 @@ call_with method.GiveBack parameters = and_then (required number_of parameter.Jo
 call_with method.Journal parameters = journal_in parameters
 call_with method.Stats parameters = Ok call.Stats
 call_with method.Reset parameters = Ok call.Reset
+call_with method.Compact parameters = Ok call.Compact
 call_with method.Shutdown parameters = Ok call.Shutdown
 
 -- an answer for an entry of a group, whichever of its parameters is wrong

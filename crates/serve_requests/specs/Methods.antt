@@ -1,8 +1,8 @@
 -- The methods of the server (docs/SERVER.md).
-use Rattle.std.specs.Prelude.{ℕ, List, [], ◌∷◌, codes, Bool, true, false, Option, Some, None, if◌then◌else◌}
+use Rattle.std.specs.Prelude.{ℕ, List, [], ◌∷◌, ◌++◌, codes, Bool, true, false, Option, Some, None, if◌then◌else◌}
 use Rattle.std.specs.Str.{bytes_eq}
 use Rattle.serve_requests.specs.declared.method.Method.{Method}
-use Rattle.serve_requests.specs.declared.method.Method.TheVariants.{Initialize, Load, Save, Insert, Delete, Replace, Group, Undo, Redo, Mark, Units, Text, Find, Show, Want, Drop, Take, Land, GiveBack, Journal, Stats, Reset, Shutdown}
+use Rattle.serve_requests.specs.declared.method.Method.TheVariants.{Initialize, Load, Save, Insert, Delete, Replace, Group, Undo, Redo, Mark, Units, Text, Find, Show, Want, Drop, Take, Land, GiveBack, Journal, Stats, Reset, Compact, Shutdown}
 use Rattle.serve_requests.specs.declared.parameter.Parameter.{Parameter}
 use Rattle.serve_requests.specs.declared.parameter.Parameter.TheVariants as parameter
 
@@ -18,6 +18,7 @@ method_of_pictures name =
     else if bytes_eq name (codes "journal") then Some Journal
     else if bytes_eq name (codes "stats") then Some Stats
     else if bytes_eq name (codes "reset") then Some Reset
+    else if bytes_eq name (codes "compact") then Some Compact
     else if bytes_eq name (codes "shutdown") then Some Shutdown
     else None
 
@@ -51,14 +52,21 @@ abbrev pub takes_any : Method → Bool
 takes_any Initialize = true
 takes_any _ = false
 
--- the methods that there are, where those about jobs are there or not
-abbrev pub methods : Bool → List Method
-methods true =
+-- the methods behind the rest: that about a journal's file, where there is one
+abbrev pub methods_of_journal : Bool → List Method
+methods_of_journal true = Compact ∷ Shutdown ∷ []
+methods_of_journal false = Shutdown ∷ []
+
+-- the methods about jobs, where they are there
+abbrev pub methods_of_jobs : Bool → List Method
+methods_of_jobs true = Take ∷ Land ∷ GiveBack ∷ []
+methods_of_jobs false = []
+
+-- the methods that there are, where those about jobs and about a journal's file are there or not
+abbrev pub methods : Bool → Bool → List Method
+methods has_jobs has_journal =
     Initialize ∷ Load ∷ Save ∷ Insert ∷ Delete ∷ Replace ∷ Group ∷ Undo ∷ Redo ∷ Mark ∷ Units ∷ Text ∷ Find ∷ Show ∷ Want
-    ∷ Drop ∷ Take ∷ Land ∷ GiveBack ∷ Journal ∷ Stats ∷ Reset ∷ Shutdown ∷ []
-methods false =
-    Initialize ∷ Load ∷ Save ∷ Insert ∷ Delete ∷ Replace ∷ Group ∷ Undo ∷ Redo ∷ Mark ∷ Units ∷ Text ∷ Find ∷ Show ∷ Want
-    ∷ Drop ∷ Journal ∷ Stats ∷ Reset ∷ Shutdown ∷ []
+    ∷ Drop ∷ methods_of_jobs has_jobs ++ Journal ∷ Stats ∷ Reset ∷ methods_of_journal has_journal
 
 -- the first parameter of a method
 abbrev pub first_parameter : Method → Option Parameter
@@ -84,4 +92,5 @@ first_parameter GiveBack = Some parameter.Job
 first_parameter Journal = Some parameter.From
 first_parameter Stats = None
 first_parameter Reset = None
+first_parameter Compact = None
 first_parameter Shutdown = None

@@ -79,6 +79,8 @@ pub enum Call {
     Stats,
     /// That all is as at the beginning.
     Reset,
+    /// That the journal's file is written anew, as the stream is.
+    Compact,
     /// The end.
     Shutdown,
 }
@@ -146,6 +148,7 @@ pub(crate) fn call_with(
         Method::Journal => Ok(journal(parameters)?),
         Method::Stats => Ok(Call::Stats),
         Method::Reset => Ok(Call::Reset),
+        Method::Compact => Ok(Call::Compact),
         Method::Shutdown => Ok(Call::Shutdown),
     }
 }

@@ -34,6 +34,7 @@ pub enum Method {
     Journal,
     Stats,
     Reset,
+    Compact,
     Shutdown,
 }
 
@@ -74,6 +75,7 @@ impl Method {
             "journal" => Some(Method::Journal),
             "stats" => Some(Method::Stats),
             "reset" => Some(Method::Reset),
+            "compact" => Some(Method::Compact),
             "shutdown" => Some(Method::Shutdown),
             _ => None,
         }
@@ -99,9 +101,14 @@ impl Method {
         }
     }
 
-    /// The methods that there are, with those about jobs or without.
-    pub fn all(alloc: Global, has_jobs: bool) -> Result<Listed<Method>, AllocError>
-        ensures { IfOk result (λ them. them ≡ methods has_jobs) }
+    /// The methods that there are, with those about jobs or without, and with those about a journal's
+    /// file or without.
+    pub fn all(
+        alloc: Global,
+        has_jobs: bool,
+        has_journal: bool,
+    ) -> Result<Listed<Method>, AllocError>
+        ensures { IfOk result (λ them. them ≡ methods has_jobs has_journal) }
     {
         let mut methods = vec![in alloc;
             Method::Initialize,
@@ -129,6 +136,9 @@ impl Method {
         methods.push(Method::Journal)?;
         methods.push(Method::Stats)?;
         methods.push(Method::Reset)?;
+        if has_journal {
+            methods.push(Method::Compact)?;
+        }
         methods.push(Method::Shutdown)?;
         Ok(Listed::new(methods))
     }
@@ -151,6 +161,7 @@ impl Method {
             | Method::Mark
             | Method::Stats
             | Method::Reset
+            | Method::Compact
             | Method::Shutdown => None,
             _ => Some(Parameter::Id),
         }

@@ -13,6 +13,7 @@ use Rattle.serve_calls.specs.Failing.{out_of_memory}
 use Rattle.serve_calls.specs.Requests.{IsRefusedAs, IsServedIf}
 use Rattle.serve_run.specs.declared.end.ServeEnd.{ServeEnd}
 use Rattle.serve_run.specs.declared.end.ServeEnd.TheVariants.{Done, Memory, Unread, Unreplayed, Unwritten}
+use Rattle.serve_calls.specs.Offering.{Offered}
 
 -- why a text is no value: it is no UTF-8 or no JSON, or memory ran out
 abbrev pub IsNoValue : List ℕ → Failure → Type 0
@@ -30,7 +31,7 @@ messages_in (array (item value values)) = item value values
 messages_in (object ms) = item (object ms) no_items
 
 -- messages are served one after the other
-abbrev pub ServesAll : {B S : Type 0} → (B → Machine → Type 0) → (B → Bool) → (S → List ℕ → Option (List ℕ)) → Server B S
+abbrev pub ServesAll : {B S : Type 0} → (B → Machine → Type 0) → (B → Offered) → (S → List ℕ → Option (List ℕ)) → Server B S
     → List WantedUnit → Items → List Served → Server B S → List WantedUnit → Type 0
 ServesAll is lends file old wanted no_items served new wants = (served ≡ []) × (new ≡ old) × (wants ≡ wanted)
 ServesAll {B} {S} is lends file old wanted (item value values) served new wants =
@@ -45,7 +46,7 @@ end_any (first ∷ rest) = first.is_last || end_any rest
 
 -- the messages of a text are served, if the text is a value; else that is refused, and nothing
 -- changes
-abbrev pub ServesText : {B S : Type 0} → (B → Machine → Type 0) → (B → Bool) → (S → List ℕ → Option (List ℕ)) → Server B S
+abbrev pub ServesText : {B S : Type 0} → (B → Machine → Type 0) → (B → Offered) → (S → List ℕ → Option (List ℕ)) → Server B S
     → List WantedUnit → List ℕ → List Served → Server B S → List WantedUnit → Type 0
 ServesText is lends file old wanted text served new wants =
     ((value : Data) × IsUtf8 text × (read_text text ≡ Some value)
@@ -64,7 +65,7 @@ GoesOn is_last (Err Memory) = ⊤
 GoesOn is_last (Err Unreplayed) = ⊥
 
 -- the messages of a text are served, and the server goes on or ends
-abbrev pub GoesOnAfter : {B S : Type 0} → (B → Machine → Type 0) → (B → Bool) → (S → List ℕ → Option (List ℕ)) → Server B S
+abbrev pub GoesOnAfter : {B S : Type 0} → (B → Machine → Type 0) → (B → Offered) → (S → List ℕ → Option (List ℕ)) → Server B S
     → List WantedUnit → List ℕ → Result (Unit {0}) ServeEnd → Server B S → Type 0
 GoesOnAfter is lends file old wanted text result new =
     (served : List Served) × (wants : List WantedUnit) × ServesText is lends file old wanted text served new wants

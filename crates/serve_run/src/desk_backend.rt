@@ -2,6 +2,7 @@
 //! tells of pictures.
 
 ghost use Rattle.std.specs.Prelude.{◌≤◌, false, length};
+ghost use Rattle.serve_calls.specs.Offering.{offering};
 
 use crate::line_writer::LineWriter;
 use decode_pool::{Desk, Seat, TooManyWanted, drop_picture};
@@ -15,6 +16,7 @@ use session_journal::Unkept;
 use std::alloc::{AllocError, Global};
 use std::io::Write;
 use std::sync::{Mutex, Wait};
+use stream_snapshot::{ReadSnapshot, Snapshot};
 
 /// What the threads of a server share.
 #[derive(Drop)]
@@ -68,7 +70,7 @@ impl<'a, R: Wait> LendsSession for DeskBackend<'a, R> {
 
 impl<'a, R: Wait> Backend for DeskBackend<'a, R> {
     // The workers have the jobs.
-    ghost lends_jobs = { λ _. false };
+    ghost offers = { λ _. offering false false };
 
     fn edit(&mut self, read: ReadEdit) -> Result<Receipt, EditFault> {
         match self.desk.edit_read(self.rt, read) {
@@ -111,6 +113,14 @@ impl<'a, R: Wait> Backend for DeskBackend<'a, R> {
         Ok(())
     }
 
+    fn begun(&self, alloc: Global, snapshot: ReadSnapshot) -> Result<Session, AllocError> {
+        self.desk.begun(alloc, snapshot)
+    }
+
+    fn compact(&mut self, _snapshot: &Snapshot) -> Result<(), Unkept> {
+        Ok(())
+    }
+
     fn begin_anew(&mut self, session: Session) {
         self.desk.begin_anew(self.rt, session);
         self.want(&[], true);
@@ -124,6 +134,10 @@ impl<'a, R: Wait> Backend for DeskBackend<'a, R> {
     }
 
     fn has_jobs(&self) -> bool {
+        false
+    }
+
+    fn has_journal(&self) -> bool {
         false
     }
 

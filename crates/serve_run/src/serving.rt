@@ -117,7 +117,7 @@ fn serve_text<R: Threads + Sync, B: Backend, S: Saver + Explain, W: Write>(
     writer: &mut LineWriter<W>,
     text: &[u8],
 ) -> Result<(), ServeEnd>
-    ensures { GoesOnAfter B.is_session B.lends_jobs S.file server.old writer.old.wanted.items text.now
+    ensures { GoesOnAfter B.is_session B.offers S.file server.old writer.old.wanted.items text.now
         result server.new }
 {
     match Value::from_slice(server.alloc, text) {
@@ -134,7 +134,7 @@ fn serve_value<R: Threads + Sync, B: Backend, S: Saver + Explain, W: Write>(
     value: &Value,
 ) -> Result<(), ServeEnd>
     ensures { (served : List Served) × (wants : List WantedUnit)
-        × ServesAll B.is_session B.lends_jobs S.file server.old writer.old.wanted.items
+        × ServesAll B.is_session B.offers S.file server.old writer.old.wanted.items
         (messages_in (view value.now)) served server.new wants
         × GoesOn (end_any served) result }
 {
@@ -201,7 +201,7 @@ fn serve_all<R: Threads + Sync, B: Backend, S: Saver + Explain>(
     answers: &mut Answers,
 ) -> bool
     ensures { (served : List Served)
-        × ServesAll B.is_session B.lends_jobs S.file server.old wanted.old.items
+        × ServesAll B.is_session B.offers S.file server.old wanted.old.items
         (items_view values.now) served server.new wanted.new.items
         × (result ≡ end_any served) }
 {
@@ -229,7 +229,7 @@ fn serve_one<R: Threads + Sync, B: Backend, S: Saver + Explain>(
     answers: &mut Answers,
 ) -> bool
     ensures { (served : Served)
-        × IsServedIf B.is_session B.lends_jobs S.file server.old wanted.old.items
+        × IsServedIf B.is_session B.offers S.file server.old wanted.old.items
         (request_in (view value.now)) served server.new wanted.new.items
         × (result ≡ served.is_last) }
 {

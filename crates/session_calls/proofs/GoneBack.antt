@@ -5,13 +5,10 @@ use Rattle.std.proofs.lemmas.List.{append_assoc, length-map, map-append}
 use Rattle.std.proofs.lemmas.List.Elements.{All-push}
 use Rattle.std.proofs.lemmas.List.Sorted.{IsPermutation-append_right, IsPermutation-trans}
 use Rattle.picture_store.specs.Released.{IsUnreferred}
-use Rattle.picture_store.specs.Stores.{OutValue, StoreValue}
+use Rattle.picture_store.specs.Stores.{OutValue}
 use Rattle.surfaces.specs.declared.surface.Surface.{Surface}
-use Rattle.stream_session.specs.Kept.{machine_of}
-use Rattle.stream_session.specs.Machines.{store_of}
+use Rattle.stream_session.proofs.ByNumber.{same_machine}
 use Rattle.stream_session.specs.Needing.{AnswersReleased}
-use Rattle.stream_edits.specs.declared.edits.Edit.{Edit}
-use Rattle.stream_edits.specs.Edits.{Register}
 use Rattle.session_calls.specs.Grouping.{filled}
 use Rattle.session_calls.specs.Machines.{Machine}
 use Rattle.session_calls.specs.Releasing.{Release, handle_of}
@@ -24,9 +21,7 @@ releasing machine surfaces = record machine { pictures = record machine.pictures
 released_is : (old : Machine) (surface : Surface) (new : Machine) → AnswersReleased old (Some surface) new
     → new ≡ releasing old new.pictures.released
 released_is old surface new answers =
-    ap (λ (store : StoreValue Surface). machine_of new.journal new.register store) answers.0.2
-    ∙ (ap (λ (journal : List (List Edit)). machine_of journal new.register (store_of (releasing old new.pictures.released))) answers.1.0
-    ∙ ap (λ (register : Register). machine_of old.journal register (store_of (releasing old new.pictures.released))) answers.1.1)
+    same_machine (releasing old new.pictures.released) new answers.0.2 answers.1
 
 -- one more goes back
 pub Release-more : (old : Machine) (gone : List Surface) (middle : Machine) (surface : Surface) (new : Machine)

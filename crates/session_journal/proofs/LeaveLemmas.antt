@@ -10,7 +10,7 @@ use Rattle.edit_journal.specs.declared.line.Step.{Step as Kept}
 use Rattle.edit_journal.specs.Journals.{Lasts, Stands}
 use Rattle.edit_journal.specs.Lines.{lines_of}
 use Rattle.journal_steps.specs.declared.step.Step.{Step}
-use Rattle.journal_steps.specs.declared.step.Step.TheVariants.{Edits, Load}
+use Rattle.journal_steps.specs.declared.step.Step.TheVariants.{Edits, Load, Snapshot}
 use Rattle.journal_steps.specs.Kept.{given_after_edits, kept_of_load, kept_of_step}
 use Rattle.journal_steps.specs.Records.{given_by_steps, lines_of_steps}
 use Rattle.journal_steps.proofs.LineLemmas.{given_then, steps_then}
@@ -93,6 +93,16 @@ module _ {S : Type 0} (g : Ghosts S) where
       let whole : kept_of_step (given_by_steps 0 front) (Edits edits) ≡ take left (kept_of_step (given_by_steps 0 front) (Edits edits)) =
       sym (take_all left (kept_of_step (given_by_steps 0 front) (Edits edits)) (omega (arith, all, rows))) in
       (given_group positive end.load ∙ end.stands.given, leaves_some (omega (arith, all, end.some)) front (Edits edits) (Edits edits) rows whole end.stands.holds)
+  shortened old mid zero left given front (Snapshot s) none group load leaves_none leaves_some given_none given_group given_load end =
+      let rows = end.rows ∙ ap (λ (n : ℕ). length (kept_of_step n (Snapshot s))) end.before in
+      (given_none refl ∙ end.before, leaves_none (none refl) front (Snapshot s) end.some rows end.stands.holds)
+  shortened old mid (suc made) left given front (Snapshot s) none group load leaves_none leaves_some given_none given_group given_load end =
+      let rows = end.rows ∙ ap (λ (n : ℕ). length (kept_of_step n (Snapshot s))) end.before in
+      let positive : suc made ≢ 0 = λ is. absurd (omega (arith, is)) in
+      let all = group positive end.load in
+      let whole : kept_of_step (given_by_steps 0 front) (Snapshot s) ≡ take left (kept_of_step (given_by_steps 0 front) (Snapshot s)) =
+      sym (take_all left (kept_of_step (given_by_steps 0 front) (Snapshot s)) (omega (arith, all, rows))) in
+      (given_group positive end.load ∙ end.stands.given, leaves_some (omega (arith, all, end.some)) front (Snapshot s) (Snapshot s) rows whole end.stands.holds)
   shortened old mid (suc made) left given front (Load edits) none group load leaves_none leaves_some given_none given_group given_load end =
       let rows = end.rows ∙ ap (λ (n : ℕ). length (kept_of_step n (Load edits))) end.before in
       let positive : suc made ≢ 0 = λ is. absurd (omega (arith, is)) in

@@ -1,14 +1,15 @@
 -- Steps that stand in a journal's store.
-use Rattle.std.specs.Prelude.{◌≡◌, ℕ, ◌<◌, List, [], ◌∷◌, ◌++◌, length, take, Option, None, Some, IsTrue, false}
+use Rattle.std.specs.Prelude.{◌≡◌, ℕ, ◌<◌, List, [], ◌∷◌, ◌++◌, length, min, take, Option, None, Some, IsTrue, false}
 use Rattle.sqlite_trees.specs.Tree.{Trees}
 use Rattle.sqlite_trees.specs.View.{IsClean}
 use Rattle.sqlite_trees.specs.declared.store.Store.{Ghosts}
 use Rattle.stream_edits.specs.declared.edits.Edit.{Edit}
 use Rattle.edit_journal.specs.declared.journal.Journal.{Journal}
 use Rattle.edit_journal.specs.Journals.{Lasts}
-use Rattle.edit_journal.specs.Lines.{Keeps}
+use Rattle.edit_journal.specs.declared.line.Step.{Step as Kept}
+use Rattle.edit_journal.specs.Lines.{Keeps, lines_of}
 use Rattle.journal_steps.specs.declared.step.Step.{Step}
-use Rattle.journal_steps.specs.declared.step.Step.TheVariants.{Edits, Load}
+use Rattle.journal_steps.specs.declared.step.Step.TheVariants.{Edits, Load, Snapshot}
 use Rattle.journal_steps.specs.Kept.{kept_of_step}
 use Rattle.journal_steps.specs.Records.{given_by_steps, lines_of_steps}
 use Rattle.session_journal.specs.declared.session_journal.SessionJournal.{SessionJournal}
@@ -27,10 +28,17 @@ pub record Standing {S : Type 0} (g : Ghosts S) (it : SessionJournal S) (steps :
   pub given : it.given ≡ given_by_steps 0 steps
   pub holds : Holds g it steps
 
+-- the rows are the one record of steps, or none of no steps, and so many ids were given by them
+pub record AreRecordOf (rows : List Kept) (given : ℕ) (steps : List Step) : Type 0 where
+  pub lines : lines_of_steps 0 1 steps ≡ lines_of 1 rows
+  pub count : length steps ≡ min 1 (length rows)
+  pub ids : given ≡ given_by_steps 0 steps
+
 -- the edits of a load
 abbrev pub load_of : Step → Option (List Edit)
 load_of (Edits edits) = None
 load_of (Load edits) = Some edits
+load_of (Snapshot snapshot) = None
 
 -- the step is the last one, behind these, and its rows are known
 pub record IsEnd {S : Type 0} (g : Ghosts S) (it : SessionJournal S) (front : List Step) (step : Step) : Type 0 where

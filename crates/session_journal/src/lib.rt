@@ -1,6 +1,7 @@
 //! The journal of a session: its steps are recorded before they are made, and read again after a crash.
 //!
-//! `Records` is one who records the steps of a session: edits, groups and loads. A `SessionJournal` is
+//! `Records` is one who records the steps of a session: edits, groups and loads; `compact` puts a
+//! snapshot of the stream in the place of all. A `SessionJournal` is
 //! one over a journal of edit_journal, by which each step is a record that is committed and
 //! synchronised, or isn't there. `Journals` opens them by names; HostRuntime's are files
 //! (docs/JOURNAL.md). Below is journal_steps, which says what is kept of a step.
@@ -13,7 +14,7 @@ mod session_journal;
 mod unkept;
 
 pub use edit_journal::JournalFault;
-pub use journal_steps::{EditList, Step};
+pub use journal_steps::{EditList, Snapshot, Step};
 pub use opening::{Journals, SessionFile};
 pub use records::Records;
 pub use session_journal::SessionJournal;

@@ -1,6 +1,6 @@
 //! A journal is opened, and its steps are read.
 
-ghost use Rattle.std.specs.Prelude.{◌≡◌, ◌++◌, ◌∷◌, ℕ, List, [], None, length, IfOk};
+ghost use Rattle.std.specs.Prelude.{◌≡◌, ◌↔◌, ◌++◌, ◌∷◌, ℕ, List, [], None, length, drop, All, false, IfOk, IsTrue};
 ghost use Rattle.std.specs.List.{AllByRecursion};
 ghost use Rattle.sqlite.specs.Files.{HoldsDatabase};
 ghost use Rattle.sqlite_store.specs.FileStore.{view};
@@ -14,6 +14,7 @@ ghost use Rattle.journal_steps.specs.declared.step.Step.{Step as StepValue};
 ghost use Rattle.journal_steps.specs.declared.step.Step.TheVariants.{Edits};
 ghost use Rattle.journal_steps.specs.Kept.{IsStep, given_after_edits};
 ghost use Rattle.journal_steps.specs.Records.{lines_of_steps};
+ghost use Rattle.session_journal.specs.Kept.{IsFirstOnly, is_snapshot};
 ghost use Rattle.session_journal.specs.Standing.{IsEnd, Standing};
 
 use crate::last_step::{LastStep, given_before};
@@ -34,7 +35,8 @@ pub type SessionFile = SessionJournal<FileStore<FileFrom<Wary>>>;
 pub trait Journals {
     type Journal: Records + Drop;
 
-    /// The journal of this name and its steps. It is made where it isn't there.
+    /// The journal of this name and its steps, of which the first one alone may be a snapshot. It is
+    /// made where it isn't there.
     fn open_journal(
         &self,
         alloc: Global,
@@ -43,7 +45,8 @@ pub trait Journals {
         ensures stands { IfOk result (λ made. Self.Journal.Records.stands made.0 made.1.items) }
         ensures ends { IfOk result (λ made. (front : List StepValue) (edits : List EditValue)
             → made.1.items ≡ front ++ Edits edits ∷ []
-            → Self.Journal.Records.ends made.0 front (Edits edits)) };
+            → Self.Journal.Records.ends made.0 front (Edits edits)) }
+        ensures first { IfOk result (λ made. IsFirstOnly made.1.items) };
 }
 
 impl Journals for HostRuntime {
@@ -58,6 +61,7 @@ impl Journals for HostRuntime {
         ensures ends { IfOk result (λ made. (front : List StepValue) (edits : List EditValue)
             → made.1.items ≡ front ++ Edits edits ∷ []
             → ⟦<SessionFile as Records>⟧.ends made.0 front (Edits edits)) }
+        ensures first { IfOk result (λ made. IsFirstOnly made.1.items) }
         ensures found { IfOk result (λ made. IsClean (view made.0.journal.store)
             → (db : Trees) (steps : List StepValue) → HoldsDatabase (image_at ⟦<Wary as Start>⟧) db
             → IsJournal db (lines_of_steps 0 1 steps) → AllByRecursion IsStep steps
@@ -79,6 +83,7 @@ fn opened<S: Alter + Drop>(
     ensures stands { IfOk result (λ made. Standing S.Store made.0 made.1.items) }
     ensures ends { IfOk result (λ made. (front : List StepValue) (edits : List EditValue)
         → made.1.items ≡ front ++ Edits edits ∷ [] → IsEnd S.Store made.0 front (Edits edits)) }
+    ensures first { IfOk result (λ made. IsFirstOnly made.1.items) }
     ensures journal { IfOk result (λ made. made.0.journal ≡ journal) }
     ensures only { (steps : List StepValue) → AllByRecursion IsStep steps
         → lines.now ≡ lines_of_steps 0 1 steps → IfOk result (λ made. made.1.items ≡ steps) }
@@ -86,7 +91,7 @@ fn opened<S: Alter + Drop>(
     let Some((steps, given)) = read(alloc, lines)? else {
         return Err(JournalFault::NotAJournal);
     };
-    if journal.records() as usize != steps.len() {
+    if journal.records() as usize != steps.len() || !is_first_only(&steps) {
         return Err(JournalFault::NotAJournal);
     }
     let last = last_of(&steps, given)?;
@@ -100,6 +105,36 @@ fn opened<S: Alter + Drop>(
     Ok((journal, steps))
 }
 
+fn is_snapshot(step: &Step) -> bool
+    ensures { result ≡ is_snapshot step.now }
+{
+    match step {
+        Step::Edits(_) | Step::Load(_) => false,
+        Step::Snapshot(_) => true,
+    }
+}
+
+/// Whether none of the steps is a snapshot.
+fn are_no_snapshots(steps: &[Step]) -> bool
+    ensures { IsTrue result ↔ All (λ step. is_snapshot step ≡ false) steps.now }
+{
+    steps.iter().all(|step| !is_snapshot(step))
+}
+
+/// The steps behind the first one.
+fn others(steps: &[Step]) -> &[Step]
+    ensures { result.now ≡ drop 1 steps.now }
+{
+    &steps[1.min(steps.len())..]
+}
+
+/// Whether none of the steps but the first is a snapshot.
+fn is_first_only(steps: &[Step]) -> bool
+    ensures { IsTrue result ↔ IsFirstOnly steps.now }
+{
+    are_no_snapshots(others(steps))
+}
+
 /// What is known of the last step, where so many ids were given in all.
 fn last_of(steps: &[Step], given: u32) -> Result<LastStep, JournalFault>
     ensures rows { IfOk result (λ last. (front : List StepValue) (edits : List EditValue)
@@ -111,7 +146,7 @@ fn last_of(steps: &[Step], given: u32) -> Result<LastStep, JournalFault>
 {
     match steps.split_last() {
         Some((Step::Edits(edits), _)) => last_edits(edits.edits(), given),
-        Some((Step::Load(_), _)) | None => Ok(LastStep::none(given)),
+        Some((Step::Load(_) | Step::Snapshot(_), _)) | None => Ok(LastStep::none(given)),
     }
 }
 

@@ -2,11 +2,12 @@
 
 ghost use Rattle.std.specs.Prelude.{◌≡◌, ◌∷◌, List, [], OnErr, OnOk};
 ghost use Rattle.journal_steps.specs.declared.step.Step.{Step as StepValue};
-ghost use Rattle.journal_steps.specs.declared.step.Step.TheVariants.{Edits, Load};
+ghost use Rattle.journal_steps.specs.declared.step.Step.TheVariants.{Edits, Load, Snapshot as SnapshotStep};
 ghost use Rattle.journal_steps.specs.Records.{given_by_steps};
-ghost use Rattle.session_journal.specs.Kept.{AddsOne, EndsWith, LeavesOr, Stays, with_left};
+ghost use Rattle.session_journal.specs.Kept.{AddsOne, EndsWith, LeavesOr, LeavesOrOnly, Stays, with_left};
 
 use crate::unkept::Unkept;
+use journal_steps::Snapshot;
 use stream_edits::Edit;
 
 /// One who records the edits of a session, each before it is made: what was answered as recorded
@@ -66,5 +67,14 @@ pub trait Records {
     fn clear(&mut self) -> Result<(), Unkept>
         ensures cleared { OnOk result ((steps : List StepValue) → stands self.old steps
             → stands self.new []) }
-        ensures stays { OnErr result (Stays (stands self.old) (stands self.new)) };
+        ensures stays { OnErr result (Stays (stands self.old) (stands self.new)) }
+        ensures leaves { LeavesOrOnly (leaves self.old) (stands self.old) [] (leaves self.new) };
+
+    /// Puts the snapshot in the place of all steps. It can't be taken off.
+    fn compact(&mut self, snapshot: &Snapshot) -> Result<(), Unkept>
+        ensures compacted { OnOk result ((steps : List StepValue) → stands self.old steps
+            → stands self.new (SnapshotStep snapshot.now ∷ [])) }
+        ensures stays { OnErr result (Stays (stands self.old) (stands self.new)) }
+        ensures leaves { LeavesOrOnly (leaves self.old) (stands self.old)
+            (SnapshotStep snapshot.now ∷ []) (leaves self.new) };
 }

@@ -1,17 +1,17 @@
 //! The steps of a session in a journal.
 
-ghost use Rattle.std.specs.Prelude.{◌≡◌, ◌<◌, false, IsTrue, OnErr, OnOk};
+ghost use Rattle.std.specs.Prelude.{◌≡◌, ◌<◌, List, false, IsTrue, OnErr, OnOk};
 ghost use Rattle.sqlite_trees.specs.View.{IsClean};
 ghost use Rattle.journal_steps.specs.declared.step.Step.{Step as StepValue};
 ghost use Rattle.journal_steps.specs.Kept.{given_by_step, kept_of_step};
-ghost use Rattle.session_journal.specs.Kept.{EndsWith, LeavesOr, Stays};
-ghost use Rattle.session_journal.specs.Standing.{CrashLeaves, IsEnd, LeavesNone, LeavesSome, Standing, load_of};
+ghost use Rattle.session_journal.specs.Kept.{EndsWith, LeavesOr, LeavesOrOnly, Stays};
+ghost use Rattle.session_journal.specs.Standing.{AreRecordOf, CrashLeaves, IsEnd, LeavesNone, LeavesSome, Standing, load_of};
 
 use crate::last_step::LastStep;
 use crate::records::Records;
 use crate::unkept::Unkept;
 use edit_journal::{Journal, Step as Kept};
-use journal_steps::{EditList, keep_group, keep_load};
+use journal_steps::{EditList, Snapshot, keep_group, keep_load, keep_snapshot};
 use sqlite_trees::store::Alter;
 use std::alloc::Global;
 use std::slice;
@@ -79,6 +79,27 @@ impl<S: Alter> SessionJournal<S> {
         Ok(())
     }
 
+    /// Puts one record of these rows in the place of all steps, after which so many ids were given, or
+    /// none where there are no rows. Nothing of it can be taken off.
+    fn rewrite(&mut self, rows: &[Kept], given: u32) -> Result<(), Unkept>
+        ensures replaced { (steps : List StepValue) → AreRecordOf rows.now given steps
+            → OnOk result ((before : List StepValue) → Standing S.Store self.old before
+            → Standing S.Store self.new steps) }
+        ensures stays { OnErr result (Stays (Standing S.Store self.old)
+            (Standing S.Store self.new)) }
+        ensures leaves { (steps : List StepValue) → AreRecordOf rows.now given steps
+            → LeavesOrOnly (CrashLeaves S.Store self.old.journal) (Standing S.Store self.old) steps
+            (CrashLeaves S.Store self.new.journal) }
+    {
+        if self.is_shut() {
+            return Err(Unkept::Unwritten);
+        }
+        self.journal.rewrite(rows)?;
+        self.last = LastStep::none(given);
+        self.given = given;
+        Ok(())
+    }
+
     /// Leaves the first `left` of the last step's rows. Where that fails nothing more is recorded.
     fn leave(&mut self, rows: u32, left: u32)
         ensures none { left ≡ 0 → LeavesNone S.Store self.old rows self.new }
@@ -136,12 +157,11 @@ impl<S: Alter> Records for SessionJournal<S> {
     }
 
     fn clear(&mut self) -> Result<(), Unkept> {
-        if self.is_shut() {
-            return Err(Unkept::Unwritten);
-        }
-        self.journal.rewrite(&[])?;
-        self.last = LastStep::none(0);
-        self.given = 0;
-        Ok(())
+        self.rewrite(&[], 0)
+    }
+
+    fn compact(&mut self, snapshot: &Snapshot) -> Result<(), Unkept> {
+        let rows = keep_snapshot(self.alloc, snapshot)?;
+        self.rewrite(&rows, snapshot.ids_given())
     }
 }

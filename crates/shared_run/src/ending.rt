@@ -29,7 +29,7 @@ pub(crate) fn end(alloc: Global, desk: Desk, seat: Seat) -> Result<Verdict, Allo
                 seat: 1,
                 number: after,
             }),
-            FinishFault::Memory => Err(AllocError),
+            FinishFault::Memory | FinishFault::NotAudited => Err(AllocError),
         },
     }
 }

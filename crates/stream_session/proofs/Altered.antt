@@ -11,11 +11,10 @@ use Rattle.picture_store.specs.Altered as pictures
 use Rattle.picture_store.specs.Showing.{HasKey as HasKeyAt}
 use Rattle.picture_store.specs.Stores.{StoreValue, unit_keys}
 use Rattle.picture_store.proofs.Marked.{stands_listed}
-use Rattle.stream_edits.specs.declared.edits.Edit.{Edit}
 use Rattle.stream_edits.specs.Edits.{Register}
 use Rattle.stream_edits.specs.Streams.{ids_of, place_of}
 use Rattle.stream_session.specs.Altered.{IsAltered, NoneAltered, keys_in_use, with_mark}
-use Rattle.stream_session.specs.Kept.{machine_of}
+use Rattle.stream_session.specs.Kept.{History, machine_of}
 use Rattle.stream_session.specs.Machines.{Machine}
 use Rattle.stream_session.specs.Showing.{keys_in, HasKey}
 use Rattle.stream_session.proofs.Pictured.{IsStoreOf, UnitsStay, same_units}
@@ -37,7 +36,7 @@ none_altered machine id altered =
     (same_Some (keys_in_use machine.register.stream) altered.keys altered.marked)
     (stands_listed keys found.0 altered.key found.1))
 
-module _ {P : Type 0} (journal : List (List Edit)) (register : Register) (store : StoreValue P) (is : IsStoreOf register.stream store) where
+module _ {P : Type 0} (history : History) (register : Register) (store : StoreValue P) (is : IsStoreOf register.stream store) where
   keys_same : unit_keys store ≡ keys_in register.stream
   keys_same =
       ap (λ (ids : List ℕ). keys_of (zip ids store.outcomes)) is.identified
@@ -45,10 +44,10 @@ module _ {P : Type 0} (journal : List (List Edit)) (register : Register) (store 
 
   -- what is stored is marked
   pub marked_seen : (new : StoreValue P) → new ≡ pictures.with_mark store
-      → machine_of journal register new ≡ with_mark (machine_of journal register store)
+      → machine_of history register new ≡ with_mark (machine_of history register store)
   marked_seen new same =
-      ap (machine_of journal register) same
-      ∙ ap (λ (keys : List (Option Key)). record (machine_of journal register store) { marked = Some (filter_map (λ key. key) keys) }) keys_same
+      ap (machine_of history register) same
+      ∙ ap (λ (keys : List (Option Key)). record (machine_of history register store) { marked = Some (filter_map (λ key. key) keys) }) keys_same
 
   -- also where memory may be refused
   pub mark_stays : (r : Result (Unit {0}) AllocError) (new : StoreValue P) → OnOk r (new ≡ pictures.with_mark store)
@@ -57,19 +56,19 @@ module _ {P : Type 0} (journal : List (List Edit)) (register : Register) (store 
   mark_stays (Err e) new ok err = same_units store new store err refl refl
 
   pub mark_told : (r : Result (Unit {0}) AllocError) (new : StoreValue P) → OnOk r (new ≡ pictures.with_mark store)
-      → OnOk r (machine_of journal register new ≡ with_mark (machine_of journal register store))
+      → OnOk r (machine_of history register new ≡ with_mark (machine_of history register store))
   mark_told (Ok x) new ok = marked_seen new ok
   mark_told (Err e) new ok = ok
 
   pub none_told : (r : Result (Unit {0}) AllocError) (new : StoreValue P) → OnOk r (new ≡ pictures.with_mark store)
-      → OnOk r (NoneAltered (machine_of journal register new))
-  none_told (Ok x) new ok = subst NoneAltered (sym (marked_seen new ok)) (none_altered (machine_of journal register store))
+      → OnOk r (NoneAltered (machine_of history register new))
+  none_told (Ok x) new ok = subst NoneAltered (sym (marked_seen new ok)) (none_altered (machine_of history register store))
   none_told (Err e) new ok = ok
 
   pub mark_refused : (r : Result (Unit {0}) AllocError) (new : StoreValue P) → OnErr r (new ≡ store)
-      → OnErr r (machine_of journal register new ≡ machine_of journal register store)
+      → OnErr r (machine_of history register new ≡ machine_of history register store)
   mark_refused (Ok x) new err = err
-  mark_refused (Err e) new err = ap (machine_of journal register) err
+  mark_refused (Err e) new err = ap (machine_of history register) err
 
   module _ (id place : ℕ) (stands : place_of register.stream id ≡ Some place) where
     has_there : (key : Key) → HasKey register.stream id key → HasKeyAt store place key
@@ -84,7 +83,7 @@ module _ {P : Type 0} (journal : List (List Edit)) (register : Register) (store 
 
     -- what is told of a place is told of its unit
     pub altered_seen : (answer : Bool) → IsTrue answer ↔ pictures.IsAltered store place
-        → IsTrue answer ↔ IsAltered (machine_of journal register store) id
+        → IsTrue answer ↔ IsAltered (machine_of history register store) id
     altered_seen answer tells = (
       λ yes.
           let altered = tells.0 yes in

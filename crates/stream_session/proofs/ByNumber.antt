@@ -21,9 +21,10 @@ module _ {P : Type 0} where
   -- a machine is its stream's and its pictures'
   pub same_machine : (old new : Machine P) → store_of new ≡ store_of old → KeepsStream old new → new ≡ old
   same_machine old new pictures stream =
-      ap (λ (store : StoreValue P). machine_of new.journal new.register store) pictures
-      ∙ (ap (λ (journal : List (List Edit)). machine_of journal new.register (store_of old)) stream.0
-      ∙ ap (λ (register : Register). machine_of old.journal register (store_of old)) stream.1)
+      ap (λ (store : StoreValue P). machine_of (record { origin = new.origin; entries = new.journal }) new.register store) pictures
+      ∙ (ap (λ (entries : List (List Edit)). machine_of (record { origin = new.origin; entries = entries }) new.register (store_of old)) stream.0
+      ∙ (ap (λ (origin : Register). machine_of (record { origin = origin; entries = old.journal }) new.register (store_of old)) stream.2
+      ∙ ap (λ (register : Register). machine_of (record { origin = old.origin; entries = old.journal }) register (store_of old)) stream.1))
 
   -- what a job that is out is made of is what it was given
   pub input_same : (jobs : List (OutValue P)) (number : ℕ) → input_among (map as_taken jobs) number ≡ pictures.input_of jobs number

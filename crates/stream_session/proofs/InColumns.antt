@@ -10,11 +10,10 @@ use Rattle.doubts.specs.SeenUnits.{HasId, seen_units}
 use Rattle.doubts.specs.InDoubt.{IdsDiffer}
 use Rattle.doubts.proofs.Columns.{seen_at}
 use Rattle.picture_store.specs.Stores.{StoreValue}
-use Rattle.stream_edits.specs.declared.edits.Edit.{Edit}
 use Rattle.stream_edits.specs.Edits.{Register}
 use Rattle.stream_edits.specs.Streams.{Stream, ids_of}
 use Rattle.stream_session.specs.Doubting.{references_of, seen_in, seen_with}
-use Rattle.stream_session.specs.Kept.{IsKept}
+use Rattle.stream_session.specs.Kept.{History, IsKept}
 use Rattle.stream_session.proofs.Looked.{place_kept}
 
 -- there are as many of each column
@@ -50,10 +49,10 @@ id_at (i ∷ ids) (r ∷ references) (o ∷ outcomes) (suc at) id is = id_at ids
 
 module _ {P : Type 0} where
   -- no two units of a session's stream have one id
-  pub ids_differ : (journal : List (List Edit)) (register : Register) (store : StoreValue P) → IsKept journal register store
+  pub ids_differ : (history : History) (register : Register) (store : StoreValue P) → IsKept history register store
       → IdsDiffer (seen_in register.stream)
-  ids_differ journal register store kept at other id is also =
+  ids_differ history register store kept at other id is also =
       let stands = id_at (ids_of register.stream) (references_of register.stream) (outcomes_of register.stream) in
       same_Some at other
-      (sym (place_kept journal register store kept id at (stands at id is))
-      ∙ place_kept journal register store kept id other (stands other id also))
+      (sym (place_kept history register store kept id at (stands at id is))
+      ∙ place_kept history register store kept id other (stands other id also))

@@ -5,7 +5,9 @@ pub mod InColumns
 pub mod Stretched
 pub mod Accepted
 pub mod Pictured
+pub mod Changed
 pub mod Stored
+pub mod Begun
 pub mod Seen
 pub mod ByNumber
 pub mod Told

@@ -7,15 +7,13 @@ use Rattle.request_core.specs.States.{no_units}
 use Rattle.request_core.specs.Fold.{outcomes_of}
 use Rattle.output_order.specs.OutputOrder.{positions_of}
 use Rattle.picture_store.specs.Stores.{StoreValue}
-use Rattle.stream_edits.specs.declared.edits.Edit.{Edit}
 use Rattle.stream_edits.specs.Edits.{Register}
 use Rattle.changed_units.specs.Units.{AreDifferent}
-use Rattle.stream_edits.specs.Ids.{HasIds}
-use Rattle.stream_edits.specs.Journals.{edits_of}
 use Rattle.stream_edits.specs.Streams.{Stream, ids_of, place_of}
-use Rattle.stream_edits.proofs.GivenIds.{AreDifferent-ids, HasIds-journal}
+use Rattle.stream_edits.proofs.GivenIds.{AreDifferent-ids}
+use Rattle.stream_session.proofs.Accepted.{HasIds-kept}
 use Rattle.stream_session.proofs.Placed.{placed}
-use Rattle.stream_session.specs.Kept.{IsKept}
+use Rattle.stream_session.specs.Kept.{History, IsKept}
 use Rattle.stream_session.specs.Streams.{outcome_in, position_in}
 use Rattle.stream_fold.proofs.Folds.{length-outcomes_from}
 
@@ -40,17 +38,13 @@ position_found stream id place position stands at =
 
 module _ {P : Type 0} where
   -- the ids that are stored differ
-  pub ids_apart : (journal : List (List Edit)) (register : Register) (store : StoreValue P) → IsKept journal register store
+  pub ids_apart : (history : History) (register : Register) (store : StoreValue P) → IsKept history register store
       → AreDifferent store.ids
-  ids_apart journal register store kept =
-      subst AreDifferent (sym kept.identified) (AreDifferent-ids register (HasIds-journal (edits_of journal) register kept.replayed))
-
-  -- and belong to units that have ids
-  pub ids_kept : (journal : List (List Edit)) (register : Register) (store : StoreValue P) → IsKept journal register store → HasIds register
-  ids_kept journal register store kept = HasIds-journal (edits_of journal) register kept.replayed
+  ids_apart history register store kept =
+      subst AreDifferent (sym kept.identified) (AreDifferent-ids register (HasIds-kept history register store kept))
 
   -- a unit is found where it stands
-  pub place_kept : (journal : List (List Edit)) (register : Register) (store : StoreValue P) → IsKept journal register store
+  pub place_kept : (history : History) (register : Register) (store : StoreValue P) → IsKept history register store
       → (id at : ℕ) → slice_get (ids_of register.stream) at ≡ Some id → place_of register.stream id ≡ Some at
-  place_kept journal register store kept id at stands =
-      sym (placed (ids_of register.stream) id at (AreDifferent-ids register (HasIds-journal (edits_of journal) register kept.replayed)) stands)
+  place_kept history register store kept id at stands =
+      sym (placed (ids_of register.stream) id at (AreDifferent-ids register (HasIds-kept history register store kept)) stands)

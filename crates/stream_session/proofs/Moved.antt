@@ -25,6 +25,7 @@ module _ {P : Type 0} where
       → Edits old edit (record { number = number; id = accepted.id; steps = steps; hashed = hashed; lost_pictures = lost; changed = changed }) new
   Edits-moved old edit accepted steps lost hashed number changed new for moves number_is hashes = record {
     made = subst (λ register. Makes old.register edit accepted.id register) (sym moves.register_is) for.makes;
+    origin_stays = moves.origin_stays;
     journaled = moves.journaled;
     refits = moves.refits;
     loses = moves.loses;
@@ -50,6 +51,7 @@ module _ {P : Type 0} where
     made =
         subst (λ ids. MakesAll old.register edits ids new.register) (sym ids_are)
         (subst (λ register. MakesAll old.register edits accepted.ids.items register) (sym moves.register_is) for.makes);
+    origin_stays = moves.origin_stays;
     journaled = moves.journaled;
     refits = moves.refits;
     loses = moves.loses;

@@ -19,11 +19,10 @@ use Rattle.picture_store.specs.declared.answers.Returning.TheVariants as returni
 use Rattle.picture_store.specs.Stores.{StoreValue}
 use Rattle.picture_store.specs.Changes.{RefitsLosing}
 use Rattle.picture_store.specs.Jobs as pictures
-use Rattle.stream_edits.specs.declared.edits.Edit.{Edit}
 use Rattle.stream_edits.specs.Streams.{Stream, ids_of}
 use Rattle.stream_edits.specs.Edits.{Register}
 use Rattle.stream_session.specs.Machines.{store_of, RefitsTo}
-use Rattle.stream_session.specs.Kept.{IsKept, machine_of}
+use Rattle.stream_session.specs.Kept.{History, IsKept, machine_of}
 use Rattle.stream_session.specs.Jobs.{AnswersTake, AnswersLand, AnswersLandOf, AnswersGiveBack, AnswersGiveBackOf}
 
 module _ {P : Type 0} where
@@ -33,37 +32,37 @@ module _ {P : Type 0} where
     pub folded : store.outcomes ≡ outcomes_of stream
 
   -- what is kept is of the stream
-  pub IsStoreOf-kept : (journal : List (List Edit)) (register : Register) (store : StoreValue P)
-      → IsKept journal register store → IsStoreOf register.stream store
-  IsStoreOf-kept journal register store kept = record { identified = kept.identified; folded = kept.folded }
+  pub IsStoreOf-kept : (history : History) (register : Register) (store : StoreValue P)
+      → IsKept history register store → IsStoreOf register.stream store
+  IsStoreOf-kept history register store kept = record { identified = kept.identified; folded = kept.folded }
 
   -- what contracts see of the pictures is what is stored
-  pub store_is : (journal : List (List Edit)) (register : Register) (store : StoreValue P) → IsStoreOf register.stream store
-      → store_of (machine_of journal register store) ≡ store
-  store_is journal register store is =
+  pub store_is : (history : History) (register : Register) (store : StoreValue P) → IsStoreOf register.stream store
+      → store_of (machine_of history register store) ≡ store
+  store_is history register store is =
       ap (λ (ids : List ℕ). record store { ids = ids; outcomes = outcomes_of register.stream }) (sym is.identified)
       ∙ ap (λ (outcomes : List Outcome). record store { outcomes = outcomes }) (sym is.folded)
 
   -- what holds of stores holds of what contracts see of them
-  pub both_seen : (Holds : StoreValue P → StoreValue P → Type 0) (journal edited : List (List Edit)) (old new : Register) (before after : StoreValue P)
+  pub both_seen : (Holds : StoreValue P → StoreValue P → Type 0) (history edited : History) (old new : Register) (before after : StoreValue P)
       → IsStoreOf old.stream before → IsStoreOf new.stream after → Holds before after
-      → Holds (store_of (machine_of journal old before)) (store_of (machine_of edited new after))
-  both_seen Holds journal edited old new before after was is holds =
-      subst (λ (store : StoreValue P). Holds store (store_of (machine_of edited new after))) (sym (store_is journal old before was))
+      → Holds (store_of (machine_of history old before)) (store_of (machine_of edited new after))
+  both_seen Holds history edited old new before after was is holds =
+      subst (λ (store : StoreValue P). Holds store (store_of (machine_of edited new after))) (sym (store_is history old before was))
       (subst (λ (store : StoreValue P). Holds before store) (sym (store_is edited new after is)) holds)
 
   -- what holds of a store holds of what contracts see of it
-  pub one_seen : (Holds : StoreValue P → Type 0) (journal : List (List Edit)) (register : Register) (store : StoreValue P)
-      → IsStoreOf register.stream store → Holds store → Holds (store_of (machine_of journal register store))
-  one_seen Holds journal register store is holds = subst Holds (sym (store_is journal register store is)) holds
+  pub one_seen : (Holds : StoreValue P → Type 0) (history : History) (register : Register) (store : StoreValue P)
+      → IsStoreOf register.stream store → Holds store → Holds (store_of (machine_of history register store))
+  one_seen Holds history register store is holds = subst Holds (sym (store_is history register store is)) holds
 
   -- the pictures after an edit, and how many are lost
-  pub RefitsTo-stored : (journal : List (List Edit)) (old : Register) (store : StoreValue P) (edited : List (List Edit)) (new : Register) (ids : List ℕ) (outcomes : List Outcome) (after : StoreValue P) (lost : ℕ)
+  pub RefitsTo-stored : (history : History) (old : Register) (store : StoreValue P) (edited : History) (new : Register) (ids : List ℕ) (outcomes : List Outcome) (after : StoreValue P) (lost : ℕ)
       → IsStoreOf old.stream store → ids ≡ ids_of new.stream → outcomes ≡ outcomes_of new.stream → RefitsLosing store ids outcomes lost after
-      → (refits : RefitsTo (store_of (machine_of journal old store)) new.stream (store_of (machine_of edited new after)))
+      → (refits : RefitsTo (store_of (machine_of history old store)) new.stream (store_of (machine_of edited new after)))
       × (refits.lost ≡ lost)
-  RefitsTo-stored journal old store edited new ids outcomes after lost is ids_are outcomes_are losing =
-      both_seen (λ (before after : StoreValue P). (refits : RefitsTo before new.stream after) × (refits.lost ≡ lost)) journal edited old new
+  RefitsTo-stored history old store edited new ids outcomes after lost is ids_are outcomes_are losing =
+      both_seen (λ (before after : StoreValue P). (refits : RefitsTo before new.stream after) × (refits.lost ≡ lost)) history edited old new
       store after is
       (record { identified = losing.0.ids_are ∙ ids_are; folded = losing.0.outcomes_are ∙ outcomes_are })
       (subst (λ (other : List ℕ). RefitsLosing store other (outcomes_of new.stream) lost after) ids_are
@@ -118,52 +117,53 @@ module _ {P : Type 0} where
   }
 
 module _ {P : Type 0} (IsOf : Key → P → Type 0) where
-  module _ (journal : List (List Edit)) (register : Register) (old new : StoreValue P) (is : IsStoreOf register.stream old) where
+  module _ (history : History) (register : Register) (old new : StoreValue P) (is : IsStoreOf register.stream old) where
     -- a job is taken
     pub take_seen : (answer : Result (Option (JobValue P)) TakeRefused) → pictures.AnswersTake IsOf old answer new
-        → AnswersTake IsOf (machine_of journal register old) answer (machine_of journal register new)
+        → AnswersTake IsOf (machine_of history register old) answer (machine_of history register new)
     take_seen answer answers = (
-      both_seen (λ (before after : StoreValue P). pictures.AnswersTake IsOf before answer after) journal journal register register old new is
+      both_seen (λ (before after : StoreValue P). pictures.AnswersTake IsOf before answer after) history history register register old new is
           (IsStoreOf-stays register.stream old new is (UnitsStay-take IsOf old answer new answers)) answers,
-      (refl, refl),
+      (refl, refl, refl),
     )
 
 module _ {P : Type 0} where
-  module _ (journal : List (List Edit)) (register : Register) (old new : StoreValue P) (is : IsStoreOf register.stream old) where
+  module _ (history : History) (register : Register) (old new : StoreValue P) (is : IsStoreOf register.stream old) where
     -- a picture of the job of a number lands
     pub land_of_seen : (number : ℕ) (picture : P) (answer : Landing) → pictures.AnswersLandOf old number picture answer new
-        → AnswersLandOf (machine_of journal register old) number picture answer (machine_of journal register new)
+        → AnswersLandOf (machine_of history register old) number picture answer (machine_of history register new)
     land_of_seen number picture answer answers = (
-      both_seen (λ (before after : StoreValue P). pictures.AnswersLandOf before number picture answer after) journal journal register register old new is
+      both_seen (λ (before after : StoreValue P). pictures.AnswersLandOf before number picture answer after) history history register register old new is
           (IsStoreOf-stays register.stream old new is (UnitsStay-land_of old number picture answer new answers)) answers,
-      (refl, refl),
+      (refl, refl, refl),
     )
 
     -- a job is given back
     pub give_back_seen : (job : JobValue P) (answer : Returning) → pictures.AnswersGiveBack old job answer new
-        → AnswersGiveBack (machine_of journal register old) job answer (machine_of journal register new)
+        → AnswersGiveBack (machine_of history register old) job answer (machine_of history register new)
     give_back_seen job answer answers = (
-      both_seen (λ (before after : StoreValue P). pictures.AnswersGiveBack before job answer after) journal journal register register old new is
+      both_seen (λ (before after : StoreValue P). pictures.AnswersGiveBack before job answer after) history history register register old new is
           (IsStoreOf-stays register.stream old new is (UnitsStay-give_back old job answer new answers)) answers,
-      (refl, refl),
+      (refl, refl, refl),
     )
 
     -- also by its number
     pub give_back_of_seen : (number : ℕ) (answer : Returning) → pictures.AnswersGiveBackOf old number answer new
-        → AnswersGiveBackOf (machine_of journal register old) number answer (machine_of journal register new)
+        → AnswersGiveBackOf (machine_of history register old) number answer (machine_of history register new)
     give_back_of_seen number answer answers = (
-      both_seen (λ (before after : StoreValue P). pictures.AnswersGiveBackOf before number answer after) journal journal register register old new is
+      both_seen (λ (before after : StoreValue P). pictures.AnswersGiveBackOf before number answer after) history history register register old new is
           (IsStoreOf-stays register.stream old new is (UnitsStay-give_back_of old number answer new answers)) answers,
-      (refl, refl),
+      (refl, refl, refl),
     )
 
   -- and is kept
-  pub IsKept-stays : (journal : List (List Edit)) (register : Register) (old new : StoreValue P)
-      → IsKept journal register old → UnitsStay old new → IsKept journal register new
-  IsKept-stays journal register old new kept stay = record {
+  pub IsKept-stays : (history : History) (register : Register) (old new : StoreValue P)
+      → IsKept history register old → UnitsStay old new → IsKept history register new
+  IsKept-stays history register old new kept stay = record {
     identified = stay.ids_stay ∙ kept.identified;
     folded = stay.outcomes_stay ∙ kept.folded;
     bounded = kept.bounded;
+    based = kept.based;
     replayed = kept.replayed;
   }
 
@@ -176,13 +176,13 @@ module _ {P : Type 0} (IsDecoded : InputValue P → P → Type 0) where
   UnitsStay-land old job landings.Taken new is = same_units old new _ is.2.3.4 refl refl
 
   -- so it is of the session
-  pub land_seen : (journal : List (List Edit)) (register : Register) (old new : StoreValue P) → IsStoreOf register.stream old
+  pub land_seen : (history : History) (register : Register) (old new : StoreValue P) → IsStoreOf register.stream old
       → (job : JobValue P) (answer : Landing) → pictures.AnswersResult IsDecoded old job answer new
-      → AnswersLand IsDecoded (machine_of journal register old) job answer (machine_of journal register new)
-  land_seen journal register old new is job answer answers = (
-    both_seen (λ (before after : StoreValue P). pictures.AnswersResult IsDecoded before job answer after) journal journal register register
+      → AnswersLand IsDecoded (machine_of history register old) job answer (machine_of history register new)
+  land_seen history register old new is job answer answers = (
+    both_seen (λ (before after : StoreValue P). pictures.AnswersResult IsDecoded before job answer after) history history register register
         old new is (IsStoreOf-stays register.stream old new is (UnitsStay-land old job answer new answers)) answers,
-    (refl, refl),
+    (refl, refl, refl),
   )
 
 -- a valid unit's picture has a key

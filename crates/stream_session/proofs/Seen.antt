@@ -12,12 +12,11 @@ use Rattle.decode_jobs.specs.Keys.{Key}
 use Rattle.picture_keys.specs.Known.{keys_of}
 use Rattle.picture_store.specs.Stores.{StoreValue, unit_keys}
 use Rattle.picture_store.specs.Showing.{HasKey as HasKeyAt, IsNumberAt, IsPictureAt}
-use Rattle.stream_edits.specs.declared.edits.Edit.{Edit}
 use Rattle.stream_session.specs.declared.showing.Shown.TheVariants as shown
 use Rattle.stream_edits.specs.Streams.{Stream, place_of}
 use Rattle.stream_edits.specs.Edits.{Register}
 use Rattle.stream_session.specs.Streams.{outcome_in}
-use Rattle.stream_session.specs.Kept.{machine_of}
+use Rattle.stream_session.specs.Kept.{History, machine_of}
 use Rattle.stream_session.specs.Showing.{keys_in, HasKey, HasNumber, Shows}
 use Rattle.stream_session.proofs.Looked.{length-outcomes_of}
 use Rattle.stream_session.proofs.Pictured.{IsStoreOf, key_of_plan}
@@ -31,7 +30,7 @@ module _ {P : Type 0} where
   pub length-folded : (stream : Stream) (store : StoreValue P) → IsStoreOf stream store → length store.outcomes ≡ length stream
   length-folded stream store is = ap length is.folded ∙ length-outcomes_of stream
 
-  module _ (journal : List (List Edit)) (register : Register) (store : StoreValue P) (id place : ℕ) where
+  module _ (history : History) (register : Register) (store : StoreValue P) (id place : ℕ) where
     -- the key at the place of the unit is the unit's
     key_found : IsStoreOf register.stream store → place_of register.stream id ≡ Some place → (key : Key)
         → slice_get (unit_keys store) place ≡ Some (Some key) → HasKey register.stream id key
@@ -71,7 +70,7 @@ module _ {P : Type 0} where
 
     -- the number at the place of the unit is that of the unit's key
     pub number_found : IsStoreOf register.stream store → place_of register.stream id ≡ Some place → (number : Option ℕ)
-        → IsNumberAt store place number → HasNumber (machine_of journal register store) id number
+        → IsNumberAt store place number → HasNumber (machine_of history register store) id number
     number_found is stands (Some number) at = (
       at.0,
       key_found is stands at.0 at.1,
@@ -85,8 +84,8 @@ module _ {P : Type 0} where
     )
 
 module _ {P : Type 0} (IsOf : Key → P → Type 0) where
-  module _ (journal : List (List Edit)) (register : Register) (store : StoreValue P) (id place : ℕ) where
+  module _ (history : History) (register : Register) (store : StoreValue P) (id place : ℕ) where
     -- a picture that is held
     pub shows_ready : IsStoreOf register.stream store → place_of register.stream id ≡ Some place → (picture : P)
-        → IsPictureAt IsOf store place (Some picture) → Shows IsOf (machine_of journal register store) id (shown.Ready picture)
-    shows_ready is stands picture held = (held.0, key_found journal register store id place is stands held.0 held.1, held.2, held.3, held.4)
+        → IsPictureAt IsOf store place (Some picture) → Shows IsOf (machine_of history register store) id (shown.Ready picture)
+    shows_ready is stands picture held = (held.0, key_found history register store id place is stands held.0 held.1, held.2, held.3, held.4)

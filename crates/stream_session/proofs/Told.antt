@@ -12,9 +12,8 @@ use Rattle.decode_jobs.specs.Keys.{Key}
 use Rattle.picture_keys.specs.Known.{Known, key_of, key_of_outcome, known_with, known_after, keys_after, keys_of}
 use Rattle.picture_store.specs.Stores.{OutValue, StoreValue}
 use Rattle.picture_store.specs.Jobs.{IsDue, Takes}
-use Rattle.stream_edits.specs.declared.edits.Edit.{Edit}
 use Rattle.stream_edits.specs.Streams.{Stream, ids_of}
-use Rattle.stream_session.specs.Kept.{machine_of}
+use Rattle.stream_session.specs.Kept.{History, machine_of}
 use Rattle.stream_session.specs.Showing.{keys_in}
 use Rattle.stream_session.specs.Jobs.{IsFirstWith, TellsTake}
 use Rattle.stream_session.proofs.Pictured.{IsStoreOf, take_seen}
@@ -102,11 +101,11 @@ module _ {P : Type 0} {IsOf : Key → P → Type 0} where
     }
 
     -- the job goes out, and its unit is told
-    pub told_seen : (journal : List (List Edit)) (given : ℕ) (id : ℕ) → slice_get (ids_of stream) (length takes.gives.before) ≡ Some id
-        → TellsTake IsOf (machine_of journal (record { ids_given = given; stream = stream }) old) (Ok (Some (id, job)))
-        (machine_of journal (record { ids_given = given; stream = stream }) new)
-    told_seen journal given id stands = (
-      take_seen IsOf journal (record { ids_given = given; stream = stream }) old new is (Ok (Some job)) takes,
+    pub told_seen : (history : History) (given : ℕ) (id : ℕ) → slice_get (ids_of stream) (length takes.gives.before) ≡ Some id
+        → TellsTake IsOf (machine_of history (record { ids_given = given; stream = stream }) old) (Ok (Some (id, job)))
+        (machine_of history (record { ids_given = given; stream = stream }) new)
+    told_seen history given id stands = (
+      take_seen IsOf history (record { ids_given = given; stream = stream }) old new is (Ok (Some job)) takes,
       (
         record { number = job.number; key = key; input = job.input },
         subst (λ (out : List (OutValue P)). Contains out (record { number = job.number; key = key; input = job.input }))

@@ -41,6 +41,7 @@ module _ {P : Type 0} where
   pub record EditsAll (old : Machine P) (edits : List Edit) (receipt : GroupReceipt) (new : Machine P) : Type 0 where
     pub sized : IsSized edits
     pub made : MakesAll old.register edits receipt.ids.items new.register
+    pub origin_stays : new.origin ≡ old.origin
     pub journaled : new.journal ≡ old.journal ++ edits ∷ []
     pub refits : RefitsTo (store_of old) new.register.stream (store_of new)
     pub loses : refits.lost ≡ receipt.lost_pictures

@@ -20,9 +20,9 @@ pub record IsFirstWith (stream : Stream) (key : Key) (id : ℕ) : Type 0 where
   pub first : All (λ other. other ≡ Some key → ⊥) (take at (keys_in stream))
 
 module _ {P : Type 0} where
-  -- the accepted edits stay, and with them the stream
+  -- the accepted edits stay, and with them the stream and what the session began from
   abbrev pub KeepsStream : Machine P → Machine P → Type 0
-  KeepsStream old new = (new.journal ≡ old.journal) × (new.register ≡ old.register)
+  KeepsStream old new = (new.journal ≡ old.journal) × (new.register ≡ old.register) × (new.origin ≡ old.origin)
 
   -- the unit of the id is that of the job of the number: the first that has the job's key
   abbrev pub IsUnitOf : Machine P → ℕ → ℕ → Type 0

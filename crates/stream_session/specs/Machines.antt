@@ -18,13 +18,14 @@ use Rattle.stream_edits.specs.Reading.{IsHashedFor}
 use Rattle.stream_edits.specs.Refusals.{IsRefused}
 use Rattle.stream_session.specs.Changing.{ChangesUnits}
 
--- the room of the cache; the accepted edits in order, those of a group as one entry, and what they
--- leave; the number of each unit's key, nothing for a unit that isn't valid; the keys whose
+-- the room of the cache; what the session began from; the accepted edits since then, in order, those
+-- of a group as one entry, and what they leave; the number of each unit's key, nothing for a unit that isn't valid; the keys whose
 -- pictures are held, and those whose pictures are cached, the one put last first; the pictures
 -- themselves; the jobs that are out; how many numbers of jobs were given; and the keys that the last
 -- mark remembers, where one was made
 pub record Machine (P : Type 0) : Type 0 where
   pub room : ℕ
+  pub origin : Register
   pub journal : List (List Edit)
   pub register : Register
   pub numbers : List (Option ℕ)
@@ -54,6 +55,7 @@ module _ {P : Type 0} where
   abbrev pub empty : ℕ → Machine P
   empty room = record {
     room = room;
+    origin = no_units;
     journal = [];
     register = no_units;
     numbers = [];
@@ -65,7 +67,7 @@ module _ {P : Type 0} where
     marked = None;
   }
 
-  -- the session is one before the first edit
+  -- the session is one before the first edit, of an empty stream
   abbrev pub IsEmpty : Machine P → Type 0
   IsEmpty machine = (room : ℕ) × (machine ≡ empty room)
 
@@ -97,9 +99,18 @@ module _ {P : Type 0} where
   abbrev pub RefitsTo : StoreValue P → Stream → StoreValue P → Type 0
   RefitsTo old stream new = Refits old (ids_of stream) (outcomes_of stream) new
 
+  -- the session begins with this stream, before the first edit; its pictures are those after the
+  -- stream has changed from no units to this one
+  pub record IsBegun (room : ℕ) (origin : Register) (machine : Machine P) : Type 0 where
+    pub origin_is : machine.origin ≡ origin
+    pub register_is : machine.register ≡ origin
+    pub journal_is : machine.journal ≡ []
+    pub refits : RefitsTo (store_of (empty room)) origin.stream (store_of machine)
+
   -- the edit is accepted with the receipt
   pub record Edits (old : Machine P) (edit : Edit) (receipt : Receipt) (new : Machine P) : Type 0 where
     pub made : Makes old.register edit receipt.id new.register
+    pub origin_stays : new.origin ≡ old.origin
     pub journaled : new.journal ≡ old.journal ++ (edit ∷ []) ∷ []
     pub refits : RefitsTo (store_of old) new.register.stream (store_of new)
     pub loses : refits.lost ≡ receipt.lost_pictures

@@ -3,7 +3,8 @@ use Rattle.std.specs.Prelude.{◌≡◌, ℕ, ◌+◌, ◌≤◌, List, [], ◌�
 use Rattle.changed_units.specs.declared.changed.Changed.{Changed}
 use Rattle.stream_edits.specs.declared.changes.Change.{Change}
 use Rattle.stream_edits.specs.declared.edits.Edit.{Edit}
-use Rattle.stream_edits.specs.Changes.{after, units_of}
+use Rattle.picture_store.specs.Stores.{StoreValue}
+use Rattle.stream_edits.specs.Changes.{after, stream_after, units_of}
 use Rattle.stream_edits.specs.Edits.{Register}
 use Rattle.stream_edits.specs.Groups.{MakesAll}
 use Rattle.stream_edits.specs.Streams.{Stream}
@@ -20,11 +21,22 @@ abbrev pub MakesFew : Change → Stream → ℕ → Type 0
 MakesFew change stream steps = (count : ℕ) → IsMeeting change stream count → steps ≤ length (units_of change) + count + 63
 
 module _ {P : Type 0} where
+  -- the pictures are those of the stream after the change, which took so many steps; so many of them
+  -- are lost, and these units changed
+  pub record MovesPictures (old : StoreValue P) (stream : Stream) (change : Change) (steps lost : ℕ) (changed : Changed) (new : StoreValue P)
+      : Type 0 where
+    pub refits : RefitsTo old (stream_after change stream) new
+    pub loses : refits.lost ≡ lost
+    pub few : MakesFew change stream steps
+    pub counted : IsCounted change stream steps
+    pub changes : ChangesUnits stream (stream_after change stream) changed
+
   -- the edits are made by the change, in so many steps; so many pictures are lost, and these units
   -- changed
   pub record Moves (old : Machine P) (edits : List Edit) (change : Change) (given steps lost : ℕ) (changed : Changed) (new : Machine P)
       : Type 0 where
     pub register_is : new.register ≡ after change given old.register.stream
+    pub origin_stays : new.origin ≡ old.origin
     pub journaled : new.journal ≡ old.journal ++ edits ∷ []
     pub refits : RefitsTo (store_of old) new.register.stream (store_of new)
     pub loses : refits.lost ≡ lost

@@ -9,8 +9,9 @@ ghost use Rattle.stream_edits.specs.Groups.{most_edits};
 ghost use Rattle.stream_edits.specs.Journals.{edits_of};
 ghost use Rattle.stream_edits.specs.Streams.{ids_of, last_of, place_of};
 ghost use Rattle.stream_edits.specs.Edits.{no_units, Replays};
+ghost use Rattle.stream_snapshot.specs.Snapshots.{IsAnyOf};
 ghost use Rattle.stream_session.specs.Grouping.{AnswersGroup};
-ghost use Rattle.stream_session.specs.Machines.{empty, AnswersEdit, KeepsPictures, store_of};
+ghost use Rattle.stream_session.specs.Machines.{empty, AnswersEdit, IsBegun, KeepsPictures, store_of};
 ghost use Rattle.stream_session.specs.Taken.{input_of};
 ghost use Rattle.stream_session.specs.Moves.{ComeTo, Moves};
 ghost use Rattle.stream_session.specs.Jobs.{AnswersGiveBack, AnswersGiveBackOf, AnswersLand, AnswersLandOf, AnswersTake, TellsTake};
@@ -21,8 +22,8 @@ mod marking;
 mod releasing;
 
 use crate::change_costs::ChangeCosts;
+use crate::changing::change_stream;
 use crate::config::{Config, ConfigFault};
-use crate::stretches::stretch_of;
 use base_types::Shared;
 use decode_jobs::{Decoded, Finished, Job};
 use dep_keys::KeyId;
@@ -36,6 +37,7 @@ use stream_edits::{
     JournalEntry, Last, ReadEdit, ReadGroup, Receipt, change_of, change_of_group, place_of,
 };
 use stream_fold::OrderedFold;
+use stream_snapshot::ReadSnapshot;
 
 /// A stream of access units under edits, with each unit's outcome, and with pictures, which jobs
 /// bring. Clauses see the accepted edits and what they leave, the keys whose pictures are held or
@@ -43,6 +45,7 @@ use stream_fold::OrderedFold;
 #[derive(Debug)]
 pub struct Session<P: Decoded> {
     alloc: Global,
+    origin: ReadSnapshot,
     journal: Vec<JournalEntry>,
     ids_given: u32,
     ordered: OrderedFold,
@@ -54,6 +57,7 @@ impl<P: Decoded> Drop for Session<P> {
     fn drop(self) {
         let Session {
             alloc: _,
+            origin: _,
             journal: _,
             ids_given: _,
             ordered: _,
@@ -74,10 +78,10 @@ impl<P: Decoded> Model for Session<P> {
 
     ghost use Rattle.stream_session.specs.Kept.{IsKept, machine_of};
 
-    ghost view = { λ s. machine_of s.journal.items
+    ghost view = { λ s. machine_of (record { origin = s.origin; entries = s.journal.items })
         (record { ids_given = s.ids_given; stream = s.ordered.folded.stream }) s.store };
 
-    ghost invariant = { λ s. IsKept s.journal.items
+    ghost invariant = { λ s. IsKept (record { origin = s.origin; entries = s.journal.items })
         (record { ids_given = s.ids_given; stream = s.ordered.folded.stream })
         s.store };
 }
@@ -94,10 +98,40 @@ impl<P: Decoded> Session<P> {
         }
         Ok(Session {
             alloc,
+            origin: ReadSnapshot::none(alloc),
             journal: Vec::new(alloc),
             ids_given: 0,
             ordered: OrderedFold::new(alloc)?,
             store: PictureStore::new(alloc, config.cache)?,
+        })
+    }
+
+    /// A session that begins from a snapshot: it has its units under their ids, no edit is made yet,
+    /// and no id of those that were given is given again. The edits that are accepted then lead from
+    /// the snapshot to the stream.
+    pub fn begun(
+        alloc: Global,
+        config: Config,
+        snapshot: ReadSnapshot,
+    ) -> Result<Session<P>, ConfigFault>
+        ensures ok { IfOk result (IsBegun config.cache snapshot) }
+        ensures cache { IsErrOf result ConfigFault.Cache
+            ↔ ((1 ≤ config.cache) × (config.cache ≤ most_room) → ⊥) }
+    {
+        if config.cache == 0 || config.cache > MOST_ROOM {
+            return Err(ConfigFault::Cache);
+        }
+        let mut ordered = OrderedFold::new(alloc)?;
+        let mut store = PictureStore::new(alloc, config.cache)?;
+        let units = Change::new(0, 0, snapshot.shares(alloc)?);
+        let _ = change_stream(alloc, &mut ordered, &mut store, units)?;
+        Ok(Session {
+            alloc,
+            ids_given: snapshot.ids_given(),
+            origin: snapshot,
+            journal: Vec::new(alloc),
+            ordered,
+            store,
         })
     }
 
@@ -200,20 +234,11 @@ impl<P: Decoded> Session<P> {
         ensures err { OnErr result (self.new ≡ self.old) }
         ensures pictures { P.GoesBack ≡ true → KeepsPictures self.old self.new }
     {
-        let outcomes = self.store.outcomes();
-        let prepared = self.ordered.prepare(self.alloc, change, outcomes)?;
-        let stretch = stretch_of(self.alloc, &self.ordered, &prepared)?;
-        let steps = prepared.refolded().steps();
         self.journal.reserve(1)?;
-        let taken = self.store.refit(stretch, self.ordered.states())?;
-        self.ordered.commit(prepared);
+        let costs = change_stream(self.alloc, &mut self.ordered, &mut self.store, change)?;
         self.journal.push_reserved(edits);
         self.ids_given = ids_given;
-        Ok(ChangeCosts {
-            steps,
-            lost_pictures: taken.lost as u64,
-            changed: taken.changed,
-        })
+        Ok(costs)
     }
 
     /// Gives a picture to decode: the earliest one of the stream that isn't held and isn't out as a
@@ -362,11 +387,28 @@ impl<P: Decoded> Session<P> {
         }
     }
 
-    /// The accepted edits, in order, those of a group as one entry.
+    /// A law of the session: its accepted edits lead to its stream, each accepted after those before
+    /// it, from what it began from. It does nothing.
+    pub fn reached(&self)
+        ensures replayed { Replays self.now.origin (edits_of self.now.journal) self.now.register }
+        ensures based { IsAnyOf self.now.origin }
+    {
+        // The invariant says so.
+        let _ = &self.journal;
+    }
+
+    /// Whether the session began with an empty stream, of which no id was given.
+    pub fn began_without_units(&self) -> bool
+        ensures { (result ≡ true) ↔ (self.now.origin ≡ no_units) }
+    {
+        self.origin.is_none()
+    }
+
+    /// The accepted edits, in order, those of a group as one entry, since the session began.
     pub fn journal(&self) -> &[JournalEntry]
         ensures value { result.now ≡ self.now.journal }
-        // Each accepted after those before it, they lead to the stream.
-        ensures replayed { Replays no_units (edits_of self.now.journal) self.now.register }
+        // Each accepted after those before it, they lead to the stream from what it began from.
+        ensures replayed { Replays self.now.origin (edits_of self.now.journal) self.now.register }
     {
         self.journal.as_slice()
     }

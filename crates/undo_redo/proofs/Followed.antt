@@ -35,7 +35,7 @@ unit-at (unit ∷ units) (text ∷ texts) zero d is within = (unit.1, is.0)
 unit-at (unit ∷ units) (text ∷ texts) (suc at) d is within = unit-at units texts at d is.1 (omega (arith, within))
 
 -- at the place of an id the id stands
-id-at : (ids : List ℕ) (id at : ℕ) → Some at ≡ place_among ids id → (at < length ids) × (id ≡ get_or ids at id)
+pub id-at : (ids : List ℕ) (id at : ℕ) → Some at ≡ place_among ids id → (at < length ids) × (id ≡ get_or ids at id)
 unfolding place_among
 id-at ids id at found =
     let stands = position-Some (λ other. eqb other id) ids at id (sym found) in

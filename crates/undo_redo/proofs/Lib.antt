@@ -5,3 +5,5 @@ pub mod Led
 pub mod Rechanged
 pub mod Stepped
 pub mod Refused
+pub mod Snapshots
+pub mod TextUnder

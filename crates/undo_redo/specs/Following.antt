@@ -1,5 +1,5 @@
 -- Texts that follow the edits of a stream.
-use Rattle.std.specs.Prelude.{◌≡◌, ℕ, ◌+◌, ◌-◌, ◌≤◌, List, ◌++◌, length, take, drop, vec_len}
+use Rattle.std.specs.Prelude.{ℕ, ◌+◌, ◌-◌, ◌≤◌, List, ◌++◌, length, take, drop, vec_len}
 use Rattle.std.specs.Vec.{vec_capacity}
 use Rattle.access_unit.specs.Rooms.{most_units}
 use Rattle.edit_history.specs.declared.changes.Change.{Change}

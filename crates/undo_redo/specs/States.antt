@@ -1,6 +1,5 @@
 -- What can be undone and redone, beside the texts that the stream had after each step.
-use Rattle.std.specs.Prelude.{◌≡◌, ℕ, ◌<◌, ◌≤◌, List, vec_len}
-use Rattle.std.specs.Vec.{vec_capacity}
+use Rattle.std.specs.Prelude.{◌≡◌, ℕ, List}
 use Rattle.edit_history.specs.Changes.{ChangesAll}
 use Rattle.edit_history.specs.Histories.{IsHistory}
 use Rattle.edit_history.specs.Texts.{Texts}

@@ -1,23 +1,29 @@
 //! What can be undone and redone of a stream, beside the texts of its units.
 
-ghost use Rattle.std.specs.Prelude.{◌≡◌, ℕ, ◌+◌, ◌-◌, ◌<◌, ◌≤◌, [], ◌∷◌, ◌++◌, length, take, List, None, Some, min, slice_get, vec_len, IfErr, IfOk, IfSome, OnOk};
+ghost use Rattle.std.specs.Prelude.{◌≡◌, ℕ, ◌+◌, ◌-◌, ◌<◌, ◌≤◌, [], ◌∷◌, ◌++◌, length, take, List, None, Some, min, option_copied, slice_get, vec_len, zip, IfErr, IfOk, IfSome, OnOk};
 ghost use Rattle.std.specs.Vec.{vec_capacity};
+ghost use Rattle.changed_units.specs.Units.{AreDifferent};
 ghost use Rattle.edit_history.specs.declared.refusals.NotUndone.TheVariants.{Unfit};
-ghost use Rattle.edit_history.specs.Histories.{HasRoom as HasStepRoom};
+ghost use Rattle.edit_history.specs.Histories.{HasRoom as HasStepRoom, IsHistory};
 ghost use Rattle.edit_history.specs.Refusals.{IsNotUndone};
 ghost use Rattle.edit_history.specs.Texts.{Texts};
 ghost use Rattle.stream_edits.specs.declared.edits.Edit.{Edit as EditValue};
 ghost use Rattle.stream_edits.specs.Edits.{Makes, Register, no_units};
 ghost use Rattle.stream_edits.specs.Groups.{MakesAll};
+ghost use Rattle.stream_snapshot.specs.Snapshots.{IsOf};
 ghost use Rattle.undo_redo.specs.Following.{AreRefusedOf, Follows, FollowsAll, HasRoom, IsRefusedOf};
+ghost use Rattle.undo_redo.specs.Kept.{IsKept};
+ghost use Rattle.undo_redo.specs.Snapshots.{AreOf, IsTextOf, text_under, texts_in};
 ghost use Rattle.undo_redo.specs.States.{IsAsBefore, IsUnderWay, IsUndoRedo, TakesTo};
 
 use crate::prepared::{PreparedEdit, PreparedGroup, Step};
 use crate::unit_texts::UnitTexts;
 use bytes::Bytes;
 use edit_history::{History, NotUndone, StepGroup};
+use pictures::AuId;
 use std::alloc::{AllocError, Global};
 use stream_edits::Edit;
+use stream_snapshot::Snapshot;
 
 /// What can be undone and redone of a stream, beside the texts of its units.
 #[derive(Debug)]
@@ -45,6 +51,43 @@ impl UndoRedo {
             history: History::new(alloc),
             units: UnitTexts::none(alloc),
         }
+    }
+
+    /// Of the stream of a snapshot: nothing can be undone or redone. The bytes of the texts are
+    /// shared.
+    pub fn of(alloc: Global, snapshot: &Snapshot) -> Result<UndoRedo, AllocError>
+        ensures begins { IfOk result (λ it. (register : Register) → IsOf snapshot.now register
+            → IsUndoRedo it (texts_in snapshot.now ∷ []) register) }
+        ensures units { IfOk result (λ it. AreOf snapshot.now it.units) }
+        ensures history { IfOk result (λ it.
+            IsHistory it.history (texts_in snapshot.now ∷ []) (texts_in snapshot.now)) }
+    {
+        Ok(UndoRedo {
+            history: History::new(alloc),
+            units: UnitTexts::of(alloc, snapshot)?,
+        })
+    }
+
+    /// The snapshot of the stream as it is. The bytes of the texts are shared.
+    pub fn snapshot(&self, alloc: Global) -> Result<Snapshot, AllocError>
+        ensures is_of { IfOk result (λ snapshot. (register : Register)
+            → IsKept self.now.units register → IsOf snapshot register) }
+        ensures units { IfOk result (λ snapshot.
+            snapshot.units ≡ zip self.now.units.ids.items self.now.units.texts.items) }
+        ensures given { IfOk result (λ snapshot.
+            snapshot.ids_given ≡ self.now.units.ids_given) }
+    {
+        self.units.snapshot(alloc)
+    }
+
+    /// The text of the unit of this id, or nothing where no unit has it.
+    pub fn text(&self, id: AuId) -> Option<&Bytes>
+        ensures is_of { (register : Register) → IsKept self.now.units register
+            → IsTextOf register id (option_copied result) }
+        ensures value { AreDifferent self.now.units.ids.items
+            → option_copied result ≡ text_under self.now.units id }
+    {
+        self.units.text(id)
     }
 
     /// The texts of the stream's units, in decoding order.

@@ -1,13 +1,16 @@
 //! The texts of a stream's units.
 
-ghost use Rattle.std.specs.Prelude.{◌≡◌, ℕ, List, [], None, IfOk, IfSome, OnOk};
+ghost use Rattle.std.specs.Prelude.{◌≡◌, ℕ, List, [], None, IfOk, IfSome, OnOk, option_copied, zip};
+ghost use Rattle.changed_units.specs.Units.{AreDifferent};
 ghost use Rattle.edit_history.specs.Changes.{Changes, ChangesAll};
 ghost use Rattle.edit_history.specs.Texts.{Texts};
 ghost use Rattle.stream_edits.specs.declared.edits.Edit.TheVariants.{Insert, Delete, Replace};
 ghost use Rattle.stream_edits.specs.Edits.{Register};
 ghost use Rattle.stream_edits.specs.Groups.{MakesAll};
+ghost use Rattle.stream_snapshot.specs.Snapshots.{IsOf};
 ghost use Rattle.undo_redo.specs.Following.{AreRefusedOf, Follows, HasRoom, HasSpace, IsLed, IsRefusedOf, ids_after, texts_after};
 ghost use Rattle.undo_redo.specs.Kept.{AreSame, IsKept};
+ghost use Rattle.undo_redo.specs.Snapshots.{AreOf, text_under};
 
 use crate::places::{place_of, start_of};
 use crate::prepared::PreparedEdit;
@@ -17,6 +20,7 @@ use edit_history::{Change, StepGroup};
 use pictures::AuId;
 use std::alloc::{AllocError, Global};
 use stream_edits::{Edit, Place};
+use stream_snapshot::Snapshot;
 
 /// The texts of a stream's units under their ids, in decoding order, and how many ids were given.
 #[derive(Debug)]
@@ -49,6 +53,48 @@ impl UnitTexts {
             texts: Vec::new(alloc),
             ids_given: 0,
         }
+    }
+
+    /// The texts and ids of a snapshot. The bytes are shared.
+    pub(crate) fn of(alloc: Global, snapshot: &Snapshot) -> Result<UnitTexts, AllocError>
+        ensures { IfOk result (AreOf snapshot.now) }
+    {
+        let units = snapshot.units();
+        let mut ids = Vec::with_capacity(alloc, units.len())?;
+        let mut texts = Vec::with_capacity(alloc, units.len())?;
+        for (id, text) in units {
+            ids.push(*id)?;
+            texts.push(text.clone()?)?;
+        }
+        Ok(UnitTexts {
+            ids,
+            texts,
+            ids_given: snapshot.ids_given(),
+        })
+    }
+
+    /// The snapshot with these texts and ids. The bytes are shared.
+    pub(crate) fn snapshot(&self, alloc: Global) -> Result<Snapshot, AllocError>
+        ensures is_of { IfOk result (λ snapshot. (register : Register)
+            → IsKept self.now register → IsOf snapshot register) }
+        ensures units { IfOk result (λ snapshot.
+            snapshot.units ≡ zip self.now.ids.items self.now.texts.items) }
+        ensures given { IfOk result (λ snapshot. snapshot.ids_given ≡ self.now.ids_given) }
+    {
+        let mut units = Vec::with_capacity(alloc, self.ids.len())?;
+        for (id, text) in self.ids.iter().zip(&self.texts) {
+            units.push((*id, text.clone()?))?;
+        }
+        Ok(Snapshot::new(units, self.ids_given))
+    }
+
+    /// The text under the id, if there is one.
+    pub(crate) fn text(&self, id: AuId) -> Option<&Bytes>
+        ensures { AreDifferent self.now.ids.items
+            → option_copied result ≡ text_under self.now id }
+    {
+        let at = place_of(&self.ids, id)?;
+        self.texts.get(at)
     }
 
     /// The same texts and ids once more. The bytes are shared.

@@ -30,7 +30,7 @@ impl DeskState<Picture> {
         ensures book { NotesEdit seat.old read result (length self.new.session.journal) seat.new }
         ensures status { self.new.status ≡ self.old.status }
     {
-        let _ = self.session.journal();
+        self.session.reached();
         seat.edit_read_in(&mut self.session, read)
     }
 
@@ -48,7 +48,7 @@ impl DeskState<Picture> {
         ensures book { NotesGroup seat.old group result (length self.new.session.journal) seat.new }
         ensures status { self.new.status ≡ self.old.status }
     {
-        let _ = self.session.journal();
+        self.session.reached();
         seat.edit_noted_group_in(&mut self.session, group, note)
     }
 
@@ -58,7 +58,7 @@ impl DeskState<Picture> {
         ensures session { IfOk result (λ shown. Shows self.now.session id shown) }
         ensures book { NotesShow seat.old id result (length self.now.session.journal) seat.new }
     {
-        let _ = self.session.journal();
+        self.session.reached();
         seat.show_in(&self.session, id)
     }
 
@@ -69,7 +69,7 @@ impl DeskState<Picture> {
         ensures book { NotesDrop seat.old id result (length self.new.session.journal) seat.new }
         ensures status { self.new.status ≡ self.old.status }
     {
-        let _ = self.session.journal();
+        self.session.reached();
         seat.drop_picture_in(&mut self.session, id)
     }
 
@@ -80,7 +80,7 @@ impl DeskState<Picture> {
             seat.new }
         ensures status { self.new.status ≡ self.old.status }
     {
-        let _ = self.session.journal();
+        self.session.reached();
         let mut inserted = 0;
         for unit in units {
             if let Err(refused) = self.append_one(seat, unit) {

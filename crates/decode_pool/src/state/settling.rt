@@ -48,7 +48,7 @@ impl<P: Decoded> DeskState<P> {
         ensures reached { IsReached self.now.session }
         ensures settled { IsSettledForBy P.IsOf self.now.session id self.now.status.ended workers result }
     {
-        let _ = self.session.journal();
+        self.session.reached();
         match self.session.show(id) {
             Shown::Pending => (self.status.ended >= workers).then_some(Settled::Idle),
             _ => Some(Settled::Done),
@@ -62,7 +62,7 @@ impl<P: Decoded> DeskState<P> {
             (AreSettledFrom P.IsOf self.now.session from)
             (λ at. IsPendingAt P.IsOf self.now.session at) }
     {
-        let _ = self.session.journal();
+        self.session.reached();
         let units = self.session.ids().len();
         for at in from..units {
             if let Shown::Pending = self.session.show_at(at) {

@@ -19,7 +19,7 @@ impl<P: Decoded> DeskState<P> {
         ensures reached { IsReached self.now.session }
         ensures session { result.now ≡ self.now.session }
     {
-        let _ = self.session.journal();
+        self.session.reached();
         &self.session
     }
 
@@ -30,7 +30,7 @@ impl<P: Decoded> DeskState<P> {
         ensures pictures { P.GoesBack ≡ true → KeepsPictures self.old.session self.new.session }
         ensures status { self.new.status ≡ self.old.status }
     {
-        let _ = self.session.journal();
+        self.session.reached();
         self.session.edit_read(read)
     }
 
@@ -41,7 +41,7 @@ impl<P: Decoded> DeskState<P> {
         ensures pictures { P.GoesBack ≡ true → KeepsPictures self.old.session self.new.session }
         ensures status { self.new.status ≡ self.old.status }
     {
-        let _ = self.session.journal();
+        self.session.reached();
         self.session.edit_group_read(group)
     }
 
@@ -50,7 +50,7 @@ impl<P: Decoded> DeskState<P> {
         ensures reached { IsReached self.now.session }
         ensures session { Shows P.IsOf self.now.session id result }
     {
-        let _ = self.session.journal();
+        self.session.reached();
         self.session.show(id)
     }
 
@@ -60,7 +60,7 @@ impl<P: Decoded> DeskState<P> {
         ensures session { AnswersDrop P.IsOf self.old.session id result self.new.session }
         ensures status { self.new.status ≡ self.old.status }
     {
-        let _ = self.session.journal();
+        self.session.reached();
         self.session.drop_picture(id)
     }
 }

@@ -46,10 +46,12 @@ fn record_none(journal: &mut SessionFile) -> bool {
     journal.keep_group(&[]) == Err(Unkept::Unwritten)
 }
 
-fn shape(step: &Step) -> Shape {
+/// What the step is, unless it is a snapshot.
+fn shape(step: &Step) -> Option<Shape> {
     match step {
-        Step::Edits(edits) => (false, edits.edits().len()),
-        Step::Load(edits) => (true, edits.edits().len()),
+        Step::Edits(edits) => Some((false, edits.edits().len())),
+        Step::Load(edits) => Some((true, edits.edits().len())),
+        Step::Snapshot(_) => None,
     }
 }
 
@@ -58,7 +60,7 @@ fn are(steps: &[Step], wanted: &[Shape]) -> bool {
         return false;
     }
     for (step, wanted) in steps.iter().zip(wanted) {
-        if shape(step) != *wanted {
+        if shape(step) != Some(*wanted) {
             return false;
         }
     }

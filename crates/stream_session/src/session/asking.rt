@@ -32,7 +32,7 @@ impl<P: Decoded> Session<P> {
             ≡ Some (length self.now.register.stream) }
     {
         // Its ids differ, since edits led to the stream.
-        let _ = self.journal();
+        self.reached();
         self.last().end()
     }
 

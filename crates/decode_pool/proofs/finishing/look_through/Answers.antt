@@ -1,11 +1,22 @@
 use Rattle.std.proofs.Common.{◌≡◌, ℕ, ◌+◌, ◌<◌, List, true, length, sym, subst}
 use Rattle.std.proofs.lemmas.Result.{err_from_is_err_and}
 use Rattle.stream_edits.specs.declared.edits.Edit.{Edit}
+use Rattle.stream_edits.specs.Edits.{Register, Replays}
+use Rattle.stream_edits.specs.Journals.{edits_of}
 use Rattle.seat_books.specs.declared.book.SeatBook.{SeatBook}
 use Rattle.seat_books.specs.Books.{BooksAgree, is_noted}
 use Rattle.decode_pool.specs.Finishing.{AreBooksOf, AreNumbered, IsFinished}
 use Rattle.decode_pool.proofs.Ended.{Lacks, audited, finished, missed, want_err}
 use Rattle.decode_pool.proofs.finishing.look_through.Goals as goal
+
+pub audit-requires : goal.audit-requires
+audit-requires c =
+    let session = c.args.session.now in
+    let none = c.began_without_units.ensures.0 c.if-not-began_without_units.false in (
+      session.register,
+      rw (c.journal-journal.ensures.value)
+          (subst (λ (origin : Register). Replays origin (edits_of session.journal) session.register) none c.journal-journal.ensures.replayed),
+    )
 
 pub returns-in_err-books-clause-err : goal.returns-in_err-books-clause-err
 returns-in_err-books-clause-err c =

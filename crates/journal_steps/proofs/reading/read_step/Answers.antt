@@ -4,7 +4,7 @@ use Rattle.journal_steps.specs.declared.step.Step.{Step}
 use Rattle.journal_steps.specs.Kept.{given_by_step, kept_of_step}
 use Rattle.journal_steps.specs.Records.{kept_in}
 use Rattle.journal_steps.proofs.LineLemmas.{length-kept, some_kept}
-use Rattle.journal_steps.proofs.StepLemmas.{by_edits, by_load, class, no_step}
+use Rattle.journal_steps.proofs.StepLemmas.{by_edits, by_load, by_snapshot, class}
 use Rattle.journal_steps.proofs.reading.read_step.Goals as goal
 
 pub returns-in_default-clause-only : goal.returns-in_default-clause-only
@@ -19,11 +19,15 @@ returns-in-Load-clause-only c step is kept =
     by_load (λ (s : Step). IfOk c.read_load.result (λ (read : Option (Step × ℕ)). read ≡ Some (s, given_by_step c.args.given s))) c.args.given step c.in-Some.first.now.step (kept_in c.in-Some.more.now) is
     (subst (λ (l : List Line). kept_in l ≡ kept_of_step c.args.given step) whole kept) (ap class c.in-Load.is) c.read_load.ensures.only
 
+pub returns-in-Unit-clause-read : goal.returns-in-Unit-clause-read
+returns-in-Unit-clause-read c = c.read_stream.ensures.read c.args.given
+
 pub returns-in-Unit-clause-only : goal.returns-in-Unit-clause-only
 returns-in-Unit-clause-only c step is kept =
     let whole : c.args.lines.now ≡ c.in-Some.first.now ∷ c.in-Some.more.now = search rules in
     let same : class c.in-Some.first.now.step.kind ≡ 2 = elim c.in-Unit.is [ inl unit ↦ ap class unit | inr given ↦ ap class given ] in
-    absurd (no_step c.args.given step c.in-Some.first.now.step (kept_in c.in-Some.more.now) is (subst (λ (l : List Line). kept_in l ≡ kept_of_step c.args.given step) whole kept) same)
+    by_snapshot (λ (s : Step). IfOk c.read_stream.result (λ (read : Option (Step × ℕ)). read ≡ Some (s, given_by_step c.args.given s))) c.args.given step c.in-Some.first.now.step (kept_in c.in-Some.more.now) is
+    (subst (λ (l : List Line). kept_in l ≡ kept_of_step c.args.given step) whole kept) same (λ s whole_kept. c.read_stream.ensures.only c.args.given s (ap kept_in whole ∙ whole_kept))
 
 pub returns-in-Insert-clause-only : goal.returns-in-Insert-clause-only
 returns-in-Insert-clause-only c step is kept =

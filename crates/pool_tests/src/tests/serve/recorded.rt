@@ -3,7 +3,7 @@
 use super::{A, ServeEnd, served_by};
 use bytes::Bytes;
 use pictures::AuId;
-use session_journal::{EditList, Records, Step, Unkept};
+use session_journal::{EditList, Records, Snapshot, Step, Unkept};
 use std::alloc::{AllocError, Global};
 use std::thread::Threads;
 use stream_edits::{Edit, Place};
@@ -51,6 +51,10 @@ impl Records for Few {
     fn shorten(&mut self, _made: usize) {}
 
     fn clear(&mut self) -> Result<(), Unkept> {
+        self.keep()
+    }
+
+    fn compact(&mut self, _snapshot: &Snapshot) -> Result<(), Unkept> {
         self.keep()
     }
 }
@@ -146,6 +150,43 @@ fn ends_unreplayed<R: AllocGlobal + Threads + Sync>(rt: &R) -> Result<bool, Allo
     let journal = Few { left: 1, ids: 3 };
     let (end, output) = served_by(rt, Some((journal, from_refused)), ASKED.as_bytes());
     Ok(end == ServeEnd::Unreplayed && output.is_empty())
+}
+
+/// The units of the ids 5 and 9, where twelve were given, and a deletion of the first.
+fn from_snapshot(alloc: Global) -> Result<Vec<Step>, AllocError> {
+    let mut units = Vec::new(alloc);
+    units.push((AuId::new(5), text(alloc)?))?;
+    units.push((AuId::new(9), text(alloc)?))?;
+    let mut edits = Vec::new(alloc);
+    edits.push(Edit::Delete(AuId::new(5)))?;
+    let mut steps = Vec::new(alloc);
+    steps.push(Step::Snapshot(Snapshot::new(units, 12)))?;
+    steps.push(Step::Edits(EditList::new(edits)))?;
+    Ok(steps)
+}
+
+/// Questions after these, of which the second can't be recorded.
+const ASKED_OF_SNAPSHOT: &str = "{\"jsonrpc\":\"2.0\",\"id\":1,\"method\":\"compact\"}\n\
+    {\"jsonrpc\":\"2.0\",\"id\":2,\"method\":\"compact\"}\n\
+    {\"jsonrpc\":\"2.0\",\"id\":3,\"method\":\"find\",\"params\":{\"position\":0}}\n\
+    {\"jsonrpc\":\"2.0\",\"id\":4,\"method\":\"journal\",\"params\":{\"from\":0,\"count\":9}}\n";
+
+const ANSWERS_OF_SNAPSHOT: &str = "{\"jsonrpc\":\"2.0\",\"id\":1,\"result\":\"compacted\"}\n\
+    {\"jsonrpc\":\"2.0\",\"id\":2,\"error\":{\"code\":25,\"message\":\"CannotWrite\",\"data\":{\"reason\":\"the file can't be written\"}}}\n\
+    {\"jsonrpc\":\"2.0\",\"id\":3,\"result\":{\"id\":9,\"place\":0}}\n\
+    {\"jsonrpc\":\"2.0\",\"id\":4,\"result\":[{\"edits\":[{\"delete\":{\"id\":5}}]}]}\n";
+
+/// Whether a server that begins from a snapshot answers so.
+fn begins_from_snapshot<R: AllocGlobal + Threads + Sync>(rt: &R) -> Result<bool, AllocError> {
+    let journal = Few { left: 1, ids: 12 };
+    let steps = from_snapshot(rt.alloc())?;
+    let (end, output) = served_by(rt, Some((journal, steps)), ASKED_OF_SNAPSHOT.as_bytes());
+    Ok(end == ServeEnd::Done && output.as_slice() == ANSWERS_OF_SNAPSHOT.as_bytes())
+}
+
+#[test]
+fn a_server_begins_from_a_snapshot(rt: HostRuntime) {
+    assert!(rt; begins_from_snapshot(&rt) == Ok(true));
 }
 
 #[test]

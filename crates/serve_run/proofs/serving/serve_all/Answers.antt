@@ -20,7 +20,7 @@ loop-value-preserved g c = λ rest new wants left.
     at_drop_more items_view values at value c.loop-value-test.true
     ∙ ap (λ (first : Value). item (view first) (items_view (drop (at + 1) values))) (sym c.value-item.is) in
     let whole = c.loop-value.invariant (one.0 ∷ rest) new wants
-    (subst (λ (items : Items). ServesAll g.B.LendsSession.is_session g.B.Backend.lends_jobs g.S.Source.file c.loop-value.server c.loop-value.wanted.items
+    (subst (λ (items : Items). ServesAll g.B.LendsSession.is_session g.B.Backend.offers g.S.Source.file c.loop-value.server c.loop-value.wanted.items
     items (one.0 ∷ rest) new wants) (sym next)
     (one.0, rest, c.serve_one-one_is.new.server, c.serve_one-one_is.new.wanted.items, one.1, left, refl)) in (
       whole.0,
@@ -35,6 +35,6 @@ returns g c =
     let at = c.loop-value.value-index in
     let over : length values ≤ at = omega (arith, c.loop-value-test.false) in
     let whole = c.loop-value.invariant [] c.loop-value.server c.loop-value.wanted.items
-    (subst (λ (items : Items). ServesAll g.B.LendsSession.is_session g.B.Backend.lends_jobs g.S.Source.file c.loop-value.server c.loop-value.wanted.items
+    (subst (λ (items : Items). ServesAll g.B.LendsSession.is_session g.B.Backend.offers g.S.Source.file c.loop-value.server c.loop-value.wanted.items
     items [] c.loop-value.server c.loop-value.wanted.items) (sym (at_drop_all items_view values at over)) (refl, refl, refl)) in
     (whole.0, whole.1, sym (whole.2 ∙ or_false c.loop-value.is_last))

@@ -8,7 +8,7 @@ returns g c =
     let all = c.serve_all-is_last.ensures in (
       all.0,
       c.serve_all-is_last.new.wanted.items,
-      subst (λ (items : Items). ServesAll g.B.LendsSession.is_session g.B.Backend.lends_jobs g.S.Source.file c.args.server.now
+      subst (λ (items : Items). ServesAll g.B.LendsSession.is_session g.B.Backend.offers g.S.Source.file c.args.server.now
           c.args.writer.now.wanted.items items all.0 c.serve_all-is_last.new.server c.serve_all-is_last.new.wanted.items)
           c.messages_in-messages.ensures all.1,
       subst (λ (is_last : Bool). GoesOn is_last c.go_on.result) all.2 c.go_on.ensures,

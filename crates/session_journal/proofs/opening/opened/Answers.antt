@@ -13,7 +13,7 @@ returns-clause-ends g c front edits is =
     let given : c.in-Some.given ≡ given_by_steps 0 steps = search rules in
     let are : AllByRecursion IsStep steps = search rules in
     let entries : c.args.journal.entries ≡ length steps = search rules in
-    let read : c.deref.result.now ≡ steps = search rules in
+    let read : c.deref-2.result.now ≡ steps = search rules in
     let stands : Standing g.S.Store (record { journal = c.args.journal; alloc = c.args.alloc; given = c.in-Some.given; last = c.in_ok-last.last; is_shut = false }) steps =
     record { given = given; holds = λ _. opened_has g.S.Store c.args.journal c.args.lines.now steps lines entries c.requires (λ db. g.met.S.Store.settled c.args.journal.store db) } in
     opened_end g.S.Store _ steps front edits is stands are (c.in_ok-last.ensures.rows front edits (read ∙ is)) (c.in_ok-last.ensures.before front edits (read ∙ is)) c.in_ok-last.ensures.load

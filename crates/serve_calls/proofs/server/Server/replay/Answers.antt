@@ -27,3 +27,9 @@ returns-in-Edits-clause-refused g c =
     (sym c.in-Edits.is)
     (subst (λ (edits : List Edit). c.replay_edits.result ≡ Err unreplayed.Refused → RefusesEdits is c.args.self.now edits c.replay_edits.new.self)
     c.into_edits.ensures c.replay_edits.ensures.refused)
+
+pub returns-in-Snapshot-clause-made : goal.returns-in-Snapshot-clause-made
+returns-in-Snapshot-clause-made g c =
+    let is = g.B.LendsSession.is_session in
+    subst (λ (step : Recorded). OnOk c.begin_from.result (ReplaysOne is c.args.self.now step c.begin_from.new.self)) (sym c.in-Snapshot.is)
+    c.begin_from.ensures.made

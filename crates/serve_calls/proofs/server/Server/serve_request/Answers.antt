@@ -10,7 +10,7 @@ returns g c =
       call,
       subst (λ (has_jobs : Bool). IsRequestAnswer (called has_jobs (parts_of c.args.request.now)) call)
           c.has_jobs.ensures c.call-call.ensures,
-      subst (λ (answered : Bool). IsServedBy g.B.LendsSession.is_session g.B.Backend.lends_jobs g.S.Source.file c.args.self.now
+      subst (λ (answered : Bool). IsServedBy g.B.LendsSession.is_session g.B.Backend.offers g.S.Source.file c.args.self.now
           c.args.wanted.now.items answered call c.serve_call.result c.serve_call.new.self c.serve_call.new.wanted.items)
           c.is_answered.ensures c.serve_call.ensures,
     )

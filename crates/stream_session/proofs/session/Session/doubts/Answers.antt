@@ -9,11 +9,11 @@ doubts_of-requires-clause-same g c =
     let s = c.self.inside in
     let stream = s.ordered.folded.stream in
     let is : IsStoreOf stream s.store =
-    IsStoreOf-kept s.journal.items (record { ids_given = s.ids_given; stream = stream }) s.store c.self.invariant in
+    IsStoreOf-kept (record { origin = s.origin; entries = s.journal.items }) (record { ids_given = s.ids_given; stream = stream }) s.store c.self.invariant in
     ap length c.outcomes-outcomes.ensures ∙ (length-folded stream s.store is ∙ sym (ap length c.units-units.ensures))
 
 pub doubts_of-requires-clause-differ : goal.doubts_of-requires-clause-differ
 doubts_of-requires-clause-differ g c =
     let s = c.self.inside in
     rw (c.units-units.ensures, c.outcomes-outcomes.ensures, c.self.invariant.folded)
-    (ids_differ s.journal.items (record { ids_given = s.ids_given; stream = s.ordered.folded.stream }) s.store c.self.invariant)
+    (ids_differ (record { origin = s.origin; entries = s.journal.items }) (record { ids_given = s.ids_given; stream = s.ordered.folded.stream }) s.store c.self.invariant)

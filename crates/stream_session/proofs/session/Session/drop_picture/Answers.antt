@@ -9,7 +9,7 @@ use Rattle.stream_session.proofs.session.Session.drop_picture.Goals.{in-Some-dro
 pub returns : goal.returns
 returns g c =
     let s = c.self.inside in
-    let is : IsStoreOf s.ordered.folded.stream s.store = IsStoreOf-kept s.journal.items (record { ids_given = s.ids_given; stream = s.ordered.folded.stream }) s.store c.self.invariant in
+    let is : IsStoreOf s.ordered.folded.stream s.store = IsStoreOf-kept (record { origin = s.origin; entries = s.journal.items }) (record { ids_given = s.ids_given; stream = s.ordered.folded.stream }) s.store c.self.invariant in
     let stands : place_of s.ordered.folded.stream c.args.id ≡ Some c.in-Some.place =
     sym (rw (← c.self.view_is) at c.in-Some.ensures.value) in
     let Drops : Option g.row.P.Denot → Type 0 = λ answer.
@@ -19,16 +19,16 @@ returns g c =
           rw (w.result-is, ← c.self.view_is) (
             c.in-Some.place,
             stands,
-            drop_seen g.P.Decoded.IsOf s.journal.items (record { ids_given = s.ids_given; stream = s.ordered.folded.stream }) s.store is c.in-Some.place (Some w.in-Some-drop_picture.picture) c.drop_picture.new.self
+            drop_seen g.P.Decoded.IsOf (record { origin = s.origin; entries = s.journal.items }) (record { ids_given = s.ids_given; stream = s.ordered.folded.stream }) s.store is c.in-Some.place (Some w.in-Some-drop_picture.picture) c.drop_picture.new.self
                 (subst Drops w.in-Some-drop_picture.is c.drop_picture.ensures),
-            (refl, refl),
+            (refl, refl, refl),
           )
       | in-None w ↦
           rw (w.result-is, ← c.self.view_is) (
             c.in-Some.place,
             stands,
-            drop_seen g.P.Decoded.IsOf s.journal.items (record { ids_given = s.ids_given; stream = s.ordered.folded.stream }) s.store is c.in-Some.place None c.drop_picture.new.self
+            drop_seen g.P.Decoded.IsOf (record { origin = s.origin; entries = s.journal.items }) (record { ids_given = s.ids_given; stream = s.ordered.folded.stream }) s.store is c.in-Some.place None c.drop_picture.new.self
                 (subst Drops w.in-None.is c.drop_picture.ensures),
-            (refl, refl),
+            (refl, refl, refl),
           )
     ]

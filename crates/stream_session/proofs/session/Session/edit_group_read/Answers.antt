@@ -1,5 +1,5 @@
 use Rattle.std.proofs.Common.{◌≡◌, length, arith, refl}
-use Rattle.stream_session.proofs.Looked.{ids_kept}
+use Rattle.stream_session.proofs.Accepted.{HasIds-kept}
 use Rattle.stream_session.proofs.Moved.{EditsAll-moved}
 use Rattle.stream_session.proofs.session.Session.edit_group_read.Goals as goal
 
@@ -7,7 +7,7 @@ pub change_of_group-requires-clause-different : goal.change_of_group-requires-cl
 change_of_group-requires-clause-different g c =
     let s = c.self.inside in
     rw c.units-units.ensures
-    (ids_kept s.journal.items (record { ids_given = s.ids_given; stream = s.ordered.folded.stream }) s.store c.self.invariant)
+    (HasIds-kept (record { origin = s.origin; entries = s.journal.items }) (record { ids_given = s.ids_given; stream = s.ordered.folded.stream }) s.store c.self.invariant)
 
 pub returns-clause-answers : goal.returns-clause-answers
 returns-clause-answers g c =
@@ -16,7 +16,7 @@ returns-clause-answers g c =
     let moves = rw (c.of_group-entry.ensures, c.into_edits.ensures, ← c.self.view_is) at c.in_ok-costs.ensures.ok in
     let s = c.self.inside in
     let different =
-    ids_kept s.journal.items (record { ids_given = s.ids_given; stream = s.ordered.folded.stream }) s.store c.self.invariant in
+    HasIds-kept (record { origin = s.origin; entries = s.journal.items }) (record { ids_given = s.ids_given; stream = s.ordered.folded.stream }) s.store c.self.invariant in
     let number : c.len.result ≡ length c.make.new.self.journal =
     rw (← c.self-2.view_is) (omega (arith, c.len.ensures, c.self-2.inside.journal.ok.0)) in
     rw (← c.self.view_is)

@@ -11,7 +11,7 @@ pub change_of-requires-clause-different : goal.change_of-requires-clause-differe
 change_of-requires-clause-different g c =
     let s = c.self.inside in
     rw c.ids-ids.ensures
-    (ids_apart s.journal.items (record { ids_given = s.ids_given; stream = s.ordered.folded.stream }) s.store c.self.invariant)
+    (ids_apart (record { origin = s.origin; entries = s.journal.items }) (record { ids_given = s.ids_given; stream = s.ordered.folded.stream }) s.store c.self.invariant)
 
 pub make-requires-clause-come : goal.make-requires-clause-come
 make-requires-clause-come g c =

@@ -5,4 +5,4 @@ pub place_of-requires : goal.place_of-requires
 place_of-requires g c =
     let s = c.self.inside in
     rw c.ids.ensures
-    (ids_apart s.journal.items (record { ids_given = s.ids_given; stream = s.ordered.folded.stream }) s.store c.self.invariant)
+    (ids_apart (record { origin = s.origin; entries = s.journal.items }) (record { ids_given = s.ids_given; stream = s.ordered.folded.stream }) s.store c.self.invariant)

@@ -5,6 +5,6 @@ pub returns : goal.returns
 returns g c =
     let s = c.self.inside in
     rw (← c.self.view_is)
-    (give_back_of_seen s.journal.items (record { ids_given = s.ids_given; stream = s.ordered.folded.stream }) s.store c.give_back_number.new.self
-    (IsStoreOf-kept s.journal.items (record { ids_given = s.ids_given; stream = s.ordered.folded.stream }) s.store c.self.invariant) c.args.number c.give_back_number.result
+    (give_back_of_seen (record { origin = s.origin; entries = s.journal.items }) (record { ids_given = s.ids_given; stream = s.ordered.folded.stream }) s.store c.give_back_number.new.self
+    (IsStoreOf-kept (record { origin = s.origin; entries = s.journal.items }) (record { ids_given = s.ids_given; stream = s.ordered.folded.stream }) s.store c.self.invariant) c.args.number c.give_back_number.result
     c.give_back_number.ensures)

@@ -8,9 +8,9 @@ pub returns-clause-value : goal.returns-clause-value
 returns-clause-value g c =
     let s = c.self.inside in
     let is : IsStoreOf s.ordered.folded.stream s.store =
-    IsStoreOf-kept s.journal.items (record { ids_given = s.ids_given; stream = s.ordered.folded.stream }) s.store c.self.invariant in
+    IsStoreOf-kept (record { origin = s.origin; entries = s.journal.items }) (record { ids_given = s.ids_given; stream = s.ordered.folded.stream }) s.store c.self.invariant in
     rw (← c.self.view_is)
-    (one_seen (λ (store : StoreValue g.row.P.Denot). IsTrue c.in_use.result ↔ IsNumberInUse store c.args.key) s.journal.items
+    (one_seen (λ (store : StoreValue g.row.P.Denot). IsTrue c.in_use.result ↔ IsNumberInUse store c.args.key) (record { origin = s.origin; entries = s.journal.items })
     (record { ids_given = s.ids_given; stream = s.ordered.folded.stream }) s.store is c.in_use.ensures.value)
 
 pub returns-clause-listed : goal.returns-clause-listed
@@ -20,7 +20,7 @@ pub returns-clause-one : goal.returns-clause-one
 returns-clause-one g c =
     let s = c.self.inside in
     let is : IsStoreOf s.ordered.folded.stream s.store =
-    IsStoreOf-kept s.journal.items (record { ids_given = s.ids_given; stream = s.ordered.folded.stream }) s.store c.self.invariant in
+    IsStoreOf-kept (record { origin = s.origin; entries = s.journal.items }) (record { ids_given = s.ids_given; stream = s.ordered.folded.stream }) s.store c.self.invariant in
     rw (← c.self.view_is)
-    (one_seen (λ (store : StoreValue g.row.P.Denot). AreOneToOne store store) s.journal.items (record { ids_given = s.ids_given; stream = s.ordered.folded.stream }) s.store is
+    (one_seen (λ (store : StoreValue g.row.P.Denot). AreOneToOne store store) (record { origin = s.origin; entries = s.journal.items }) (record { ids_given = s.ids_given; stream = s.ordered.folded.stream }) s.store is
     c.in_use.ensures.one)

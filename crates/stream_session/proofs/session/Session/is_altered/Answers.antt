@@ -9,7 +9,7 @@ pub is_altered-requires : goal.is_altered-requires
 is_altered-requires g c =
     let s = c.self.inside in
     let is : IsStoreOf s.ordered.folded.stream s.store =
-    IsStoreOf-kept s.journal.items (record { ids_given = s.ids_given; stream = s.ordered.folded.stream }) s.store c.self.invariant in
+    IsStoreOf-kept (record { origin = s.origin; entries = s.journal.items }) (record { ids_given = s.ids_given; stream = s.ordered.folded.stream }) s.store c.self.invariant in
     omega (
       arith,
       rw (← c.self.view_is) at c.in-Some.ensures.inside,
@@ -20,12 +20,12 @@ pub returns-in-Some : goal.returns-in-Some
 returns-in-Some g c =
     let s = c.self.inside in
     let is : IsStoreOf s.ordered.folded.stream s.store =
-    IsStoreOf-kept s.journal.items (record { ids_given = s.ids_given; stream = s.ordered.folded.stream }) s.store c.self.invariant in
+    IsStoreOf-kept (record { origin = s.origin; entries = s.journal.items }) (record { ids_given = s.ids_given; stream = s.ordered.folded.stream }) s.store c.self.invariant in
     let stands : place_of s.ordered.folded.stream c.args.id ≡ Some c.in-Some.place =
     sym (rw (← c.self.view_is) at c.in-Some.ensures.value) in
     rw (← c.self.view_is) (
       c.in-Some.place,
       stands,
-      altered_seen s.journal.items (record { ids_given = s.ids_given; stream = s.ordered.folded.stream }) s.store is c.args.id
+      altered_seen (record { origin = s.origin; entries = s.journal.items }) (record { ids_given = s.ids_given; stream = s.ordered.folded.stream }) s.store is c.args.id
           c.in-Some.place stands c.is_altered.result c.is_altered.ensures,
     )

@@ -10,6 +10,6 @@ pub returns : goal.returns
 returns g c =
     let s = c.self.inside in
     rw (← c.self.view_is)
-    (land_of_seen s.journal.items (record { ids_given = s.ids_given; stream = s.ordered.folded.stream }) s.store c.land_number.new.self
-    (IsStoreOf-kept s.journal.items (record { ids_given = s.ids_given; stream = s.ordered.folded.stream }) s.store c.self.invariant) c.args.number c.args.picture c.land_number.result
+    (land_of_seen (record { origin = s.origin; entries = s.journal.items }) (record { ids_given = s.ids_given; stream = s.ordered.folded.stream }) s.store c.land_number.new.self
+    (IsStoreOf-kept (record { origin = s.origin; entries = s.journal.items }) (record { ids_given = s.ids_given; stream = s.ordered.folded.stream }) s.store c.self.invariant) c.args.number c.args.picture c.land_number.result
     c.land_number.ensures)

@@ -7,8 +7,8 @@ pub invariant_of-self : goal.invariant_of-self
 invariant_of-self g c =
     let s = c.self.inside in
     let register : Register = record { ids_given = s.ids_given; stream = s.ordered.folded.stream } in
-    IsKept-stays s.journal.items register s.store c.mark.new.self c.self.invariant
-    (mark_stays s.journal.items register s.store (IsStoreOf-kept s.journal.items register s.store c.self.invariant) c.mark.result
+    IsKept-stays (record { origin = s.origin; entries = s.journal.items }) register s.store c.mark.new.self c.self.invariant
+    (mark_stays (record { origin = s.origin; entries = s.journal.items }) register s.store (IsStoreOf-kept (record { origin = s.origin; entries = s.journal.items }) register s.store c.self.invariant) c.mark.result
     c.mark.new.self c.mark.ensures.ok c.mark.ensures.err)
 
 pub returns-clause-ok : goal.returns-clause-ok
@@ -16,14 +16,14 @@ returns-clause-ok g c =
     let s = c.self.inside in
     let register : Register = record { ids_given = s.ids_given; stream = s.ordered.folded.stream } in
     rw (← c.self.view_is)
-    (mark_told s.journal.items register s.store (IsStoreOf-kept s.journal.items register s.store c.self.invariant) c.mark.result
+    (mark_told (record { origin = s.origin; entries = s.journal.items }) register s.store (IsStoreOf-kept (record { origin = s.origin; entries = s.journal.items }) register s.store c.self.invariant) c.mark.result
     c.mark.new.self c.mark.ensures.ok)
 
 pub returns-clause-unaltered : goal.returns-clause-unaltered
 returns-clause-unaltered g c =
     let s = c.self.inside in
     let register : Register = record { ids_given = s.ids_given; stream = s.ordered.folded.stream } in
-    none_told s.journal.items register s.store (IsStoreOf-kept s.journal.items register s.store c.self.invariant) c.mark.result
+    none_told (record { origin = s.origin; entries = s.journal.items }) register s.store (IsStoreOf-kept (record { origin = s.origin; entries = s.journal.items }) register s.store c.self.invariant) c.mark.result
     c.mark.new.self c.mark.ensures.ok
 
 pub returns-clause-err : goal.returns-clause-err
@@ -31,5 +31,5 @@ returns-clause-err g c =
     let s = c.self.inside in
     let register : Register = record { ids_given = s.ids_given; stream = s.ordered.folded.stream } in
     rw (← c.self.view_is)
-    (mark_refused s.journal.items register s.store (IsStoreOf-kept s.journal.items register s.store c.self.invariant) c.mark.result
+    (mark_refused (record { origin = s.origin; entries = s.journal.items }) register s.store (IsStoreOf-kept (record { origin = s.origin; entries = s.journal.items }) register s.store c.self.invariant) c.mark.result
     c.mark.new.self c.mark.ensures.err)

@@ -6,7 +6,7 @@ pub returns-clause-numbered : goal.returns-clause-numbered
 returns-clause-numbered g c =
     let s = c.self.inside in
     let is : IsStoreOf s.ordered.folded.stream s.store =
-    IsStoreOf-kept s.journal.items (record { ids_given = s.ids_given; stream = s.ordered.folded.stream }) s.store c.self.invariant in
+    IsStoreOf-kept (record { origin = s.origin; entries = s.journal.items }) (record { ids_given = s.ids_given; stream = s.ordered.folded.stream }) s.store c.self.invariant in
     rw (← c.self.view_is)
-    (one_seen (λ (store : StoreValue g.row.P.Denot). AreNumbered store) s.journal.items (record { ids_given = s.ids_given; stream = s.ordered.folded.stream }) s.store is
+    (one_seen (λ (store : StoreValue g.row.P.Denot). AreNumbered store) (record { origin = s.origin; entries = s.journal.items }) (record { ids_given = s.ids_given; stream = s.ordered.folded.stream }) s.store is
     c.numbers.ensures.numbered)

@@ -16,14 +16,14 @@ bounds-outcomes-at g c =
       rw (← c.self.view_is) at c.requires,
       ap length c.outcomes.ensures,
       length-folded s.ordered.folded.stream s.store
-          (IsStoreOf-kept s.journal.items (record { ids_given = s.ids_given; stream = s.ordered.folded.stream }) s.store c.self.invariant),
+          (IsStoreOf-kept (record { origin = s.origin; entries = s.journal.items }) (record { ids_given = s.ids_given; stream = s.ordered.folded.stream }) s.store c.self.invariant),
     )
 
 pub returns-in-Fault : goal.returns-in-Fault
 returns-in-Fault g c =
     let s = c.self.inside in
     let is : IsStoreOf s.ordered.folded.stream s.store =
-    IsStoreOf-kept s.journal.items (record { ids_given = s.ids_given; stream = s.ordered.folded.stream }) s.store c.self.invariant in
+    IsStoreOf-kept (record { origin = s.origin; entries = s.journal.items }) (record { ids_given = s.ids_given; stream = s.ordered.folded.stream }) s.store c.self.invariant in
     let within : c.args.at < length c.outcomes.result.now = omega (
       arith,
       rw (← c.self.view_is) at c.requires,
@@ -36,15 +36,15 @@ returns-in-Fault g c =
     let outcome : slice_get s.store.outcomes c.args.at ≡ Some (Fault c.in-Fault.fault) =
     rw (← c.outcomes.ensures) (read ∙ ap (λ (other : Outcome). Some other) (sym (c.deref-outcome.ensures ∙ c.deref.ensures) ∙ c.in-Fault.is)) in
     rw (← c.self.view_is) (λ id stands.
-    shows_fault s.journal.items (record { ids_given = s.ids_given; stream = s.ordered.folded.stream }) s.store id c.args.at is
-    (place_kept s.journal.items (record { ids_given = s.ids_given; stream = s.ordered.folded.stream }) s.store c.self.invariant id c.args.at stands)
+    shows_fault (record { origin = s.origin; entries = s.journal.items }) (record { ids_given = s.ids_given; stream = s.ordered.folded.stream }) s.store id c.args.at is
+    (place_kept (record { origin = s.origin; entries = s.journal.items }) (record { ids_given = s.ids_given; stream = s.ordered.folded.stream }) s.store c.self.invariant id c.args.at stands)
     c.in-Fault.fault outcome)
 
 pub returns-in-Empty : goal.returns-in-Empty
 returns-in-Empty g c =
     let s = c.self.inside in
     let is : IsStoreOf s.ordered.folded.stream s.store =
-    IsStoreOf-kept s.journal.items (record { ids_given = s.ids_given; stream = s.ordered.folded.stream }) s.store c.self.invariant in
+    IsStoreOf-kept (record { origin = s.origin; entries = s.journal.items }) (record { ids_given = s.ids_given; stream = s.ordered.folded.stream }) s.store c.self.invariant in
     let within : c.args.at < length c.outcomes.result.now = omega (
       arith,
       rw (← c.self.view_is) at c.requires,
@@ -57,25 +57,25 @@ returns-in-Empty g c =
     let outcome : slice_get s.store.outcomes c.args.at ≡ Some Empty =
     rw (← c.outcomes.ensures) (read ∙ ap (λ (other : Outcome). Some other) (sym (c.deref-outcome.ensures ∙ c.deref.ensures) ∙ c.in-Empty.is)) in
     rw (← c.self.view_is) (λ id stands.
-    shows_empty s.journal.items (record { ids_given = s.ids_given; stream = s.ordered.folded.stream }) s.store id c.args.at is
-    (place_kept s.journal.items (record { ids_given = s.ids_given; stream = s.ordered.folded.stream }) s.store c.self.invariant id c.args.at stands)
+    shows_empty (record { origin = s.origin; entries = s.journal.items }) (record { ids_given = s.ids_given; stream = s.ordered.folded.stream }) s.store id c.args.at is
+    (place_kept (record { origin = s.origin; entries = s.journal.items }) (record { ids_given = s.ids_given; stream = s.ordered.folded.stream }) s.store c.self.invariant id c.args.at stands)
     outcome)
 
 pub returns-in-Some : goal.returns-in-Some
 returns-in-Some g c =
     let s = c.self.inside in
     let is : IsStoreOf s.ordered.folded.stream s.store =
-    IsStoreOf-kept s.journal.items (record { ids_given = s.ids_given; stream = s.ordered.folded.stream }) s.store c.self.invariant in
+    IsStoreOf-kept (record { origin = s.origin; entries = s.journal.items }) (record { ids_given = s.ids_given; stream = s.ordered.folded.stream }) s.store c.self.invariant in
     rw (← c.self.view_is) (λ id stands.
-    shows_ready g.P.Decoded.IsOf s.journal.items (record { ids_given = s.ids_given; stream = s.ordered.folded.stream }) s.store id c.args.at is
-    (place_kept s.journal.items (record { ids_given = s.ids_given; stream = s.ordered.folded.stream }) s.store c.self.invariant id c.args.at stands)
+    shows_ready g.P.Decoded.IsOf (record { origin = s.origin; entries = s.journal.items }) (record { ids_given = s.ids_given; stream = s.ordered.folded.stream }) s.store id c.args.at is
+    (place_kept (record { origin = s.origin; entries = s.journal.items }) (record { ids_given = s.ids_given; stream = s.ordered.folded.stream }) s.store c.self.invariant id c.args.at stands)
     c.in-Some.picture c.in-Some.ensures)
 
 pub returns-in-None : goal.returns-in-None
 returns-in-None g c =
     let s = c.self.inside in
     let is : IsStoreOf s.ordered.folded.stream s.store =
-    IsStoreOf-kept s.journal.items (record { ids_given = s.ids_given; stream = s.ordered.folded.stream }) s.store c.self.invariant in
+    IsStoreOf-kept (record { origin = s.origin; entries = s.journal.items }) (record { ids_given = s.ids_given; stream = s.ordered.folded.stream }) s.store c.self.invariant in
     let within : c.args.at < length c.outcomes.result.now = omega (
       arith,
       rw (← c.self.view_is) at c.requires,
@@ -88,6 +88,6 @@ returns-in-None g c =
     let outcome : slice_get s.store.outcomes c.args.at ≡ Some (Plan c.in-Plan.field-0) =
     rw (← c.outcomes.ensures) (read ∙ ap (λ (other : Outcome). Some other) (sym (c.deref-outcome.ensures ∙ c.deref.ensures) ∙ c.in-Plan.is)) in
     rw (← c.self.view_is) (λ id stands.
-    shows_pending s.journal.items (record { ids_given = s.ids_given; stream = s.ordered.folded.stream }) s.store id c.args.at is
-    (place_kept s.journal.items (record { ids_given = s.ids_given; stream = s.ordered.folded.stream }) s.store c.self.invariant id c.args.at stands)
+    shows_pending (record { origin = s.origin; entries = s.journal.items }) (record { ids_given = s.ids_given; stream = s.ordered.folded.stream }) s.store id c.args.at is
+    (place_kept (record { origin = s.origin; entries = s.journal.items }) (record { ids_given = s.ids_given; stream = s.ordered.folded.stream }) s.store c.self.invariant id c.args.at stands)
     c.in-Plan.field-0 outcome c.in-None.ensures)

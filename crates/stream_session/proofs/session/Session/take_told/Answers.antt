@@ -16,7 +16,7 @@ pub bounds-ids-at : goal.bounds-ids-at
 bounds-ids-at g c =
     let s = c.self.inside in
     let is : IsStoreOf s.ordered.folded.stream s.store =
-    IsStoreOf-kept s.journal.items (record { ids_given = s.ids_given; stream = s.ordered.folded.stream }) s.store c.self.invariant in
+    IsStoreOf-kept (record { origin = s.origin; entries = s.journal.items }) (record { ids_given = s.ids_given; stream = s.ordered.folded.stream }) s.store c.self.invariant in
     let told = rw c.in-Ok-Some.field-0-is at c.in-Ok-Some.ensures.tells in
     let stay : c.take.new.self.ids ≡ s.store.ids = ap (λ (store : StoreValue g.row.P.Denot). store.ids) told.0.gives.new_is in
     omega (
@@ -33,7 +33,7 @@ pub offset_bounds-ids-at : goal.offset_bounds-ids-at
 offset_bounds-ids-at g c =
     let s = c.self.inside in
     let is : IsStoreOf s.ordered.folded.stream s.store =
-    IsStoreOf-kept s.journal.items (record { ids_given = s.ids_given; stream = s.ordered.folded.stream }) s.store c.self.invariant in
+    IsStoreOf-kept (record { origin = s.origin; entries = s.journal.items }) (record { ids_given = s.ids_given; stream = s.ordered.folded.stream }) s.store c.self.invariant in
     let told = rw c.in-Ok-Some.field-0-is at c.in-Ok-Some.ensures.tells in
     omega (
       arith,
@@ -48,7 +48,7 @@ pub returns-clause-tells : goal.returns-clause-tells
 returns-clause-tells g c =
     let s = c.self.inside in
     let is : IsStoreOf s.ordered.folded.stream s.store =
-    IsStoreOf-kept s.journal.items (record { ids_given = s.ids_given; stream = s.ordered.folded.stream }) s.store c.self.invariant in
+    IsStoreOf-kept (record { origin = s.origin; entries = s.journal.items }) (record { ids_given = s.ids_given; stream = s.ordered.folded.stream }) s.store c.self.invariant in
     elim c.match-take.branch [
       | in-Ok-Some w ↦
           let told = rw w.in-Ok-Some.field-0-is at (w.in-Ok-Some.ensures {u = tt}).tells in
@@ -63,18 +63,18 @@ returns-clause-tells g c =
           let read : w.index-ids-at.result ≡ get_or (ids_of s.ordered.folded.stream) w.in-Ok-Some.field-0-0.at w.index-ids-at.result =
           w.index-ids-at.is ∙ ap (λ (ids : List ℕ). get_or ids w.in-Ok-Some.field-0-0.at w.index-ids-at.result) same in
           rw (w.result-is, ← c.self.view_is)
-          (told_seen s.ordered.folded.stream s.store is w.in-Ok-Some.field-0-0.job c.take.new.self told.0 s.journal.items s.ids_given
+          (told_seen s.ordered.folded.stream s.store is w.in-Ok-Some.field-0-0.job c.take.new.self told.0 (record { origin = s.origin; entries = s.journal.items }) s.ids_given
           w.index-ids-at.result
           (id_read s.ordered.folded.stream w.in-Ok-Some.field-0-0.at (length told.0.gives.before) w.index-ids-at.result (told.1 ∙ told.0.gives.at_is) within read))
       | in-Ok-None w ↦
           let told = rw w.in-Ok-None.field-0-is at (w.in-Ok-None.ensures {u = tt}).tells in
           rw (w.result-is, ← c.self.view_is)
-          (take_seen g.P.Decoded.IsOf s.journal.items (record { ids_given = s.ids_given; stream = s.ordered.folded.stream }) s.store c.take.new.self is (Ok None) told)
+          (take_seen g.P.Decoded.IsOf (record { origin = s.origin; entries = s.journal.items }) (record { ids_given = s.ids_given; stream = s.ordered.folded.stream }) s.store c.take.new.self is (Ok None) told)
       | in-Err w ↦
           rw w.result-is
-          (subst (λ (old : Machine g.row.P.Denot). AnswersTake g.P.Decoded.IsOf old (Err w.in-Err.refused) (machine_of s.journal.items (record { ids_given = s.ids_given; stream = s.ordered.folded.stream }) c.take.new.self))
+          (subst (λ (old : Machine g.row.P.Denot). AnswersTake g.P.Decoded.IsOf old (Err w.in-Err.refused) (machine_of (record { origin = s.origin; entries = s.journal.items }) (record { ids_given = s.ids_given; stream = s.ordered.folded.stream }) c.take.new.self))
           c.self.view_is
-          (take_seen g.P.Decoded.IsOf s.journal.items (record { ids_given = s.ids_given; stream = s.ordered.folded.stream }) s.store c.take.new.self is
+          (take_seen g.P.Decoded.IsOf (record { origin = s.origin; entries = s.journal.items }) (record { ids_given = s.ids_given; stream = s.ordered.folded.stream }) s.store c.take.new.self is
           (Err w.in-Err.refused) (w.in-Err.ensures {u = tt}).tells))
     ]
 
@@ -82,12 +82,12 @@ pub returns-clause-waits : goal.returns-clause-waits
 returns-clause-waits g c =
     let s = c.self.inside in
     let is : IsStoreOf s.ordered.folded.stream s.store =
-    IsStoreOf-kept s.journal.items (record { ids_given = s.ids_given; stream = s.ordered.folded.stream }) s.store c.self.invariant in
+    IsStoreOf-kept (record { origin = s.origin; entries = s.journal.items }) (record { ids_given = s.ids_given; stream = s.ordered.folded.stream }) s.store c.self.invariant in
     elim c.match-take.branch [
       | in-Ok-Some w ↦ rw w.result-is (λ none. absurd cc)
       | in-Ok-None w ↦
           let waits = rw w.in-Ok-None.field-0-is at (w.in-Ok-None.ensures {u = tt}).waits in
           rw (w.result-is, ← c.self.view_is)
-          (λ none. all_wait s.journal.items (record { ids_given = s.ids_given; stream = s.ordered.folded.stream }) s.store is (waits refl))
+          (λ none. all_wait (record { origin = s.origin; entries = s.journal.items }) (record { ids_given = s.ids_given; stream = s.ordered.folded.stream }) s.store is (waits refl))
       | in-Err w ↦ rw w.result-is tt
     ]

@@ -16,7 +16,7 @@ pub bounds-ids-at : goal.bounds-ids-at
 bounds-ids-at g c =
     let s = c.self.inside in
     let is : IsStoreOf s.ordered.folded.stream s.store =
-    IsStoreOf-kept s.journal.items (record { ids_given = s.ids_given; stream = s.ordered.folded.stream }) s.store c.self.invariant in
+    IsStoreOf-kept (record { origin = s.origin; entries = s.journal.items }) (record { ids_given = s.ids_given; stream = s.ordered.folded.stream }) s.store c.self.invariant in
     let told = rw c.in-Ok-Some.field-0-is at c.in-Ok-Some.ensures.tells in
     let stay : c.take_for.new.self.ids ≡ s.store.ids = ap (λ (store : StoreValue g.row.P.Denot). store.ids) told.gives.new_is in
     omega (
@@ -31,7 +31,7 @@ pub offset_bounds-ids-at : goal.offset_bounds-ids-at
 offset_bounds-ids-at g c =
     let s = c.self.inside in
     let is : IsStoreOf s.ordered.folded.stream s.store =
-    IsStoreOf-kept s.journal.items (record { ids_given = s.ids_given; stream = s.ordered.folded.stream }) s.store c.self.invariant in
+    IsStoreOf-kept (record { origin = s.origin; entries = s.journal.items }) (record { ids_given = s.ids_given; stream = s.ordered.folded.stream }) s.store c.self.invariant in
     let told = rw c.in-Ok-Some.field-0-is at c.in-Ok-Some.ensures.tells in
     omega (
       arith,
@@ -44,7 +44,7 @@ pub returns-clause-tells : goal.returns-clause-tells
 returns-clause-tells g c =
     let s = c.self.inside in
     let is : IsStoreOf s.ordered.folded.stream s.store =
-    IsStoreOf-kept s.journal.items (record { ids_given = s.ids_given; stream = s.ordered.folded.stream }) s.store c.self.invariant in
+    IsStoreOf-kept (record { origin = s.origin; entries = s.journal.items }) (record { ids_given = s.ids_given; stream = s.ordered.folded.stream }) s.store c.self.invariant in
     let stands : place_of s.ordered.folded.stream c.args.id ≡ Some c.in-Some.place =
     sym (rw (← c.self.view_is) at c.in-Some.ensures.value) in
     elim c.match-take_for.branch [
@@ -57,18 +57,18 @@ returns-clause-tells g c =
           let read : w.index-ids-at.result ≡ get_or (ids_of s.ordered.folded.stream) w.in-Ok-Some.field-0-0.at w.index-ids-at.result =
           w.index-ids-at.is ∙ ap (λ (ids : List ℕ). get_or ids w.in-Ok-Some.field-0-0.at w.index-ids-at.result) same in
           rw (w.result-is, ← c.self.view_is)
-          (takes_seen s.journal.items (record { ids_given = s.ids_given; stream = s.ordered.folded.stream }) s.store is c.args.id c.in-Some.place stands
+          (takes_seen (record { origin = s.origin; entries = s.journal.items }) (record { ids_given = s.ids_given; stream = s.ordered.folded.stream }) s.store is c.args.id c.in-Some.place stands
           w.in-Ok-Some.field-0-0.at w.index-ids-at.result w.in-Ok-Some.field-0-0.job c.take_for.new.self told
           (slice_get_read (ids_of s.ordered.folded.stream) (length (ids_of s.ordered.folded.stream)) w.in-Ok-Some.field-0-0.at w.index-ids-at.result refl within read))
       | in-Ok-None w ↦
           let told = rw w.in-Ok-None.field-0-is at (w.in-Ok-None.ensures {u = tt}).tells in
           rw (w.result-is, ← c.self.view_is)
-          (none_seen s.journal.items (record { ids_given = s.ids_given; stream = s.ordered.folded.stream }) s.store is c.args.id c.in-Some.place stands c.take_for.new.self told)
+          (none_seen (record { origin = s.origin; entries = s.journal.items }) (record { ids_given = s.ids_given; stream = s.ordered.folded.stream }) s.store is c.args.id c.in-Some.place stands c.take_for.new.self told)
       | in-Err w ↦
           rw w.result-is
-          (subst (λ (old : Machine g.row.P.Denot). TellsTakeFor g.P.Decoded.IsOf old c.args.id (Err w.in-Err.refused) (machine_of s.journal.items (record { ids_given = s.ids_given; stream = s.ordered.folded.stream }) c.take_for.new.self))
+          (subst (λ (old : Machine g.row.P.Denot). TellsTakeFor g.P.Decoded.IsOf old c.args.id (Err w.in-Err.refused) (machine_of (record { origin = s.origin; entries = s.journal.items }) (record { ids_given = s.ids_given; stream = s.ordered.folded.stream }) c.take_for.new.self))
           c.self.view_is
-          (refused_seen s.journal.items (record { ids_given = s.ids_given; stream = s.ordered.folded.stream }) s.store is c.args.id c.in-Some.place stands g.P.Decoded.IsOf w.in-Err.refused c.take_for.new.self
+          (refused_seen (record { origin = s.origin; entries = s.journal.items }) (record { ids_given = s.ids_given; stream = s.ordered.folded.stream }) s.store is c.args.id c.in-Some.place stands g.P.Decoded.IsOf w.in-Err.refused c.take_for.new.self
           (w.in-Err.ensures {u = tt}).tells))
     ]
 
@@ -76,7 +76,7 @@ pub returns-clause-waits : goal.returns-clause-waits
 returns-clause-waits g c =
     let s = c.self.inside in
     let is : IsStoreOf s.ordered.folded.stream s.store =
-    IsStoreOf-kept s.journal.items (record { ids_given = s.ids_given; stream = s.ordered.folded.stream }) s.store c.self.invariant in
+    IsStoreOf-kept (record { origin = s.origin; entries = s.journal.items }) (record { ids_given = s.ids_given; stream = s.ordered.folded.stream }) s.store c.self.invariant in
     let stands : place_of s.ordered.folded.stream c.args.id ≡ Some c.in-Some.place =
     sym (rw (← c.self.view_is) at c.in-Some.ensures.value) in
     elim c.match-take_for.branch [
@@ -84,6 +84,6 @@ returns-clause-waits g c =
       | in-Ok-None w ↦
           let waits = rw w.in-Ok-None.field-0-is at (w.in-Ok-None.ensures {u = tt}).waits in
           rw (w.result-is, ← c.self.view_is)
-          (λ none. one_waits s.journal.items (record { ids_given = s.ids_given; stream = s.ordered.folded.stream }) s.store is c.args.id c.in-Some.place stands (waits refl))
+          (λ none. one_waits (record { origin = s.origin; entries = s.journal.items }) (record { ids_given = s.ids_given; stream = s.ordered.folded.stream }) s.store is c.args.id c.in-Some.place stands (waits refl))
       | in-Err w ↦ rw w.result-is tt
     ]

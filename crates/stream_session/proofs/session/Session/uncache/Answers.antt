@@ -6,5 +6,5 @@ pub returns : goal.returns
 returns g c =
     let s = c.self.inside in
     rw (← c.self.view_is)
-    (uncache_seen g.P.Decoded.IsOf s.journal.items (record { ids_given = s.ids_given; stream = s.ordered.folded.stream }) s.store
-    (IsStoreOf-kept s.journal.items (record { ids_given = s.ids_given; stream = s.ordered.folded.stream }) s.store c.self.invariant) c.uncache.result c.uncache.new.self c.uncache.ensures)
+    (uncache_seen g.P.Decoded.IsOf (record { origin = s.origin; entries = s.journal.items }) (record { ids_given = s.ids_given; stream = s.ordered.folded.stream }) s.store
+    (IsStoreOf-kept (record { origin = s.origin; entries = s.journal.items }) (record { ids_given = s.ids_given; stream = s.ordered.folded.stream }) s.store c.self.invariant) c.uncache.result c.uncache.new.self c.uncache.ensures)

@@ -1,0 +1,4 @@
+pub mod Accepted
+mod None
+mod ReadAs
+mod Rising

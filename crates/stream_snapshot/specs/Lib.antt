@@ -1,0 +1,3 @@
+pub mod Snapshots
+pub mod Refusals
+pub mod Ids

@@ -1,9 +1,11 @@
 //! What a session is made with.
 
-ghost use Rattle.std.specs.Prelude.{◌≡◌};
+ghost use Rattle.std.specs.Prelude.{◌≡◌, ◌≤◌, false, true};
+ghost use Rattle.picture_cache.specs.Bounded.{most_room};
 ghost use Rattle.stream_session.specs.declared.config.ConfigFault.TheVariants.{Memory};
 ghost use Rattle.stream_session.specs.Numbers.{number_of_config};
 
+use picture_store::MOST_ROOM;
 use std::alloc::AllocError;
 use thiserror::Error;
 
@@ -12,6 +14,16 @@ use thiserror::Error;
 pub struct Config {
     /// How many pictures the cache has room for, 1 to `MOST_ROOM`.
     pub cache: u16,
+}
+
+impl Config {
+    /// Whether the cache's room is in its range.
+    pub(crate) fn is_in_range(self) -> bool
+        ensures yes { result ≡ true → (1 ≤ self.cache) × (self.cache ≤ most_room) }
+        ensures no { result ≡ false → (1 ≤ self.cache) × (self.cache ≤ most_room) → ⊥ }
+    {
+        self.cache > 0 && self.cache <= MOST_ROOM
+    }
 }
 
 /// Why no session is made.

@@ -1,17 +1,12 @@
 //! The session: a stream under edits, and the pictures of its units.
 
-ghost use Rattle.std.specs.Prelude.{◌≡◌, ◌<◌, ◌≤◌, ◌↔◌, ℕ, [], length, None, Some, true, IfOk, IfSome, IsErrOf, OnErr};
-ghost use Rattle.request_core.specs.Fold.{outcomes_of};
+ghost use Rattle.std.specs.Prelude.{◌≡◌, ◌<◌, ◌≤◌, ◌↔◌, ℕ, length, None, Some, true, IfOk, IfSome, IsErrOf, OnErr};
 ghost use Rattle.picture_cache.specs.Bounded.{most_room};
-ghost use Rattle.picture_store.specs.Stores.{AreNumbered};
 ghost use Rattle.stream_edits.specs.Changes.{IsInside};
 ghost use Rattle.stream_edits.specs.Groups.{most_edits};
-ghost use Rattle.stream_edits.specs.Journals.{edits_of};
-ghost use Rattle.stream_edits.specs.Streams.{ids_of, last_of, place_of};
-ghost use Rattle.stream_edits.specs.Edits.{no_units, Replays};
-ghost use Rattle.stream_snapshot.specs.Snapshots.{IsAnyOf};
+ghost use Rattle.stream_edits.specs.Streams.{place_of};
 ghost use Rattle.stream_session.specs.Grouping.{AnswersGroup};
-ghost use Rattle.stream_session.specs.Machines.{empty, AnswersEdit, IsBegun, KeepsPictures, store_of};
+ghost use Rattle.stream_session.specs.Machines.{empty, AnswersEdit, IsBegun, KeepsPictures};
 ghost use Rattle.stream_session.specs.Taken.{input_of};
 ghost use Rattle.stream_session.specs.Moves.{ComeTo, Moves};
 ghost use Rattle.stream_session.specs.Jobs.{AnswersGiveBack, AnswersGiveBackOf, AnswersLand, AnswersLandOf, AnswersTake, TellsTake};
@@ -24,17 +19,14 @@ mod releasing;
 use crate::change_costs::ChangeCosts;
 use crate::changing::change_stream;
 use crate::config::{Config, ConfigFault};
-use base_types::Shared;
 use decode_jobs::{Decoded, Finished, Job};
-use dep_keys::KeyId;
-use picture_keys::HashedOutcome;
-use picture_store::{JobAt, Landing, MOST_ROOM, PictureStore, Returning, TakeRefused};
+use picture_store::{JobAt, Landing, PictureStore, Returning, TakeRefused};
 use pictures::AuId;
 use std::alloc::{AllocError, Global};
 use std::marker::Model;
 use stream_edits::{
     AcceptedEdit, AcceptedGroup, Change, Edit, EditRefused, GroupReceipt, GroupRefused,
-    JournalEntry, Last, ReadEdit, ReadGroup, Receipt, change_of, change_of_group, place_of,
+    JournalEntry, ReadEdit, ReadGroup, Receipt, change_of, change_of_group, place_of,
 };
 use stream_fold::OrderedFold;
 use stream_snapshot::ReadSnapshot;
@@ -93,7 +85,7 @@ impl<P: Decoded> Session<P> {
         ensures cache { IsErrOf result ConfigFault.Cache
             ↔ ((1 ≤ config.cache) × (config.cache ≤ most_room) → ⊥) }
     {
-        if config.cache == 0 || config.cache > MOST_ROOM {
+        if !config.is_in_range() {
             return Err(ConfigFault::Cache);
         }
         Ok(Session {
@@ -118,7 +110,7 @@ impl<P: Decoded> Session<P> {
         ensures cache { IsErrOf result ConfigFault.Cache
             ↔ ((1 ≤ config.cache) × (config.cache ≤ most_room) → ⊥) }
     {
-        if config.cache == 0 || config.cache > MOST_ROOM {
+        if !config.is_in_range() {
             return Err(ConfigFault::Cache);
         }
         let mut ordered = OrderedFold::new(alloc)?;
@@ -340,14 +332,6 @@ impl<P: Decoded> Session<P> {
         self.store.give_back_number(number)
     }
 
-    /// The number of each unit's key, in decoding order; nothing for a unit that isn't valid.
-    pub fn numbers(&self) -> &[Option<KeyId>]
-        ensures value { result.now ≡ self.now.numbers }
-        ensures numbered { AreNumbered (store_of self.now) }
-    {
-        self.store.numbers()
-    }
-
     /// The place of the unit that has the id, in decoding order. The last one's is found at once.
     pub fn place(&self, id: AuId) -> Option<usize>
         ensures { result ≡ place_of self.now.register.stream id }
@@ -361,55 +345,5 @@ impl<P: Decoded> Session<P> {
         ensures inside { IfSome result (λ place. place < length self.now.register.stream) }
     {
         place_of(self.store.ids(), id)
-    }
-
-    /// The ids of all units, in decoding order.
-    pub fn ids(&self) -> &[AuId]
-        ensures { result.now ≡ ids_of self.now.register.stream }
-    {
-        self.store.ids()
-    }
-
-    /// Each unit's outcome, in decoding order.
-    pub fn outcomes(&self) -> &[Shared<HashedOutcome>]
-        ensures { result.now ≡ outcomes_of self.now.register.stream }
-    {
-        self.store.outcomes()
-    }
-
-    /// How many units the stream has, and the id of the last one.
-    pub fn last(&self) -> Last
-        ensures { result ≡ last_of self.now.register.stream }
-    {
-        Last {
-            units: self.ordered.units().len(),
-            id: self.ordered.units().last().map(|unit| unit.0),
-        }
-    }
-
-    /// A law of the session: its accepted edits lead to its stream, each accepted after those before
-    /// it, from what it began from. It does nothing.
-    pub fn reached(&self)
-        ensures replayed { Replays self.now.origin (edits_of self.now.journal) self.now.register }
-        ensures based { IsAnyOf self.now.origin }
-    {
-        // The invariant says so.
-        let _ = &self.journal;
-    }
-
-    /// Whether the session began with an empty stream, of which no id was given.
-    pub fn began_without_units(&self) -> bool
-        ensures { (result ≡ true) ↔ (self.now.origin ≡ no_units) }
-    {
-        self.origin.is_none()
-    }
-
-    /// The accepted edits, in order, those of a group as one entry, since the session began.
-    pub fn journal(&self) -> &[JournalEntry]
-        ensures value { result.now ≡ self.now.journal }
-        // Each accepted after those before it, they lead to the stream from what it began from.
-        ensures replayed { Replays self.now.origin (edits_of self.now.journal) self.now.register }
-    {
-        self.journal.as_slice()
     }
 }

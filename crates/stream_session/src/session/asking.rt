@@ -1,8 +1,12 @@
 //! What is asked of a session.
 
-ghost use Rattle.std.specs.Prelude.{◌≡◌, ◌≢◌, ◌+◌, ◌<◌, ◌≤◌, ◌↔◌, ℕ, length, slice_get, AllPairs, Contains, Some, None, IsTrue, IfOk, IfSome, MatchOption, MatchResult};
-ghost use Rattle.picture_store.specs.Stores.{AreOneToOne, IsNumberInUse};
-ghost use Rattle.stream_edits.specs.Streams.{end_of, ids_of, place_of, start_of};
+ghost use Rattle.std.specs.Prelude.{◌≡◌, ◌≢◌, ◌+◌, ◌<◌, ◌≤◌, ◌↔◌, ℕ, length, slice_get, AllPairs, Contains, Some, None, true, IsTrue, IfOk, IfSome, MatchOption, MatchResult};
+ghost use Rattle.request_core.specs.Fold.{outcomes_of};
+ghost use Rattle.picture_store.specs.Stores.{AreNumbered, AreOneToOne, IsNumberInUse};
+ghost use Rattle.stream_edits.specs.Edits.{Replays, no_units};
+ghost use Rattle.stream_edits.specs.Journals.{edits_of};
+ghost use Rattle.stream_edits.specs.Streams.{end_of, ids_of, last_of, place_of, start_of};
+ghost use Rattle.stream_snapshot.specs.Snapshots.{IsAnyOf};
 ghost use Rattle.stream_session.specs.Streams.{outcome_in, position_in};
 ghost use Rattle.stream_session.specs.Machines.{store_of};
 ghost use Rattle.stream_session.specs.Showing.{HasNumber, Shows};
@@ -15,13 +19,15 @@ use super::Session;
 use crate::doubting::doubts_of;
 use crate::refusals::NoSuchUnit;
 use crate::showing::Shown;
+use base_types::Shared;
 use decode_jobs::{Decoded, Input};
 use dep_keys::KeyId;
 use doubts::Doubt;
 use output_order::Comparisons;
+use picture_keys::HashedOutcome;
 use pictures::AuId;
 use std::alloc::AllocError;
-use stream_edits::Place;
+use stream_edits::{JournalEntry, Last, Place};
 use unit_outcomes::Outcome;
 
 impl<P: Decoded> Session<P> {
@@ -163,5 +169,63 @@ impl<P: Decoded> Session<P> {
         ensures whole { IfSome result (λ input. IsTrue (is_whole input.now)) }
     {
         self.store.job_input(number)
+    }
+
+    /// The number of each unit's key, in decoding order; nothing for a unit that isn't valid.
+    pub fn numbers(&self) -> &[Option<KeyId>]
+        ensures value { result.now ≡ self.now.numbers }
+        ensures numbered { AreNumbered (store_of self.now) }
+    {
+        self.store.numbers()
+    }
+
+    /// The ids of all units, in decoding order.
+    pub fn ids(&self) -> &[AuId]
+        ensures { result.now ≡ ids_of self.now.register.stream }
+    {
+        self.store.ids()
+    }
+
+    /// Each unit's outcome, in decoding order.
+    pub fn outcomes(&self) -> &[Shared<HashedOutcome>]
+        ensures { result.now ≡ outcomes_of self.now.register.stream }
+    {
+        self.store.outcomes()
+    }
+
+    /// How many units the stream has, and the id of the last one.
+    pub fn last(&self) -> Last
+        ensures { result ≡ last_of self.now.register.stream }
+    {
+        Last {
+            units: self.ordered.units().len(),
+            id: self.ordered.units().last().map(|unit| unit.0),
+        }
+    }
+
+    /// A law of the session: its accepted edits lead to its stream, each accepted after those before
+    /// it, from what it began from. It does nothing.
+    pub fn reached(&self)
+        ensures replayed { Replays self.now.origin (edits_of self.now.journal) self.now.register }
+        ensures based { IsAnyOf self.now.origin }
+    {
+        // The invariant says so.
+        let _ = &self.journal;
+    }
+
+    /// Whether the session began with an empty stream, of which no id was given.
+    pub fn began_without_units(&self) -> bool
+        ensures { (result ≡ true) ↔ (self.now.origin ≡ no_units) }
+    {
+        self.origin.is_none()
+    }
+
+    /// The accepted edits, in order, those of a group as one entry, since the session began.
+    pub fn journal(&self) -> &[JournalEntry]
+        ensures value { result.now ≡ self.now.journal }
+        // Each accepted after those before it, they lead to the stream from what it began from.
+        ensures replayed { Replays self.now.origin (edits_of self.now.journal) self.now.register }
+    {
+        self.journal.as_slice()
     }
 }

@@ -20,7 +20,7 @@ use stream_snapshot::{ReadSnapshot, Snapshot};
 
 /// What the threads of a server share.
 #[derive(Drop)]
-pub(crate) struct Shared<W> {
+pub(crate) struct SharedDesk<W> {
     pub(crate) desk: Desk,
     /// By it units are wanted. Its book stays empty.
     pub(crate) seat: Seat,
@@ -28,20 +28,20 @@ pub(crate) struct Shared<W> {
     pub(crate) writer: Mutex<LineWriter<W>>,
 }
 
-impl<W: Write + Drop> Shared<W> {
+impl<W: Write + Drop> SharedDesk<W> {
     /// A desk with an empty stream for so many workers, and a writer.
     pub(crate) fn open(
         alloc: Global,
         cache: u16,
         workers: usize,
         output: W,
-    ) -> Result<Shared<W>, AllocError>
+    ) -> Result<SharedDesk<W>, AllocError>
         requires cache { (1 ≤ cache) × (cache ≤ 4096) }
         requires workers { (1 ≤ workers) × (workers ≤ 64) }
     {
         let (desk, mut seats) = Desk::open(alloc, Config { cache }, workers, 1)?;
         match seats.pop() {
-            Some(seat) => Ok(Shared {
+            Some(seat) => Ok(SharedDesk {
                 desk,
                 seat,
                 writer: Mutex::new(LineWriter::new(alloc, output)),

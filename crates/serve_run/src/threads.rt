@@ -3,7 +3,7 @@
 
 ghost use Rattle.std.specs.Prelude.{◌≡◌, ◌≤◌, length, IfOk};
 
-use crate::desk_backend::{DeskBackend, Shared};
+use crate::desk_backend::{DeskBackend, SharedDesk};
 use crate::end::ServeEnd;
 use crate::lines::{Lines, MOST_BYTES};
 use crate::serving::{resume, serve_line};
@@ -81,7 +81,7 @@ where
     let Ok(lines) = Lines::of(alloc, input, MOST_BYTES) else {
         return ServeEnd::Memory;
     };
-    match Shared::open(alloc, cache, gates.len(), output) {
+    match SharedDesk::open(alloc, cache, gates.len(), output) {
         Ok(shared) => serve_beside(rt, alloc, &shared, gates, journal, lines, source),
         Err(_) => ServeEnd::Memory,
     }
@@ -92,7 +92,7 @@ where
 fn serve_beside<'a, R, D, K, I, S, W>(
     rt: &'a R,
     alloc: Global,
-    shared: &'a Shared<W>,
+    shared: &'a SharedDesk<W>,
     gates: Vec<D>,
     journal: Option<(K, Vec<Step>)>,
     lines: Lines<I>,
@@ -118,7 +118,7 @@ fn serve_among<'s, E, R, D, K, I, S, W>(
     scope: &Scope<'s, E>,
     rt: &'s R,
     alloc: Global,
-    shared: &'s Shared<W>,
+    shared: &'s SharedDesk<W>,
     gates: Vec<D>,
     journal: Option<(K, Vec<Step>)>,
     lines: Lines<I>,
@@ -148,7 +148,7 @@ where
 
 /// Tells of wanted units whenever the session may have another picture to show, until the desk is
 /// closed.
-fn tell_on<R: Wait, W: Write>(rt: &R, shared: &Shared<W>) {
+fn tell_on<R: Wait, W: Write>(rt: &R, shared: &SharedDesk<W>) {
     let mut seen = 0;
     for _ in rt.forever() {
         match shared.desk.news(rt, seen) {
@@ -163,7 +163,7 @@ fn tell_on<R: Wait, W: Write>(rt: &R, shared: &Shared<W>) {
 
 /// Tells of wanted units as they are now. One that can't be told is told of later, or the next
 /// answer fails.
-fn tell<R: Wait, W: Write>(rt: &R, shared: &Shared<W>) {
+fn tell<R: Wait, W: Write>(rt: &R, shared: &SharedDesk<W>) {
     let session = DeskBackend {
         rt,
         desk: &shared.desk,
@@ -176,7 +176,7 @@ fn tell<R: Wait, W: Write>(rt: &R, shared: &Shared<W>) {
 fn serve_lines<R, K, I, S, W>(
     rt: &R,
     alloc: Global,
-    shared: &Shared<W>,
+    shared: &SharedDesk<W>,
     journal: Option<(K, Vec<Step>)>,
     lines: Lines<I>,
     source: S,
@@ -209,7 +209,7 @@ where
 /// Reads the next message and serves it, while no one else writes; or how the server ends.
 fn serve_next<R, K, I, S, W>(
     rt: &R,
-    shared: &Shared<W>,
+    shared: &SharedDesk<W>,
     server: &mut Server<Journaled<DeskBackend<'_, R>, K>, S>,
     lines: &mut Lines<I>,
 ) -> Result<(), ServeEnd>

@@ -12,7 +12,7 @@ use Rattle.sqlite_trees.specs.Tree.{put_row, without_rowid, from_key}
 use Rattle.edit_journal.specs.declared.line.Line.{Line}
 use Rattle.edit_journal.specs.declared.line.Step.{Step}
 use Rattle.edit_journal.specs.declared.line.Kind.{Kind}
-use Rattle.edit_journal.specs.declared.line.Kind.TheVariants.{Insert, Delete, Replace, Unit as UnitKind, Given, Load}
+use Rattle.edit_journal.specs.declared.line.Kind.TheVariants.{InsertFirst, Insert, Delete, Replace, Unit as UnitKind, Given, Load}
 use Rattle.edit_journal.specs.Lines.{row_of, rows_from, lines_from, lines_of, name_of}
 
 -- a row of seven columns is the list of them
@@ -102,9 +102,10 @@ from_no_key o (row ∷ rows) = refl
 
 abbrev kind_in : List ℕ → Kind
 kind_in [] = Insert
-kind_in (letter ∷ word) = if letter == 105 then Insert else (if letter == 100 then Delete else (if letter == 114 then Replace else (if letter == 117 then UnitKind else (if letter == 108 then Load else Given))))
+kind_in (letter ∷ word) = if letter == 105 then (if length word == 5 then Insert else InsertFirst) else (if letter == 100 then Delete else (if letter == 114 then Replace else (if letter == 117 then UnitKind else (if letter == 108 then Load else Given))))
 
 kind_named : (kind : Kind) → kind_in (name_of kind) ≡ kind
+kind_named InsertFirst = refl
 kind_named Insert = refl
 kind_named Delete = refl
 kind_named Replace = refl

@@ -4,12 +4,13 @@ use Rattle.sqlite_value.specs.declared.value.Value.TheVariants.{Int, Text, Blob}
 use Rattle.sqlite_value.specs.Order.{Row}
 use Rattle.sqlite_trees.specs.Tree.{Trees}
 use Rattle.edit_journal.specs.declared.line.Kind.{Kind}
-use Rattle.edit_journal.specs.declared.line.Kind.TheVariants.{Insert, Delete, Replace, Unit as UnitKind, Given, Load}
+use Rattle.edit_journal.specs.declared.line.Kind.TheVariants.{InsertFirst, Insert, Delete, Replace, Unit as UnitKind, Given, Load}
 use Rattle.edit_journal.specs.declared.line.Step.{Step}
 use Rattle.edit_journal.specs.declared.line.Line.{Line}
 
 -- the word of a row for what its step does
 abbrev pub name_of : Kind → List ℕ
+name_of InsertFirst = codes "insert_first"
 name_of Insert = codes "insert"
 name_of Delete = codes "delete"
 name_of Replace = codes "replace"

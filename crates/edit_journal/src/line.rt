@@ -8,7 +8,9 @@ use bytes::Bytes;
 /// What a step does.
 #[derive(Clone, Copy, Debug, PartialEq, Eq)]
 pub enum Kind {
-    /// A unit of the text is inserted under the id, after the unit that is named, or before all units where 0 is.
+    /// A unit of the text is inserted under the id, before all units.
+    InsertFirst,
+    /// A unit of the text is inserted under the id, after the unit that is named.
     Insert,
     /// The unit of the id is taken out.
     Delete,
@@ -28,6 +30,7 @@ impl Kind {
         ensures { result.now ≡ name_of self }
     {
         match self {
+            Kind::InsertFirst => "insert_first",
             Kind::Insert => "insert",
             Kind::Delete => "delete",
             Kind::Replace => "replace",
@@ -43,6 +46,7 @@ impl Kind {
         ensures every { (kind : Kind) → name.now ≡ name_of kind → result ≡ Some kind }
     {
         match name {
+            b"insert_first" => Some(Kind::InsertFirst),
             b"insert" => Some(Kind::Insert),
             b"delete" => Some(Kind::Delete),
             b"replace" => Some(Kind::Replace),

@@ -62,7 +62,7 @@ ends entry place (first ∷ front) tail (k ∷ kept) more from end other is =
 
 -- a step has a line
 pub some_kept : (given : ℕ) (step : Step) → IsStep step → 0 < length (kept_of_step given step)
-some_kept given (Edits []) is = absurd (omega (arith, is.0))
+some_kept given (Edits []) is = absurd (omega (arith, is))
 some_kept given (Edits (edit ∷ edits)) is = omega arith
 some_kept given (Load edits) is = omega arith
 some_kept given (Snapshot s) is = omega (arith, length-append (map kept_of_unit s.units) (kept_of_given s.ids_given ∷ []))

@@ -7,7 +7,7 @@ use Rattle.edit_journal.specs.declared.line.Line.{Line}
 use Rattle.edit_journal.specs.declared.line.Step.{Step as Kept}
 use Rattle.edit_journal.specs.Lines.{lines_of}
 use Rattle.journal_steps.specs.declared.step.Step.{Step}
-use Rattle.journal_steps.specs.Kept.{IsEdit, IsReadFrom, IsStep, given_after, given_by_step, kept_of, kept_of_edits, kept_of_step}
+use Rattle.journal_steps.specs.Kept.{IsReadFrom, IsStep, given_after, given_by_step, kept_of, kept_of_edits, kept_of_step}
 use Rattle.journal_steps.specs.Records.{AreOf, BeginOther, given_by_steps, kept_in, lines_of_steps}
 use Rattle.journal_steps.proofs.LineLemmas.{begin_other, given_then, kept-lines, length-kept, length-lines, some_kept, steps_then}
 
@@ -15,38 +15,36 @@ use Rattle.journal_steps.proofs.LineLemmas.{begin_other, given_then, kept-lines,
 pub record Continues (done : List Edit) (after : ℕ) (left : List Kept) (all : List Edit) : Type 0 where
   pub rest : List Edit
   pub all_is : all ≡ done ++ rest
-  pub are : AllByRecursion IsEdit rest
   pub left_is : left ≡ kept_of_edits after rest
 
-pub continues_begin : (given : ℕ) (kept : List Kept) (all : List Edit) → AllByRecursion IsEdit all → kept ≡ kept_of_edits given all → Continues [] given kept all
-continues_begin given kept all are is = record { rest = all; all_is = refl; are = are; left_is = is }
+pub continues_begin : (given : ℕ) (kept : List Kept) (all : List Edit) → kept ≡ kept_of_edits given all → Continues [] given kept all
+continues_begin given kept all is = record { rest = all; all_is = refl; left_is = is }
 
-next_edit : (done : List Edit) (after more : ℕ) (k : Kept) (left : List Kept) (all : List Edit) (edit : Edit) (rest : List Edit) → ((e : Edit) → IsEdit e → k ≡ kept_of after e → Some edit ≡ Some e) → ((e : Edit) → k ≡ kept_of after e → more ≡ given_after after e)
-    → all ≡ done ++ rest → AllByRecursion IsEdit rest → k ∷ left ≡ kept_of_edits after rest → Continues (done ++ edit ∷ []) more left all
-next_edit done after more k left all edit [] only given all_is are is = absurd (cc)
-next_edit done after more k left all edit (e ∷ rest) only given all_is are is =
+next_edit : (done : List Edit) (after more : ℕ) (k : Kept) (left : List Kept) (all : List Edit) (edit : Edit) (rest : List Edit) → ((e : Edit) → k ≡ kept_of after e → Some edit ≡ Some e) → ((e : Edit) → k ≡ kept_of after e → more ≡ given_after after e)
+    → all ≡ done ++ rest → k ∷ left ≡ kept_of_edits after rest → Continues (done ++ edit ∷ []) more left all
+next_edit done after more k left all edit [] only given all_is is = absurd (cc)
+next_edit done after more k left all edit (e ∷ rest) only given all_is is =
     let first : k ≡ kept_of after e = cc in
     let others : left ≡ kept_of_edits (given_after after e) rest = cc in
-    let same : edit ≡ e = let both = only e are.0 first in cc in
+    let same : edit ≡ e = let both = only e first in cc in
     record {
       rest = rest;
       all_is = all_is ∙ ap (λ (x : Edit). done ++ x ∷ rest) (sym same) ∙ sym (append_assoc done (edit ∷ []) rest);
-      are = are.1;
       left_is = others ∙ ap (λ (n : ℕ). kept_of_edits n rest) (sym (given e first));
     }
 
 -- one edit more is read
-pub continues_more : (done : List Edit) (after more : ℕ) (k : Kept) (left all_left : List Kept) (all : List Edit) (edit : Edit) → all_left ≡ k ∷ left → ((e : Edit) → IsEdit e → k ≡ kept_of after e → Some edit ≡ Some e)
+pub continues_more : (done : List Edit) (after more : ℕ) (k : Kept) (left all_left : List Kept) (all : List Edit) (edit : Edit) → all_left ≡ k ∷ left → ((e : Edit) → k ≡ kept_of after e → Some edit ≡ Some e)
     → ((e : Edit) → k ≡ kept_of after e → more ≡ given_after after e) → Continues done after all_left all → Continues (done ++ edit ∷ []) more left all
-continues_more done after more k left all_left all edit is_left only given c = next_edit done after more k left all edit c.rest only given c.all_is c.are (sym is_left ∙ c.left_is)
+continues_more done after more k left all_left all edit is_left only given c = next_edit done after more k left all edit c.rest only given c.all_is (sym is_left ∙ c.left_is)
 
-none_edit : (after : ℕ) (k : Kept) (left : List Kept) (rest : List Edit) → ((e : Edit) → IsEdit e → k ≡ kept_of after e → ⊥) → AllByRecursion IsEdit rest → k ∷ left ≡ kept_of_edits after rest → ⊥
-none_edit after k left [] none are is = absurd (cc)
-none_edit after k left (e ∷ rest) none are is = none e are.0 (cc)
+none_edit : (after : ℕ) (k : Kept) (left : List Kept) (rest : List Edit) → ((e : Edit) → k ≡ kept_of after e → ⊥) → k ∷ left ≡ kept_of_edits after rest → ⊥
+none_edit after k left [] none is = absurd (cc)
+none_edit after k left (e ∷ rest) none is = none e (cc)
 
 -- what isn't kept of an edit isn't left
-pub continues_none : (done : List Edit) (after : ℕ) (k : Kept) (left all_left : List Kept) (all : List Edit) → all_left ≡ k ∷ left → ((e : Edit) → IsEdit e → k ≡ kept_of after e → ⊥) → Continues done after all_left all → ⊥
-continues_none done after k left all_left all is_left none c = none_edit after k left c.rest none c.are (sym is_left ∙ c.left_is)
+pub continues_none : (done : List Edit) (after : ℕ) (k : Kept) (left all_left : List Kept) (all : List Edit) → all_left ≡ k ∷ left → ((e : Edit) → k ≡ kept_of after e → ⊥) → Continues done after all_left all → ⊥
+continues_none done after k left all_left all is_left none c = none_edit after k left c.rest none (sym is_left ∙ c.left_is)
 
 no_edits : (after : ℕ) (rest : List Edit) → [] ≡ kept_of_edits after rest → rest ≡ []
 no_edits after [] is = refl

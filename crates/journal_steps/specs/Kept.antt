@@ -1,23 +1,17 @@
 -- What a record keeps of a step of a session.
-use Rattle.std.specs.Prelude.{◌≡◌, ◌≢◌, ℕ, ◌+◌, ◌<◌, List, [], ◌∷◌, ◌++◌, length, map, ⊤}
-use Rattle.std.specs.List.{AllByRecursion}
+use Rattle.std.specs.Prelude.{◌≡◌, ℕ, ◌+◌, ◌<◌, List, [], ◌∷◌, ◌++◌, length, map, ⊤}
 use Rattle.stream_edits.specs.declared.edits.Edit.{Edit}
 use Rattle.stream_edits.specs.declared.edits.Edit.TheVariants.{Insert, Delete, Replace}
-use Rattle.stream_edits.specs.declared.edits.Place.{Place}
 use Rattle.stream_edits.specs.declared.edits.Place.TheVariants.{First, After}
-use Rattle.edit_journal.specs.declared.line.Kind.TheVariants.{Insert as InsertKind, Delete as DeleteKind, Replace as ReplaceKind, Unit as UnitKind, Given as GivenKind, Load as LoadKind}
+use Rattle.edit_journal.specs.declared.line.Kind.TheVariants.{InsertFirst, Insert as InsertKind, Delete as DeleteKind, Replace as ReplaceKind, Unit as UnitKind, Given as GivenKind, Load as LoadKind}
 use Rattle.edit_journal.specs.declared.line.Step.{Step as Kept}
 use Rattle.journal_steps.specs.declared.step.Step.{Step}
 use Rattle.journal_steps.specs.declared.step.Step.TheVariants.{Edits, Load, Snapshot}
 
--- the id that a place names, or 0
-abbrev pub named_in : Place → ℕ
-named_in First = 0
-named_in (After id) = id
-
 -- what is kept of an edit, where so many ids were given before it
 abbrev pub kept_of : ℕ → Edit → Kept
-kept_of given (Insert place text) = record { kind = InsertKind; id = given + 1; named = named_in place; text = text }
+kept_of given (Insert First text) = record { kind = InsertFirst; id = given + 1; named = 0; text = text }
+kept_of given (Insert (After id) text) = record { kind = InsertKind; id = given + 1; named = id; text = text }
 kept_of given (Delete id) = record { kind = DeleteKind; id = id; named = 0; text = [] }
 kept_of given (Replace id text) = record { kind = ReplaceKind; id = id; named = 0; text = text }
 
@@ -61,21 +55,10 @@ given_by_step given (Edits edits) = given_after_edits given edits
 given_by_step given (Load edits) = given_after_edits given edits
 given_by_step given (Snapshot snapshot) = snapshot.ids_given
 
--- an id that a place names isn't 0
-abbrev pub IsPlace : Place → Type 0
-IsPlace First = ⊤
-IsPlace (After id) = id ≢ 0
-
--- the edit is one of a stream whose ids begin at 1
-abbrev pub IsEdit : Edit → Type 0
-IsEdit (Insert place text) = IsPlace place
-IsEdit (Delete id) = ⊤
-IsEdit (Replace id text) = ⊤
-
 -- the step is an edit or several, a load, or a snapshot
 abbrev pub IsStep : Step → Type 0
-IsStep (Edits edits) = (0 < length edits) × AllByRecursion IsEdit edits
-IsStep (Load edits) = AllByRecursion IsEdit edits
+IsStep (Edits edits) = 0 < length edits
+IsStep (Load edits) = ⊤
 IsStep (Snapshot snapshot) = ⊤
 
 -- the step is the one that keeps this, and so many ids were given after it

@@ -4,7 +4,7 @@ ghost use Rattle.std.specs.Prelude.{◌≡◌, ◌+◌, ◌≤◌, ◌^◌, ℕ,
 ghost use Rattle.edit_journal.specs.Lines.{lines_of};
 ghost use Rattle.journal_steps.specs.declared.step.Step.{Step as StepValue};
 ghost use Rattle.journal_steps.specs.declared.step.Step.TheVariants.{Edits, Load, Snapshot as SnapshotStep};
-ghost use Rattle.journal_steps.specs.Kept.{given_after, given_after_edits, given_by_step, kept_of, kept_of_edits, kept_of_given, kept_of_load, kept_of_step, kept_of_unit, named_in};
+ghost use Rattle.journal_steps.specs.Kept.{given_after, given_after_edits, given_by_step, kept_of, kept_of_edits, kept_of_given, kept_of_load, kept_of_step, kept_of_unit};
 ghost use Rattle.journal_steps.specs.Records.{given_by_steps, lines_of_steps};
 
 use bytes::Bytes;
@@ -13,16 +13,6 @@ use pictures::AuId;
 use std::alloc::{AllocError, Global};
 use stream_edits::{Edit, Place};
 use stream_snapshot::Snapshot;
-
-/// The id that a place names, or 0.
-fn named_in(place: Place) -> u32
-    ensures { result ≡ named_in place }
-{
-    match place {
-        Place::First => 0,
-        Place::After(id) => id.number(),
-    }
-}
 
 /// How many ids were given, with that of the edit. Nothing where no id is left.
 fn given_after(given: u32, edit: &Edit) -> Option<u32>
@@ -41,10 +31,16 @@ fn kept_of(after: u32, edit: &Edit) -> Result<Kept, AllocError>
         → kept ≡ kept_of given edit.now) }
 {
     match edit {
-        Edit::Insert(place, text) => Ok(Kept {
+        Edit::Insert(Place::First, text) => Ok(Kept {
+            kind: Kind::InsertFirst,
+            id: after,
+            named: 0,
+            text: text.clone()?,
+        }),
+        Edit::Insert(Place::After(id), text) => Ok(Kept {
             kind: Kind::Insert,
             id: after,
-            named: named_in(*place),
+            named: id.number(),
             text: text.clone()?,
         }),
         Edit::Delete(id) => Ok(Kept {

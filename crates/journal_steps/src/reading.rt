@@ -29,7 +29,7 @@ fn read_group(alloc: Global, given: u32, lines: &[Line]) -> Result<Option<(Step,
     requires { 0 < length lines.now }
     ensures read { IfOk result (λ read. IfSome read (λ read.
         IsReadFrom given (kept_in lines.now) read.0 read.1)) }
-    ensures only { (edits : List EditValue) → IsStep (Edits edits)
+    ensures only { (edits : List EditValue)
         → kept_in lines.now ≡ kept_of_step given (Edits edits)
         → IfOk result (λ read. read ≡ Some (Edits edits, given_by_step given (Edits edits))) }
 {
@@ -49,7 +49,7 @@ fn read_load(
     requires { first.now.kind ≡ Kind.Load }
     ensures read { IfOk result (λ read. IfSome read (λ read.
         IsReadFrom given (first.now ∷ kept_in lines.now) read.0 read.1)) }
-    ensures only { (edits : List EditValue) → IsStep (Load edits)
+    ensures only { (edits : List EditValue)
         → first.now ∷ kept_in lines.now ≡ kept_of_step given (Load edits)
         → IfOk result (λ read. read ≡ Some (Load edits, given_by_step given (Load edits))) }
 {
@@ -92,7 +92,9 @@ fn read_step(alloc: Global, given: u32, lines: &[Line]) -> Result<Option<(Step, 
     };
     match first.step.kind {
         Kind::Load => read_load(alloc, given, &first.step, more),
-        Kind::Insert | Kind::Delete | Kind::Replace => read_group(alloc, given, lines),
+        Kind::InsertFirst | Kind::Insert | Kind::Delete | Kind::Replace => {
+            read_group(alloc, given, lines)
+        }
         Kind::Unit | Kind::Given => read_stream(alloc, lines),
     }
 }

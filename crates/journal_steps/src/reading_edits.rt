@@ -1,10 +1,8 @@
 //! Edits are read from the lines of a record.
 
-ghost use Rattle.std.specs.Prelude.{◌≡◌, List, Some, IfOk, IfSome};
-ghost use Rattle.std.specs.List.{AllByRecursion};
+ghost use Rattle.std.specs.Prelude.{◌≡◌, ◌↔◌, ◌+◌, List, Some, true, IfOk, IfSome};
 ghost use Rattle.stream_edits.specs.declared.edits.Edit.{Edit as EditValue};
-ghost use Rattle.stream_edits.specs.declared.edits.Place.{Place as PlaceValue};
-ghost use Rattle.journal_steps.specs.Kept.{IsEdit, IsPlace, given_after, given_after_edits, kept_of, kept_of_edits, named_in};
+ghost use Rattle.journal_steps.specs.Kept.{given_after, given_after_edits, kept_of, kept_of_edits};
 ghost use Rattle.journal_steps.specs.Records.{kept_in};
 
 use crate::edit_list::EditList;
@@ -13,30 +11,25 @@ use pictures::AuId;
 use std::alloc::{AllocError, Global};
 use stream_edits::{Edit, Place};
 
-/// The place that names this id, or the first one where it is 0.
-fn place_of(named: u32) -> Place
-    ensures is { IsPlace result }
-    ensures named { named ≡ named_in result }
-    ensures only { (place : PlaceValue) → IsPlace place → named ≡ named_in place
-        → result ≡ place }
+/// Whether this is the id that is given after so many others.
+fn is_next(given: u32, id: u32) -> bool
+    ensures { (result ≡ true) ↔ (id ≡ given + 1) }
 {
-    if named == 0 {
-        Place::First
-    } else {
-        Place::After(AuId::new(named))
-    }
+    given < id && id - given == 1
 }
 
 /// The edit of which this is kept, where so many ids were given before it.
 fn edit_of(given: u32, kept: &Kept) -> Result<Option<Edit>, AllocError>
     ensures kept { IfOk result (λ edit. IfSome edit (λ edit. kept.now ≡ kept_of given edit)) }
-    ensures is { IfOk result (λ edit. IfSome edit IsEdit) }
-    ensures only { (edit : EditValue) → IsEdit edit → kept.now ≡ kept_of given edit
+    ensures only { (edit : EditValue) → kept.now ≡ kept_of given edit
         → IfOk result (λ read. read ≡ Some edit) }
 {
     match kept.kind {
-        Kind::Insert if given < kept.id && kept.id - given == 1 => Ok(Some(Edit::Insert(
-            place_of(kept.named),
+        Kind::InsertFirst if is_next(given, kept.id) && kept.named == 0 => {
+            Ok(Some(Edit::Insert(Place::First, kept.text.clone()?)))
+        }
+        Kind::Insert if is_next(given, kept.id) => Ok(Some(Edit::Insert(
+            Place::After(AuId::new(kept.named)),
             kept.text.clone()?,
         ))),
         Kind::Delete if kept.named == 0 && kept.text.is_empty() => {
@@ -56,7 +49,7 @@ fn given_after(given: u32, kept: &Kept) -> u32
         → result ≡ given_after given edit }
 {
     match kept.kind {
-        Kind::Insert => kept.id,
+        Kind::InsertFirst | Kind::Insert => kept.id,
         _ => given,
     }
 }
@@ -70,11 +63,9 @@ pub(crate) fn read_edits(
 ) -> Result<Option<(EditList, u32)>, AllocError>
     ensures kept { IfOk result (λ read. IfSome read (λ read.
         kept_in lines.now ≡ kept_of_edits given read.0)) }
-    ensures are { IfOk result (λ read. IfSome read (λ read. AllByRecursion IsEdit read.0)) }
     ensures after { IfOk result (λ read. IfSome read (λ read.
         read.1 ≡ given_after_edits given read.0)) }
-    ensures only { (edits : List EditValue) → AllByRecursion IsEdit edits
-        → kept_in lines.now ≡ kept_of_edits given edits
+    ensures only { (edits : List EditValue) → kept_in lines.now ≡ kept_of_edits given edits
         → IfOk result (λ read. read ≡ Some (edits, given_after_edits given edits)) }
 {
     let mut after = given;

@@ -54,6 +54,6 @@ module _ {S : Type 0} (g : Ghosts S) where
         stands = subst (Standing g it) is stands;
         before = before (given_by_steps 0 front) (stands.given ∙ ap (given_by_steps 0) is ∙ given_then 0 front (Edits edits));
         rows = rows ∙ sym (length-kept_of_edits it.last.before edits);
-        some = omega (arith, rows, step.0);
+        some = omega (arith, rows, step);
         load = load;
       }

@@ -29,9 +29,9 @@ returns-in-Unit-clause-only c step is kept =
     by_snapshot (λ (s : Step). IfOk c.read_stream.result (λ (read : Option (Step × ℕ)). read ≡ Some (s, given_by_step c.args.given s))) c.args.given step c.in-Some.first.now.step (kept_in c.in-Some.more.now) is
     (subst (λ (l : List Line). kept_in l ≡ kept_of_step c.args.given step) whole kept) same (λ s whole_kept. c.read_stream.ensures.only c.args.given s (ap kept_in whole ∙ whole_kept))
 
-pub returns-in-Insert-clause-only : goal.returns-in-Insert-clause-only
-returns-in-Insert-clause-only c step is kept =
+pub returns-in-InsertFirst-clause-only : goal.returns-in-InsertFirst-clause-only
+returns-in-InsertFirst-clause-only c step is kept =
     let whole : c.args.lines.now ≡ c.in-Some.first.now ∷ c.in-Some.more.now = search rules in
-    let same : class c.in-Some.first.now.step.kind ≡ 0 = elim c.in-Insert.is [ inl insert ↦ ap class insert | inr other ↦ elim other [ inl delete ↦ ap class delete | inr replace ↦ ap class replace ] ] in
+    let same : class c.in-Some.first.now.step.kind ≡ 0 = elim c.in-InsertFirst.is [ inl first ↦ ap class first | inr others ↦ elim others [ inl insert ↦ ap class insert | inr other ↦ elim other [ inl delete ↦ ap class delete | inr replace ↦ ap class replace ] ] ] in
     by_edits (λ (s : Step). IfOk c.read_group.result (λ (read : Option (Step × ℕ)). read ≡ Some (s, given_by_step c.args.given s))) c.args.given step c.in-Some.first.now.step (kept_in c.in-Some.more.now) is
-    (subst (λ (l : List Line). kept_in l ≡ kept_of_step c.args.given step) whole kept) same (λ edits are whole_kept. c.read_group.ensures.only edits are (ap kept_in whole ∙ whole_kept))
+    (subst (λ (l : List Line). kept_in l ≡ kept_of_step c.args.given step) whole kept) same (λ edits whole_kept. c.read_group.ensures.only edits (ap kept_in whole ∙ whole_kept))

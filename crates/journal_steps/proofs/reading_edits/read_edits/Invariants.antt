@@ -1,7 +1,6 @@
 use Rattle.std.proofs.Common.{◌≡◌, ◌++◌, List, drop}
-use Rattle.std.specs.List.{AllByRecursion}
 use Rattle.stream_edits.specs.declared.edits.Edit.{Edit}
-use Rattle.journal_steps.specs.Kept.{IsEdit, given_after_edits, kept_of_edits}
+use Rattle.journal_steps.specs.Kept.{given_after_edits, kept_of_edits}
 use Rattle.journal_steps.specs.Records.{kept_in}
 use Rattle.journal_steps.proofs.ReadLemmas.{Continues}
 use Rattle.journal_steps.proofs.reading_edits.read_edits.Given as goal
@@ -11,6 +10,5 @@ abbrev pub invariant-loop-line : goal.invariant-loop-line
 invariant-loop-line l = record {
   kept : kept_in l.lines ≡ kept_of_edits l.given l.edits.items ++ kept_in (drop l.line-index l.lines);
   after : l.after ≡ given_after_edits l.given l.edits.items;
-  are : AllByRecursion IsEdit l.edits.items;
-  only : (all : List Edit) → AllByRecursion IsEdit all → kept_in l.lines ≡ kept_of_edits l.given all → Continues l.edits.items l.after (kept_in (drop l.line-index l.lines)) all;
+  only : (all : List Edit) → kept_in l.lines ≡ kept_of_edits l.given all → Continues l.edits.items l.after (kept_in (drop l.line-index l.lines)) all;
 }

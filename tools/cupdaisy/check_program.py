@@ -230,9 +230,13 @@ UNREAD = (("nowhere", errno.ENOENT), ("folder", errno.EISDIR), ("folder/nowhere"
           ("no where", errno.ENOENT), ("n\u00f6where", errno.ENOENT), ("n" * 300, errno.ENAMETOOLONG))
 
 
-def unread(name, number, see=True):
-    """What is told of a file that can't be read, and why; of a script there is no check."""
-    words = f"{name}: {os.strerror(number)} (os error {number})" + (f"; see: preview check {name}" if see else "")
+START = "; relative paths in a script start at the working directory"
+
+
+def unread(name, number, see=True, start=""):
+    """What is told of a file that can't be read, and why; of a script there is no check. Of a file that a script loads it is told too
+    where its path starts."""
+    words = f"{name}: {os.strerror(number)} (os error {number}){start}" + (f"; see: preview check {name}" if see else "")
     return f"cannot read {name}\n{words}\n".encode()
 
 
@@ -300,8 +304,9 @@ def check_reasons(it):
     it.expect("draw after a script that loads", it.run("draw", "clock.264", "--edits", "lost.script"), 1, b"", told)
     told = b"text: a text file, not a byte stream of H.264 (Annex B); see: preview check text\n"
     ran = it.run("run", "lost.script")
-    missing, why = unread("nowhere", errno.ENOENT).split(b"\n", 1)
+    missing, why = unread("nowhere", errno.ENOENT, start=START).split(b"\n", 1)
     it.expect("run lost.script", ran, 1, b"refused 1 Split\n", missing + b"\n" + told + why)
+    _, why = unread("nowhere", errno.ENOENT).split(b"\n", 1)
     ran = it.run("run", "refused.script")
     it.expect("run refused.script", ran, 0, b"refused 1 Split\nloaded 12\nunit 12 refused 3 ForbiddenBit\n", told + cut)
     loads = b"".join(b'{"jsonrpc":"2.0","id":1,"method":"load","params":{"path":"%s"}}\n' % name

@@ -3,7 +3,7 @@ use Rattle.std.proofs.Common.{◌≡◌, ◌<◌, ◌+◌, ℕ, List, [], ◌∷
 use Rattle.std.proofs.lemmas.List.{map_more, take-map}
 use Rattle.console_io.specs.Inputs.{Files}
 use Rattle.edit_script.specs.Words.{texts_of}
-use Rattle.failure_reasons.specs.Lines.{AreFileLines, MayHaveFile}
+use Rattle.failure_reasons.specs.Lines.{AreFileLines, MayHaveLoad}
 
 -- a lent text
 abbrev pub text_of : Bor (List ℕ) → List ℕ
@@ -11,7 +11,7 @@ text_of word = word.now
 
 -- lines for one more name
 lines-push : (files : Files) (names : List (List ℕ)) (lines : List ℕ) → AreFileLines files names lines
-    → (name line : List ℕ) → MayHaveFile (files name) name line → AreFileLines files (names ++ name ∷ []) (lines ++ line)
+    → (name line : List ℕ) → MayHaveLoad (files name) name line → AreFileLines files (names ++ name ∷ []) (lines ++ line)
 lines-push files [] lines none name line may =
     (line, [], may, refl, ap (λ (l : List ℕ). l ++ line) none ∙ sym (append-nil line))
 lines-push files (first ∷ names) lines said name line may =
@@ -21,7 +21,7 @@ lines-push files (first ∷ names) lines said name line may =
 -- those for the names up to a place, and for the one there
 pub lines_more : (files : Files) (names : List (Bor (List ℕ))) (i : ℕ) (d : Bor (List ℕ)) → i < length names
     → (lines more line : List ℕ) → AreFileLines files (texts_of (take i names)) lines
-    → MayHaveFile (files (get_or names i d).now) (get_or names i d).now line → more ≡ lines ++ line
+    → MayHaveLoad (files (get_or names i d).now) (get_or names i d).now line → more ≡ lines ++ line
     → AreFileLines files (texts_of (take (i + 1) names)) more
 lines_more files names i d below lines more line said may is =
     rw (is, map_more text_of names i d below) (lines-push files (texts_of (take i names)) lines said _ line may)

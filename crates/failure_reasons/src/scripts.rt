@@ -3,15 +3,15 @@
 ghost use Rattle.std.specs.Prelude.{◌≡◌, ◌≤◌, ◌⊎◌, [], ℕ, codes, length, take, true, IfOk};
 ghost use Rattle.std.specs.Str.{bytes_eq};
 ghost use Rattle.edit_script.specs.Words.{texts_of};
-ghost use Rattle.failure_reasons.specs.Lines.{AreFileLines, MayHaveFile, MayHaveWrong};
+ghost use Rattle.failure_reasons.specs.Lines.{AreFileLines, MayHaveFile, MayHaveLoad, MayHaveWrong};
 ghost use Rattle.failure_reasons.specs.Loads.{AreLoadLines, AreScriptLines, AreTextLines};
 ghost use Rattle.script_reasons.specs.declared.explaining.ScriptKind.TheVariants.{Edits};
 
 use crate::again::Again;
 use crate::loads::loads;
 use crate::noted::Noted;
-use crate::streams::{file_line, stream_lines};
-use crate::unread::unread_script_line;
+use crate::streams::{FileLine, file_line, stream_lines};
+use crate::unread::{unread_load_line, unread_script_line};
 use console_io::{InputFault, whole_input};
 use edit_script::ScriptFault;
 use script_reasons::{ScriptKind, explain_script};
@@ -116,13 +116,39 @@ fn name_lines<D: Again>(alloc: Global, directory: &D, names: &[&str]) -> Result<
 {
     let mut lines = Vec::new(alloc);
     for name in names {
-        let said = file_line(alloc, directory, *name)?;
+        let said = name_line(alloc, directory, *name)?;
         lines.extend_from_slice(said.line.as_slice())?;
         if !said.is_read {
             return Ok(lines);
         }
     }
     Ok(lines)
+}
+
+/// What is said of a file that a script loads.
+#[derive(Drop)]
+struct NameLine {
+    /// A line, or nothing.
+    line: Vec<u8>,
+    /// Whether the file can be read.
+    is_read: bool,
+}
+
+/// Why the file of this name isn't taken, in a line, if it isn't and can be read twice.
+fn name_line<D: Again>(alloc: Global, directory: &D, name: &str) -> Result<NameLine, AllocError>
+    ensures { IfOk result (λ said.
+        MayHaveLoad (D.bytes directory.now name.now) name.now said.line.items) }
+{
+    match file_line(alloc, directory, name)? {
+        FileLine::Read(line) => Ok(NameLine {
+            line,
+            is_read: true,
+        }),
+        FileLine::Unread(error) => Ok(NameLine {
+            line: unread_load_line(alloc, name, &error)?,
+            is_read: false,
+        }),
+    }
 }
 
 /// Why the file of this name isn't taken as a stream, in a line, or why the script of this name isn't

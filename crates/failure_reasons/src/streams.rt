@@ -1,23 +1,23 @@
 //! Why files aren't taken as streams, in lines.
 
-ghost use Rattle.std.specs.Prelude.{◌≡◌, [], codes, true, IfOk};
+ghost use Rattle.std.specs.Prelude.{◌≡◌, ◌⊎◌, [], codes, true, IfOk};
 ghost use Rattle.std.specs.Str.{bytes_eq};
-ghost use Rattle.failure_reasons.specs.Lines.{MayHaveFile};
+ghost use Rattle.failure_reasons.specs.Lines.{IsRefusedLine, IsSaidOf, MayHaveFile};
 
 use crate::again::Again;
 use crate::noted::Noted;
 use crate::unread::unread_file_line;
 use file_reasons::explain_file;
 use std::alloc::{AllocError, Global};
-use std::io::Read;
+use std::io::{Error, Read};
 
 /// What is said of a file.
 #[derive(Drop)]
-pub(crate) struct FileLine {
-    /// A line, or nothing.
-    pub(crate) line: Vec<u8>,
-    /// Whether the file can be read.
-    pub(crate) is_read: bool,
+pub(crate) enum FileLine {
+    /// It can be read: a line that says why it isn't taken, or nothing.
+    Read(Vec<u8>),
+    /// It can't be.
+    Unread(Error),
 }
 
 /// Why the file of this name isn't taken as a stream, in a line, if it isn't and can be read twice.
@@ -35,54 +35,45 @@ pub fn stream_lines<D: Again>(
     if name == "-" {
         return Ok(Vec::new(alloc));
     }
-    let said = file_line(alloc, directory, name)?;
-    Ok(said.line)
+    match file_line(alloc, directory, name)? {
+        FileLine::Read(line) => Ok(line),
+        FileLine::Unread(error) => unread_file_line(alloc, name, &error),
+    }
 }
 
-/// Why the file of this name isn't taken as a stream, in a line, if it isn't and can be read twice.
+/// Why the file of this name isn't taken as a stream, in a line, if it isn't and can be read twice;
+/// or why it can't be read.
 pub(crate) fn file_line<D: Again>(
     alloc: Global,
     directory: &D,
     name: &str,
 ) -> Result<FileLine, AllocError>
-    ensures { IfOk result (λ said.
-        MayHaveFile (D.bytes directory.now name.now) name.now said.line.items) }
+    ensures { IfOk result (IsSaidOf (D.bytes directory.now name.now) name.now) }
 {
     match directory.open_again(name) {
         Ok(Some(file)) => opened_line(alloc, name, file),
-        Ok(None) => Ok(FileLine {
-            line: Vec::new(alloc),
-            is_read: true,
-        }),
-        Err(error) => Ok(FileLine {
-            line: unread_file_line(alloc, name, &error)?,
-            is_read: false,
-        }),
+        Ok(None) => Ok(FileLine::Read(Vec::new(alloc))),
+        Err(error) => Ok(FileLine::Unread(error)),
     }
 }
 
 /// The same of a file that was opened.
 fn opened_line<R: Read + Drop>(alloc: Global, name: &str, reader: R) -> Result<FileLine, AllocError>
-    ensures { IfOk result (λ said. MayHaveFile (R.remaining reader) name.now said.line.items) }
+    ensures { IfOk result (IsSaidOf (R.remaining reader) name.now) }
 {
     let error = None;
     let mut file = Noted { reader, error };
     let line = reason_line(alloc, name, &mut file)?;
     match file.error {
-        Some(error) => Ok(FileLine {
-            line: unread_file_line(alloc, name, &error)?,
-            is_read: false,
-        }),
-        None => Ok(FileLine {
-            line,
-            is_read: true,
-        }),
+        Some(error) => Ok(FileLine::Unread(error)),
+        None => Ok(FileLine::Read(line)),
     }
 }
 
 /// Why the file that the reader gives isn't taken as a stream, in a line, if that is known.
 fn reason_line<R: Read>(alloc: Global, name: &str, reader: &mut R) -> Result<Vec<u8>, AllocError>
-    ensures { IfOk result (λ line. MayHaveFile (R.remaining reader.old) name.now line.items) }
+    ensures { IfOk result (λ line. (line.items ≡ [])
+        ⊎ IsRefusedLine (R.remaining reader.old) name.now line.items) }
 {
     let mut line = Vec::new(alloc);
     match explain_file(alloc, name, reader, &mut line) {

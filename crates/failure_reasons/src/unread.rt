@@ -1,7 +1,7 @@
 //! The lines that say why a file or a script can't be read, in the system's words.
 
 ghost use Rattle.std.specs.Prelude.{◌≡◌, ℕ, List, Some, IfOk};
-ghost use Rattle.failure_reasons.specs.Lines.{unread_file, unread_script};
+ghost use Rattle.failure_reasons.specs.Lines.{unread_file, unread_load, unread_script};
 
 use std::alloc::{AllocError, Global};
 use std::fmt;
@@ -21,6 +21,23 @@ impl<'a> Display for UnreadFile<'a> {
     fn fmt<W: Write>(&self, f: &mut Formatter<W>) -> fmt::Result {
         let (name, words) = (self.name, self.words);
         writeln!(f, "{name}: {words}; see: preview check {name}")
+    }
+}
+
+/// Why the file of this name, which a script loads, can't be read, in these words.
+#[derive(Clone, Copy)]
+struct UnreadLoad<'a> {
+    name: &'a str,
+    words: &'a str,
+}
+
+impl<'a> Display for UnreadLoad<'a> {
+    ghost output = { λ file. Some (unread_load file.name.now file.words.now) };
+
+    fn fmt<W: Write>(&self, f: &mut Formatter<W>) -> fmt::Result {
+        let (name, words) = (self.name, self.words);
+        let start = "relative paths in a script start at the working directory";
+        writeln!(f, "{name}: {words}; {start}; see: preview check {name}")
     }
 }
 
@@ -51,6 +68,20 @@ pub(crate) fn unread_file_line(
     let words = error.to_string(alloc)?;
     let words = words.as_str();
     let line = (UnreadFile { name, words }).to_string(alloc)?;
+    Ok(line.into_bytes())
+}
+
+/// The line that says why the file of this name, which a script loads, can't be read.
+pub(crate) fn unread_load_line(
+    alloc: Global,
+    name: &str,
+    error: &Error,
+) -> Result<Vec<u8>, AllocError>
+    ensures { IfOk result (λ line. (words : List ℕ) × (line.items ≡ unread_load name.now words)) }
+{
+    let words = error.to_string(alloc)?;
+    let words = words.as_str();
+    let line = (UnreadLoad { name, words }).to_string(alloc)?;
     Ok(line.into_bytes())
 }
 

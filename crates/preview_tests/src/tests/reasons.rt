@@ -109,7 +109,8 @@ see: preview check cut.264\n",
     (
         &["run", "loads.script"],
         "text: a text file, not a byte stream of H.264 (Annex B); see: preview check text\n\
-nowhere: entity not found; see: preview check nowhere\n",
+nowhere: entity not found; relative paths in a script start at the working directory; \
+see: preview check nowhere\n",
     ),
     (&["draw", "a.264", "--edits", "mark.script"], OF_MARK),
     (&["draw", "text", "--edits", "mark.script"], OF_TEXT),

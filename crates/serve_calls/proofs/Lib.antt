@@ -3,6 +3,7 @@ mod Gone
 mod Listing
 mod Numbered
 mod Pages
+mod Recorded
 mod Remembered
 mod Replayed
 mod Told

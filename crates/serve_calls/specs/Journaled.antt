@@ -23,13 +23,6 @@ module _ {K : Type 0} (stands : K → List Step → Type 0) where
   abbrev pub Adds : K → Step → K → Type 0
   Adds before step after = (steps : List Step) → stands before steps → stands after (steps ++ step ∷ [])
 
-  -- what is recorded, if anything is, once a step is answered: with the step, if it is made; else the
-  -- steps before it
-  abbrev pub IsKept : {T E : Type 0} → Option K → Step → Result T E → Option K → Type 0
-  IsKept None step answer new = new ≡ None
-  IsKept (Some before) step (Ok it) new = (after : K) × (new ≡ Some after) × Adds before step after
-  IsKept (Some before) step (Err fault) new = (after : K) × (new ≡ Some after) × StaysKept before after
-
   -- what is recorded, if anything is, before a step is made: with the step, if it could be recorded,
   -- so that it can be taken off; else the steps before it
   abbrev pub IsRecorded : {T E : Type 0} → (K → List Step → Step → Type 0) → Option K → Step → Result T E → Option K → Type 0
@@ -43,21 +36,6 @@ module _ {K : Type 0} (stands : K → List Step → Type 0) where
   IsTakenOff ends None new = new ≡ None
   IsTakenOff ends (Some before) new =
       (after : K) × (new ≡ Some after) × ((steps : List Step) (step : Step) → ends before steps step → stands after steps)
-
-  -- what is recorded once the file is written anew: the snapshot alone; or what was there, where that
-  -- fails
-  abbrev pub IsCompacted : {E : Type 0} → Option K → SnapshotValue → Result (Unit {0}) E → Option K → Type 0
-  IsCompacted None snapshot answer new = new ≡ None
-  IsCompacted (Some before) snapshot (Ok it) new =
-      (after : K) × (new ≡ Some after) × ((steps : List Step) → stands before steps → stands after (Snapshot snapshot ∷ []))
-  IsCompacted (Some before) snapshot (Err fault) new = (after : K) × (new ≡ Some after) × StaysKept before after
-
-  -- what is recorded before a stream begins anew: nothing; or what was there, where that fails
-  abbrev pub IsCleared : {E : Type 0} → Option K → Result (Unit {0}) E → Option K → Type 0
-  IsCleared None answer new = new ≡ None
-  IsCleared (Some before) (Ok it) new =
-      (after : K) × (new ≡ Some after) × ((steps : List Step) → stands before steps → stands after [])
-  IsCleared (Some before) (Err fault) new = (after : K) × (new ≡ Some after) × StaysKept before after
 
 -- the insertions of units one after the other, the first of them at a place, where so many ids were
 -- given before
@@ -75,20 +53,6 @@ abbrev pub IsLoadKeptAt : {K E : Type 0} → (K → List Step → Type 0) → (K
     → List (List (List ℕ)) → Result (Unit {0}) E → Option K → Type 0
 IsLoadKeptAt stands ends place old units answer new =
     (given : ℕ) × AreGiven stands old given × IsRecorded stands ends old (Load (insertions_from place given units)) answer new
-
--- the insertions of units behind the last one of the stream are recorded as a load
-abbrev pub IsLoadKept : {B K E : Type 0} → (B → Machine → Type 0) → (K → List Step → Type 0) → (K → List Step → Step → Type 0)
-    → B → Option K → List (List (List ℕ)) → Result (Unit {0}) E → Option K → Type 0
-IsLoadKept is_session stands ends backend old units answer new =
-    Asks (is_session backend)
-    (λ machine. IsLoadKeptAt stands ends (place_after (last_of machine.register.stream).id) old units answer new)
-
--- of the load that was recorded last so many units stay
-abbrev pub IsLoadLeft : {K : Type 0} → (K → List Step → Type 0) → (K → List Step → Step → Type 0) → Option K → ℕ → Option K → Type 0
-IsLoadLeft stands ends None made new = new ≡ None
-IsLoadLeft {K} stands ends (Some before) made new =
-    (after : K) × (new ≡ Some after)
-    × ((steps : List Step) (step : Step) → ends before steps step → stands after (with_left steps step made))
 
 -- how many units of a load were inserted once one more is answered
 abbrev pub loaded_after : {T E : Type 0} → ℕ → Result T E → ℕ

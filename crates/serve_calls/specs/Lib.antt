@@ -9,6 +9,8 @@ pub mod Lists
 pub mod Offering
 pub mod Loading
 pub mod Preparing
+pub mod Recording
+pub mod RecordingCalls
 pub mod Remembering
 pub mod Unreplayed
 pub mod Replaying

@@ -1,12 +1,16 @@
 //! What keeps the session that calls are about.
 
-ghost use Rattle.std.specs.Prelude.{◌≡◌, ◌≤◌, ℕ, [], true, false, Err, IfOk, length};
+ghost use Rattle.std.specs.Prelude.{◌≡◌, ◌∷◌, ◌≤◌, ℕ, List, [], true, false, Err, IfOk, length};
 ghost use Rattle.std.specs.Fn.{FnOnceReturnsAt};
 ghost use Rattle.edit_engine.specs.Machines.{Machine};
+ghost use Rattle.stream_edits.specs.declared.edits.Edit.{Edit as EditValue};
+ghost use Rattle.journal_steps.specs.declared.step.Step.{Step as StepValue};
+ghost use Rattle.journal_steps.specs.declared.step.Step.TheVariants.{Edits, Snapshot as SnapshotStep};
 ghost use Rattle.stream_session.specs.Machines.{IsBegun, IsEmpty};
 ghost use Rattle.edit_engine.specs.Needing.{AnswersDrop};
 ghost use Rattle.serve_calls.specs.Offering.{Offered};
 ghost use Rattle.serve_calls.specs.Jobs.{GivesBackAs, LandsAs, TakesAs};
+ghost use Rattle.serve_calls.specs.Recording.{BeginsLoad, CountsOn, EndsLoad, KeepsRecords, RecordsIf, RecordsOnly};
 ghost use Rattle.serve_calls.specs.Sessions.{Asks, Clears, Marks, Stays, Steps};
 ghost use Rattle.serve_calls.specs.Unmade.{MakesTogether, MakesOne};
 
@@ -37,37 +41,54 @@ pub trait Backend: LendsSession {
     // Whether there are calls about jobs, and whether there is a journal.
     ghost offers: { Self → Offered };
 
+    // These steps are recorded, and no load is under way; by default none are.
+    ghost records: { Self → List StepValue → Type 0 } = { λ _ _. ⊥ };
+
+    // Behind these steps a load of these edits is recorded, of which so many were made; by default
+    // none is.
+    ghost loads: { Self → List StepValue → List EditValue → ℕ → Type 0 } = { λ _ _ _ _. ⊥ };
+
     /// Edits the stream by an edit whose text is read.
     fn edit(&mut self, read: ReadEdit) -> Result<Receipt, EditFault>
-        ensures { Steps (Self.is_session self.old)
-            (λ before after. MakesOne before read result after) (Self.is_session self.new) };
+        ensures steps { Steps (Self.is_session self.old)
+            (λ before after. MakesOne before read result after) (Self.is_session self.new) }
+        ensures recorded { RecordsIf (records self.old) (Edits (read ∷ [])) result
+            (records self.new) }
+        ensures loading { CountsOn (loads self.old) result (loads self.new) };
 
     /// Makes the edits of a group whose texts are read, as one step.
     fn edit_group(&mut self, group: ReadGroup) -> Result<GroupReceipt, GroupFault>
-        ensures { Steps (Self.is_session self.old)
-            (λ before after. MakesTogether before group result after) (Self.is_session self.new) };
+        ensures steps { Steps (Self.is_session self.old)
+            (λ before after. MakesTogether before group result after) (Self.is_session self.new) }
+        ensures recorded { RecordsIf (records self.old) (Edits group) result (records self.new) };
 
     /// Begins a load of these units, which are then inserted one after the other behind the last
     /// one.
     fn begin_load(&mut self, alloc: Global, units: &[HashedUnit]) -> Result<(), Unkept>
-        ensures { Stays (Self.is_session self.old) (Self.is_session self.new) };
+        ensures stays { Stays (Self.is_session self.old) (Self.is_session self.new) }
+        ensures recorded { BeginsLoad (Self.is_session self.old) (records self.old) units.now
+            result (records self.new) (loads self.new) };
 
     /// Ends a load, of which those units stay that were inserted.
     fn end_load(&mut self)
-        ensures { Stays (Self.is_session self.old) (Self.is_session self.new) };
+        ensures stays { Stays (Self.is_session self.old) (Self.is_session self.new) }
+        ensures recorded { EndsLoad (loads self.old) (records self.new) };
 
     /// Drops the picture of the unit that has the id.
     fn drop_picture(&mut self, id: AuId) -> Dropping
-        ensures { Steps (Self.is_session self.old)
-            (λ before after. AnswersDrop before id result after) (Self.is_session self.new) };
+        ensures steps { Steps (Self.is_session self.old)
+            (λ before after. AnswersDrop before id result after) (Self.is_session self.new) }
+        ensures recorded { KeepsRecords (records self.old) (records self.new) };
 
     /// Drops the pictures that are cached.
     fn clear_cache(&mut self)
-        ensures { Clears (Self.is_session self.old) (Self.is_session self.new) };
+        ensures clears { Clears (Self.is_session self.old) (Self.is_session self.new) }
+        ensures recorded { KeepsRecords (records self.old) (records self.new) };
 
     /// Marks the stream as it is, by which units are altered from then on.
     fn mark(&mut self) -> Result<(), AllocError>
-        ensures { Marks (Self.is_session self.old) result (Self.is_session self.new) };
+        ensures marks { Marks (Self.is_session self.old) result (Self.is_session self.new) }
+        ensures recorded { KeepsRecords (records self.old) (records self.new) };
 
     /// A session to begin anew with.
     fn fresh(&self, alloc: Global) -> Result<Session, AllocError>
@@ -75,7 +96,8 @@ pub trait Backend: LendsSession {
 
     /// Takes all records of edits off, before the session begins anew.
     fn clear_records(&mut self) -> Result<(), Unkept>
-        ensures { Stays (Self.is_session self.old) (Self.is_session self.new) };
+        ensures stays { Stays (Self.is_session self.old) (Self.is_session self.new) }
+        ensures recorded { RecordsOnly (records self.old) [] result (records self.new) };
 
     /// A session to begin anew with, from a snapshot.
     fn begun(&self, alloc: Global, snapshot: ReadSnapshot) -> Result<Session, AllocError>
@@ -85,18 +107,22 @@ pub trait Backend: LendsSession {
     /// journal it does nothing.
     fn compact(&mut self, snapshot: &Snapshot) -> Result<(), Unkept>
         ensures stays { Stays (Self.is_session self.old) (Self.is_session self.new) }
-        ensures offers { offers self.new ≡ offers self.old };
+        ensures offers { offers self.new ≡ offers self.old }
+        ensures recorded { RecordsOnly (records self.old) (SnapshotStep snapshot.now ∷ []) result
+            (records self.new) };
 
     /// Begins anew with this session, of which no job is out.
     fn begin_anew(&mut self, session: Session)
         requires { session.jobs_out ≡ [] }
-        ensures { Self.is_session self.new session };
+        ensures anew { Self.is_session self.new session }
+        ensures recorded { KeepsRecords (records self.old) (records self.new) };
 
     /// Has the pictures of these units made first, of which there are 64 at most, and those of all
     /// others too or not.
     fn want(&mut self, ids: &[AuId], rest: bool)
         requires { length ids.now ≤ 64 }
-        ensures { Stays (Self.is_session self.old) (Self.is_session self.new) };
+        ensures stays { Stays (Self.is_session self.old) (Self.is_session self.new) }
+        ensures recorded { KeepsRecords (records self.old) (records self.new) };
 
     /// Whether there are calls about jobs.
     fn has_jobs(&self) -> bool
@@ -111,19 +137,22 @@ pub trait Backend: LendsSession {
         ensures takes { (offers self.old).jobs ≡ true → Steps (Self.is_session self.old)
             (λ before after. TakesAs id before result after) (Self.is_session self.new) }
         ensures none { (offers self.old).jobs ≡ false
-            → (result ≡ Err Failure.NoMethod) × (self.new ≡ self.old) };
+            → (result ≡ Err Failure.NoMethod) × (self.new ≡ self.old) }
+        ensures recorded { KeepsRecords (records self.old) (records self.new) };
 
     /// Lands the result of the job of this number.
     fn land(&mut self, number: u64) -> Result<Answer, Failure>
         ensures lands { (offers self.old).jobs ≡ true → Steps (Self.is_session self.old)
             (λ before after. LandsAs number before result after) (Self.is_session self.new) }
         ensures none { (offers self.old).jobs ≡ false
-            → (result ≡ Err Failure.NoMethod) × (self.new ≡ self.old) };
+            → (result ≡ Err Failure.NoMethod) × (self.new ≡ self.old) }
+        ensures recorded { KeepsRecords (records self.old) (records self.new) };
 
     /// Gives the job of this number back.
     fn give_back(&mut self, number: u64) -> Result<Answer, Failure>
         ensures gives { (offers self.old).jobs ≡ true → Steps (Self.is_session self.old)
             (λ before after. GivesBackAs number before result after) (Self.is_session self.new) }
         ensures none { (offers self.old).jobs ≡ false
-            → (result ≡ Err Failure.NoMethod) × (self.new ≡ self.old) };
+            → (result ≡ Err Failure.NoMethod) × (self.new ≡ self.old) }
+        ensures recorded { KeepsRecords (records self.old) (records self.new) };
 }

@@ -4,6 +4,8 @@ ghost use Rattle.std.specs.Prelude.{◌≡◌, option_map};
 ghost use Rattle.edit_script.specs.Words.{id_of};
 ghost use Rattle.serve_calls.specs.Calls.{AnswersCall, IsOfJobs};
 ghost use Rattle.serve_calls.specs.Jobs.{GivesBackAs, LandsAs, TakesAs};
+ghost use Rattle.serve_calls.specs.Recording.{KeepsRecords};
+ghost use Rattle.serve_calls.specs.RecordingCalls.{RecordsCall};
 
 use crate::backend::Backend;
 use crate::server::Server;
@@ -24,8 +26,10 @@ impl<B: Backend, S: Saver> Server<B, S> {
         call: Call,
         is_answered: bool,
     ) -> Result<Answer, Failure>
-        ensures { AnswersCall B.is_session B.offers S.file self.old wanted.old.items call
+        ensures answers { AnswersCall B.is_session B.offers S.file self.old wanted.old.items call
             is_answered result self.new wanted.new.items }
+        ensures recorded { RecordsCall B.is_session B.records S.file self.old call result
+            self.new }
     {
         match call {
             Call::Initialize => self.introduce(),
@@ -61,22 +65,26 @@ impl<B: Backend, S: Saver> Server<B, S> {
 impl<B: Backend, S> Server<B, S> {
     /// Takes a job, or with a number one that its unit needs.
     fn take(&mut self, number: Option<u64>) -> Result<Answer, Failure>
-        ensures { IsOfJobs B.is_session B.offers self.old (TakesAs (option_map id_of number))
-            result self.new }
+        ensures answers { IsOfJobs B.is_session B.offers self.old
+            (TakesAs (option_map id_of number)) result self.new }
+        ensures recorded { KeepsRecords (B.records self.old.backend) (B.records self.new.backend) }
     {
         self.backend.take(self.alloc, id_if_any(number))
     }
 
     /// Lands the result of the job of this number.
     fn land(&mut self, number: u64) -> Result<Answer, Failure>
-        ensures { IsOfJobs B.is_session B.offers self.old (LandsAs number) result self.new }
+        ensures answers { IsOfJobs B.is_session B.offers self.old (LandsAs number) result self.new }
+        ensures recorded { KeepsRecords (B.records self.old.backend) (B.records self.new.backend) }
     {
         self.backend.land(number)
     }
 
     /// Gives the job of this number back.
     fn give_back(&mut self, number: u64) -> Result<Answer, Failure>
-        ensures { IsOfJobs B.is_session B.offers self.old (GivesBackAs number) result self.new }
+        ensures answers { IsOfJobs B.is_session B.offers self.old (GivesBackAs number) result
+            self.new }
+        ensures recorded { KeepsRecords (B.records self.old.backend) (B.records self.new.backend) }
     {
         self.backend.give_back(number)
     }

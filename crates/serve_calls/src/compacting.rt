@@ -2,6 +2,7 @@
 
 ghost use Rattle.std.specs.Prelude.{◌≡◌};
 ghost use Rattle.serve_calls.specs.Compacting.{CompactsAs, compact_answer};
+ghost use Rattle.serve_calls.specs.RecordingCalls.{RecordsSnapshot};
 
 use crate::backend::Backend;
 use crate::failing::OUT_OF_MEMORY;
@@ -14,7 +15,9 @@ use session_journal::Unkept;
 impl<B: Backend, S> Server<B, S> {
     /// Writes the journal's file anew, as the stream is: nothing is left of how it became so.
     pub(crate) fn compact(&mut self) -> Result<Answer, Failure>
-        ensures { CompactsAs B.is_session B.offers self.old result self.new }
+        ensures answers { CompactsAs B.is_session B.offers self.old result self.new }
+        ensures recorded { RecordsSnapshot (B.records self.old.backend) self.old.history result
+            (B.records self.new.backend) }
     {
         if !self.backend.has_journal() {
             return Err(Failure::NoMethod);

@@ -1,11 +1,12 @@
 //! A session whose edits are recorded before they are made.
 
-ghost use Rattle.std.specs.Prelude.{◌≡◌, ◌+◌, ◌-◌, ◌^◌, ◌∷◌, ℕ, [], None, Some, IfOk, IsOk, OnOk, is_some, min};
+ghost use Rattle.std.specs.Prelude.{◌≡◌, ◌+◌, ◌-◌, ◌^◌, ◌∷◌, ℕ, [], None, Some, IfOk, IsOk, is_some, min};
 ghost use Rattle.journal_steps.specs.declared.step.Step.TheVariants.{Edits, Load};
-ghost use Rattle.serve_calls.specs.Journaled.{IsCleared, IsCompacted, IsKept, IsLoadKept, IsLoadKeptAt, IsLoadLeft, IsRecorded, IsTakenOff, insertions_from, loaded_after};
+ghost use Rattle.stream_edits.specs.Streams.{last_of, place_after};
+ghost use Rattle.serve_calls.specs.Journaled.{IsLoadKeptAt, IsRecorded, IsTakenOff, insertions_from};
 ghost use Rattle.serve_calls.specs.Offering.{offering};
-ghost use Rattle.serve_calls.specs.Sessions.{Stays, Steps};
-ghost use Rattle.serve_calls.specs.Unmade.{MakesOne, MakesTogether};
+ghost use Rattle.serve_calls.specs.Recording.{Stands, StandsLoad};
+ghost use Rattle.serve_calls.specs.Sessions.{Asks};
 
 use crate::backend::{Backend, LendsSession};
 use crate::unmade::{EditFault, GroupFault};
@@ -90,6 +91,7 @@ impl<B, K: Records> Journaled<B, K> {
         units: &[HashedUnit],
     ) -> Result<(), Unkept>
         ensures backend { self.new.backend ≡ self.old.backend }
+        ensures loaded { self.new.loaded ≡ self.old.loaded }
         ensures kept { IsLoadKeptAt K.stands K.ends place self.old.journal units.now result
             self.new.journal }
     {
@@ -137,6 +139,16 @@ impl<B, K: Records> Journaled<B, K> {
     }
 }
 
+impl<B: LendsSession, K> Journaled<B, K> {
+    /// The end of the stream.
+    fn end(&self) -> Place
+        ensures { Asks (B.is_session self.now.backend)
+            (λ machine. result ≡ place_after (last_of machine.register.stream).id) }
+    {
+        self.backend.look(|session| session.last().end())
+    }
+}
+
 impl<B: LendsSession, K> LendsSession for Journaled<B, K> {
     ghost is_session = { λ it machine. B.is_session it.backend machine };
 
@@ -148,16 +160,12 @@ impl<B: LendsSession, K> LendsSession for Journaled<B, K> {
 impl<B: Backend, K: Records> Backend for Journaled<B, K> {
     ghost offers = { λ it. offering (B.offers it.backend).jobs (is_some it.journal) };
 
-    fn edit(&mut self, read: ReadEdit) -> Result<Receipt, EditFault>
-        ensures steps { Steps (B.is_session self.old.backend)
-            (λ before after. MakesOne before read result after)
-            (B.is_session self.new.backend) }
-        ensures recorded { self.old.loaded ≡ None → IsKept K.stands self.old.journal
-            (Edits (read ∷ [])) result self.new.journal }
-        ensures loading { (count : ℕ) → self.old.loaded ≡ Some count
-            → (self.new.journal ≡ self.old.journal)
-            × (self.new.loaded ≡ Some (loaded_after count result)) }
-    {
+    ghost records = { λ it steps. Stands K.stands it.journal it.loaded steps };
+
+    ghost loads = { λ it steps edits count.
+        StandsLoad K.ends it.journal it.loaded steps edits count };
+
+    fn edit(&mut self, read: ReadEdit) -> Result<Receipt, EditFault> {
         let _units = self.backend.look(|session| session.last().units);
         self.record_edit(read.edit())?;
         match self.backend.edit(read) {
@@ -172,13 +180,7 @@ impl<B: Backend, K: Records> Backend for Journaled<B, K> {
         }
     }
 
-    fn edit_group(&mut self, group: ReadGroup) -> Result<GroupReceipt, GroupFault>
-        ensures steps { Steps (B.is_session self.old.backend)
-            (λ before after. MakesTogether before group result after)
-            (B.is_session self.new.backend) }
-        ensures recorded { self.old.loaded ≡ None → IsKept K.stands self.old.journal (Edits group)
-            result self.new.journal }
-    {
+    fn edit_group(&mut self, group: ReadGroup) -> Result<GroupReceipt, GroupFault> {
         let _units = self.backend.look(|session| session.last().units);
         self.record_group(group.edits())?;
         match self.backend.edit_group(group) {
@@ -190,24 +192,14 @@ impl<B: Backend, K: Records> Backend for Journaled<B, K> {
         }
     }
 
-    fn begin_load(&mut self, alloc: Global, units: &[HashedUnit]) -> Result<(), Unkept>
-        ensures stays { Stays (B.is_session self.old.backend) (B.is_session self.new.backend) }
-        ensures recorded { IsLoadKept B.is_session K.stands K.ends self.old.backend
-            self.old.journal units.now result self.new.journal }
-        ensures loaded { OnOk result (self.new.loaded ≡ Some 0) }
-    {
-        let place = self.backend.look(|session| session.last().end());
+    fn begin_load(&mut self, alloc: Global, units: &[HashedUnit]) -> Result<(), Unkept> {
+        let place = self.end();
         self.record_load(alloc, place, units)?;
         self.loaded = Some(0);
         Ok(())
     }
 
-    fn end_load(&mut self)
-        ensures stays { Stays (B.is_session self.old.backend) (B.is_session self.new.backend) }
-        ensures left { (count : ℕ) → self.old.loaded ≡ Some count
-            → IsLoadLeft K.stands K.ends self.old.journal count self.new.journal }
-        ensures loaded { self.new.loaded ≡ None }
-    {
+    fn end_load(&mut self) {
         let count = self.loaded.unwrap_or(0);
         if let Some(journal) = &mut self.journal {
             journal.shorten(count);
@@ -231,10 +223,7 @@ impl<B: Backend, K: Records> Backend for Journaled<B, K> {
         self.backend.fresh(alloc)
     }
 
-    fn clear_records(&mut self) -> Result<(), Unkept>
-        ensures stays { Stays (B.is_session self.old.backend) (B.is_session self.new.backend) }
-        ensures cleared { IsCleared K.stands self.old.journal result self.new.journal }
-    {
+    fn clear_records(&mut self) -> Result<(), Unkept> {
         match &mut self.journal {
             Some(journal) => match journal.clear() {
                 Ok(()) => Ok(()),
@@ -248,14 +237,7 @@ impl<B: Backend, K: Records> Backend for Journaled<B, K> {
         self.backend.begun(alloc, snapshot)
     }
 
-    fn compact(&mut self, snapshot: &Snapshot) -> Result<(), Unkept>
-        ensures stays { Stays (B.is_session self.old.backend) (B.is_session self.new.backend) }
-        ensures offers { offering (B.offers self.new.backend).jobs (is_some self.new.journal)
-            ≡ offering (B.offers self.old.backend).jobs (is_some self.old.journal) }
-        ensures compacted { IsCompacted K.stands self.old.journal snapshot.now result
-            self.new.journal }
-        ensures loaded { self.new.loaded ≡ self.old.loaded }
-    {
+    fn compact(&mut self, snapshot: &Snapshot) -> Result<(), Unkept> {
         match &mut self.journal {
             Some(journal) => match journal.compact(snapshot) {
                 Ok(()) => Ok(()),
@@ -265,11 +247,7 @@ impl<B: Backend, K: Records> Backend for Journaled<B, K> {
         }
     }
 
-    fn begin_anew(&mut self, session: Session)
-        requires { session.jobs_out ≡ [] }
-        ensures anew { B.is_session self.new.backend session }
-        ensures recorded { self.new.journal ≡ self.old.journal }
-    {
+    fn begin_anew(&mut self, session: Session) {
         self.backend.begin_anew(session);
     }
 

@@ -4,8 +4,12 @@ ghost use Rattle.std.specs.Prelude.{◌≡◌, ◌+◌, ◌<◌, ◌≤◌, ℕ,
 ghost use Rattle.std.specs.Vec.{vec_capacity};
 ghost use Rattle.serve_calls.specs.Failing.{out_of_memory};
 ghost use Rattle.edit_history.specs.Histories.{HasRoom as HasStepRoom};
+ghost use Rattle.stream_edits.specs.declared.edits.Edit.{Edit as EditValue};
+ghost use Rattle.journal_steps.specs.declared.step.Step.{Step as StepValue};
 ghost use Rattle.serve_calls.specs.Loading.{InsertsAll, InsertsBegun, InsertsLast, InsertsStep, IsLast, IsTextOf, IsTextless, LoadsAs, LoadsStream, load_answer, loaded_answer, none_inserted, uninserted, with_unit};
 ghost use Rattle.serve_calls.specs.Preparing.{prepared};
+ghost use Rattle.serve_calls.specs.Recording.{AreInserted, CountsOn, RecordsInserted, RecordsStream};
+ghost use Rattle.serve_calls.specs.RecordingCalls.{RecordsLoaded};
 
 use crate::backend::{Backend, LendsSession};
 use crate::failing::OUT_OF_MEMORY;
@@ -83,7 +87,10 @@ impl<B: Backend, S: Source> Server<B, S> {
         loaded: Loaded,
         mend: bool,
     ) -> Result<Answer, Failure>
-        ensures { LoadsAs B.is_session S.file self.old loaded mend result self.new }
+        ensures answers { LoadsAs B.is_session S.file self.old loaded mend result self.new }
+        ensures recorded { RecordsLoaded (B.is_session self.old.backend) S.file
+            (B.records self.old.backend) self.old.source loaded mend result
+            (B.records self.new.backend) }
     {
         match text_of(self.alloc, &mut self.source, loaded) {
             Ok(text) => self.load_text(rt, text, mend),
@@ -98,7 +105,10 @@ impl<B: Backend, S: Source> Server<B, S> {
         text: Bytes,
         mend: bool,
     ) -> Result<Answer, Failure>
-        ensures { LoadsStream B.is_session self.old (prepared mend text) result self.new }
+        ensures loads { LoadsStream B.is_session self.old (prepared mend text) result self.new }
+        ensures recorded { RecordsStream (B.is_session self.old.backend)
+            (B.records self.old.backend) (prepared mend text).text result
+            (B.records self.new.backend) }
     {
         match Prepared::of(self.alloc, text, mend) {
             Ok(stream) => self.load_stream(rt, stream),
@@ -112,7 +122,9 @@ impl<B: Backend, S: Source> Server<B, S> {
         rt: &R,
         stream: Prepared,
     ) -> Result<Answer, Failure>
-        ensures { LoadsStream B.is_session self.old stream result self.new }
+        ensures loads { LoadsStream B.is_session self.old stream result self.new }
+        ensures recorded { RecordsStream (B.is_session self.old.backend)
+            (B.records self.old.backend) stream.text result (B.records self.new.backend) }
     {
         let Prepared { text, left_out } = stream;
         let from = self.last().units;
@@ -128,8 +140,10 @@ impl<B: Backend, S: Source> Server<B, S> {
 
     /// Inserts the units after the last one, the first of them at a place, as one step.
     fn insert_step(&mut self, from: usize, units: Vec<HashedUnit>) -> Result<Inserted, Failure>
-        ensures { InsertsStep B.is_session self.old units.items (none_inserted from) result
-            self.new }
+        ensures inserts { InsertsStep B.is_session self.old units.items (none_inserted from)
+            result self.new }
+        ensures recorded { RecordsInserted (B.is_session self.old.backend)
+            (B.records self.old.backend) units.items result (B.records self.new.backend) }
     {
         match self.history.begin(self.alloc, units.len()) {
             Ok(step) => self.insert_begun(step, from, units),
@@ -148,8 +162,10 @@ impl<B: Backend, S: Source> Server<B, S> {
         requires fits { vec_len units ≤ vec_capacity step.changes }
         requires empty { step.changes.items ≡ [] }
         requires room { HasStepRoom self.old.history.history }
-        ensures { InsertsBegun B.is_session self.old step units.items (none_inserted from) result
-            self.new }
+        ensures inserts { InsertsBegun B.is_session self.old step units.items
+            (none_inserted from) result self.new }
+        ensures recorded { RecordsInserted (B.is_session self.old.backend)
+            (B.records self.old.backend) units.items result (B.records self.new.backend) }
     {
         if let Err(why) = self.backend.begin_load(self.alloc, &units) {
             return Err(unkept_failure(why));
@@ -173,6 +189,10 @@ impl<B: Backend, S: Source> Server<B, S> {
         ensures inserts { InsertsAll B.is_session self.old step.old units.items
             (none_inserted from) result self.new step.new }
         ensures history { self.new.history.history ≡ self.old.history.history }
+        ensures loading { (made : ℕ) × AreInserted result made
+            × ((steps : List StepValue) (edits : List EditValue)
+            → B.loads self.old.backend steps edits 0
+            → B.loads self.new.backend steps edits made) }
     {
         let mut inserted = Inserted::none(from);
         for unit in units {
@@ -189,6 +209,7 @@ impl<B: Backend, S: Source> Server<B, S> {
         requires { vec_len step.old.changes < vec_capacity step.old.changes }
         ensures inserts { InsertsLast B.is_session self.old step.old unit result self.new
             step.new }
+        ensures loading { CountsOn (B.loads self.old.backend) result (B.loads self.new.backend) }
         ensures history { self.new.history.history ≡ self.old.history.history }
         ensures capacity { vec_capacity step.new.changes ≡ vec_capacity step.old.changes }
         ensures more { vec_len step.new.changes ≤ vec_len step.old.changes + 1 }

@@ -2,6 +2,7 @@
 
 ghost use Rattle.std.specs.Prelude.{◌≡◌, false, Err};
 ghost use Rattle.serve_requests.specs.Messages.{lent, parts_of};
+ghost use Rattle.serve_calls.specs.RecordingCalls.{RecordsServed, RecordsServedBy, RecordsServedIf};
 ghost use Rattle.serve_calls.specs.Requests.{IsServed, IsServedBy, IsServedIf, is_answered, is_last, parts_if};
 
 use crate::backend::Backend;
@@ -31,8 +32,10 @@ impl<B: Backend, S: Saver> Server<B, S> {
         wanted: &mut Vec<WantedUnit>,
         message: &Message<'_>,
     ) -> Served
-        ensures { IsServedIf B.is_session B.offers S.file self.old wanted.old.items
+        ensures serves { IsServedIf B.is_session B.offers S.file self.old wanted.old.items
             (parts_if message.now) result self.new wanted.new.items }
+        ensures recorded { RecordsServedIf B.is_session B.offers B.records S.file self.old
+            (parts_if message.now) result.answer self.new }
     {
         match message {
             Message::Request(request) => self.serve_request(rt, wanted, request),
@@ -47,8 +50,10 @@ impl<B: Backend, S: Saver> Server<B, S> {
         wanted: &mut Vec<WantedUnit>,
         request: &Request<'_>,
     ) -> Served
-        ensures { IsServed B.is_session B.offers S.file self.old wanted.old.items
+        ensures serves { IsServed B.is_session B.offers S.file self.old wanted.old.items
             (parts_of request.now) result self.new wanted.new.items }
+        ensures recorded { RecordsServed B.is_session B.offers B.records S.file self.old
+            (parts_of request.now) result.answer self.new }
     {
         let call = request.call(self.alloc, self.backend.has_jobs());
         self.serve_call(rt, wanted, call, is_answered(request.id))
@@ -62,8 +67,10 @@ impl<B: Backend, S: Saver> Server<B, S> {
         call: Result<Call, Failure>,
         is_answered: bool,
     ) -> Served
-        ensures { IsServedBy B.is_session B.offers S.file self.old wanted.old.items is_answered
-            call result self.new wanted.new.items }
+        ensures serves { IsServedBy B.is_session B.offers S.file self.old wanted.old.items
+            is_answered call result self.new wanted.new.items }
+        ensures recorded { RecordsServedBy B.is_session B.records S.file self.old call
+            result.answer self.new }
     {
         match call {
             Ok(call) => {

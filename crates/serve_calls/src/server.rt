@@ -2,10 +2,12 @@
 
 ghost use Rattle.std.specs.Prelude.{◌≡◌, ◌+◌, ◌<◌, ◌≤◌, [], ◌∷◌, IfSome, None, vec_len};
 ghost use Rattle.std.specs.Vec.{vec_capacity};
+ghost use Rattle.journal_steps.specs.declared.step.Step.TheVariants.{Edits};
 ghost use Rattle.stream_edits.specs.Edits.{no_units};
 ghost use Rattle.undo_redo.specs.Following.{Follows, HasRoom, IsRefusedOf};
 ghost use Rattle.undo_redo.specs.States.{IsUndoRedo};
 ghost use Rattle.serve_calls.specs.Editing.{DropsAs, EditsAs, GroupsAs, MakesEdit, MakesEditIn, MakesGroup, MakesStep, MarksAs, mark_answer};
+ghost use Rattle.serve_calls.specs.Recording.{CountsOn, KeepsRecords, RecordsIf, RecordsOnly};
 ghost use Rattle.serve_calls.specs.Resetting.{ResetsAs};
 ghost use Rattle.serve_calls.specs.Sums.{no_sums};
 
@@ -53,7 +55,9 @@ impl<B: Backend, S> Server<B, S> {
 
     /// Edits the stream.
     pub(crate) fn edit(&mut self, edit: Edit) -> Result<Answer, Failure>
-        ensures { EditsAs B.is_session self.old edit result self.new }
+        ensures answers { EditsAs B.is_session self.old edit result self.new }
+        ensures recorded { RecordsIf (B.records self.old.backend) (Edits (edit ∷ [])) result
+            (B.records self.new.backend) }
     {
         match edit.read(self.alloc) {
             Ok(read) => of_made(self.edit_read(read)),
@@ -63,7 +67,9 @@ impl<B: Backend, S> Server<B, S> {
 
     /// Edits the stream by an edit whose text is read, as one step.
     pub(crate) fn edit_read(&mut self, read: ReadEdit) -> Result<Receipt, EditFault>
-        ensures { MakesEdit B.is_session self.old read result self.new }
+        ensures makes { MakesEdit B.is_session self.old read result self.new }
+        ensures recorded { RecordsIf (B.records self.old.backend) (Edits (read ∷ [])) result
+            (B.records self.new.backend) }
     {
         match self.history.begin(self.alloc, 1) {
             Ok(mut step) => {
@@ -79,6 +85,9 @@ impl<B: Backend, S> Server<B, S> {
     pub(crate) fn edit_in(&mut self, step: &mut Step, read: ReadEdit) -> Result<Receipt, EditFault>
         requires { vec_len step.old.changes < vec_capacity step.old.changes }
         ensures makes { MakesEditIn B.is_session self.old step.old read result self.new step.new }
+        ensures recorded { RecordsIf (B.records self.old.backend) (Edits (read ∷ [])) result
+            (B.records self.new.backend) }
+        ensures loading { CountsOn (B.loads self.old.backend) result (B.loads self.new.backend) }
         ensures history { self.new.history.history ≡ self.old.history.history }
         ensures capacity { vec_capacity step.new.changes ≡ vec_capacity step.old.changes }
         ensures more { vec_len step.new.changes ≤ vec_len step.old.changes + 1 }
@@ -102,6 +111,9 @@ impl<B: Backend, S> Server<B, S> {
         requires follows { IfSome prepared (Follows self.old.history.units read) }
         requires none { prepared ≡ None → IsRefusedOf self.old.history.units read }
         ensures makes { MakesEditIn B.is_session self.old step.old read result self.new step.new }
+        ensures recorded { RecordsIf (B.records self.old.backend) (Edits (read ∷ [])) result
+            (B.records self.new.backend) }
+        ensures loading { CountsOn (B.loads self.old.backend) result (B.loads self.new.backend) }
         ensures history { self.new.history.history ≡ self.old.history.history }
         ensures capacity { vec_capacity step.new.changes ≡ vec_capacity step.old.changes }
         ensures more { vec_len step.new.changes ≤ vec_len step.old.changes + 1 }
@@ -115,14 +127,18 @@ impl<B: Backend, S> Server<B, S> {
 
     /// Makes edits together.
     pub(crate) fn group(&mut self, edits: Listed<Edit>) -> Result<Answer, Failure>
-        ensures { GroupsAs B.is_session self.old edits result self.new }
+        ensures answers { GroupsAs B.is_session self.old edits result self.new }
+        ensures recorded { RecordsIf (B.records self.old.backend) (Edits edits) result
+            (B.records self.new.backend) }
     {
         self.edit_group(edits.into_items())
     }
 
     /// Makes these edits together, as one step.
     fn edit_group(&mut self, edits: Vec<Edit>) -> Result<Answer, Failure>
-        ensures { GroupsAs B.is_session self.old edits.items result self.new }
+        ensures answers { GroupsAs B.is_session self.old edits.items result self.new }
+        ensures recorded { RecordsIf (B.records self.old.backend) (Edits edits.items) result
+            (B.records self.new.backend) }
     {
         match ReadGroup::read(self.alloc, edits) {
             Ok(group) => of_group_made(self.edit_group_read(group)),
@@ -132,7 +148,9 @@ impl<B: Backend, S> Server<B, S> {
 
     /// Makes edits together, those of a group whose texts are read, as one step.
     pub(crate) fn edit_group_read(&mut self, group: ReadGroup) -> Result<GroupReceipt, GroupFault>
-        ensures { MakesStep B.is_session self.old group result self.new }
+        ensures makes { MakesStep B.is_session self.old group result self.new }
+        ensures recorded { RecordsIf (B.records self.old.backend) (Edits group) result
+            (B.records self.new.backend) }
     {
         match self.history.prepare_group(self.alloc, group.edits()) {
             Ok(prepared) => {
@@ -146,7 +164,9 @@ impl<B: Backend, S> Server<B, S> {
 
     /// Makes edits together, those of a group whose texts are read.
     pub(crate) fn edit_together(&mut self, group: ReadGroup) -> Result<GroupReceipt, GroupFault>
-        ensures { MakesGroup B.is_session self.old group result self.new }
+        ensures makes { MakesGroup B.is_session self.old group result self.new }
+        ensures recorded { RecordsIf (B.records self.old.backend) (Edits group) result
+            (B.records self.new.backend) }
     {
         let bytes = bytes_of(group.edits());
         let receipt = self.backend.edit_group(group)?;
@@ -156,15 +176,18 @@ impl<B: Backend, S> Server<B, S> {
 
     /// Marks the stream as it is.
     pub(crate) fn mark(&mut self) -> Result<Answer, Failure>
-        ensures { MarksAs B.is_session self.old result self.new }
+        ensures answers { MarksAs B.is_session self.old result self.new }
+        ensures recorded { KeepsRecords (B.records self.old.backend) (B.records self.new.backend) }
     {
         of_mark(self.backend.mark())
     }
 
     /// Begins anew.
     pub(crate) fn reset(&mut self, wanted: &mut Vec<WantedUnit>) -> Result<Answer, Failure>
-        ensures { ResetsAs B.is_session self.old wanted.old.items result self.new
+        ensures answers { ResetsAs B.is_session self.old wanted.old.items result self.new
             wanted.new.items }
+        ensures recorded { RecordsOnly (B.records self.old.backend) [] result
+            (B.records self.new.backend) }
     {
         let Ok(session) = self.backend.fresh(self.alloc) else {
             return Err(OUT_OF_MEMORY);
@@ -183,7 +206,8 @@ impl<B: Backend, S> Server<B, S> {
 
     /// Drops the picture of the unit of this number, or without a number those that are cached.
     pub(crate) fn drop_picture(&mut self, number: Option<u64>) -> Result<Answer, Failure>
-        ensures { DropsAs B.is_session self.old number result self.new }
+        ensures answers { DropsAs B.is_session self.old number result self.new }
+        ensures recorded { KeepsRecords (B.records self.old.backend) (B.records self.new.backend) }
     {
         match number {
             Some(number) => of_drop(self.backend.drop_picture(id_of_number(number))),

@@ -1,6 +1,9 @@
 //! `undo` and `redo`.
 
 ghost use Rattle.std.specs.Prelude.{◌≡◌, ◌+◌, ◌-◌, ◌<◌, length, min};
+ghost use Rattle.journal_steps.specs.declared.step.Step.TheVariants.{Edits};
+ghost use Rattle.serve_calls.specs.Recording.{RecordsIf, RecordsSome};
+ghost use Rattle.serve_calls.specs.RecordingCalls.{AreRedoing, AreUndoing};
 ghost use Rattle.serve_calls.specs.Undoing.{GoesBy, Redoes, RedoesAs, Undoes, UndoesAs, undo_failure};
 
 use crate::backend::Backend;
@@ -15,7 +18,9 @@ use undo_redo::{NotUndone, UnitTexts};
 impl<B: Backend, S> Server<B, S> {
     /// Takes the last step back that is done.
     pub(crate) fn undo(&mut self) -> Result<Answer, Failure>
-        ensures { UndoesAs B.is_session self.old result self.new }
+        ensures answers { UndoesAs B.is_session self.old result self.new }
+        ensures recorded { RecordsSome (B.records self.old.backend) (AreUndoing self.old.history) result
+            (B.records self.new.backend) }
     {
         match self.history.undo(self.alloc) {
             Ok((edits, units)) => of_group_made(self.take_back(edits, units)),
@@ -28,8 +33,10 @@ impl<B: Backend, S> Server<B, S> {
     fn take_back(&mut self, edits: Vec<Edit>, units: UnitTexts) -> Result<GroupReceipt, GroupFault>
         requires some { 0 < self.old.history.history.done }
         requires undoes { Undoes self.old.history edits.items units }
-        ensures { GoesBy B.is_session (self.old.history.history.done - 1) self.old edits.items
+        ensures goes { GoesBy B.is_session (self.old.history.history.done - 1) self.old edits.items
             result self.new }
+        ensures recorded { RecordsIf (B.records self.old.backend) (Edits edits.items) result
+            (B.records self.new.backend) }
     {
         let group = ReadGroup::of_step(self.alloc, edits)?;
         let receipt = self.edit_together(group)?;
@@ -39,7 +46,9 @@ impl<B: Backend, S> Server<B, S> {
 
     /// Makes the next step again that was taken back.
     pub(crate) fn redo(&mut self) -> Result<Answer, Failure>
-        ensures { RedoesAs B.is_session self.old result self.new }
+        ensures answers { RedoesAs B.is_session self.old result self.new }
+        ensures recorded { RecordsSome (B.records self.old.backend) (AreRedoing self.old.history) result
+            (B.records self.new.backend) }
     {
         match self.history.redo(self.alloc) {
             Ok((edits, units)) => of_group_made(self.make_again(edits, units)),
@@ -53,8 +62,10 @@ impl<B: Backend, S> Server<B, S> {
         requires some { self.old.history.history.done
             < length self.old.history.history.steps.items }
         requires redoes { Redoes self.old.history edits.items units }
-        ensures { GoesBy B.is_session (min (self.old.history.history.done + 1)
+        ensures goes { GoesBy B.is_session (min (self.old.history.history.done + 1)
             (length self.old.history.history.steps.items)) self.old edits.items result self.new }
+        ensures recorded { RecordsIf (B.records self.old.backend) (Edits edits.items) result
+            (B.records self.new.backend) }
     {
         let group = ReadGroup::of_step(self.alloc, edits)?;
         let receipt = self.edit_together(group)?;

@@ -3,6 +3,7 @@
 ghost use Rattle.std.specs.Prelude.{◌≡◌, IfOk, MatchResult, OnOk, [], map};
 ghost use Rattle.edit_script.specs.Words.{id_of};
 ghost use Rattle.serve_calls.specs.Failing.{out_of_memory};
+ghost use Rattle.serve_calls.specs.Recording.{KeepsRecords};
 ghost use Rattle.serve_calls.specs.Sessions.{Asks};
 ghost use Rattle.serve_calls.specs.Wanting.{IsTold, TellsOf, TellsOne, WantsAs, not_now_of, picked, picture_of, ready_of, wanted_after};
 
@@ -69,8 +70,9 @@ impl<B: Backend, S> Server<B, S> {
         rest: bool,
         is_answered: bool,
     ) -> Result<Answer, Failure>
-        ensures { WantsAs B.is_session self.old wanted.old.items ids is_answered result self.new
-            wanted.new.items }
+        ensures answers { WantsAs B.is_session self.old wanted.old.items ids is_answered result
+            self.new wanted.new.items }
+        ensures recorded { KeepsRecords (B.records self.old.backend) (B.records self.new.backend) }
     {
         let numbers = ids.into_items();
         self.want_all(wanted, numbers.as_slice(), rest, is_answered)
@@ -84,8 +86,9 @@ impl<B: Backend, S> Server<B, S> {
         rest: bool,
         is_answered: bool,
     ) -> Result<Answer, Failure>
-        ensures { WantsAs B.is_session self.old wanted.old.items numbers.now is_answered result
-            self.new wanted.new.items }
+        ensures answers { WantsAs B.is_session self.old wanted.old.items numbers.now is_answered
+            result self.new wanted.new.items }
+        ensures recorded { KeepsRecords (B.records self.old.backend) (B.records self.new.backend) }
     {
         if numbers.len() > MOST_WANTED {
             return Err(Failure::Refused(Refusal::TooManyWanted));

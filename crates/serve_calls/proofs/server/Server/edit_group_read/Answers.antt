@@ -7,13 +7,13 @@ use Rattle.serve_calls.specs.Remembering.{AddsStep}
 use Rattle.serve_calls.proofs.Remembered.{group-accepted}
 use Rattle.serve_calls.proofs.server.Server.edit_group_read.Goals as goal
 
-pub returns-in_ok-receipt-in-Ok : goal.returns-in_ok-receipt-in-Ok
-returns-in_ok-receipt-in-Ok g c =
+pub returns-in_ok-receipt-in-Ok-clause-makes : goal.returns-in_ok-receipt-in-Ok-clause-makes
+returns-in_ok-receipt-in-Ok-clause-makes g c =
     let old = c.args.self.now in
     let between = record old { history = c.prepare_group.new.self } in
     let made = c.edit_together.new.self in
     let new = record made { history = c.take_in_group.new.history } in
-    let makes = c.in_ok-receipt-in-Ok.ensures in
+    let makes = c.in_ok-receipt-in-Ok.ensures.makes in
     let follows = subst (λ (edits : List Edit). IfSome c.in-Ok.prepared (FollowsAll c.prepare_group.new.self.units edits)) c.edits.ensures.edits
     c.in-Ok.ensures.follows in
     let none = subst (λ (edits : List Edit). c.in-Ok.prepared ≡ None → AreRefusedOf c.prepare_group.new.self.units edits) c.edits.ensures.edits

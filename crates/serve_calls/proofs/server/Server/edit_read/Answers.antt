@@ -2,8 +2,8 @@ use Rattle.std.proofs.Common.{refl}
 use Rattle.serve_calls.proofs.Remembered.{edited}
 use Rattle.serve_calls.proofs.server.Server.edit_read.Goals as goal
 
-pub returns-in-Ok : goal.returns-in-Ok
-returns-in-Ok g c =
+pub returns-in-Ok-clause-makes : goal.returns-in-Ok-clause-makes
+returns-in-Ok-clause-makes g c =
     let old = c.args.self.now in
     let made = c.edit_in-answer.new.self in
     edited g.B.LendsSession.is_session old (record old { history = c.begin.new.self }) made (record made { history = c.end.new.self })

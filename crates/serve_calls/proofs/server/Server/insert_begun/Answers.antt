@@ -1,24 +1,24 @@
 use Rattle.std.proofs.Common.{Err, ap, inl, inr, refl}
 use Rattle.serve_calls.proofs.server.Server.insert_begun.Goals as goal
 
-pub returns-in-Err : goal.returns-in-Err
-returns-in-Err g c = inr (
+pub returns-in-Err-clause-inserts : goal.returns-in-Err-clause-inserts
+returns-in-Err-clause-inserts g c = inr (
   c.in-Err.why,
   ap Err c.unkept_failure.ensures,
-  record { stays = c.begin_load.ensures; sums = refl; source = refl; history = refl },
+  record { stays = c.begin_load.ensures.stays; sums = refl; source = refl; history = refl },
 )
 
-pub returns : goal.returns
-returns g c =
+pub returns-clause-inserts : goal.returns-clause-inserts
+returns-clause-inserts g c =
     let done = c.insert_all-inserted.new.self in
     inl (
       record c.args.self.now { backend = c.begin_load.new.self },
       done,
       record done { backend = c.end_load.new.self },
       c.insert_all-inserted.new.step,
-      record { stays = c.begin_load.ensures; sums = refl; source = refl; history = refl },
+      record { stays = c.begin_load.ensures.stays; sums = refl; source = refl; history = refl },
       c.insert_all-inserted.ensures.inserts,
-      record { stays = c.end_load.ensures; sums = refl; source = refl; history = refl },
+      record { stays = c.end_load.ensures.stays; sums = refl; source = refl; history = refl },
       record {
         keeps = record { backend = refl; sums = refl; source = refl };
         adds = c.end.ensures.ends;

@@ -1,8 +1,8 @@
 use Rattle.std.proofs.Common.{inl, refl}
 use Rattle.serve_calls.proofs.server.Server.insert_step.Goals as goal
 
-pub returns-in-Ok : goal.returns-in-Ok
-returns-in-Ok g c = inl (
+pub returns-in-Ok-clause-inserts : goal.returns-in-Ok-clause-inserts
+returns-in-Ok-clause-inserts g c = inl (
   record c.args.self.now { history = c.begin.new.self },
   c.in-Ok.step,
   record {
@@ -11,5 +11,5 @@ returns-in-Ok g c = inl (
     empty = c.in-Ok.ensures.empty;
     is = c.in-Ok.ensures.begun;
   },
-  c.insert_begun.ensures,
+  c.insert_begun.ensures.inserts,
 )

@@ -11,7 +11,7 @@ pub returns-in-Ok-clause-refused : goal.returns-in-Ok-clause-refused
 returns-in-Ok-clause-refused g c = λ so.
     let is = g.B.LendsSession.is_session in
     let makes = subst (λ (edit : Edit). MakesEdit is c.args.self.now edit c.edit_read.result c.edit_read.new.self)
-    (c.in-Ok.ensures.ok ∙ c.in_ok-copy.ensures) c.edit_read.ensures in
+    (c.in-Ok.ensures.ok ∙ c.in_ok-copy.ensures) c.edit_read.ensures.makes in
     inl (
       c.args.edit.now,
       refl,

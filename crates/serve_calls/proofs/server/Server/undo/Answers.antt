@@ -1,6 +1,6 @@
 use Rattle.std.proofs.Common.{inl}
 use Rattle.serve_calls.proofs.server.Server.undo.Goals as goal
 
-pub returns-in-Ok : goal.returns-in-Ok
-returns-in-Ok g c =
-    inl (c.in-Ok.edits.items, c.in-Ok.units, c.take_back.result, c.in-Ok.ensures.some, c.in-Ok.ensures.ok, c.take_back.ensures, c.of_group_made.ensures)
+pub returns-in-Ok-clause-answers : goal.returns-in-Ok-clause-answers
+returns-in-Ok-clause-answers g c =
+    inl (c.in-Ok.edits.items, c.in-Ok.units, c.take_back.result, c.in-Ok.ensures.some, c.in-Ok.ensures.ok, c.take_back.ensures.goes, c.of_group_made.ensures)

@@ -77,7 +77,7 @@ RecordsServedBy is records file old (Err failure) result new = KeepsRecords (rec
 abbrev pub RecordsServed : {B S : Type 0} → (B → Machine → Type 0) → (B → Offered) → (B → List Step → Type 0)
     → (S → List ℕ → Option (List ℕ)) → Server B S → Parts → Result Answer Failure → Server B S → Type 0
 RecordsServed is lends records file old parts result new =
-    (read : Result Call Failure) × IsRequestAnswer (called (lends old.backend).jobs parts) read
+    (read : Result Call Failure) × IsRequestAnswer (called (lends old.backend).jobs (lends old.backend).journal parts) read
     × RecordsServedBy is records file old read result new
 
 -- what is recorded once a message is answered: as by the request that it is; else the steps are recorded still

@@ -55,7 +55,8 @@ impl<B: Backend, S: Saver> Server<B, S> {
         ensures recorded { RecordsServed B.is_session B.offers B.records S.file self.old
             (parts_of request.now) result.answer self.new }
     {
-        let call = request.call(self.alloc, self.backend.has_jobs());
+        let (has_jobs, has_journal) = (self.backend.has_jobs(), self.backend.has_journal());
+        let call = request.call(self.alloc, has_jobs, has_journal);
         self.serve_call(rt, wanted, call, is_answered(request.id))
     }
 

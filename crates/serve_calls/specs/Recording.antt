@@ -96,16 +96,16 @@ AreMade (Ok (answer.Loaded units first last changed left_out)) made = made ≡ u
 AreMade (Ok it) made = ⊤
 AreMade (Err failure) made = AreMadeBefore failure made
 
--- of a load of these units as many are recorded as were inserted; or it fails, and the steps are recorded still
+-- of a load of these units as many are recorded as were inserted; or it fails before one is, and the steps are recorded still
 abbrev pub RecordsInserted : (Machine → Type 0) → (List Step → Type 0) → List (List (List ℕ)) → Result Inserted Failure
     → (List Step → Type 0) → Type 0
 RecordsInserted is_session before units result after =
     ((made : ℕ) × AreInserted result made × RecordsLoad is_session before units made after)
-    ⊎ (IsErr result × KeepsRecords before after)
+    ⊎ (IsErr result × AreInserted result 0 × KeepsRecords before after)
 
 -- and so of the units of a text
 abbrev pub RecordsStream : (Machine → Type 0) → (List Step → Type 0) → List ℕ → Result Answer Failure → (List Step → Type 0) → Type 0
 RecordsStream is_session before text result after =
     ((units : List (List (List ℕ))) × (made : ℕ) × IsStream text units × AreMade result made
     × RecordsLoad is_session before units made after)
-    ⊎ (IsErr result × KeepsRecords before after)
+    ⊎ (IsErr result × AreMade result 0 × KeepsRecords before after)

@@ -1,5 +1,5 @@
 -- What is recorded once a call or a message is answered.
-use Rattle.std.specs.Prelude.{◌≡◌, ◌⊎◌, ℕ, Bool, List, [], ◌∷◌, Option, None, Some, Result, Ok, Err, IsErr}
+use Rattle.std.specs.Prelude.{◌⊎◌, ℕ, Bool, List, [], ◌∷◌, Option, None, Some, Result, Ok, Err, IsErr}
 use Rattle.stream_edits.specs.declared.edits.Edit.{Edit}
 use Rattle.stream_edits.specs.Edits.{Register}
 use Rattle.stream_snapshot.specs.Snapshots.{IsOf, SnapshotValue}
@@ -20,7 +20,7 @@ use Rattle.serve_calls.specs.declared.server.Server.{Server}
 use Rattle.serve_calls.specs.Loading.{IsTextOf}
 use Rattle.serve_calls.specs.Offering.{Offered}
 use Rattle.serve_calls.specs.Preparing.{prepared}
-use Rattle.serve_calls.specs.Recording.{KeepsRecords, RecordsIf, RecordsOnly, RecordsSome, RecordsStream}
+use Rattle.serve_calls.specs.Recording.{AreMade, KeepsRecords, RecordsIf, RecordsOnly, RecordsSome, RecordsStream}
 use Rattle.serve_calls.specs.Undoing.{Redoes, Undoes}
 
 -- these edits take the last step back that is done
@@ -41,13 +41,13 @@ RecordsSnapshot before history answer after =
     ((snapshot : SnapshotValue) × IsSnapshotOf history snapshot × RecordsOnly before (Snapshot snapshot ∷ []) answer after)
     ⊎ (IsErr answer × KeepsRecords before after)
 
--- of a load of the units of the text that is loaded, as it came or mended, as many are recorded as were inserted; or it fails,
--- and the steps are recorded still
+-- of a load of the units of the text that is loaded, as it came or mended, as many are recorded as were inserted; or it fails
+-- before one is, and the steps are recorded still
 abbrev pub RecordsLoaded : {S : Type 0} → (Machine → Type 0) → (S → List ℕ → Option (List ℕ)) → (List Step → Type 0) → S → Loaded
     → Bool → Result Answer Failure → (List Step → Type 0) → Type 0
 RecordsLoaded is_session file before source it mend result after =
     ((text : List ℕ) × IsTextOf file source it text × RecordsStream is_session before (prepared mend text).text result after)
-    ⊎ (IsErr result × KeepsRecords before after)
+    ⊎ (IsErr result × AreMade result 0 × KeepsRecords before after)
 
 -- what is recorded once a call is answered
 abbrev pub RecordsCall : {B S : Type 0} → (B → Machine → Type 0) → (B → List Step → Type 0) → (S → List ℕ → Option (List ℕ))

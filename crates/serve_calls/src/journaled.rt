@@ -1,7 +1,7 @@
 //! A session whose edits are recorded before they are made.
 
 ghost use Rattle.std.specs.Prelude.{◌≡◌, ◌+◌, ◌-◌, ◌^◌, ◌∷◌, ℕ, [], None, Some, IfOk, IsOk, is_some, min};
-ghost use Rattle.journal_steps.specs.declared.step.Step.TheVariants.{Edits, Load};
+ghost use Rattle.journal_steps.specs.declared.step.Step.TheVariants.{Edits};
 ghost use Rattle.stream_edits.specs.Streams.{last_of, place_after};
 ghost use Rattle.serve_calls.specs.Journaled.{IsLoadKeptAt, IsRecorded, IsTakenOff, insertions_from};
 ghost use Rattle.serve_calls.specs.Offering.{offering};

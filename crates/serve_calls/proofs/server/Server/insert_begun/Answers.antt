@@ -1,4 +1,7 @@
-use Rattle.std.proofs.Common.{Err, ap, inl, inr, refl}
+use Rattle.std.proofs.Common.{Err, ap, inl, inr, refl, subst, sym}
+use Rattle.serve_requests.specs.declared.failure.Failure.{Failure}
+use Rattle.serve_calls.specs.Recording.{AreMadeBefore}
+use Rattle.serve_calls.proofs.Recorded.{none-made}
 use Rattle.serve_calls.proofs.server.Server.insert_begun.Goals as goal
 
 pub returns-in-Err-clause-inserts : goal.returns-in-Err-clause-inserts
@@ -26,3 +29,10 @@ returns-clause-inserts g c =
         nothing = c.end.ensures.nothing;
       },
     )
+
+pub returns-in-Err-clause-recorded : goal.returns-in-Err-clause-recorded
+returns-in-Err-clause-recorded g c = inr (
+  refl,
+  subst (λ (failure : Failure). AreMadeBefore failure 0) (sym c.unkept_failure.ensures) (none-made c.in-Err.why),
+  c.in-Err.ensures.recorded,
+)

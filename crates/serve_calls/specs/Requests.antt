@@ -44,7 +44,8 @@ IsServedBy is lends file old wanted answered (Err failure) served new wants =
 abbrev pub IsServed : {B S : Type 0} → (B → Machine → Type 0) → (B → Offered) → (S → List ℕ → Option (List ℕ)) → Server B S
     → List WantedUnit → Parts → Served → Server B S → List WantedUnit → Type 0
 IsServed is lends file old wanted parts served new wants =
-    (read : Result Call Failure) × IsRequestAnswer (called (lends old.backend).jobs parts) read
+    (read : Result Call Failure)
+    × IsRequestAnswer (called (lends old.backend).jobs (lends old.backend).journal parts) read
     × IsServedBy is lends file old wanted (is_answered parts.id) read served new wants
 
 -- the parts of a message that is a request

@@ -50,7 +50,8 @@ impl<B: Backend, S: Saver> Server<B, S> {
         ensures { IsServed B.is_session B.offers S.file self.old wanted.old.items
             (parts_of request.now) result self.new wanted.new.items }
     {
-        let call = request.call(self.alloc, self.backend.has_jobs());
+        let (has_jobs, has_journal) = (self.backend.has_jobs(), self.backend.has_journal());
+        let call = request.call(self.alloc, has_jobs, has_journal);
         self.serve_call(rt, wanted, call, is_answered(request.id))
     }
 

@@ -40,12 +40,13 @@ method_named name =
     else if bytes_eq name (codes "show") then Some Show
     else method_of_pictures name
 
--- a method about jobs, which workers take where there are some
-abbrev pub is_of_jobs : Method → Bool
-is_of_jobs Take = true
-is_of_jobs Land = true
-is_of_jobs GiveBack = true
-is_of_jobs _ = false
+-- whether a method is there, where those about jobs and that about a journal's file are there or not
+abbrev pub is_offered : Bool → Bool → Method → Bool
+is_offered has_jobs has_journal Take = has_jobs
+is_offered has_jobs has_journal Land = has_jobs
+is_offered has_jobs has_journal GiveBack = has_jobs
+is_offered has_jobs has_journal Compact = has_journal
+is_offered has_jobs has_journal _ = true
 
 -- a method that takes any parameters, a list too
 abbrev pub takes_any : Method → Bool

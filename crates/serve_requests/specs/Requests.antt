@@ -1,5 +1,5 @@
 -- The call that a request asks for (docs/SERVER.md).
-use Rattle.std.specs.Prelude.{◌≡◌, ◌&&◌, ◌||◌, Bool, true, false, not, Option, Some, None, if◌then◌else◌, Result, Ok, Err}
+use Rattle.std.specs.Prelude.{◌≡◌, ◌&&◌, Bool, true, false, not, Option, Some, None, if◌then◌else◌, Result, Ok, Err}
 use Rattle.serde_json.specs.Data.{Data, null, boolean, number, string, array, object, no_items, item}
 use Rattle.serve_requests.specs.declared.call.Call.{Call}
 use Rattle.serve_requests.specs.declared.failure.Failure.{Failure}
@@ -9,7 +9,7 @@ use Rattle.serve_requests.specs.declared.method.Method.{Method}
 use Rattle.serve_requests.specs.declared.parameter.Parameter.{Parameter}
 use Rattle.serve_requests.specs.Calls.{call_with}
 use Rattle.serve_requests.specs.Messages.{Parts}
-use Rattle.serve_requests.specs.Methods.{first_parameter, is_of_jobs, method_named, takes_any}
+use Rattle.serve_requests.specs.Methods.{first_parameter, is_offered, method_named, takes_any}
 
 -- a call, or which parameter is the first that is wrong
 abbrev pub read_so : Result Call Parameter → Result Call Failure
@@ -38,15 +38,15 @@ abbrev pub called_with : Method → Option Data → Result Call Failure
 called_with method (Some parameters) = called_by method parameters
 called_with method None = called_by method null
 
--- the call of a method, if it is one that is there
-abbrev pub called_if : Bool → Option Method → Option Data → Result Call Failure
-called_if has_jobs None parameters = Err NoMethod
-called_if has_jobs (Some method) parameters =
-    if has_jobs || not (is_of_jobs method) then called_with method parameters else Err NoMethod
+-- the call of a method, if it is one that is there; whatever the parameters of another one are, there is none
+abbrev pub called_if : Bool → Bool → Option Method → Option Data → Result Call Failure
+called_if has_jobs has_journal None parameters = Err NoMethod
+called_if has_jobs has_journal (Some method) parameters =
+    if is_offered has_jobs has_journal method then called_with method parameters else Err NoMethod
 
--- the call that a request asks for, where methods about jobs are there or not
-abbrev pub called : Bool → Parts → Result Call Failure
-called has_jobs parts = called_if has_jobs (method_named parts.method) parts.parameters
+-- the call that a request asks for, where methods about jobs and that about a journal's file are there or not
+abbrev pub called : Bool → Bool → Parts → Result Call Failure
+called has_jobs has_journal parts = called_if has_jobs has_journal (method_named parts.method) parts.parameters
 
 -- an answer for a request: its call, why it asks for none, or that memory ran out
 abbrev pub IsRequestAnswer : Result Call Failure → Result Call Failure → Type 0

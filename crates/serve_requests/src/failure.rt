@@ -17,7 +17,7 @@ pub enum Failure {
     NotJson,
     /// It is no request.
     NotRequest,
-    /// No method has the name.
+    /// No method has the name, or the method isn't there.
     NoMethod,
     /// The first of the method's parameters that is missing, of the wrong type or out of range;
     /// none where they are an array and the method has no parameter.

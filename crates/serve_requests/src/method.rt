@@ -1,7 +1,7 @@
 //! The methods of the server.
 
 ghost use Rattle.std.specs.Prelude.{◌≡◌, IfOk};
-ghost use Rattle.serve_requests.specs.Methods.{first_parameter, is_of_jobs, method_named, method_of_pictures, methods, takes_any};
+ghost use Rattle.serve_requests.specs.Methods.{first_parameter, is_offered, method_named, method_of_pictures, methods, takes_any};
 
 use crate::listed::Listed;
 use crate::parameter::Parameter;
@@ -81,13 +81,14 @@ impl Method {
         }
     }
 
-    /// Whether it is about jobs, which workers take where there are some.
-    pub fn is_of_jobs(self) -> bool
-        ensures { result ≡ is_of_jobs self }
+    /// Whether it is there, where those about jobs and that about a journal's file are there or not.
+    pub fn is_offered(self, has_jobs: bool, has_journal: bool) -> bool
+        ensures { result ≡ is_offered has_jobs has_journal self }
     {
         match self {
-            Method::Take | Method::Land | Method::GiveBack => true,
-            _ => false,
+            Method::Take | Method::Land | Method::GiveBack => has_jobs,
+            Method::Compact => has_journal,
+            _ => true,
         }
     }
 

@@ -15,12 +15,13 @@ use std::alloc::Global;
 
 impl<'a> Request<'a> {
     /// The call that it asks for, or why it asks for none. Methods about jobs are there where
-    /// `has_jobs` says so.
-    pub fn call(&self, alloc: Global, has_jobs: bool) -> Result<Call, Failure>
-        ensures { IsRequestAnswer (called has_jobs (parts_of self.now)) result }
+    /// `has_jobs` says so, and that about a journal's file where `has_journal` does; one that isn't
+    /// there is refused as such, whatever its parameters are.
+    pub fn call(&self, alloc: Global, has_jobs: bool, has_journal: bool) -> Result<Call, Failure>
+        ensures { IsRequestAnswer (called has_jobs has_journal (parts_of self.now)) result }
     {
         match Method::named(self.method) {
-            Some(method) if has_jobs || !method.is_of_jobs() => {
+            Some(method) if method.is_offered(has_jobs, has_journal) => {
                 call_of(alloc, method, self.parameters)
             }
             _ => Err(Failure::NoMethod),

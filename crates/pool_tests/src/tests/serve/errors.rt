@@ -3,7 +3,7 @@
 use super::{Row, answers_so};
 
 /// Messages that are refused, and what is left as it was.
-const ERRORS: [Row; 19] = [
+const ERRORS: [Row; 20] = [
     Row {
         message: "",
         lines: "{\"jsonrpc\":\"2.0\",\"id\":null,\"error\":{\"code\":-32700,\"message\":\"Parse error\"}}\n",
@@ -23,6 +23,11 @@ const ERRORS: [Row; 19] = [
     Row {
         message: "{\"jsonrpc\":\"2.0\",\"id\":1,\"method\":\"sow\",\"params\":{}}",
         lines: "{\"jsonrpc\":\"2.0\",\"id\":1,\"error\":{\"code\":-32601,\"message\":\"Method not found\"}}\n",
+    },
+    // Without a journal there is no such method, whatever the parameters are.
+    Row {
+        message: "{\"jsonrpc\":\"2.0\",\"id\":2,\"method\":\"compact\",\"params\":[1]}",
+        lines: "{\"jsonrpc\":\"2.0\",\"id\":2,\"error\":{\"code\":-32601,\"message\":\"Method not found\"}}\n",
     },
     Row {
         message: "{\"jsonrpc\":\"2.0\",\"method\":\"sow\",\"params\":{}}",

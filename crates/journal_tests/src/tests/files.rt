@@ -8,8 +8,15 @@ use std::{fs, io};
 /// What the first page of a new journal begins with.
 const BEGUN: [&[u8]; 2] = [b"", b"SQLite format 3\0"];
 
-/// A text, and a database of other pages that has no mark of a journal.
-const OTHERS: [&[u8]; 2] = [b"no journal", b"SQLite format 3\0\x04\0\x01\x01"];
+/// What a journal of version 1 begins with.
+const EARLIER: [u8; 72] = [
+    83, 81, 76, 105, 116, 101, 32, 102, 111, 114, 109, 97, 116, 32, 51, 0, 16, 0, 2, 2, 8, 64, 32,
+    32, 0, 0, 0, 1, 0, 0, 0, 1, 0, 0, 0, 0, 0, 0, 0, 0, 0, 0, 0, 0, 0, 0, 0, 4, 0, 0, 0, 0, 0, 0,
+    0, 0, 0, 0, 0, 1, 0, 0, 0, 1, 0, 0, 0, 0, 67, 80, 74, 76,
+];
+
+/// A text, a database of other pages that has no mark of a journal, and a journal of another version.
+const OTHERS: [&[u8]; 3] = [b"no journal", b"SQLite format 3\0\x04\0\x01\x01", &EARLIER];
 
 /// Whether the file with this text is opened as a journal without lines.
 fn is_new(rt: &HostRuntime, text: &[u8]) -> io::Result<bool> {

@@ -7,23 +7,26 @@ use std::fs::{self, File};
 use std::io;
 use std::test::Fail;
 
-const GROUP: [Row; 2] = [(1, 0, Kind::Insert, 1, 0, 2), (1, 1, Kind::Insert, 2, 1, 1)];
+const GROUP: [Row; 2] = [
+    (1, 0, Kind::InsertFirst, 1, 0, 2),
+    (1, 1, Kind::Insert, 2, 1, 1),
+];
 
 const GROUP_AND_LOAD: [Row; 4] = [
-    (1, 0, Kind::Insert, 1, 0, 2),
+    (1, 0, Kind::InsertFirst, 1, 0, 2),
     (1, 1, Kind::Insert, 2, 1, 1),
     (2, 0, Kind::Load, 0, 0, 0),
     (2, 1, Kind::Delete, 1, 0, 0),
 ];
 
 const GROUP_AND_DELETION: [Row; 3] = [
-    (1, 0, Kind::Insert, 1, 0, 2),
+    (1, 0, Kind::InsertFirst, 1, 0, 2),
     (1, 1, Kind::Insert, 2, 1, 1),
     (2, 0, Kind::Delete, 2, 0, 0),
 ];
 
 const SHORTENED: [Row; 4] = [
-    (1, 0, Kind::Insert, 1, 0, 2),
+    (1, 0, Kind::InsertFirst, 1, 0, 2),
     (1, 1, Kind::Insert, 2, 1, 1),
     (2, 0, Kind::Load, 0, 0, 0),
     (3, 0, Kind::Delete, 2, 0, 0),
@@ -42,7 +45,7 @@ fn step(kind: Kind, id: u32, named: u32, text: &'static [u8]) -> Step {
 
 fn append(journal: &mut FileJournal<Wary>) -> Result<(), JournalFault> {
     journal.append(&[
-        step(Kind::Insert, 1, 0, &[1, 2]),
+        step(Kind::InsertFirst, 1, 0, &[1, 2]),
         step(Kind::Insert, 2, 1, &[3]),
     ])?;
     journal.append(&[step(Kind::Load, 0, 0, &[]), step(Kind::Delete, 1, 0, &[])])

@@ -15,14 +15,13 @@ type Shape = (bool, usize);
 /// An edit, a group, and what is left of a load of three units once two of them are made.
 const RECORDED: [Shape; 3] = [(false, 1), (false, 2), (true, 2)];
 
-/// An insertion behind the unit of an id, or in front of all.
-fn insertion(after: u32) -> Edit {
-    let place = if after == 0 {
-        Place::First
-    } else {
-        Place::After(AuId::new(after))
-    };
+fn insertion_at(place: Place) -> Edit {
     Edit::Insert(place, Bytes::from_static(&[1, 2]))
+}
+
+/// An insertion behind the unit of an id.
+fn insertion(after: u32) -> Edit {
+    insertion_at(Place::After(AuId::new(after)))
 }
 
 fn deletion(id: u32) -> Edit {
@@ -31,8 +30,8 @@ fn deletion(id: u32) -> Edit {
 
 /// Records an edit, a group, a load of which two units are made, and an edit that isn't made.
 fn record(alloc: Global, journal: &mut SessionFile) -> Result<(), Unkept> {
-    journal.keep_edit(&insertion(0))?;
-    journal.keep_group(&[deletion(1), insertion(0)])?;
+    journal.keep_edit(&insertion_at(Place::First))?;
+    journal.keep_group(&[deletion(1), insertion_at(Place::First)])?;
     let load = vec![in alloc; insertion(2), insertion(3), insertion(4)]?;
     journal.keep_load(load)?;
     journal.shorten(2);
@@ -104,7 +103,9 @@ fn take_off(rt: &HostRuntime, path: &str, all: bool) -> bool {
 /// Records a group in the file.
 fn record_group(rt: &HostRuntime, path: &str) -> bool {
     match rt.open_journal(rt.alloc(), path) {
-        Ok((mut journal, _steps)) => journal.keep_group(&[deletion(2), insertion(0)]).is_ok(),
+        Ok((mut journal, _steps)) => journal
+            .keep_group(&[deletion(2), insertion_at(Place::First)])
+            .is_ok(),
         Err(_) => false,
     }
 }
@@ -121,5 +122,54 @@ fn steps_are_read_back(rt: HostRuntime) -> Result<(), Fail> {
     row_holds(&rt, 6, holds(&rt, path, &[], 0));
     fs::remove_file(&rt, path)?;
     fs::remove_file(&rt, "steps.db-wal")?;
+    Ok(())
+}
+
+/// Records an insertion in front of all units, and one behind the id 0, which no unit has.
+fn record_places(journal: &mut SessionFile) -> Result<(), Unkept> {
+    journal.keep_edit(&insertion_at(Place::First))?;
+    journal.keep_edit(&insertion(0))
+}
+
+/// The same in the file.
+fn record_places_in(rt: &HostRuntime, path: &str) -> bool {
+    match rt.open_journal(rt.alloc(), path) {
+        Ok((mut journal, _steps)) => record_places(&mut journal).is_ok(),
+        Err(_) => false,
+    }
+}
+
+/// Where the only edit of the step inserts its unit.
+fn place(step: &Step) -> Option<Place> {
+    match step {
+        Step::Edits(edits) => match edits.edits() {
+            [Edit::Insert(place, _)] => Some(*place),
+            _ => None,
+        },
+        Step::Load(_) | Step::Snapshot(_) => None,
+    }
+}
+
+/// Whether the file is opened with the two insertions.
+fn holds_places(rt: &HostRuntime, path: &str) -> bool {
+    match rt.open_journal(rt.alloc(), path) {
+        Ok((_journal, steps)) => match steps.as_slice() {
+            [first, second] => {
+                place(first) == Some(Place::First)
+                    && place(second) == Some(Place::After(AuId::new(0)))
+            }
+            _ => false,
+        },
+        Err(_) => false,
+    }
+}
+
+#[test]
+fn an_insertion_behind_the_id_0_is_read_as_that(rt: HostRuntime) -> Result<(), Fail> {
+    let path = "places.db";
+    row_holds(&rt, 0, record_places_in(&rt, path));
+    row_holds(&rt, 1, holds_places(&rt, path));
+    fs::remove_file(&rt, path)?;
+    fs::remove_file(&rt, "places.db-wal")?;
     Ok(())
 }

@@ -2,6 +2,7 @@
 use Rattle.std.proofs.Common.{◌≡◌, ℕ, List, Option, Result, Ok, Err, inl, inr, refl, subst, sym}
 use Rattle.access_unit.specs.Rooms.{IsStream}
 use Rattle.edit_engine.specs.Machines.{Machine}
+use Rattle.stream_edits.specs.declared.receipts.GroupReceipt.{GroupReceipt}
 use Rattle.journal_steps.specs.declared.step.Step.{Step}
 use Rattle.session_journal.specs.declared.unkept.Unkept.{Unkept}
 use Rattle.session_journal.specs.declared.unkept.Unkept.TheVariants as unkept
@@ -12,10 +13,12 @@ use Rattle.serve_answers.specs.declared.left_out_answers.LeftOutAnswer.{LeftOutA
 use Rattle.serve_calls.specs.declared.loading.Inserted.{Inserted}
 use Rattle.serve_calls.specs.declared.unmade.EditFault.{EditFault}
 use Rattle.serve_calls.specs.declared.unmade.EditFault.TheVariants as edit_fault
+use Rattle.serve_calls.specs.declared.unmade.GroupFault.{GroupFault}
+use Rattle.serve_calls.specs.declared.unmade.GroupFault.TheVariants as group_fault
 use Rattle.serve_calls.specs.Failing.{out_of_memory}
 use Rattle.serve_calls.specs.Loading.{IsTextless, load_answer, uninserted}
-use Rattle.serve_calls.specs.Recording.{AreMadeBefore, RecordsInserted, RecordsStream}
-use Rattle.serve_calls.specs.Unmade.{unkept_failure}
+use Rattle.serve_calls.specs.Recording.{AreMadeBefore, RecordsIf, RecordsInserted, RecordsStream}
+use Rattle.serve_calls.specs.Unmade.{group_made_answer, unkept_failure}
 
 -- where one isn't inserted once so many were, the failure says so many if it says how many
 pub made-before : (fault : EditFault) (units : ℕ) → AreMadeBefore (uninserted fault units) units
@@ -47,3 +50,10 @@ stream-recorded is_session before after text units left_out (Ok inserted) stream
 stream-recorded is_session before after text units left_out (Err failure) stream (inl it) = inl (units, it.0, stream, it.1, it.2)
 stream-recorded is_session before after text units left_out (Ok inserted) stream (inr it) = inr it
 stream-recorded is_session before after text units left_out (Err failure) stream (inr it) = inr it
+
+-- what is recorded of a group by the session's answer is so by the result too
+pub group-recorded : (before after : List Step → Type 0) (step : Step) (answer : Result GroupReceipt GroupFault)
+    → RecordsIf before step answer after → RecordsIf before step (group_made_answer answer) after
+group-recorded before after step (Ok receipt) it = it
+group-recorded before after step (Err (group_fault.Refused refused)) it = it
+group-recorded before after step (Err (group_fault.Unkept why)) it = it

@@ -3,6 +3,7 @@ import os
 import re
 import signal
 import subprocess
+import tempfile
 from typing import NamedTuple
 
 from cupdaisy import processes
@@ -94,19 +95,27 @@ def differences_of_commands(text):
                 yield block.line, "prints something else than the document shows"
 
 
+def answers_so(block, options):
+    """Whether a server with these options answers as an exchange shows."""
+    requests = [line[3:] for line in block.text.splitlines() if line.startswith("-> ")]
+    wanted = [line[3:] for line in block.text.splitlines() if line.startswith("<- ")]
+    text = "".join(f"{line}\n" for line in requests)
+    ran = processes.run([PREVIEW, "serve", "--workers", "0", *options], text.encode(), SECONDS, cwd=TOP)
+    found = ran.output.decode().splitlines()
+    fits = [re.fullmatch(re.escape(line).replace(r"\.\.", ".*"), other) for line, other in zip(wanted, found)]
+    return len(wanted) == len(found) and all(fits)
+
+
 def differences_of_exchanges(text):
-    """The exchanges of a document in which the server answers otherwise."""
-    for block in blocks(text):
-        if block.kind != "jsonrpc":
-            continue
-        requests = [line[3:] for line in block.text.splitlines() if line.startswith("-> ")]
-        wanted = [line[3:] for line in block.text.splitlines() if line.startswith("<- ")]
-        text = "".join(f"{line}\n" for line in requests)
-        ran = processes.run([PREVIEW, "serve", "--workers", "0"], text.encode(), SECONDS, cwd=TOP)
-        found = ran.output.decode().splitlines()
-        fits = [re.fullmatch(re.escape(line).replace(r"\.\.", ".*"), other) for line, other in zip(wanted, found)]
-        if len(wanted) != len(found) or not all(fits):
-            yield block.line, "shows an exchange in which the server answers otherwise"
+    """The exchanges of a document in which the server answers otherwise. One whose paragraph before it says so is with a journal, of
+    which the document has one."""
+    with tempfile.TemporaryDirectory() as folder:
+        for block in blocks(text):
+            if block.kind != "jsonrpc":
+                continue
+            has_journal = "--journal" in block.before.strip().rpartition("\n\n")[2]
+            if not answers_so(block, ["--journal", f"{folder}/edits.journal"] if has_journal else []):
+                yield block.line, "shows an exchange in which the server answers otherwise"
 
 
 def stripped(text):

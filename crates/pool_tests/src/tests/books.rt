@@ -162,6 +162,18 @@ fn book_of(alloc: Global, notes: &[Note]) -> Result<SeatBook, AllocError> {
     Ok(SeatBook { receipts })
 }
 
+/// What an audit of the books by the session's journal answers, where the session began without units.
+pub(super) fn audit_of(
+    alloc: Global,
+    session: &Session,
+    books: &[SeatBook],
+) -> Option<Result<(), AuditFault>> {
+    if !session.began_without_units() {
+        return None;
+    }
+    Some(audit(alloc, session.journal(), books))
+}
+
 /// The audit of the books of a row answers as the row says.
 pub(super) fn is_audited(alloc: Global, session: &Session, row: &Row) -> Result<bool, AllocError> {
     let mut books = Vec::new(alloc);
@@ -172,7 +184,7 @@ pub(super) fn is_audited(alloc: Global, session: &Session, row: &Row) -> Result<
         None => Ok(()),
         Some((seat, number)) => Err(AuditFault::SeatDisagrees { seat, number }),
     };
-    Ok(audit(alloc, session.journal(), &books) == wanted)
+    Ok(audit_of(alloc, session, &books) == Some(wanted))
 }
 
 /// A session with the five edits.

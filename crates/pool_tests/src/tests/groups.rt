@@ -1,5 +1,6 @@
 //! Groups of edits that seats make, and audits of their receipts.
 
+use super::books::audit_of;
 use super::{
     A, P1, P1X, P2, after, edits, empty_session, finished, first, is_ready, opened, opened_for_one,
     replace, row_holds,
@@ -7,7 +8,7 @@ use super::{
 use decode_pool::{Desk, Seat, Settled, Worked, finish, worker};
 use edit_engine::{Edit, EditRefused, GroupReceipt, GroupRefused, Session, Shown};
 use pictures::AuId;
-use seat_books::{AuditFault, NotedGroup, SeatBook, SeatReceipt, audit};
+use seat_books::{AuditFault, NotedGroup, SeatBook, SeatReceipt};
 use session_builders::are_ids;
 use stand_in_device::Device;
 use std::alloc::{AllocError, AllocGlobal, Global};
@@ -267,7 +268,7 @@ fn is_audited(alloc: Global, session: &Session, row: &Row) -> Result<bool, Alloc
     } else {
         Err(AuditFault::SeatDisagrees { seat: 1, number: 1 })
     };
-    Ok(audit(alloc, session.journal(), &books) == wanted)
+    Ok(audit_of(alloc, session, &books) == Some(wanted))
 }
 
 #[test]

@@ -1,6 +1,7 @@
 //! Two workers, of which one decodes for as long as it takes the other one and a seat to do what
 //! they have to do.
 
+use super::books::audit_of;
 use super::{
     A, I1, P2, PICTURE_OF_A, Sign, after, are_both_given, edits, finished, first, is_ready,
     opened_for_one,
@@ -8,7 +9,7 @@ use super::{
 use decode_pool::{Desk, Gate, Seat, Settled, Worked, worker};
 use edit_engine::{Finished, Job, Session, Shown};
 use pictures::AuId;
-use seat_books::{AuditFault, SeatBook, SeatReceipt, audit};
+use seat_books::{AuditFault, SeatBook, SeatReceipt};
 use stand_in_device::{Device, Undone};
 use std::alloc::{AllocError, Global};
 use std::process::Abort;
@@ -138,7 +139,7 @@ fn disagrees_where_changed(
     for number in 1..4 {
         let books = [SeatBook::new(alloc), changed(alloc, book, number)?];
         let wanted = AuditFault::SeatDisagrees { seat: 2, number };
-        if audit(alloc, session.journal(), &books) != Err(wanted) {
+        if audit_of(alloc, session, &books) != Some(Err(wanted)) {
             return Ok(false);
         }
     }
